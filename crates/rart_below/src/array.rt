@@ -1,0 +1,118 @@
+ghost use Rattle.std.specs.Prelude.{◌≡◌, ◌≤◌, Some, length, refl};
+ghost use Rattle.std.proofs.lemmas.Slice.Eq.{bytes_eq-Decides};
+
+use crate::key::KeyTrait;
+use crate::partial::Partial;
+use crate::prefix_length::prefix_length;
+use arrayvec::ArrayVec;
+use std::alloc::{AllocError, Global};
+
+/// At most `N` bytes, held inline. No call takes memory, so none is refused.
+#[derive(Drop)]
+pub struct ArrPartial<const N: usize> {
+    bytes: ArrayVec<u8, N>,
+}
+
+fn inline_bytes<const N: usize>(bytes: &[u8]) -> ArrayVec<u8, N>
+    requires { length bytes.now ≤ N }
+    ensures { result.items ≡ bytes.now }
+{
+    let mut inline = ArrayVec::new();
+    let _ = inline.try_extend_from_slice(bytes);
+    inline
+}
+
+impl<const N: usize> Partial for ArrPartial<N> {
+    ghost bytes = { λ partial. partial.bytes.items };
+
+    fn len(&self) -> usize {
+        self.bytes.len()
+    }
+
+    fn is_empty(&self) -> bool {
+        self.bytes.is_empty()
+    }
+
+    fn at(&self, index: usize) -> u8 {
+        self.bytes.as_slice()[index]
+    }
+
+    fn as_ref(&self) -> &[u8] {
+        self.bytes.as_slice()
+    }
+
+    fn partial_before(&self, _alloc: Global, count: usize) -> Result<ArrPartial<N>, AllocError> {
+        Ok(ArrPartial {
+            bytes: inline_bytes(&self.bytes.as_slice()[..count]),
+        })
+    }
+
+    fn partial_after(&self, _alloc: Global, count: usize) -> Result<ArrPartial<N>, AllocError> {
+        Ok(ArrPartial {
+            bytes: inline_bytes(&self.bytes.as_slice()[count..]),
+        })
+    }
+
+    fn copy(&self, _alloc: Global) -> Result<ArrPartial<N>, AllocError> {
+        Ok(ArrPartial {
+            bytes: inline_bytes(self.bytes.as_slice()),
+        })
+    }
+
+    fn prefix_length_slice(&self, other: &[u8]) -> usize {
+        prefix_length(self.bytes.as_slice(), other)
+    }
+}
+
+/// A key of at most `N` bytes, held inline. No call takes memory, so none is refused.
+#[derive(PartialEq, Eq, PartialOrd, Ord, Drop)]
+pub struct ArrayKey<const N: usize> {
+    bytes: ArrayVec<u8, N>,
+    ghost fits: { length bytes.items ≤ N },
+}
+
+impl<const N: usize> KeyTrait for ArrayKey<N> {
+    type PartialType = ArrPartial<N>;
+
+    const MAXIMUM_SIZE: Option<usize> = Some(N);
+
+    ghost MAXIMUM_SIZE = { Some N };
+
+    ghost bytes = { λ key. key.bytes.items };
+
+    fn new_from_slice(_alloc: Global, slice: &[u8]) -> Result<ArrayKey<N>, AllocError> {
+        Ok(ArrayKey {
+            bytes: inline_bytes(slice),
+        })
+    }
+
+    fn new_from_partial(_alloc: Global, partial: &ArrPartial<N>) -> Result<ArrayKey<N>, AllocError> {
+        Ok(ArrayKey {
+            bytes: inline_bytes(partial.as_ref()),
+        })
+    }
+
+    fn to_partial(&self, _alloc: Global, depth: usize) -> Result<ArrPartial<N>, AllocError> {
+        Ok(ArrPartial {
+            bytes: inline_bytes(&self.bytes.as_slice()[depth..]),
+        })
+    }
+
+    fn as_ref(&self) -> &[u8] {
+        self.bytes.as_slice()
+    }
+
+    fn at(&self, index: usize) -> u8 {
+        self.bytes.as_slice()[index]
+    }
+
+    fn length_at(&self, depth: usize) -> usize {
+        self.bytes.len() - depth
+    }
+
+    ghost admitted = { λ key. key.fits };
+
+    ghost equal_by_bytes = { λ a b. bytes_eq-Decides a.bytes.items b.bytes.items };
+
+    ghost ordered_by_bytes = { λ a b. refl };
+}

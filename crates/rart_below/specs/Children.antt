@@ -1,0 +1,29 @@
+-- Children: a list of things, each under its byte. A mapping or a node shows one.
+use Rattle.std.specs.Prelude.{ℕ, List, [], ◌∷◌, Option, Some, None, IsTrue, not, ◌==◌, nat_le}
+use Rattle.std.specs.Ordering.{nat_cmp}
+use Rattle.std.specs.FinMap.Entries.{find, put, where_key, is_sorted}
+
+module _ {C : Type 0} where
+  -- the child under the byte
+  abbrev pub child_at : ℕ → List (ℕ × C) → Option C
+  child_at byte children = find nat_cmp byte children
+
+  -- the children with this one under the byte, in place of the one that is there
+  abbrev pub with_child : ℕ → C → List (ℕ × C) → List (ℕ × C)
+  with_child byte child children = put nat_cmp byte child children
+
+  -- the children with none under the byte
+  abbrev pub without_child : ℕ → List (ℕ × C) → List (ℕ × C)
+  without_child byte children = where_key nat_cmp (λ k. not (k == byte)) children
+
+  -- the children whose byte is not below the number
+  abbrev pub children_from : ℕ → List (ℕ × C) → List (ℕ × C)
+  children_from least children = where_key nat_cmp (λ k. nat_le least k) children
+
+  abbrev pub first_of : List (ℕ × C) → Option (ℕ × C)
+  first_of [] = None
+  first_of (child ∷ children) = Some child
+
+  -- The bytes strictly rise.
+  abbrev pub IsAscending : List (ℕ × C) → Type 0
+  IsAscending children = IsTrue (is_sorted nat_cmp children)

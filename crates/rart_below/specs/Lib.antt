@@ -1,3 +1,12 @@
 pub mod Bytes
 pub mod Children
 pub mod Clones
+pub mod Counting
+pub mod DirectMapping
+pub mod IndexedMapping
+pub mod Laws
+pub mod Layouts
+pub mod Lent
+pub mod Mapped
+pub mod SlotArray
+pub mod SortedKeyedMapping

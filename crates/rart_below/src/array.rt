@@ -86,7 +86,10 @@ impl<const N: usize> KeyTrait for ArrayKey<N> {
         })
     }
 
-    fn new_from_partial(_alloc: Global, partial: &ArrPartial<N>) -> Result<ArrayKey<N>, AllocError> {
+    fn new_from_partial(
+        _alloc: Global,
+        partial: &ArrPartial<N>,
+    ) -> Result<ArrayKey<N>, AllocError> {
         Ok(ArrayKey {
             bytes: inline_bytes(partial.as_ref()),
         })

@@ -1,16 +1,20 @@
-//! What the tree stands on: keys and their prefixes, seen as the bytes they hold, and the slot
-//! that an update is lent.
+//! What the tree stands on: keys and their prefixes, seen as the bytes they hold, the mappings from
+//! a byte to a child, and the slot that an update is lent.
 #![tactic(auto)]
 
 mod array;
 mod key;
+mod mapping;
 mod partial;
 mod prefix_length;
 mod slot;
+#[cfg(test)]
+mod tests;
 mod vector;
 
 pub use array::{ArrPartial, ArrayKey};
 pub use key::KeyTrait;
+pub use mapping::{DirectMapping, IndexedMapping, NodeMapping, SortedKeyedMapping, move_children};
 pub use partial::Partial;
 pub use slot::{Refusal, Slot, SlotUpdate};
 pub use vector::{VectorKey, VectorPartial};

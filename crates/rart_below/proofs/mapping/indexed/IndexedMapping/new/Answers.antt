@@ -1,0 +1,15 @@
+use Rattle.std.proofs.Common.{None, refl, arith}
+use Rattle.rart_below.proofs.Indexed.{starts}
+use Rattle.rart_below.proofs.mapping.indexed.IndexedMapping.new.Goals as goal
+
+pub returns-clause-empty : goal.returns-clause-empty
+returns-clause-empty g c =
+    let slots = c.from_fn.result in
+    let made = c.from_fn.ensures.items in
+    (starts 256 slots refl made.long (λ place lt. (made.at place None (omega (arith, lt, made.long))).2.met)).1
+
+pub returns-clause-order : goal.returns-clause-order
+returns-clause-order g c =
+    let slots = c.from_fn.result in
+    let made = c.from_fn.ensures.items in
+    (starts 256 slots refl made.long (λ place lt. (made.at place None (omega (arith, lt, made.long))).2.met)).0

@@ -1,0 +1,80 @@
+ghost use Rattle.std.specs.Prelude.{◌≡◌, ℕ, ◌<◌, ◌≤◌, Bool, List, Some, None, length, IsSome, IsTrue, option_copied};
+ghost use Rattle.std.specs.Borrow.{sem};
+ghost use Rattle.std.specs.Option.{option_copied_mut};
+ghost use Rattle.rart_below.specs.Children.{child_at, with_child, without_child, children_from, first_of, IsAscending};
+ghost use Rattle.rart_below.specs.Layouts.{entry_copied};
+ghost use Rattle.rart_below.specs.Lent.{LendsChild};
+
+mod direct;
+mod indexed;
+mod moves;
+mod slot_array;
+mod slots;
+mod sorted;
+
+pub use direct::DirectMapping;
+pub use indexed::IndexedMapping;
+pub use moves::move_children;
+pub use sorted::SortedKeyedMapping;
+
+/// A finite map from bytes to children, visited ascending.
+///
+/// Contracts see a mapping as its children, each under its byte, and as a test that the lists
+/// inside are in step. Each call asks that test, and each change keeps it. No call takes memory.
+pub trait NodeMapping<C: Drop> {
+    /// The bytes with their children, ascending.
+    ghost children: { Self → List (ℕ × C) };
+
+    /// Whether the lists inside are in step, and the bytes strictly ascend.
+    ghost in_order: { Self → Bool };
+
+    /// How many children there is room for.
+    ghost width: { ℕ };
+
+    /// The child under the byte.
+    fn seek_child(&self, byte: u8) -> Option<&C>
+        requires { IsTrue (in_order self.now) }
+        ensures { option_copied result ≡ child_at byte (children self.now) };
+
+    /// The child under the byte, for writing. The mapping then has that child as it was left.
+    fn seek_child_mut(&mut self, byte: u8) -> Option<&mut C>
+        requires { IsTrue (in_order self.old) }
+        ensures* writes_back { sem 𝓛 (LendsChild Self.row C.row in_order children self.entry byte result) }
+        ensures value { option_copied_mut result ≡ child_at byte (children self.old) };
+
+    fn num_children(&self) -> usize
+        requires { IsTrue (in_order self.now) }
+        ensures { result ≡ length (children self.now) };
+
+    /// Puts a child under a byte that has none.
+    fn add_child(&mut self, byte: u8, child: C)
+        requires order { IsTrue (in_order self.old) }
+        requires absent { child_at byte (children self.old) ≡ None }
+        requires room { length (children self.old) < width }
+        ensures order { IsTrue (in_order self.new) }
+        ensures children { children self.new ≡ with_child byte child (children self.old) };
+
+    /// Puts the child under the byte in place of the one that is there, which is returned.
+    fn replace_child(&mut self, byte: u8, child: C) -> C
+        requires order { IsTrue (in_order self.old) }
+        requires present { IsSome (child_at byte (children self.old)) }
+        ensures order { IsTrue (in_order self.new) }
+        ensures value { Some result ≡ child_at byte (children self.old) }
+        ensures children { children self.new ≡ with_child byte child (children self.old) };
+
+    /// Takes out the child under the byte. Where there is none, nothing changes.
+    fn delete_child(&mut self, byte: u8) -> Option<C>
+        requires { IsTrue (in_order self.old) }
+        ensures order { IsTrue (in_order self.new) }
+        ensures value { result ≡ child_at byte (children self.old) }
+        ensures children { children self.new ≡ without_child byte (children self.old) };
+
+    /// The child of the least byte that is not below the number, with that byte.
+    fn next_from(&self, from: usize) -> Option<(u8, &C)>
+        requires { IsTrue (in_order self.now) }
+        ensures { entry_copied result ≡ first_of (children_from from (children self.now)) };
+
+    ghost ascending: { (mapping : Self) → IsTrue (in_order mapping) → IsAscending (children mapping) };
+
+    ghost fits: { (mapping : Self) → IsTrue (in_order mapping) → length (children mapping) ≤ width };
+}

@@ -1,0 +1,102 @@
+ghost use Rattle.std.specs.Prelude.{◌≡◌, [], None, IsTrue};
+ghost use Rattle.rart_below.specs.Layouts.{SameBytes};
+ghost use Rattle.rart_below.specs.DirectMapping.{direct_children, direct_in_order};
+
+use super::NodeMapping;
+use super::slot_array::SlotArray;
+use super::slots::{replace_slot, take_slot};
+use std::alloc::AllocError;
+use std::array;
+
+/// A mapping of up to 256 children: a slot for each byte, and a count.
+#[derive(Drop)]
+pub struct DirectMapping<C> {
+    children: SlotArray<Option<C>, 256>,
+    count: usize,
+}
+
+impl<C> DirectMapping<C> {
+    /// No child.
+    pub fn new() -> Self
+        ensures order { IsTrue (direct_in_order result) }
+        ensures empty { direct_children result ≡ [] }
+    {
+        DirectMapping {
+            children: SlotArray {
+                slots: array::from_fn(
+                    |_| -> Option<C>
+                        ensures { result ≡ None }
+                    { None },
+                ),
+            },
+            count: 0,
+        }
+    }
+}
+
+impl<C: Drop> NodeMapping<C> for DirectMapping<C> {
+    ghost use Rattle.rart_below.specs.Laws.{direct-ascending, direct-fits};
+
+    ghost children = { direct_children };
+
+    ghost in_order = { direct_in_order };
+
+    ghost width = { 256 };
+
+    fn seek_child(&self, byte: u8) -> Option<&C> {
+        self.children.slots[byte as usize].as_ref()
+    }
+
+    fn seek_child_mut(&mut self, byte: u8) -> Option<&mut C> {
+        self.children.slot_mut(byte as usize).as_mut()
+    }
+
+    fn num_children(&self) -> usize {
+        self.count
+    }
+
+    fn add_child(&mut self, byte: u8, child: C) {
+        replace_slot(&mut self.children.slots, byte as usize, child);
+        self.count += 1;
+    }
+
+    fn replace_child(&mut self, byte: u8, child: C) -> C {
+        match replace_slot(&mut self.children.slots, byte as usize, child) {
+            Some(replaced) => replaced,
+            None => unreachable!(),
+        }
+    }
+
+    fn delete_child(&mut self, byte: u8) -> Option<C> {
+        let child = take_slot(&mut self.children.slots, byte as usize)?;
+        self.count -= 1;
+        Some(child)
+    }
+
+    fn next_from(&self, from: usize) -> Option<(u8, &C)> {
+        for byte in from..256 {
+            if let Some(child) = &self.children.slots[byte] {
+                return Some((byte as u8, child));
+            }
+        }
+        None
+    }
+
+    ghost ascending = { direct-ascending };
+
+    ghost fits = { direct-fits };
+}
+
+impl<C: Clone + Drop> Clone for DirectMapping<C> {
+    ghost is_clone = { λ mapping copy. SameBytes C.is_clone (direct_children mapping) (direct_children copy)
+        × (direct_in_order copy ≡ direct_in_order mapping) };
+
+    fn clone(&self) -> Result<Self, AllocError> {
+        Ok(DirectMapping {
+            children: SlotArray {
+                slots: self.children.slots.clone()?,
+            },
+            count: self.count,
+        })
+    }
+}

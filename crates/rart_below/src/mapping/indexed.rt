@@ -1,0 +1,120 @@
+ghost use Rattle.std.specs.Prelude.{◌≡◌, [], IsTrue};
+ghost use Rattle.rart_below.specs.Layouts.{SameBytes};
+ghost use Rattle.rart_below.specs.IndexedMapping.{indexed_children, indexed_in_order};
+
+use super::NodeMapping;
+use super::slot_array::SlotArray;
+use super::slots::{child_in, replace_slot, take_slot};
+use std::alloc::AllocError;
+use std::array;
+
+/// An entry of the index that names no slot, as each does that is not below the number of slots.
+const NO_SLOT: u8 = 48;
+
+/// A mapping of up to 48 children: an index that gives each byte's slot, the slots, and one bit for
+/// each slot, which is set where the slot is in use.
+#[derive(Drop)]
+pub struct IndexedMapping<C> {
+    index: [u8; 256],
+    children: SlotArray<Option<C>, 48>,
+    used: u64,
+}
+
+impl<C> IndexedMapping<C> {
+    /// No child.
+    pub fn new() -> Self
+        ensures order { IsTrue (indexed_in_order result) }
+        ensures empty { indexed_children result ≡ [] }
+    {
+        IndexedMapping {
+            index: [NO_SLOT; 256],
+            children: SlotArray {
+                slots: array::from_fn(
+                    |_| -> Option<C>
+                        ensures { result ≡ None }
+                    { None },
+                ),
+            },
+            used: 0,
+        }
+    }
+}
+
+impl<C: Drop> NodeMapping<C> for IndexedMapping<C> {
+    ghost use Rattle.rart_below.specs.Laws.{indexed-ascending, indexed-fits};
+
+    ghost children = { indexed_children };
+
+    ghost in_order = { indexed_in_order };
+
+    ghost width = { 48 };
+
+    fn seek_child(&self, byte: u8) -> Option<&C> {
+        child_in(&self.children.slots, self.index[byte as usize] as usize)
+    }
+
+    fn seek_child_mut(&mut self, byte: u8) -> Option<&mut C> {
+        let place = self.index[byte as usize];
+        if place >= NO_SLOT {
+            return None;
+        }
+        self.children.slot_mut(place as usize).as_mut()
+    }
+
+    fn num_children(&self) -> usize {
+        self.used.count_ones() as usize
+    }
+
+    fn add_child(&mut self, byte: u8, child: C) {
+        let place = self.used.trailing_ones();
+        replace_slot(&mut self.children.slots, place as usize, child);
+        self.index[byte as usize] = place as u8;
+        self.used |= 1 << place;
+    }
+
+    fn replace_child(&mut self, byte: u8, child: C) -> C {
+        let place = self.index[byte as usize];
+        match replace_slot(&mut self.children.slots, place as usize, child) {
+            Some(replaced) => replaced,
+            None => unreachable!(),
+        }
+    }
+
+    fn delete_child(&mut self, byte: u8) -> Option<C> {
+        let place = self.index[byte as usize];
+        if place >= NO_SLOT {
+            return None;
+        }
+        self.index[byte as usize] = NO_SLOT;
+        self.used &= !(1 << place);
+        take_slot(&mut self.children.slots, place as usize)
+    }
+
+    fn next_from(&self, from: usize) -> Option<(u8, &C)> {
+        for byte in from..256 {
+            if let Some(child) = self.seek_child(byte as u8) {
+                return Some((byte as u8, child));
+            }
+        }
+        None
+    }
+
+    ghost ascending = { indexed-ascending };
+
+    ghost fits = { indexed-fits };
+}
+
+impl<C: Clone + Drop> Clone for IndexedMapping<C> {
+    ghost is_clone = { λ mapping copy. SameBytes C.is_clone (indexed_children mapping) (indexed_children copy)
+        × (indexed_in_order copy ≡ indexed_in_order mapping) };
+
+    fn clone(&self) -> Result<Self, AllocError> {
+        Ok(IndexedMapping {
+            index: self.index,
+            children: SlotArray {
+                slots: self.children.slots.clone()?,
+            },
+            used: self.used,
+        })
+    }
+}

@@ -1,0 +1,142 @@
+ghost use Rattle.std.specs.Prelude.{◌≡◌, ◌≤◌, [], Some, None, length, MatchOption, IsTrue};
+ghost use Rattle.rart_below.specs.Layouts.{SameBytes, IsAbsent, IsPlaceOf, rank};
+ghost use Rattle.rart_below.specs.SortedKeyedMapping.{sorted_children, sorted_in_order};
+
+use super::NodeMapping;
+use super::slot_array::SlotArray;
+use super::slots::{insert_slot, remove_slot, replace_slot};
+use arrayvec::ArrayVec;
+use std::alloc::AllocError;
+use std::array;
+
+/// A mapping of at most `WIDTH` children: their bytes in ascending order, and the children beside
+/// them in the same order.
+#[derive(Drop)]
+pub struct SortedKeyedMapping<C, const WIDTH: usize> {
+    keys: ArrayVec<u8, WIDTH>,
+    children: SlotArray<Option<C>, WIDTH>,
+}
+
+/// How many of the keys are below the byte. It looks at each key, so that no branch depends on them.
+fn rank_of(keys: &[u8], byte: u8) -> usize
+    ensures value { result ≡ rank byte keys.now }
+    ensures fits { result ≤ length keys.now }
+{
+    keys.iter().filter(|key| **key < byte).count()
+}
+
+/// How many of the keys are below the number.
+fn rank_from(keys: &[u8], from: usize) -> usize
+    ensures value { result ≡ rank from keys.now }
+    ensures fits { result ≤ length keys.now }
+{
+    keys.iter().filter(|key| usize::from(**key) < from).count()
+}
+
+/// Where the byte stands among ascending keys.
+fn place_of(keys: &[u8], byte: u8) -> Option<usize>
+    ensures { MatchOption result (IsAbsent byte keys.now) (IsPlaceOf byte keys.now) }
+{
+    let place = rank_of(keys, byte);
+    if place < keys.len() && keys[place] == byte {
+        Some(place)
+    } else {
+        None
+    }
+}
+
+impl<C, const WIDTH: usize> SortedKeyedMapping<C, WIDTH> {
+    /// No child.
+    pub fn new() -> Self
+        ensures order { IsTrue (sorted_in_order result) }
+        ensures empty { sorted_children result ≡ [] }
+    {
+        SortedKeyedMapping {
+            keys: ArrayVec::new(),
+            children: SlotArray {
+                slots: array::from_fn(|_| None),
+            },
+        }
+    }
+}
+
+impl<C: Drop, const WIDTH: usize> NodeMapping<C> for SortedKeyedMapping<C, WIDTH> {
+    ghost use Rattle.rart_below.specs.Laws.{sorted-ascending, sorted-fits};
+
+    ghost children = { sorted_children };
+
+    ghost in_order = { sorted_in_order };
+
+    ghost width = { WIDTH };
+
+    fn seek_child(&self, byte: u8) -> Option<&C> {
+        let place = place_of(self.keys.as_slice(), byte)?;
+        self.children.slots[place].as_ref()
+    }
+
+    fn seek_child_mut(&mut self, byte: u8) -> Option<&mut C> {
+        let Some(place) = place_of(self.keys.as_slice(), byte) else {
+            return None;
+        };
+        self.children.slot_mut(place).as_mut()
+    }
+
+    fn num_children(&self) -> usize {
+        self.keys.len()
+    }
+
+    fn add_child(&mut self, byte: u8, child: C) {
+        let place = rank_of(self.keys.as_slice(), byte);
+        let len = self.keys.len();
+        self.keys.insert(place, byte);
+        insert_slot(&mut self.children.slots, place, len, child);
+    }
+
+    fn replace_child(&mut self, byte: u8, child: C) -> C {
+        let Some(place) = place_of(self.keys.as_slice(), byte) else {
+            unreachable!()
+        };
+        match replace_slot(&mut self.children.slots, place, child) {
+            Some(replaced) => replaced,
+            None => unreachable!(),
+        }
+    }
+
+    fn delete_child(&mut self, byte: u8) -> Option<C> {
+        let place = place_of(self.keys.as_slice(), byte)?;
+        let len = self.keys.len();
+        self.keys.remove(place);
+        remove_slot(&mut self.children.slots, place, len)
+    }
+
+    fn next_from(&self, from: usize) -> Option<(u8, &C)> {
+        let keys = self.keys.as_slice();
+        let place = rank_from(keys, from);
+        if place < keys.len() {
+            match &self.children.slots[place] {
+                Some(child) => Some((keys[place], child)),
+                None => unreachable!(),
+            }
+        } else {
+            None
+        }
+    }
+
+    ghost ascending = { sorted-ascending };
+
+    ghost fits = { sorted-fits };
+}
+
+impl<C: Clone + Drop, const WIDTH: usize> Clone for SortedKeyedMapping<C, WIDTH> {
+    ghost is_clone = { λ mapping copy. SameBytes C.is_clone (sorted_children mapping) (sorted_children copy)
+        × (sorted_in_order copy ≡ sorted_in_order mapping) };
+
+    fn clone(&self) -> Result<Self, AllocError> {
+        let keys = self.keys.clone()?;
+        let slots = self.children.slots.clone()?;
+        Ok(SortedKeyedMapping {
+            keys,
+            children: SlotArray { slots },
+        })
+    }
+}

@@ -1,0 +1,11 @@
+use crate::DirectMapping;
+use crate::tests::mappings::{assert_children_change, assert_four_children};
+use std::test::Fail;
+
+#[test]
+fn four_children_of_a_direct_mapping(rt: HostRuntime) -> Result<(), Fail> {
+    let mut mapping: DirectMapping<u32> = DirectMapping::new();
+    assert_four_children(&rt, &mut mapping);
+    assert_children_change(&rt, &mut mapping);
+    Ok(())
+}

@@ -1,0 +1,11 @@
+use crate::IndexedMapping;
+use crate::tests::mappings::{assert_children_change, assert_four_children};
+use std::test::Fail;
+
+#[test]
+fn four_children_of_an_indexed_mapping(rt: HostRuntime) -> Result<(), Fail> {
+    let mut mapping: IndexedMapping<u32> = IndexedMapping::new();
+    assert_four_children(&rt, &mut mapping);
+    assert_children_change(&rt, &mut mapping);
+    Ok(())
+}

@@ -1,0 +1,29 @@
+use crate::tests::{
+    assert_common_lengths, assert_key_shows_its_bytes, assert_keys_of_each_length,
+    assert_order_of_bytes, assert_prefix_shows_its_bytes,
+};
+use crate::{ArrPartial, ArrayKey, KeyTrait};
+use std::test::Fail;
+
+#[test]
+fn inline_key_shows_its_bytes(rt: HostRuntime) -> Result<(), Fail> {
+    assert_eq!(rt; ArrayKey::<4>::MAXIMUM_SIZE, Some(4));
+    assert_key_shows_its_bytes::<ArrayKey<4>>(&rt, rt.alloc())?;
+    assert_keys_of_each_length::<ArrayKey<4>>(&rt, rt.alloc())?;
+    Ok(())
+}
+
+#[test]
+fn inline_keys_compare_as_their_bytes(rt: HostRuntime) -> Result<(), Fail> {
+    assert_order_of_bytes::<ArrayKey<4>>(&rt, rt.alloc())?;
+    Ok(())
+}
+
+#[test]
+fn inline_prefix_shows_its_bytes(rt: HostRuntime) -> Result<(), Fail> {
+    let key: ArrayKey<4> = ArrayKey::new_from_slice(rt.alloc(), b"wxyz")?;
+    let prefix: ArrPartial<4> = key.to_partial(rt.alloc(), 0)?;
+    assert_prefix_shows_its_bytes(&rt, rt.alloc(), &prefix)?;
+    assert_common_lengths(&rt, &prefix);
+    Ok(())
+}

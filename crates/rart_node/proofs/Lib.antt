@@ -1,0 +1,6 @@
+pub mod Contents
+pub mod Copies
+pub mod Entries
+pub mod Froms
+pub mod Rooms
+pub mod Rules

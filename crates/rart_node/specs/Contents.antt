@@ -1,0 +1,33 @@
+-- What a content holds, whatever stands for the pointers.
+use Rattle.std.specs.Prelude.{◌≡◌, ℕ, List, [], Bool, true}
+use Rattle.std.specs.Global.{Box}
+use Rattle.rart_below.specs.declared.mapping.sorted.SortedKeyedMapping.{SortedKeyedMapping}
+use Rattle.rart_below.specs.declared.mapping.indexed.IndexedMapping.{IndexedMapping}
+use Rattle.rart_below.specs.declared.mapping.direct.DirectMapping.{DirectMapping}
+use Rattle.rart_below.specs.SortedKeyedMapping.{sorted_children, sorted_in_order}
+use Rattle.rart_below.specs.IndexedMapping.{indexed_children, indexed_in_order}
+use Rattle.rart_below.specs.DirectMapping.{direct_children, direct_in_order}
+use Rattle.rart_node.specs.declared.content.Layout.{Layout}
+use Rattle.rart_node.specs.declared.content.Layout.TheVariants.{Leaf, Node4, Node16, Node48, Node256}
+use Rattle.rart_node.specs.declared.wide_box.WideBox.{WideBox}
+
+-- how many children there is room for, whether the lists inside are in step, and the children
+pub record Held (C : Type 0) : Type 0 where
+  pub width : ℕ
+  pub in_order : Bool
+  pub children : List (ℕ × C)
+
+abbrev pub Content : Type 0 → Type 0
+Content C = Layout (Box (SortedKeyedMapping C 4)) (WideBox (SortedKeyedMapping C 16)) (WideBox (IndexedMapping C)) (WideBox (DirectMapping C))
+
+module _ {C : Type 0} where
+  abbrev pub held : Content C → Held C
+  held Leaf = record { width = 0; in_order = true; children = [] }
+  held (Node4 mapping) = record { width = 4; in_order = sorted_in_order mapping.value; children = sorted_children mapping.value }
+  held (Node16 mapping) = record { width = 16; in_order = sorted_in_order mapping.boxed.value; children = sorted_children mapping.boxed.value }
+  held (Node48 mapping) = record { width = 48; in_order = indexed_in_order mapping.boxed.value; children = indexed_children mapping.boxed.value }
+  held (Node256 mapping) = record { width = 256; in_order = direct_in_order mapping.boxed.value; children = direct_children mapping.boxed.value }
+
+  -- The lists inside are in step, and the content has this width and these children.
+  abbrev pub Holds : Content C → ℕ → List (ℕ × C) → Type 0
+  Holds content width children = held content ≡ record { width = width; in_order = true; children = children }

@@ -1,0 +1,62 @@
+-- What becomes of a pointer or a node that a reference for writing was lent out of.
+use Rattle.std.specs.Prelude.{◌≡◌, ℕ, List, Option, Some, Result, OnSome}
+use Rattle.std.specs.Borrow.{RattleType, MutBor, Fml, LendsSo, LendsSoOk}
+use Rattle.std.specs.declared.alloc.AllocError.{AllocError}
+use denote.Param.{number}
+use Rattle.std.specs.contracts.boxed.Box as boxed
+use Rattle.std.specs.contracts.alloc.Global as global
+use Rattle.std.specs.contracts.impls.GlobalAllocator.TheImpl as GlobalAllocator
+use Rattle.rart_below.specs.contracts.mapping.sorted.SortedKeyedMapping as sorted
+use Rattle.rart_below.specs.contracts.mapping.indexed.IndexedMapping as indexed
+use Rattle.rart_below.specs.contracts.mapping.direct.DirectMapping as direct
+use Rattle.rart_node.specs.contracts.content.Layout as layout
+use Rattle.rart_node.specs.contracts.wide_box.WideBox as wide_box
+use Rattle.rart_node.specs.Contents.{Content, held, Holds}
+use Rattle.rart_node.specs.contracts.node.VersionedNode as node
+use Rattle.rart_node.specs.contracts.node_ref.NodeRef as pointer
+use Rattle.rart_node.specs.declared.node.VersionedNode.{VersionedNode}
+use Rattle.rart_node.specs.declared.node_ref.NodeRef.{NodeRef}
+use Rattle.rart_below.specs.Children.{with_child}
+use Rattle.rart_node.specs.Seen.{seen, shown}
+use Rattle.rart_node.specs.Shape.{with_replaced, with_value}
+
+-- the type of a content, as the logic has it
+abbrev content_row : RattleType → RattleType
+content_row C = layout.the_row
+    (boxed.the_row (sorted.the_row C (number 4)) global.the_row GlobalAllocator.ghosts)
+    (wide_box.the_row (sorted.the_row C (number 16)))
+    (wide_box.the_row (indexed.the_row C))
+    (wide_box.the_row (direct.the_row C))
+
+module _ (P V : RattleType) where
+  abbrev Pointer : Type 0
+  Pointer = NodeRef P.Denot V.Denot
+
+  -- The content has the child as it was left behind the result, and where there is none holds what it held.
+  abbrev pub LendsHeld : MutBor (Content Pointer) → ℕ → Option (MutBor Pointer) → Fml
+  LendsHeld lender byte result =
+      LendsSo (content_row (pointer.the_row P V)) (pointer.the_row P V) lender result
+      (λ after left. OnSome result (Holds after (held lender.now).width (with_child byte left (held lender.now).children)))
+      (λ after. held after ≡ held lender.now)
+
+module _ (P V : RattleType) (bytes : P.Denot → List ℕ) where
+  -- The pointer shows the node as it was left behind the result, and where there was no memory what it showed.
+  abbrev pub LendsNode : MutBor (NodeRef P.Denot V.Denot) → Result (MutBor (VersionedNode P.Denot V.Denot)) AllocError → Fml
+  LendsNode lender result =
+      LendsSoOk (pointer.the_row P V) (node.the_row P V) lender result
+      (λ after left. shown bytes after ≡ seen bytes left)
+      (λ after. shown bytes after ≡ shown bytes lender.now)
+
+  -- The node has the child as it was left behind the result, and where there is none is as before.
+  abbrev pub LendsChild : MutBor (VersionedNode P.Denot V.Denot) → ℕ → Option (MutBor (NodeRef P.Denot V.Denot)) → Fml
+  LendsChild lender byte result =
+      LendsSo (node.the_row P V) (pointer.the_row P V) lender result
+      (λ after left. OnSome result (seen bytes after ≡ with_replaced byte (shown bytes left) (seen bytes lender.now)))
+      (λ after. seen bytes after ≡ seen bytes lender.now)
+
+  -- The node has the value as it was left behind the result, and where there is none is as before.
+  abbrev pub LendsValue : MutBor (VersionedNode P.Denot V.Denot) → Option (MutBor V.Denot) → Fml
+  LendsValue lender result =
+      LendsSo (node.the_row P V) V lender result
+      (λ after left. OnSome result (seen bytes after ≡ with_value (Some left) (seen bytes lender.now)))
+      (λ after. seen bytes after ≡ seen bytes lender.now)

@@ -1,0 +1,5 @@
+pub mod Contents
+pub mod Counts
+pub mod Lent
+pub mod Seen
+pub mod Shape

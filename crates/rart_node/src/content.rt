@@ -1,0 +1,241 @@
+ghost use Rattle.std.specs.Prelude.{◌≡◌, ◌<◌, ◌+◌, ◌↔◌, None, Some, length, if◌then◌else◌, IfOk, IsSome, IsTrue, OnOk, OnErr, option_copied};
+ghost use Rattle.std.specs.Borrow.{sem};
+ghost use Rattle.std.specs.Option.{option_copied_mut};
+ghost use Rattle.rart_below.specs.Children.{child_at, children_from, first_of, with_child, without_child};
+ghost use Rattle.rart_below.specs.Layouts.{entry_copied};
+ghost use Rattle.rart_node.specs.Contents.{held, Holds};
+ghost use Rattle.rart_node.specs.Shape.{IsFullAt, is_full_at, wider, widened};
+
+use crate::node_ref::NodeRef;
+use crate::wide_box::WideBox;
+use crate::work::Work;
+use rart_below::{
+    DirectMapping, IndexedMapping, NodeMapping, Partial, SortedKeyedMapping, move_children,
+};
+use std::alloc::{AllocError, Global};
+
+/// Where a node keeps its children: nowhere in a leaf, else in a mapping of one of four widths.
+///
+/// The mappings are parameters, so that the type does not lead back to itself and a proof sees a
+/// `match` on it as on any other.
+#[derive(Drop)]
+pub(crate) enum Layout<M4, M16, M48, M256> {
+    Leaf,
+    Node4(M4),
+    Node16(M16),
+    Node48(M48),
+    Node256(M256),
+}
+
+/// What a node keeps its children in.
+pub(crate) type Content<P, V> = Layout<
+    Box<SortedKeyedMapping<NodeRef<P, V>, 4>>,
+    WideBox<SortedKeyedMapping<NodeRef<P, V>, 16>>,
+    WideBox<IndexedMapping<NodeRef<P, V>>>,
+    WideBox<DirectMapping<NodeRef<P, V>>>,
+>;
+
+impl<P: Partial, V: Drop> Content<P, V> {
+    ghost use Rattle.rart_node.specs.Lent.{LendsHeld};
+
+    pub(crate) fn width(&self) -> usize
+        ensures { result ≡ (held self.now).width }
+    {
+        match self {
+            Layout::Leaf => 0,
+            Layout::Node4(_) => 4,
+            Layout::Node16(_) => 16,
+            Layout::Node48(_) => 48,
+            Layout::Node256(_) => 256,
+        }
+    }
+
+    pub(crate) fn num_children(&self) -> usize
+        requires { IsTrue (held self.now).in_order }
+        ensures { result ≡ length (held self.now).children }
+    {
+        match self {
+            Layout::Leaf => 0,
+            Layout::Node4(mapping) => mapping.num_children(),
+            Layout::Node16(mapping) => mapping.boxed.num_children(),
+            Layout::Node48(mapping) => mapping.boxed.num_children(),
+            Layout::Node256(mapping) => mapping.boxed.num_children(),
+        }
+    }
+
+    pub(crate) fn seek_child(&self, byte: u8) -> Option<&NodeRef<P, V>>
+        requires { IsTrue (held self.now).in_order }
+        ensures { option_copied result ≡ child_at byte (held self.now).children }
+    {
+        match self {
+            Layout::Leaf => None,
+            Layout::Node4(mapping) => mapping.seek_child(byte),
+            Layout::Node16(mapping) => mapping.boxed.seek_child(byte),
+            Layout::Node48(mapping) => mapping.boxed.seek_child(byte),
+            Layout::Node256(mapping) => mapping.boxed.seek_child(byte),
+        }
+    }
+
+    /// The child under the byte, for writing.
+    pub(crate) fn seek_child_mut(&mut self, byte: u8) -> Option<&mut NodeRef<P, V>>
+        requires { IsTrue (held self.old).in_order }
+        ensures* writes_back { sem 𝓛 (LendsHeld P.row V.row self.entry byte result) }
+        ensures value { option_copied_mut result ≡ child_at byte (held self.old).children }
+    {
+        match self {
+            Layout::Leaf => None,
+            Layout::Node4(mapping) => mapping.seek_child_mut(byte),
+            Layout::Node16(mapping) => mapping.boxed.seek_child_mut(byte),
+            Layout::Node48(mapping) => mapping.boxed.seek_child_mut(byte),
+            Layout::Node256(mapping) => mapping.boxed.seek_child_mut(byte),
+        }
+    }
+
+    /// The child of the least byte that is not below the number, with that byte.
+    pub(crate) fn next_from(&self, from: usize) -> Option<(u8, &NodeRef<P, V>)>
+        requires { IsTrue (held self.now).in_order }
+        ensures { entry_copied result ≡ first_of (children_from from (held self.now).children) }
+    {
+        match self {
+            Layout::Leaf => None,
+            Layout::Node4(mapping) => mapping.next_from(from),
+            Layout::Node16(mapping) => mapping.boxed.next_from(from),
+            Layout::Node48(mapping) => mapping.boxed.next_from(from),
+            Layout::Node256(mapping) => mapping.boxed.next_from(from),
+        }
+    }
+
+    /// Puts a child under a byte that has none.
+    pub(crate) fn add_child(&mut self, byte: u8, child: NodeRef<P, V>)
+        requires order { IsTrue (held self.old).in_order }
+        requires absent { child_at byte (held self.old).children ≡ None }
+        requires room { length (held self.old).children < (held self.old).width }
+        ensures { Holds self.new (held self.old).width (with_child byte child (held self.old).children) }
+    {
+        match self {
+            Layout::Leaf => unreachable!(),
+            Layout::Node4(mapping) => mapping.add_child(byte, child),
+            Layout::Node16(mapping) => mapping.boxed.add_child(byte, child),
+            Layout::Node48(mapping) => mapping.boxed.add_child(byte, child),
+            Layout::Node256(mapping) => mapping.boxed.add_child(byte, child),
+        }
+    }
+
+    /// Puts a child in place of the one under the byte, and gives that one.
+    pub(crate) fn replace_child(&mut self, byte: u8, child: NodeRef<P, V>) -> NodeRef<P, V>
+        requires order { IsTrue (held self.old).in_order }
+        requires present { IsSome (child_at byte (held self.old).children) }
+        ensures content { Holds self.new (held self.old).width (with_child byte child (held self.old).children) }
+        ensures replaced { Some result ≡ child_at byte (held self.old).children }
+    {
+        match self {
+            Layout::Leaf => unreachable!(),
+            Layout::Node4(mapping) => mapping.replace_child(byte, child),
+            Layout::Node16(mapping) => mapping.boxed.replace_child(byte, child),
+            Layout::Node48(mapping) => mapping.boxed.replace_child(byte, child),
+            Layout::Node256(mapping) => mapping.boxed.replace_child(byte, child),
+        }
+    }
+
+    /// Takes out the child under the byte. The width stays.
+    pub(crate) fn delete_child(&mut self, byte: u8) -> Option<NodeRef<P, V>>
+        requires { IsTrue (held self.old).in_order }
+        ensures content { Holds self.new (held self.old).width (without_child byte (held self.old).children) }
+        ensures deleted { result ≡ child_at byte (held self.old).children }
+    {
+        match self {
+            Layout::Leaf => None,
+            Layout::Node4(mapping) => mapping.delete_child(byte),
+            Layout::Node16(mapping) => mapping.boxed.delete_child(byte),
+            Layout::Node48(mapping) => mapping.boxed.delete_child(byte),
+            Layout::Node256(mapping) => mapping.boxed.delete_child(byte),
+        }
+    }
+
+    /// Whether there are as many children as the width has room for. No leaf is full, nor is the
+    /// widest mapping.
+    pub(crate) fn is_full(&self) -> bool
+        requires { IsTrue (held self.now).in_order }
+        ensures { IsTrue result ↔ IsFullAt (held self.now).width (length (held self.now).children) }
+    {
+        let width = self.width();
+        0 < width && width < 256 && self.num_children() == width
+    }
+
+    /// Whether one more child asks for the next width, as it does of a leaf and of a full mapping.
+    fn must_widen(&self) -> bool
+        requires { IsTrue (held self.now).in_order }
+        ensures { result ≡ is_full_at (held self.now).width (length (held self.now).children) }
+    {
+        let width = self.width();
+        width < 256 && width <= self.num_children()
+    }
+
+    /// Sees that one more child fits: a change of width is one node made. Refused for memory,
+    /// nothing has changed.
+    pub(crate) fn make_room(&mut self, alloc: Global, work: &mut Work) -> Result<(), AllocError>
+        requires { IsTrue (held self.old).in_order }
+        ensures ok { OnOk result (Holds self.new (widened (held self.old).width (length (held self.old).children)) (held self.old).children) }
+        ensures refused { OnErr result (self.new ≡ self.old) }
+        ensures work { work.new ≡ record work.old { made = work.old.made + (if is_full_at (held self.old).width (length (held self.old).children) then 1 else 0) } }
+    {
+        let must_widen = self.must_widen();
+        work.make_if(must_widen);
+        if must_widen {
+            self.widen(alloc)?;
+        }
+        Ok(())
+    }
+
+    /// Moves the children to the next width. Refused for memory, nothing has changed.
+    pub(crate) fn widen(&mut self, alloc: Global) -> Result<(), AllocError>
+        requires order { IsTrue (held self.old).in_order }
+        requires narrow { (held self.old).width < 256 }
+        ensures ok { OnOk result (Holds self.new (wider (held self.old).width) (held self.old).children) }
+        ensures refused { OnErr result (self.new ≡ self.old) }
+    {
+        match self {
+            Layout::Leaf => *self = Layout::Node4(Box::new(alloc, SortedKeyedMapping::new())?),
+            Layout::Node4(mapping) => {
+                let mut wider = Box::new(alloc, SortedKeyedMapping::new())?;
+                move_children(&mut **mapping, &mut *wider);
+                *self = Layout::Node16(WideBox { boxed: wider });
+            }
+            Layout::Node16(mapping) => {
+                let mut wider = Box::new(alloc, IndexedMapping::new())?;
+                move_children(&mut *mapping.boxed, &mut *wider);
+                *self = Layout::Node48(WideBox { boxed: wider });
+            }
+            Layout::Node48(mapping) => {
+                let mut wider = Box::new(alloc, DirectMapping::new())?;
+                move_children(&mut *mapping.boxed, &mut *wider);
+                *self = Layout::Node256(WideBox { boxed: wider });
+            }
+            Layout::Node256(_) => unreachable!(),
+        }
+        Ok(())
+    }
+}
+
+impl<P: Partial, V: Drop> Content<P, V> {
+    ghost use Rattle.rart_node.specs.Seen.{shown_held};
+
+    /// The same children at the same width: a copy of each pointer.
+    pub(crate) fn copy(&self) -> Result<Content<P, V>, AllocError>
+        ensures { IfOk result (λ copy. shown_held P.bytes (held copy) ≡ shown_held P.bytes (held self.now)) }
+    {
+        match self {
+            Layout::Leaf => Ok(Layout::Leaf),
+            Layout::Node4(mapping) => Ok(Layout::Node4(mapping.clone()?)),
+            Layout::Node16(mapping) => Ok(Layout::Node16(WideBox {
+                boxed: mapping.boxed.clone()?,
+            })),
+            Layout::Node48(mapping) => Ok(Layout::Node48(WideBox {
+                boxed: mapping.boxed.clone()?,
+            })),
+            Layout::Node256(mapping) => Ok(Layout::Node256(WideBox {
+                boxed: mapping.boxed.clone()?,
+            })),
+        }
+    }
+}

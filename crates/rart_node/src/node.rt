@@ -1,0 +1,312 @@
+ghost use Rattle.std.specs.Prelude.{◌≡◌, ◌≢◌, ◌==◌, ℕ, ◌+◌, ◌↔◌, ◌<◌, ◌≤◌, if◌then◌else◌, is_ok, IsErrOf, IsSome, IsTrue, IfOk, OnOk, OnErr, Some, None, [], length, not};
+ghost use Rattle.std.specs.Option.{option_map, option_copied};
+ghost use Rattle.rart_below.specs.Children.{child_at, children_from, first_of};
+ghost use Rattle.rart_below.specs.Clones.{ClonesEqual};
+ghost use Rattle.rart_node.specs.Shape.{node_of, prefix_of, value_of, width_of, children_of, is_full_at, with_value, with_prefix, with_replaced, with_deleted, with_added, with_width, widenings, wider, IsAscending, IsFull};
+
+use crate::content::{Content, Layout};
+use crate::grow_error::GrowError;
+use crate::node_iter::VersionedNodeIter;
+use crate::node_ref::NodeRef;
+use crate::work::Work;
+use rart_below::{NodeMapping, Partial, SortedKeyedMapping};
+use std::alloc::{AllocError, Global};
+
+/// A node: a prefix, an optional value, a width and a finite map from bytes to pointers.
+///
+/// The width, one of none, 4, 16, 48 and 256, is how many children there is room for. A node of
+/// width none is a leaf. Contracts see a node by its shape, in which each pointer is the node that
+/// it shows.
+#[cycle(node)]
+#[derive(Drop)]
+pub struct VersionedNode<P, V> {
+    prefix: P,
+    value: Option<V>,
+    version: u64,
+    alloc: Global,
+    content: Content<P, V>,
+}
+
+#[tactic(auto, using(crate::proofs::Rules::seeing))]
+impl<P: Partial, V: Drop> VersionedNode<P, V> {
+    ghost use Rattle.rart_node.specs.Seen.{seen, shown, shown_entry, children_left};
+    ghost use Rattle.rart_node.specs.Lent.{LendsChild, LendsValue};
+    ghost use Rattle.std.specs.Borrow.{sem};
+
+    /// A leaf with this value. The allocator is kept for its copies and its growth, and `version` is
+    /// stored and read by no call.
+    pub fn new_leaf(alloc: Global, prefix: P, value: V, version: u64) -> VersionedNode<P, V>
+        ensures { seen P.bytes result ≡ node_of (P.bytes prefix) (Some value) 0 [] }
+    {
+        VersionedNode {
+            prefix,
+            value: Some(value),
+            version,
+            alloc,
+            content: Layout::Leaf,
+        }
+    }
+
+    /// A node of width 4 with no value and no child.
+    pub fn new_inner(
+        alloc: Global,
+        prefix: P,
+        version: u64,
+    ) -> Result<VersionedNode<P, V>, AllocError>
+        ensures { IfOk result (λ node. seen P.bytes node ≡ node_of (P.bytes prefix) None 4 []) }
+    {
+        Ok(VersionedNode {
+            prefix,
+            value: None,
+            version,
+            alloc,
+            content: Layout::Node4(Box::new(alloc, SortedKeyedMapping::new())?),
+        })
+    }
+
+    /// Whether the width is none.
+    pub fn is_leaf(&self) -> bool
+        ensures { result ≡ (width_of (seen P.bytes self.now) == 0) }
+    {
+        self.content.width() == 0
+    }
+
+    /// Whether the width is not none, also without children.
+    pub fn is_inner(&self) -> bool
+        ensures { result ≡ not (width_of (seen P.bytes self.now) == 0) }
+    {
+        self.content.width() != 0
+    }
+
+    pub fn prefix(&self) -> &P
+        ensures { P.bytes result.now ≡ prefix_of (seen P.bytes self.now) }
+    {
+        &self.prefix
+    }
+
+    pub fn value(&self) -> Option<&V>
+        ensures { option_copied result ≡ value_of (seen P.bytes self.now) }
+    {
+        self.value.as_ref()
+    }
+
+    /// The number of children.
+    pub fn num_children(&self) -> usize
+        requires { IsAscending (seen P.bytes self.now) }
+        ensures { result ≡ length (children_of (seen P.bytes self.now)) }
+    {
+        self.content.num_children()
+    }
+
+    /// Whether there are as many children as the width has room for: 4, 16 or 48 at these widths. A
+    /// leaf is never full, nor is a node of width 256.
+    pub fn is_full(&self) -> bool
+        requires { IsAscending (seen P.bytes self.now) }
+        ensures { IsTrue result ↔ IsFull (seen P.bytes self.now) }
+    {
+        self.content.is_full()
+    }
+
+    /// The pointer under the byte.
+    pub fn seek_child(&self, byte: u8) -> Option<&NodeRef<P, V>>
+        requires { IsAscending (seen P.bytes self.now) }
+        ensures { option_map (λ child. shown P.bytes child.now) result ≡ child_at byte (children_of (seen P.bytes self.now)) }
+    {
+        self.content.seek_child(byte)
+    }
+
+    /// The children, each with its byte, ascending.
+    pub fn iter(&self) -> VersionedNodeIter<'_, P, V>
+        requires { IsAscending (seen P.bytes self.now) }
+        ensures order { IsAscending (seen P.bytes result.node.now) }
+        ensures children { children_left P.bytes result ≡ children_of (seen P.bytes self.now) }
+    {
+        self.iter_from(0)
+    }
+
+    /// The children from a byte on, each with its byte, ascending.
+    pub fn iter_from(&self, least: u8) -> VersionedNodeIter<'_, P, V>
+        requires { IsAscending (seen P.bytes self.now) }
+        ensures order { IsAscending (seen P.bytes result.node.now) }
+        ensures children { children_left P.bytes result ≡ children_from least (children_of (seen P.bytes self.now)) }
+    {
+        VersionedNodeIter {
+            node: self,
+            from: least as usize,
+        }
+    }
+
+    /// The child of the least byte that is not below the number.
+    pub(crate) fn next_from(&self, from: usize) -> Option<(u8, &NodeRef<P, V>)>
+        requires { IsAscending (seen P.bytes self.now) }
+        ensures { option_map (shown_entry P.bytes) result ≡ first_of (children_from from (children_of (seen P.bytes self.now))) }
+    {
+        self.content.next_from(from)
+    }
+
+    /// The pointer under the byte, for writing. The node then has that child as it was left.
+    pub fn seek_child_mut(&mut self, byte: u8) -> Option<&mut NodeRef<P, V>>
+        requires { IsAscending (seen P.bytes self.old) }
+        ensures* writes_back { sem 𝓛 (LendsChild P.row V.row P.bytes self.entry byte result) }
+        ensures value { option_map (λ child. shown P.bytes child.now) result ≡ child_at byte (children_of (seen P.bytes self.old)) }
+    {
+        self.content.seek_child_mut(byte)
+    }
+
+    /// Adds a child under a byte that has none. A leaf becomes width 4 and a full node the next
+    /// width, which is one node made. Refused for memory, the node is as before.
+    pub fn add_child(
+        &mut self,
+        alloc: Global,
+        byte: u8,
+        child: NodeRef<P, V>,
+        work: &mut Work,
+    ) -> Result<(), AllocError>
+        requires order { IsAscending (seen P.bytes self.old) }
+        requires absent { child_at byte (children_of (seen P.bytes self.old)) ≡ None }
+        ensures ok { OnOk result (seen P.bytes self.new ≡ with_added byte (shown P.bytes child) (seen P.bytes self.old)) }
+        ensures refused { OnErr result (seen P.bytes self.new ≡ seen P.bytes self.old) }
+        ensures entered { work.new.entered ≡ work.old.entered }
+        ensures made { work.new.made ≡ work.old.made + widenings (seen P.bytes self.old) }
+    {
+        let content = &mut self.content;
+        content.make_room(alloc, work)?;
+        content.add_child(byte, child);
+        Ok(())
+    }
+
+    /// Puts a child in place of the one under the byte, and gives that one.
+    pub fn replace_child(&mut self, byte: u8, child: NodeRef<P, V>) -> NodeRef<P, V>
+        requires order { IsAscending (seen P.bytes self.old) }
+        requires present { IsSome (child_at byte (children_of (seen P.bytes self.old))) }
+        ensures seen { seen P.bytes self.new ≡ with_replaced byte (shown P.bytes child) (seen P.bytes self.old) }
+        ensures replaced { Some (shown P.bytes result) ≡ child_at byte (children_of (seen P.bytes self.old)) }
+    {
+        self.content.replace_child(byte, child)
+    }
+
+    /// Takes out the child under the byte. The width stays.
+    pub fn delete_child(&mut self, byte: u8) -> Option<NodeRef<P, V>>
+        requires { IsAscending (seen P.bytes self.old) }
+        ensures seen { seen P.bytes self.new ≡ with_deleted byte (seen P.bytes self.old) }
+        ensures deleted { option_map (shown P.bytes) result ≡ child_at byte (children_of (seen P.bytes self.old)) }
+    {
+        self.content.delete_child(byte)
+    }
+
+    /// The value, for writing. The node then has it as it was left.
+    pub fn value_mut(&mut self) -> Option<&mut V>
+        ensures* writes_back { sem 𝓛 (LendsValue P.row V.row P.bytes self.entry result) }
+        ensures value { option_map (λ value. value.now) result ≡ value_of (seen P.bytes self.old) }
+    {
+        self.value.as_mut()
+    }
+
+    /// Puts the value in, and gives the one that was there.
+    pub fn set_value(&mut self, value: V) -> Option<V>
+        ensures old { result ≡ value_of (seen P.bytes self.old) }
+        ensures new { seen P.bytes self.new ≡ with_value (Some value) (seen P.bytes self.old) }
+    {
+        self.value.replace(value)
+    }
+
+    /// Takes the value out.
+    pub fn take_value(&mut self) -> Option<V>
+        ensures old { result ≡ value_of (seen P.bytes self.old) }
+        ensures new { seen P.bytes self.new ≡ with_value None (seen P.bytes self.old) }
+    {
+        self.value.take()
+    }
+
+    /// The same node with this prefix.
+    pub fn with_prefix(self, prefix: P) -> VersionedNode<P, V>
+        ensures { seen P.bytes result ≡ with_prefix (P.bytes prefix) (seen P.bytes self) }
+    {
+        VersionedNode {
+            prefix,
+            value: self.value,
+            version: self.version,
+            alloc: self.alloc,
+            content: self.content,
+        }
+    }
+}
+
+#[tactic(auto, using(crate::proofs::Rules::seeing))]
+impl<P: Partial, V: Clone + Drop> VersionedNode<P, V> {
+    ghost use Rattle.rart_node.specs.Seen.{seen, seen_of, shown_held};
+    ghost use Rattle.rart_node.specs.Contents.{held};
+
+    /// A node with the same prefix, value, width and children, where clones of values equal them.
+    pub fn cow_clone_inner(
+        &self,
+        alloc: Global,
+        new_version: u64,
+    ) -> Result<VersionedNode<P, V>, AllocError>
+        ensures { IfOk result (λ copy. ClonesEqual V.is_clone → seen P.bytes copy ≡ seen P.bytes self.now) }
+    {
+        let content = self.content.copy()?;
+        self.copy_with(alloc, new_version, content)
+    }
+
+    /// A node with the same prefix, value and children at the next width, where clones of values
+    /// equal them. rart panics where this is refused.
+    ///
+    /// Of a leaf the answer is `GrowError::Leaf`, of a node of width 256 `GrowError::Widest`, and
+    /// where memory is refused `GrowError::Memory`. They are tested in this order.
+    pub fn grow(&self, alloc: Global, new_version: u64) -> Result<VersionedNode<P, V>, GrowError>
+        requires { IsAscending (seen P.bytes self.now) }
+        ensures grown { IfOk result (λ node. ClonesEqual V.is_clone → seen P.bytes node ≡ with_width (wider (width_of (seen P.bytes self.now))) (seen P.bytes self.now)) }
+        ensures leaf { IsErrOf result GrowError.Leaf ↔ (width_of (seen P.bytes self.now) ≡ 0) }
+        ensures widest { IsErrOf result GrowError.Widest ↔ (width_of (seen P.bytes self.now) ≡ 256) }
+    {
+        match self.content.width() {
+            0 => return Err(GrowError::Leaf),
+            256 => return Err(GrowError::Widest),
+            _ => {}
+        }
+        let mut content = self.content.copy()?;
+        content.widen(alloc)?;
+        Ok(self.copy_with(alloc, new_version, content)?)
+    }
+
+    /// The same prefix and value over this content.
+    fn copy_with(
+        &self,
+        alloc: Global,
+        new_version: u64,
+        content: Content<P, V>,
+    ) -> Result<VersionedNode<P, V>, AllocError>
+        ensures { IfOk result (λ copy. ClonesEqual V.is_clone → seen P.bytes copy ≡ seen_of P.bytes (prefix_of (seen P.bytes self.now)) (value_of (seen P.bytes self.now)) (shown_held P.bytes (held content))) }
+    {
+        let prefix = self.prefix.copy(alloc)?;
+        let value = clone_of(&self.value)?;
+        Ok(VersionedNode {
+            prefix,
+            value,
+            version: new_version,
+            alloc,
+            content,
+        })
+    }
+}
+
+impl<P: Partial, V: Clone + Drop> Clone for VersionedNode<P, V> {
+    ghost use Rattle.rart_node.specs.Seen.{seen};
+    ghost use Rattle.rart_below.specs.Clones.{ClonesEqual};
+
+    ghost is_clone = { λ node copy. ClonesEqual V.is_clone → seen P.bytes copy ≡ seen P.bytes node };
+
+    fn clone(&self) -> Result<VersionedNode<P, V>, AllocError> {
+        self.cow_clone_inner(self.alloc, self.version)
+    }
+}
+
+fn clone_of<V: Clone>(value: &Option<V>) -> Result<Option<V>, AllocError>
+    ensures { IfOk result (λ copy. ClonesEqual V.is_clone → copy ≡ value.now) }
+{
+    match value {
+        None => Ok(None),
+        Some(value) => Ok(Some(value.clone()?)),
+    }
+}

@@ -1,0 +1,90 @@
+ghost use Rattle.std.specs.Prelude.{◌≡◌, ◌+◌, IfOk};
+ghost use Rattle.rart_below.specs.Clones.{ClonesEqual};
+
+use crate::node::VersionedNode;
+use crate::work::Work;
+use rart_below::Partial;
+use std::alloc::{AllocError, Global};
+use std::rc::Rc;
+
+/// A counted pointer to a node: rart's `Arc<VersionedNode>`, for one thread.
+///
+/// Contracts see a pointer as the node that it shows. Copies of a pointer show the same node, and a
+/// write through one of them changes what that one shows and no other. Nothing can be read through
+/// a pointer without a count in a `Work`.
+#[cycle(node)]
+#[derive(Drop)]
+pub struct NodeRef<P, V> {
+    shared: Rc<VersionedNode<P, V>, Global>,
+}
+
+#[tactic(auto, using(crate::proofs::Rules::seeing))]
+impl<P: Partial, V: Drop> NodeRef<P, V> {
+    ghost use Rattle.rart_node.specs.Seen.{seen, shown};
+
+    /// A pointer to this node: one node made. Refused for memory, the node is given up.
+    pub fn new(
+        alloc: Global,
+        node: VersionedNode<P, V>,
+        work: &mut Work,
+    ) -> Result<NodeRef<P, V>, AllocError>
+        ensures shown { IfOk result (λ pointer. shown P.bytes pointer ≡ seen P.bytes node) }
+        ensures work { work.new ≡ record work.old { made = work.old.made + 1 } }
+    {
+        work.make();
+        Ok(NodeRef {
+            shared: Rc::new(alloc, node)?,
+        })
+    }
+
+    /// The node: one node entered.
+    pub fn open(&self, work: &mut Work) -> &VersionedNode<P, V>
+        ensures shown { seen P.bytes result.now ≡ shown P.bytes self.now }
+        ensures work { work.new ≡ record work.old { entered = work.old.entered + 1 } }
+    {
+        work.enter();
+        &self.shared
+    }
+
+    /// Another pointer to the same node. In Rust this is `Arc::clone`.
+    pub fn copy(&self) -> Result<NodeRef<P, V>, AllocError>
+        ensures { IfOk result (λ copy. shown P.bytes copy ≡ shown P.bytes self.now) }
+    {
+        Ok(NodeRef {
+            shared: self.shared.clone()?,
+        })
+    }
+}
+
+/// As `copy`.
+impl<P: Partial, V: Drop> Clone for NodeRef<P, V> {
+    ghost use Rattle.rart_node.specs.Seen.{shown};
+
+    ghost is_clone = { λ pointer copy. shown P.bytes copy ≡ shown P.bytes pointer };
+
+    fn clone(&self) -> Result<NodeRef<P, V>, AllocError> {
+        self.copy()
+    }
+}
+
+#[tactic(auto, using(crate::proofs::Rules::seeing))]
+impl<P: Partial, V: Clone + Drop> NodeRef<P, V> {
+    ghost use Rattle.rart_node.specs.Seen.{seen, shown};
+    ghost use Rattle.rart_node.specs.Lent.{LendsNode};
+    ghost use Rattle.std.specs.Borrow.{sem};
+
+    /// The node for writing, copied first where another pointer shows it: one node entered and one
+    /// made are counted either way.
+    ///
+    /// The pointer then shows the node as it was left. Refused for memory, it shows what it showed.
+    pub fn open_mut(&mut self, work: &mut Work) -> Result<&mut VersionedNode<P, V>, AllocError>
+        requires clones { ClonesEqual V.is_clone }
+        ensures* writes_back { sem 𝓛 (LendsNode P.row V.row P.bytes self.entry result) }
+        ensures shown { IfOk result (λ node. seen P.bytes node.now ≡ shown P.bytes self.old) }
+        ensures work { work.new ≡ record { entered = work.old.entered + 1; made = work.old.made + 1 } }
+    {
+        work.enter();
+        work.make();
+        Rc::make_mut(&mut self.shared)
+    }
+}

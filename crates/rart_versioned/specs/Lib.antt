@@ -1,0 +1,6 @@
+pub mod Bounds
+pub mod Changes
+pub mod Pairs
+pub mod Trees
+pub mod Updates
+pub mod Versions

@@ -1,0 +1,103 @@
+-- What a tree of nodes means: the value of each byte string.
+use Rattle.std.specs.Prelude.{◌≡◌, ℕ, ◌≤◌, ◌==◌, ◌++◌, Bool, true, false, List, [], ◌∷◌, Option, Some, None, IsSome, IsTrue, ⊤, length, map, if◌then◌else◌}
+use Rattle.std.specs.Option.{option_and_then}
+use Rattle.std.specs.Str.{bytes_eq}
+use Rattle.std.specs.FinMap as finite
+use Rattle.rart_below.specs.Bytes.{IsAdmitted}
+use Rattle.rart_below.specs.Children as children
+use Rattle.rart_node.specs.Shape.{Shape, Forest, node, bare, grown, prefix_of, entries_of}
+use Rattle.rart_versioned.specs.Versions.{Map}
+
+-- what is left of q behind p, where p begins it
+abbrev pub behind : List ℕ → List ℕ → Option (List ℕ)
+behind [] q = Some q
+behind (b ∷ p) [] = None
+behind (b ∷ p) (c ∷ q) = if c == b then behind p q else None
+
+-- The string begins with the byte.
+abbrev pub BeginsWith : ℕ → List ℕ → Type 0
+BeginsWith byte [] = ⊥
+BeginsWith byte (b ∷ w) = b ≡ byte
+
+-- whether the string begins with the byte
+abbrev pub is_first : ℕ → List ℕ → Bool
+is_first byte [] = false
+is_first byte (b ∷ w) = b == byte
+
+-- the first where the string is empty, else the second
+abbrev pub at_end : {A : Type 0} → List ℕ → A → A → A
+at_end [] here below = here
+at_end (b ∷ w) here below = below
+
+module _ {V : Type 0} where
+  abbrev mutual
+    -- the value of a string: a node's own where the string ends with its prefix, else what the child under the next byte has
+    pub found : Shape V → List ℕ → Option V
+    found (node prefix value width forest) q = option_and_then (λ rest. at_end rest value (found_below forest rest)) (behind prefix q)
+
+    pub found_below : Forest V → List ℕ → Option V
+    found_below bare q = None
+    found_below (grown byte child forest) q = if is_first byte q then found child q else found_below forest q
+
+  -- whether there is a value or a child
+  abbrev pub is_used : Option V → Forest V → Bool
+  is_used (Some value) forest = true
+  is_used None bare = false
+  is_used None (grown byte child forest) = true
+
+  abbrev mutual
+    -- At each node the children ascend, the prefix of each begins with its byte, and there is a value or a child.
+    pub IsTree : Shape V → Type 0
+    IsTree (node prefix value width forest) = children.IsAscending (entries_of forest) × AreBranches forest × IsTrue (is_used value forest)
+
+    pub AreBranches : Forest V → Type 0
+    AreBranches bare = ⊤
+    AreBranches (grown byte child forest) = BeginsWith byte (prefix_of child) × IsTree child × AreBranches forest
+
+  -- The same but for the node itself, which may have been left without value and child.
+  abbrev pub IsOrdered : Shape V → Type 0
+  IsOrdered (node prefix value width forest) = children.IsAscending (entries_of forest) × AreBranches forest
+
+  -- A first byte that a node's prefix shares with the key stays.
+  abbrev pub KeepsFirst : List ℕ → Shape V → Shape V → Type 0
+  KeepsFirst key before after = (byte : ℕ) → BeginsWith byte (prefix_of before) → BeginsWith byte key → BeginsWith byte (prefix_of after)
+
+  -- After, the tree has the value at the key, and else what it had.
+  abbrev pub IsPut : List ℕ → V → Shape V → Shape V → Type 0
+  IsPut key value before after =
+      IsTree after × ((q : List ℕ) → found after q ≡ (if bytes_eq q key then Some value else found before q)) × KeepsFirst key before after
+
+  -- After, nothing is at the key, and else what was there. The node itself may be left without value and child.
+  abbrev pub IsTaken : List ℕ → Shape V → Shape V → Type 0
+  IsTaken key before after =
+      IsOrdered after × ((q : List ℕ) → found after q ≡ (if bytes_eq q key then None else found before q)) × (prefix_of after ≡ prefix_of before)
+
+  -- a node's own pair
+  abbrev pub own_pair : Option V → List (List ℕ × V)
+  own_pair None = []
+  own_pair (Some value) = ([], value) ∷ []
+
+  abbrev mutual
+    -- all pairs, a node's own before those of its children
+    pub pairs_of : Shape V → List (List ℕ × V)
+    pairs_of (node prefix value width forest) = map (λ pair. (prefix ++ pair.0, pair.1)) (own_pair value ++ pairs_below forest)
+
+    pub pairs_below : Forest V → List (List ℕ × V)
+    pairs_below bare = []
+    pairs_below (grown byte child forest) = pairs_of child ++ pairs_below forest
+
+  -- the map that a root stands for, or the lack of one
+  abbrev pub map_of : Option (Shape V) → Map V
+  map_of None = finite.empty
+  map_of (Some root) = finite.from_entries (pairs_of root)
+
+  -- the value of a string below a root, or the lack of one
+  abbrev pub found_in : Option (Shape V) → List ℕ → Option V
+  found_in None q = None
+  found_in (Some root) q = found root q
+
+  -- Below the root all is in order, each key's length is admitted, and there are at most so many keys.
+  abbrev pub IsSound : Option ℕ → ℕ → Option (Shape V) → Type 0
+  IsSound most count None = ⊤
+  IsSound most count (Some root) =
+      IsTree root × ((key : List ℕ) → IsSome (found root key) → IsAdmitted most (length key)) × (finite.len (map_of (Some root)) ≤ count)

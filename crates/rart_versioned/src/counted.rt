@@ -1,0 +1,5 @@
+//! Whatever counts into a `Work` that it is handed, or counts nothing.
+
+mod tree;
+
+pub use tree::VersionedAdaptiveRadixTree;

@@ -1,0 +1,101 @@
+ghost use Rattle.std.specs.Prelude.{◌≡◌, ◌≤◌, IfOk};
+
+use rart_below::{KeyTrait, Partial};
+use rart_node::NodeRef;
+use std::alloc::{AllocError, Global};
+use std::marker::Model;
+
+/// An ordered map from keys to values, with a number that every change raises.
+///
+/// Contracts see it as a finite map from the keys' bytes, and the number. What a snapshot or a clone
+/// shows is copied where either is changed, so neither sees what the other becomes.
+#[derive(Drop)]
+pub struct VersionedAdaptiveRadixTree<K: KeyTrait, V: Clone> {
+    pub(crate) alloc: Global,
+    pub(crate) root: Option<NodeRef<K::PartialType, V>>,
+    pub(crate) version: u64,
+}
+
+impl<K: KeyTrait, V: Clone> Model for VersionedAdaptiveRadixTree<K, V> {
+    ghost use Rattle.std.specs.Option.{option_map};
+    ghost use Rattle.rart_node.specs.Seen.{shown};
+    ghost use Rattle.rart_versioned.specs.Trees.{map_of, IsSound};
+    ghost use Rattle.rart_versioned.specs.Versions.{Version, version_code};
+
+    ghost Value = { Version V };
+
+    ghost coded = { version_code V.code };
+
+    ghost view = { λ tree. record { content = map_of (option_map (shown K.PartialType.bytes) tree.root); number = tree.version } };
+
+    ghost invariant = { λ tree. IsSound K.MAXIMUM_SIZE tree.version (option_map (shown K.PartialType.bytes) tree.root) };
+}
+
+impl<K: KeyTrait, V: Clone + Drop> VersionedAdaptiveRadixTree<K, V> {
+    ghost use Rattle.rart_versioned.specs.Versions.{empty_at, raised, has_no_key, HasRoom};
+
+    /// A map without a key, its number 0.
+    pub fn new(alloc: Global) -> VersionedAdaptiveRadixTree<K, V>
+        ensures { result ≡ empty_at 0 }
+    {
+        VersionedAdaptiveRadixTree::new_at(alloc, 0)
+    }
+
+    /// As `new`. In Rust this is the trait `Default`.
+    pub fn default(alloc: Global) -> VersionedAdaptiveRadixTree<K, V>
+        ensures { result ≡ empty_at 0 }
+    {
+        VersionedAdaptiveRadixTree::new(alloc)
+    }
+
+    /// A map without a key, with this number. The Rust has no such call: there a new tree has
+    /// number 0.
+    pub fn new_at(alloc: Global, number: u64) -> VersionedAdaptiveRadixTree<K, V>
+        ensures { result ≡ empty_at number }
+    {
+        VersionedAdaptiveRadixTree {
+            alloc,
+            root: None,
+            version: number,
+        }
+    }
+
+    /// The number: how often the map was changed, or a snapshot taken, since `new`.
+    pub fn version(&self) -> u64
+        ensures { result ≡ self.now.number }
+    {
+        self.version
+    }
+
+    /// The same map once more, its number one greater. Refused for memory, this one is as before.
+    pub fn snapshot(&self) -> Result<VersionedAdaptiveRadixTree<K, V>, AllocError>
+        requires room { HasRoom self.now 1 }
+        ensures { IfOk result (λ copy. copy ≡ raised self.now 1) }
+    {
+        self.with_version(self.version + 1)
+    }
+
+    /// The same map once more with the same number. Refused for memory, this one is as before. The
+    /// Rust's documentation says that this is `snapshot`, its code keeps the number.
+    pub fn clone(&self) -> Result<VersionedAdaptiveRadixTree<K, V>, AllocError>
+        ensures { IfOk result (λ copy. copy ≡ self.now) }
+    {
+        self.with_version(self.version)
+    }
+
+    /// The same map once more with a number that is not below this one's.
+    fn with_version(&self, number: u64) -> Result<VersionedAdaptiveRadixTree<K, V>, AllocError>
+        requires { self.now.number ≤ number }
+        ensures { IfOk result (λ copy. copy ≡ record { content = self.now.content; number = number }) }
+    {
+        let root = match &self.root {
+            None => None,
+            Some(root) => Some(root.copy()?),
+        };
+        Ok(VersionedAdaptiveRadixTree {
+            alloc: self.alloc,
+            root,
+            version: number,
+        })
+    }
+}

@@ -1,0 +1,14 @@
+//! The versioned adaptive radix tree: an ordered map from byte strings to values with a number, and
+//! snapshots of it that change independently.
+//!
+//! To the crates above a tree is a finite map and a number; nothing of its nodes is told.
+#![tactic(auto)]
+
+mod counted;
+
+pub use counted::VersionedAdaptiveRadixTree;
+pub use rart_below::{
+    ArrPartial, ArrayKey, DirectMapping, IndexedMapping, KeyTrait, NodeMapping, Partial, Refusal,
+    Slot, SlotUpdate, SortedKeyedMapping, VectorKey, VectorPartial,
+};
+pub use rart_node::{GrowError, NodeRef, VersionedNode, VersionedNodeIter, Work};

@@ -1,0 +1,5 @@
+pub mod Behind
+pub mod Finds
+pub mod Maps
+pub mod Puts
+pub mod Cuts

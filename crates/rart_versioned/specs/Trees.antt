@@ -1,11 +1,11 @@
 -- What a tree of nodes means: the value of each byte string.
-use Rattle.std.specs.Prelude.{◌≡◌, ℕ, ◌≤◌, ◌==◌, ◌++◌, Bool, true, false, List, [], ◌∷◌, Option, Some, None, IsSome, IsTrue, ⊤, length, map, if◌then◌else◌}
+use Rattle.std.specs.Prelude.{◌≡◌, ℕ, ◌≤◌, ◌==◌, ◌++◌, Bool, true, false, List, [], ◌∷◌, Option, Some, None, IsSome, IsTrue, ⊤, length, map, if◌then◌else◌, take, drop, slice_index_or, ◌+◌}
 use Rattle.std.specs.Option.{option_and_then}
 use Rattle.std.specs.Str.{bytes_eq}
 use Rattle.std.specs.FinMap as finite
 use Rattle.rart_below.specs.Bytes.{IsAdmitted}
 use Rattle.rart_below.specs.Children as children
-use Rattle.rart_node.specs.Shape.{Shape, Forest, node, bare, grown, prefix_of, entries_of}
+use Rattle.rart_node.specs.Shape.{Shape, Forest, node, bare, grown, prefix_of, entries_of, widenings}
 use Rattle.rart_versioned.specs.Versions.{Map}
 
 -- what is left of q behind p, where p begins it
@@ -71,6 +71,14 @@ module _ {V : Type 0} where
   abbrev pub IsTaken : List ℕ → Shape V → Shape V → Type 0
   IsTaken key before after =
       IsOrdered after × ((q : List ℕ) → found after q ≡ (if bytes_eq q key then None else found before q)) × (prefix_of after ≡ prefix_of before)
+
+  -- the node cut inside its prefix: a parent of width 4 with the first bytes, over the node with the others
+  abbrev pub cut_at : ℕ → Shape V → Shape V
+  cut_at at (node prefix value width forest) = node (take at prefix) None 4 (grown (slice_index_or prefix at 0) (node (drop at prefix) value width forest) bare)
+
+  -- how many nodes are made where a value is put at the end of a node's prefix, or in a new leaf below the node
+  abbrev pub ending : Shape V → List ℕ → ℕ
+  ending s rest = at_end rest 0 (widenings s + 1)
 
   -- a node's own pair
   abbrev pub own_pair : Option V → List (List ℕ × V)

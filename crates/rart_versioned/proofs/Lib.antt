@@ -3,3 +3,5 @@ pub mod Finds
 pub mod Maps
 pub mod Puts
 pub mod Cuts
+pub mod TakeSteps
+pub mod Takes

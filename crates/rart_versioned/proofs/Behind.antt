@@ -120,3 +120,10 @@ begins-first byte (b ∷ w) first = same_Some b byte first
 pub no-first : (w : List ℕ) → slice_get w 0 ≡ None → w ≡ []
 no-first [] first = refl
 no-first (b ∷ w) first = absurd (none-some b (sym first))
+
+pub first-parts : (w : List ℕ) (byte : ℕ) → slice_get w 0 ≡ Some byte → (rest : List ℕ) × (w ≡ byte ∷ rest)
+first-parts [] byte first = absurd (none-some byte first)
+first-parts (b ∷ w) byte first = (w, ap (λ z. z ∷ w) (same_Some b byte first))
+
+pub common_fits : (p key : List ℕ) → common_length p key ≤ length key
+common_fits p key = (common-within p key).1

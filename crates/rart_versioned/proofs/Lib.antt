@@ -3,5 +3,8 @@ pub mod Finds
 pub mod Maps
 pub mod Puts
 pub mod Cuts
+pub mod Counting
+pub mod Steps
+pub mod Sound
 pub mod TakeSteps
 pub mod Takes

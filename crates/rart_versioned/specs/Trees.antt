@@ -1,5 +1,5 @@
 -- What a tree of nodes means: the value of each byte string.
-use Rattle.std.specs.Prelude.{◌≡◌, ℕ, ◌≤◌, ◌==◌, ◌++◌, Bool, true, false, List, [], ◌∷◌, Option, Some, None, IsSome, IsTrue, ⊤, length, map, if◌then◌else◌, take, drop, slice_index_or, ◌+◌}
+use Rattle.std.specs.Prelude.{◌≡◌, ℕ, ◌≤◌, ◌==◌, ◌++◌, Bool, true, false, List, [], ◌∷◌, Option, Some, None, IsSome, IsTrue, ⊤, length, map, if◌then◌else◌, take, drop, slice_index_or, ◌+◌, max}
 use Rattle.std.specs.Option.{option_and_then}
 use Rattle.std.specs.Str.{bytes_eq}
 use Rattle.std.specs.FinMap as finite
@@ -79,6 +79,10 @@ module _ {V : Type 0} where
   -- how many nodes are made where a value is put at the end of a node's prefix, or in a new leaf below the node
   abbrev pub ending : Shape V → List ℕ → ℕ
   ending s rest = at_end rest 0 (widenings s + 1)
+
+  -- at most so many nodes are on the path that a key takes from here
+  abbrev pub path_bound : Shape V → List ℕ → ℕ
+  path_bound s key = at_end (prefix_of s) (length key + 1) (max 1 (length key))
 
   -- a node's own pair
   abbrev pub own_pair : Option V → List (List ℕ × V)

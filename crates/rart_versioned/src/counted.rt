@@ -1,5 +1,8 @@
 //! Whatever counts into a `Work` that it is handed, or counts nothing.
 
+mod insert;
+mod lookup;
+mod put;
 mod remove;
 mod tree;
 

@@ -1,0 +1,82 @@
+ghost use Rattle.std.specs.Prelude.{◌≡◌, ◌+◌, ◌<◌, ◌≤◌, IfOk, OnOk, OnErr, length};
+ghost use Rattle.rart_below.specs.Clones.{ClonesEqual};
+ghost use Rattle.rart_versioned.specs.Bounds.{CountsUpTo, touch_bound, lookup_bound, change_bound};
+ghost use Rattle.rart_versioned.specs.Versions.{HasRoom, has_key, value_at, with_key};
+
+use crate::counted::put::{leaf_of, put};
+use crate::counted::tree::VersionedAdaptiveRadixTree;
+use rart_below::{KeyTrait, Partial};
+use rart_node::{NodeRef, Work};
+use std::alloc::AllocError;
+
+impl<K: KeyTrait, V: Clone + Drop> VersionedAdaptiveRadixTree<K, V> {
+    /// As `insert_k`, with the nodes entered and made counted into `work`.
+    pub fn insert_k_counted(
+        &mut self,
+        key: &K,
+        value: V,
+        work: &mut Work,
+    ) -> Result<bool, AllocError>
+        requires clones { ClonesEqual V.is_clone }
+        requires room { HasRoom self.old 1 }
+        ensures replaced { IfOk result (λ replaced. replaced ≡ has_key self.old (K.bytes key.now)) }
+        ensures ok { OnOk result (self.new ≡ with_key self.old (K.bytes key.now) value 1) }
+        ensures refused { OnErr result (self.new ≡ self.old) }
+        ensures counted { CountsUpTo (touch_bound (K.bytes key.now)) (change_bound (K.bytes key.now)) work.old work.new }
+        ensures made { OnOk result (work.old.made < work.new.made) }
+    {
+        Ok(self.put_in(key, value, 1, work)?.is_some())
+    }
+
+    /// As `insert_and_replace_k`, with the nodes entered and made counted into `work`.
+    pub fn insert_and_replace_k_counted(
+        &mut self,
+        key: &K,
+        value: V,
+        work: &mut Work,
+    ) -> Result<Option<V>, AllocError>
+        requires clones { ClonesEqual V.is_clone }
+        requires room { HasRoom self.old 1 }
+        ensures replaced { IfOk result (λ replaced. replaced ≡ value_at self.old (K.bytes key.now)) }
+        ensures ok { OnOk result (self.new ≡ with_key self.old (K.bytes key.now) value 1) }
+        ensures refused { OnErr result (self.new ≡ self.old) }
+        ensures counted { CountsUpTo (touch_bound (K.bytes key.now)) (change_bound (K.bytes key.now)) work.old work.new }
+        ensures made { OnOk result (work.old.made < work.new.made) }
+    {
+        self.put_in(key, value, 1, work)
+    }
+
+    /// Puts a value at a key, raises the number by so much, and gives the value that was there.
+    /// Refused for memory, map and number are as before.
+    pub(crate) fn put_in(
+        &mut self,
+        key: &K,
+        value: V,
+        more: u64,
+        work: &mut Work,
+    ) -> Result<Option<V>, AllocError>
+        requires clones { ClonesEqual V.is_clone }
+        requires room { HasRoom self.old more }
+        requires raised { 1 ≤ more }
+        ensures replaced { IfOk result (λ replaced. replaced ≡ value_at self.old (K.bytes key.now)) }
+        ensures ok { OnOk result (self.new ≡ with_key self.old (K.bytes key.now) value more) }
+        ensures refused { OnErr result (self.new ≡ self.old) }
+        ensures counted { CountsUpTo (lookup_bound (K.bytes key.now)) (change_bound (K.bytes key.now)) work.old work.new }
+        ensures made { OnOk result (work.old.made < work.new.made) }
+    {
+        let version = self.version + more;
+        match &mut self.root {
+            None => {
+                let leaf = leaf_of(self.alloc, key, 0, value, version, work)?;
+                self.root = Some(leaf);
+                self.version = version;
+                Ok(None)
+            }
+            Some(root) => {
+                let old = put(self.alloc, root, key, 0, value, version, work)?;
+                self.version = version;
+                Ok(old)
+            }
+        }
+    }
+}

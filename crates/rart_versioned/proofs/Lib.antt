@@ -6,5 +6,6 @@ pub mod Cuts
 pub mod Counting
 pub mod Steps
 pub mod Sound
-pub mod TakeSteps
 pub mod Takes
+pub mod TakeSteps
+pub mod TakenIn

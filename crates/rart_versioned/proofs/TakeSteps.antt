@@ -10,8 +10,9 @@ use Rattle.rart_node.specs.Counts.{Counts}
 use Rattle.rart_node.specs.Shape.{Shape, prefix_of, value_of, children_of, with_value, with_replaced, IsAscending}
 use Rattle.rart_versioned.specs.Bounds.{CountsUpTo}
 use Rattle.rart_versioned.specs.Removals.{is_unused, pruned}
-use Rattle.rart_versioned.specs.Trees.{found, IsTree, IsTaken}
+use Rattle.rart_versioned.specs.Trees.{found, IsTree, IsTaken, path_bound}
 use Rattle.rart_versioned.proofs.Behind.{no-first}
+use Rattle.rart_versioned.proofs.Counting.{counts-none, counts-then, counts-opened, path-one, path-step}
 use Rattle.rart_versioned.proofs.Finds.{IsBranch, branch, ordered}
 use Rattle.rart_versioned.proofs.Puts.{replaced-same}
 use Rattle.rart_versioned.proofs.Takes.{split-found, found-own, found-in-child, take-end, take-child, ascending-replaced}
@@ -32,12 +33,13 @@ first-long : (rest : List ℕ) (byte : ℕ) → slice_get rest 0 ≡ Some byte �
 first-long [] byte next = absurd (none-some byte next)
 first-long (b ∷ rest) byte next = omega arith
 
-one-opened : (n : ℕ) (before after : Counts) → after ≡ record { entered = before.entered + 1; made = before.made + 1 } → 0 < n → CountsUpTo n n before after
-one-opened n before after is some = rw is record { entered_grows = omega arith; entered_at_most = omega arith; made_grows = omega arith; made_at_most = omega arith }
+-- counts that keep within some bounds keep within greater ones
+pub counts-at-most : {entered made most most_made : ℕ} {before after : Counts} → CountsUpTo entered made before after → entered ≤ most → made ≤ most_made → CountsUpTo most most_made before after
+counts-at-most {after = after} counted entered made = counts-then counted (counts-none after) (omega (arith, entered)) (omega (arith, made))
 
 module _ {V : Type 0} where
-  pub counted-first : (s : Shape V) (key : List ℕ) → IsSome (found s key) → (before after : Counts) → after ≡ record { entered = before.entered + 1; made = before.made + 1 } → 0 < length (prefix_of s) → CountsUpTo (length key) (length key) before after
-  counted-first s key present before after is some = let long = (split-found s key present).1 in one-opened (length key) before after is (omega (arith, long, some))
+  pub counted-first : (s : Shape V) (key : List ℕ) (before after : Counts) → after ≡ record { entered = before.entered + 1; made = before.made + 1 } → CountsUpTo (path_bound s key) (path_bound s key) before after
+  counted-first s key before after is = let some = path-one s key in counts-then (counts-opened before after is) (counts-none after) (omega (arith, some)) (omega (arith, some))
 
   -- A key that is there, split behind the prefix of a node.
   pub record AtNode (s : Shape V) (key rest : List ℕ) : Type 0 where
@@ -96,23 +98,8 @@ module _ {V : Type 0} where
       pub ascending-deeper : (left replaced : Shape V) → replaced ≡ with_replaced byte left opened → IsAscending replaced
       ascending-deeper left replaced is = subst IsAscending (sym (is ∙ ap (with_replaced byte left) same)) (ascending-replaced s byte left (ordered s at.tree))
 
-    module _ (before mid after : Counts) (is : mid ≡ record { entered = before.entered + 1; made = before.made + 1 }) (below : CountsUpTo (length rest) (length rest) mid after) where
-      pub counted-deeper : CountsUpTo (length key + 1) (length key + 1) before after
-      counted-deeper =
-          let all = rw is at below in
-          record {
-            entered_grows = omega (arith, all.entered_grows);
-            entered_at_most = omega (arith, long-key, all.entered_at_most);
-            made_grows = omega (arith, all.made_grows);
-            made_at_most = omega (arith, long-key, all.made_at_most);
-          }
-
-      pub counted-deeper-inside : 0 < length (prefix_of s) → CountsUpTo (length key) (length key) before after
-      counted-deeper-inside some =
-          let all = rw is at below in
-          record {
-            entered_grows = omega (arith, all.entered_grows);
-            entered_at_most = omega (arith, long-key, some, all.entered_at_most);
-            made_grows = omega (arith, all.made_grows);
-            made_at_most = omega (arith, long-key, some, all.made_at_most);
-          }
+      -- one node here, and those from the child on
+      pub counted-deeper : (before mid after : Counts) → mid ≡ record { entered = before.entered + 1; made = before.made + 1 } → CountsUpTo (path_bound child rest) (path_bound child rest) mid after → CountsUpTo (path_bound s key) (path_bound s key) before after
+      counted-deeper before mid after is below =
+          let step = path-step s child key rest byte (length (prefix_of s)) child-branch.begins (omega arith) long-key (first-long rest byte (sym next)) in
+          counts-then (counts-opened before mid is) below step step

@@ -4,6 +4,7 @@ mod insert;
 mod lookup;
 mod put;
 mod remove;
+mod take;
 mod tree;
 
 pub use tree::VersionedAdaptiveRadixTree;

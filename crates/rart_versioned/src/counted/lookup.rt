@@ -78,7 +78,7 @@ pub(crate) fn byte_at<K: KeyTrait>(key: &K, index: usize) -> Option<u8>
 }
 
 /// What is left of a string behind its first bytes.
-fn rest_of(key: &[u8], count: usize) -> &[u8]
+pub(crate) fn rest_of(key: &[u8], count: usize) -> &[u8]
     requires { count ≤ length key.now }
     ensures { result.now ≡ drop count key.now }
 {

@@ -1,85 +1,71 @@
-//! Removal: a value is taken out, and with it each node that it leaves without value and child.
-ghost use Rattle.std.specs.Prelude.{◌≡◌, ◌+◌, ◌<◌, ◌≤◌, IsSome, IfOk, OnOk, OnErr, length, drop};
+//! Removal of a key.
+ghost use Rattle.std.specs.Prelude.{◌≡◌, ◌+◌, ◌*◌, ◌<◌, ◌≤◌, IsTrue, IfOk, OnOk, OnErr};
 ghost use Rattle.rart_below.specs.Clones.{ClonesEqual};
-ghost use Rattle.rart_node.specs.Seen.{seen, shown};
-ghost use Rattle.rart_node.specs.Shape.{prefix_of, IsAscending};
-ghost use Rattle.rart_versioned.specs.Bounds.{CountsUpTo};
-ghost use Rattle.rart_versioned.specs.Removals.{is_unused, pruned};
-ghost use Rattle.rart_versioned.specs.Trees.{IsTree, IsTaken, found};
+ghost use Rattle.rart_versioned.specs.Bounds.{CountsUpTo, lookup_bound, touch_bound, change_bound};
+ghost use Rattle.rart_versioned.specs.Changes.{removed};
+ghost use Rattle.rart_versioned.specs.Versions.{HasRoom, has_key, value_at, without_key};
 
-use rart_below::Partial;
-use rart_node::{NodeRef, VersionedNode, Work};
+use crate::counted::take::take;
+use crate::counted::tree::VersionedAdaptiveRadixTree;
+use rart_below::{KeyTrait, Partial};
+use rart_node::{NodeRef, Work};
 use std::alloc::AllocError;
 
-/// What was taken out below a node, and whether the node is left without value and child.
-#[derive(Drop)]
-struct Taken<V> {
-    value: Option<V>,
-    left_unused: bool,
-}
-
-/// What is left of a string behind its first bytes.
-fn rest_of(key: &[u8], start: usize) -> &[u8]
-    requires { start ≤ length key.now }
-    ensures { result.now ≡ drop start key.now }
-{
-    &key[start..]
-}
-
-/// Whether a node has neither value nor child.
-fn is_unused<P: Partial, V: Drop>(node: &VersionedNode<P, V>) -> bool
-    requires { IsAscending (seen P.bytes node.now) }
-    ensures { result ≡ is_unused (seen P.bytes node.now) }
-{
-    node.value().is_none() && node.num_children() == 0
-}
-
-/// Takes out the child under a byte, where it is left unused.
-fn prune<P: Partial, V: Drop>(node: &mut VersionedNode<P, V>, byte: u8, left_unused: bool)
-    requires { IsAscending (seen P.bytes node.old) }
-    ensures { seen P.bytes node.new ≡ pruned byte left_unused (seen P.bytes node.old) }
-{
-    if left_unused {
-        let _ = node.delete_child(byte);
+impl<K: KeyTrait, V: Clone + Drop> VersionedAdaptiveRadixTree<K, V> {
+    /// As `remove_k`, with the nodes entered and made counted into `work`.
+    pub fn remove_k_counted(&mut self, key: &K, work: &mut Work) -> Result<Option<V>, AllocError>
+        requires clones { ClonesEqual V.is_clone }
+        requires room { HasRoom self.old 1 }
+        ensures removed { IfOk result (λ taken. taken ≡ value_at self.old (K.bytes key.now)) }
+        ensures ok { OnOk result (self.new ≡ removed self.old (K.bytes key.now)) }
+        ensures refused { OnErr result (self.new ≡ self.old) }
+        ensures present { OnErr result (IsTrue (has_key self.old (K.bytes key.now))) }
+        ensures counted { CountsUpTo (touch_bound (K.bytes key.now)) (change_bound (K.bytes key.now)) work.old work.new }
+    {
+        if self.get_k_counted(key, work).is_none() {
+            return Ok(None);
+        }
+        self.take_in(key, 1, work)
     }
-}
 
-/// Takes out the value of a key that is there. The node itself may be left without value and child,
-/// no node below it is. Refused for memory, all is as before.
-fn take<P: Partial, V: Clone + Drop>(
-    at: &mut NodeRef<P, V>,
-    key: &[u8],
-    work: &mut Work,
-) -> Result<Taken<V>, AllocError>
-    requires clones { ClonesEqual V.is_clone }
-    requires tree { IsTree (shown P.bytes at.old) }
-    requires present { IsSome (found (shown P.bytes at.old) key.now) }
-    ensures taken { OnOk result (IsTaken key.now (shown P.bytes at.old) (shown P.bytes at.new)) }
-    ensures value { IfOk result (λ taken. taken.value ≡ found (shown P.bytes at.old) key.now) }
-    ensures unused { IfOk result (λ taken. taken.left_unused ≡ is_unused (shown P.bytes at.new)) }
-    ensures refused { OnErr result (shown P.bytes at.new ≡ shown P.bytes at.old) }
-    ensures counted { CountsUpTo (length key.now + 1) (length key.now + 1) work.old work.new }
-    ensures counted_inside { 0 < length (prefix_of (shown P.bytes at.old)) → CountsUpTo (length key.now) (length key.now) work.old work.new }
-{
-    let node = at.open_mut(work)?;
-    let rest = rest_of(key, node.prefix().len());
-    let Some(byte) = rest.first() else {
-        let value = node.take_value();
-        return Ok(Taken {
-            value,
-            left_unused: is_unused(node),
-        });
-    };
-    let Some(child) = node.seek_child_mut(*byte) else {
-        return Ok(Taken {
-            value: None,
-            left_unused: false,
-        });
-    };
-    let below = take(child, rest, work)?;
-    prune(node, *byte, below.left_unused);
-    Ok(Taken {
-        value: below.value,
-        left_unused: is_unused(node),
-    })
+    /// As `delete_k`, with the nodes entered and made counted into `work`.
+    pub fn delete_k_counted(&mut self, key: &K, work: &mut Work) -> Result<bool, AllocError>
+        requires clones { ClonesEqual V.is_clone }
+        requires room { HasRoom self.old 1 }
+        ensures removed { IfOk result (λ was_there. was_there ≡ has_key self.old (K.bytes key.now)) }
+        ensures ok { OnOk result (self.new ≡ removed self.old (K.bytes key.now)) }
+        ensures refused { OnErr result (self.new ≡ self.old) }
+        ensures present { OnErr result (IsTrue (has_key self.old (K.bytes key.now))) }
+        ensures counted { CountsUpTo (touch_bound (K.bytes key.now)) (change_bound (K.bytes key.now)) work.old work.new }
+    {
+        Ok(self.remove_k_counted(key, work)?.is_some())
+    }
+
+    /// Takes out the value of a key that is there, and raises the number by so much. Refused for
+    /// memory, map and number are as before.
+    pub(crate) fn take_in(
+        &mut self,
+        key: &K,
+        more: u64,
+        work: &mut Work,
+    ) -> Result<Option<V>, AllocError>
+        requires clones { ClonesEqual V.is_clone }
+        requires room { HasRoom self.old more }
+        requires present { IsTrue (has_key self.old (K.bytes key.now)) }
+        ensures value { IfOk result (λ value. value ≡ value_at self.old (K.bytes key.now)) }
+        ensures ok { OnOk result (self.new ≡ without_key self.old (K.bytes key.now) more) }
+        ensures refused { OnErr result (self.new ≡ self.old) }
+        ensures counted { CountsUpTo (lookup_bound (K.bytes key.now)) (lookup_bound (K.bytes key.now)) work.old work.new }
+    {
+        let version = self.version + more;
+        let Some(root) = &mut self.root else {
+            return Ok(None);
+        };
+        let taken = take(root, key.as_ref(), work)?;
+        if taken.left_unused {
+            self.root = None;
+        }
+        self.version = version;
+        Ok(taken.value)
+    }
 }

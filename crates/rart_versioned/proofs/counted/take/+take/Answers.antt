@@ -1,13 +1,8 @@
 use Rattle.std.proofs.Common.{arith, sym, ◌∙◌}
 use Rattle.rart_node.specs.Seen.{shown}
-use Rattle.rart_versioned.proofs.Behind.{begins-long}
 use Rattle.rart_versioned.proofs.Finds.{ascending}
 use Rattle.rart_versioned.proofs.TakeSteps as steps
-use Rattle.rart_versioned.proofs.counted.remove.+take.Goals as goal
-
-pub returns-in_err-node-clause-counted_inside : goal.returns-in_err-node-clause-counted_inside
-returns-in_err-node-clause-counted_inside g t c some =
-    steps.counted-first (shown g.P.Partial.bytes c.args.at.now) c.args.key.now c.requires.present _ _ c.open_mut.ensures.work some
+use Rattle.rart_versioned.proofs.counted.take.+take.Goals as goal
 
 pub rest_of-rest-requires : goal.rest_of-rest-requires
 rest_of-rest-requires g t c = steps.within (shown g.P.Partial.bytes c.args.at.now) _ c.args.key.now _ _ c.in_ok-node.ensures.shown c.prefix.ensures c.len.ensures c.requires.present
@@ -26,10 +21,6 @@ returns-in_default-clause-value g t c =
     let opened = c.in_ok-node.ensures.shown in
     let at = steps.at-node s _ c.args.key.now _ _ _ opened c.prefix.ensures c.len.ensures c.rest_of-rest.ensures c.requires.tree c.requires.present in
     steps.value-here s c.args.key.now _ at _ _ opened c.in_default.ensures.value c.take_value-value.ensures.old
-
-pub returns-in_default-clause-counted_inside : goal.returns-in_default-clause-counted_inside
-returns-in_default-clause-counted_inside g t c some =
-    steps.counted-first (shown g.P.Partial.bytes c.args.at.now) c.args.key.now c.requires.present _ _ c.open_mut.ensures.work some
 
 pub returns-in_default-seek_child_mut : goal.returns-in_default-seek_child_mut
 returns-in_default-seek_child_mut g t c =
@@ -65,20 +56,7 @@ returns-in_err-below-clause-counted g t c =
     let at = steps.at-node s _ c.args.key.now _ _ _ opened c.prefix.ensures c.len.ensures c.rest_of-rest.ensures c.requires.tree c.requires.present in
     let next = c.in-Some.ensures.value in
     let here = c.in-Some-seek_child_mut.ensures.value in
-    let branch = steps.child-branch s c.args.key.now _ at _ _ _ opened next here in
-    let below = c.take.ensures.counted_inside (begins-long _ _ branch.begins) in
-    steps.counted-deeper s c.args.key.now _ at _ _ _ c.open_mut.ensures.work below
-
-pub returns-in_err-below-clause-counted_inside : goal.returns-in_err-below-clause-counted_inside
-returns-in_err-below-clause-counted_inside g t c =
-    let s = shown g.P.Partial.bytes c.args.at.now in
-    let opened = c.in_ok-node.ensures.shown in
-    let at = steps.at-node s _ c.args.key.now _ _ _ opened c.prefix.ensures c.len.ensures c.rest_of-rest.ensures c.requires.tree c.requires.present in
-    let next = c.in-Some.ensures.value in
-    let here = c.in-Some-seek_child_mut.ensures.value in
-    let branch = steps.child-branch s c.args.key.now _ at _ _ _ opened next here in
-    let below = c.take.ensures.counted_inside (begins-long _ _ branch.begins) in
-    steps.counted-deeper-inside s c.args.key.now _ at _ _ _ c.open_mut.ensures.work below
+    steps.counted-deeper s c.args.key.now _ at _ _ _ opened next here _ _ _ c.open_mut.ensures.work c.take.ensures.counted
 
 pub prune-requires : goal.prune-requires
 prune-requires g t c =
@@ -128,17 +106,10 @@ returns-clause-counted g t c =
     let at = steps.at-node s _ c.args.key.now _ _ _ opened c.prefix.ensures c.len.ensures c.rest_of-rest.ensures c.requires.tree c.requires.present in
     let next = c.in-Some.ensures.value in
     let here = c.in-Some-seek_child_mut.ensures.value in
-    let branch = steps.child-branch s c.args.key.now _ at _ _ _ opened next here in
-    let below = c.take.ensures.counted_inside (begins-long _ _ branch.begins) in
-    steps.counted-deeper s c.args.key.now _ at _ _ _ c.open_mut.ensures.work below
+    steps.counted-deeper s c.args.key.now _ at _ _ _ opened next here _ _ _ c.open_mut.ensures.work c.take.ensures.counted
 
-pub returns-clause-counted_inside : goal.returns-clause-counted_inside
-returns-clause-counted_inside g t c =
-    let s = shown g.P.Partial.bytes c.args.at.now in
-    let opened = c.in_ok-node.ensures.shown in
-    let at = steps.at-node s _ c.args.key.now _ _ _ opened c.prefix.ensures c.len.ensures c.rest_of-rest.ensures c.requires.tree c.requires.present in
-    let next = c.in-Some.ensures.value in
-    let here = c.in-Some-seek_child_mut.ensures.value in
-    let branch = steps.child-branch s c.args.key.now _ at _ _ _ opened next here in
-    let below = c.take.ensures.counted_inside (begins-long _ _ branch.begins) in
-    steps.counted-deeper-inside s c.args.key.now _ at _ _ _ c.open_mut.ensures.work below
+pub returns-in_err-node-clause-counted : goal.returns-in_err-node-clause-counted
+returns-in_err-node-clause-counted g t c = steps.counted-first (shown g.P.Partial.bytes c.args.at.now) c.args.key.now _ _ c.open_mut.ensures.work
+
+pub returns-in_default-clause-counted : goal.returns-in_default-clause-counted
+returns-in_default-clause-counted g t c = steps.counted-first (shown g.P.Partial.bytes c.args.at.now) c.args.key.now _ _ c.open_mut.ensures.work

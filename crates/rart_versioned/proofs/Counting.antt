@@ -27,6 +27,19 @@ counts-opened before after is = rw is record { entered_grows = omega arith; ente
 pub counts-entered : (before after : Counts) → after ≡ record before { entered = before.entered + 1 } → CountsUpTo 1 0 before after
 counts-entered before after is = rw is record { entered_grows = omega arith; entered_at_most = omega arith; made_grows = omega arith; made_at_most = omega arith }
 
+-- the same, where the later part makes fewer nodes than it says
+pub counts-below : {entered made later_entered later_made most most_made : ℕ} {before between after : Counts} (fewer : ℕ) → CountsUpTo entered made before between → CountsUpTo later_entered later_made between after → after.made ≤ between.made + fewer
+    → entered + later_entered ≤ most → made + fewer ≤ most_made → CountsUpTo most most_made before after
+counts-below fewer first later few entered made =
+    let a = first.entered_grows in
+    let b = first.entered_at_most in
+    let c = first.made_grows in
+    let d = first.made_at_most in
+    let e = later.entered_grows in
+    let f = later.entered_at_most in
+    let g = later.made_grows in
+    record { entered_grows = omega (arith, a, e); entered_at_most = omega (arith, b, f, entered); made_grows = omega (arith, c, g); made_at_most = omega (arith, d, few, made) }
+
 module _ {V : Type 0} where
   pub path-one : (s : Shape V) (key : List ℕ) → 1 ≤ path_bound s key
   path-one (node [] value width forest) key = omega arith

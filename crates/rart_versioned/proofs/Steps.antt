@@ -9,7 +9,7 @@ use Rattle.rart_versioned.specs.Trees.{BeginsWith, found, IsTree, IsPut, cut_at,
 use Rattle.rart_versioned.proofs.Behind.{behind-own, split-common, split-whole, common-within, common-long, begins-first, begins-long, no-first, first-parts}
 use Rattle.rart_versioned.proofs.Counting.{path-step}
 use Rattle.rart_versioned.proofs.Cuts.{cut-tree, cut-found, cut-absent, put-cut, put-whole}
-use Rattle.rart_versioned.proofs.Finds.{found-below, found-child, found-end, found-short, IsBranch}
+use Rattle.rart_versioned.proofs.Finds.{found-below, found-child, found-end, found-short, ordered, IsBranch}
 use Rattle.rart_versioned.proofs.Puts.{put-below}
 
 -- What is found behind the whole prefix of a node: its value at the end, nothing where no child is.
@@ -75,3 +75,15 @@ module _ {V : Type 0} (s : Shape V) (w : List ℕ) (depth end : ℕ) (within : d
 
   pub found-left : end - depth < length (prefix_of s) → found s (drop depth w) ≡ None
   found-left lt = found-short s (drop depth w) (subst (λ n. n < length (prefix_of s)) matched-is lt)
+
+  -- the whole prefix is matched: what is put behind it, and what stood there
+  pub put-at-whole : (after : Shape V) (value : V) → length (prefix_of s) ≤ end - depth → IsPut (prefix_of s ++ drop end w) value s after → IsPut (drop depth w) value s after
+  put-at-whole after value le puts = subst (λ key. IsPut key value s after) (sym (whole-key le)) puts
+
+  pub put-in-child : (child after : Shape V) (value : V) (byte : ℕ) → IsTree s → length (prefix_of s) ≤ end - depth → slice_get (drop end w) 0 ≡ Some byte → child_at byte (children_of s) ≡ Some child → IsPut (drop end w) value child after
+      → IsPut (drop depth w) value s (with_replaced byte after s)
+  put-in-child child after value byte tree le next here puts = put-below s child after (drop depth w) (drop end w) byte value (ordered s tree) (whole-key le) next here puts
+
+  -- Below the root a node's prefix begins with a byte of the key, so that it takes one at least.
+  pub matched-some : (byte : ℕ) → BeginsWith byte (prefix_of s) → BeginsWith byte (drop depth w) → 1 ≤ end - depth
+  matched-some byte begins also = let some = common-long (prefix_of s) (drop depth w) byte begins also in omega (arith, some, matched-is)

@@ -1,4 +1,5 @@
-ghost use Rattle.std.specs.Prelude.{◌≡◌, ℕ, ◌+◌, ◌<◌, ◌≤◌, IfOk, OnOk, OnErr, Some, None, [], ◌++◌, length, drop, slice_get};
+ghost use Rattle.std.specs.Prelude.{◌≡◌, ℕ, ◌+◌, ◌-◌, ◌<◌, ◌≤◌, IfOk, OnOk, OnErr, Some, None, [], ◌++◌, length, drop, slice_get};
+ghost use Rattle.rart_below.specs.Bytes.{common_length};
 ghost use Rattle.rart_below.specs.Children.{child_at};
 ghost use Rattle.rart_below.specs.Clones.{ClonesEqual};
 ghost use Rattle.rart_node.specs.Seen.{seen, shown};
@@ -35,17 +36,44 @@ pub(crate) fn put<K: KeyTrait, V: Clone + Drop>(
     let node = at.open_mut(work)?;
     let end = match_end(node, key, depth);
     if end - depth < node.prefix().len() {
-        let mut upper = cut(alloc, node, end - depth, version, work)?;
-        let old = finish(alloc, &mut upper, key, end, value, version, work)?;
-        *node = upper;
-        return Ok(old);
+        return split(alloc, node, key, depth, end, value, version, work);
     }
-    if let Some(byte) = byte_at(key, end) {
-        if let Some(child) = node.seek_child_mut(byte) {
-            return put(alloc, child, key, end, value, version, work);
-        }
+    match byte_at(key, end) {
+        None => finish(alloc, node, key, end, value, version, work),
+        Some(byte) => match node.seek_child_mut(byte) {
+            None => finish(alloc, node, key, end, value, version, work),
+            Some(child) => put(alloc, child, key, end, value, version, work),
+        },
     }
-    finish(alloc, node, key, end, value, version, work)
+}
+
+/// Puts a value at a key that leaves a node's prefix at `end`, an index into the key: the node gets
+/// a parent with what they share. Nothing was there. Refused for memory, the node is as before.
+fn split<K: KeyTrait, V: Clone + Drop>(
+    alloc: Global,
+    node: &mut VersionedNode<K::PartialType, V>,
+    key: &K,
+    depth: usize,
+    end: usize,
+    value: V,
+    version: u64,
+    work: &mut Work,
+) -> Result<Option<V>, AllocError>
+    requires clones { ClonesEqual V.is_clone }
+    requires depth { depth ≤ length (K.bytes key.now) }
+    requires tree { IsTree (seen K.PartialType.bytes node.old) }
+    requires end { end ≡ depth + common_length (prefix_of (seen K.PartialType.bytes node.old)) (drop depth (K.bytes key.now)) }
+    requires within { end ≤ length (K.bytes key.now) }
+    requires inside { end - depth < length (prefix_of (seen K.PartialType.bytes node.old)) }
+    ensures put { OnOk result (IsPut (drop depth (K.bytes key.now)) value (seen K.PartialType.bytes node.old) (seen K.PartialType.bytes node.new)) }
+    ensures replaced { IfOk result (λ old. old ≡ found (seen K.PartialType.bytes node.old) (drop depth (K.bytes key.now))) }
+    ensures refused { OnErr result (seen K.PartialType.bytes node.new ≡ seen K.PartialType.bytes node.old) }
+    ensures counted { CountsUpTo 0 (length (drop end (K.bytes key.now)) + 1) work.old work.new }
+{
+    let mut upper = cut(alloc, node, end - depth, version, work)?;
+    let old = finish(alloc, &mut upper, key, end, value, version, work)?;
+    *node = upper;
+    Ok(old)
 }
 
 /// Puts a value at the end of a node's prefix, or in a new leaf below it, and gives the value that

@@ -1,13 +1,12 @@
 -- What is left of a string behind a prefix.
-use Rattle.std.proofs.Common.{◌≡◌, ℕ, suc, zero, ◌+◌, ◌<◌, ◌≤◌, List, [], ◌∷◌, ◌++◌, Option, Some, None, slice_get, length, take, drop, cond, Bool, true, false, ◌&&◌, refl, arith, sym, ap, subst, ◌∙◌}
+use Rattle.std.proofs.Common.{◌≡◌, ℕ, suc, zero, ◌<◌, ◌≤◌, List, [], ◌∷◌, ◌++◌, Option, Some, None, slice_get, length, take, drop, cond, Bool, true, false, ◌&&◌, refl, arith, sym, ap, ◌∙◌}
 use Rattle.std.specs.Prelude.{◌==◌, slice_index_or}
 use Rattle.std.specs.Option.{option_and_then}
 use Rattle.std.specs.Str.{bytes_eq}
 use Rattle.std.proofs.lemmas.Bool.{eqb-true, eqb-false, ne_eqb, eq-eqb}
-use Rattle.std.proofs.lemmas.List.{take-append-drop}
 use Rattle.std.proofs.lemmas.Option.{same_Some, none-some}
 use Rattle.rart_below.specs.Bytes.{common_length}
-use Rattle.rart_versioned.specs.Trees.{behind, BeginsWith, is_first}
+use Rattle.rart_versioned.specs.Trees.{behind, BeginsWith}
 
 pub eqb-sym : (a b : ℕ) → (a == b) ≡ (b == a)
 eqb-sym a b =

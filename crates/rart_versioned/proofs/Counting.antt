@@ -1,9 +1,9 @@
 -- Counts along a path: each node on it is entered, and takes at least one byte of the key with it.
-use Rattle.std.proofs.Common.{◌≡◌, ℕ, suc, ◌+◌, ◌<◌, ◌≤◌, max, cond, Bool, true, false, List, [], ◌∷◌, length, arith}
+use Rattle.std.proofs.Common.{◌≡◌, ℕ, suc, ◌+◌, ◌<◌, ◌≤◌, cond, true, false, List, [], ◌∷◌, length, arith}
 use Rattle.rart_node.specs.Counts.{Counts}
 use Rattle.rart_node.specs.Shape.{Shape, node, prefix_of, entries_of, is_full_at}
 use Rattle.rart_versioned.specs.Bounds.{CountsUpTo}
-use Rattle.rart_versioned.specs.Trees.{BeginsWith, at_end, path_bound, ending, cut_at}
+use Rattle.rart_versioned.specs.Trees.{BeginsWith, path_bound, ending, cut_at}
 
 pub counts-none : (before : Counts) → CountsUpTo 0 0 before before
 counts-none before = record { entered_grows = omega arith; entered_at_most = omega arith; made_grows = omega arith; made_at_most = omega arith }
@@ -20,6 +20,12 @@ counts-then first later entered made =
     let g = later.made_grows in
     let h = later.made_at_most in
     record { entered_grows = omega (arith, a, e); entered_at_most = omega (arith, b, f, entered); made_grows = omega (arith, c, g); made_at_most = omega (arith, d, h, made) }
+
+pub counts-most : {entered made most most_made : ℕ} {before after : Counts} → CountsUpTo entered made before after → entered ≤ most → made ≤ most_made → CountsUpTo most most_made before after
+counts-most counted entered made =
+    let b = counted.entered_at_most in
+    let d = counted.made_at_most in
+    record { entered_grows = counted.entered_grows; entered_at_most = omega (arith, b, entered); made_grows = counted.made_grows; made_at_most = omega (arith, d, made) }
 
 pub counts-opened : (before after : Counts) → after ≡ record { entered = before.entered + 1; made = before.made + 1 } → CountsUpTo 1 1 before after
 counts-opened before after is = rw is record { entered_grows = omega arith; entered_at_most = omega arith; made_grows = omega arith; made_at_most = omega arith }

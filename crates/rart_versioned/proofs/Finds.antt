@@ -1,15 +1,14 @@
 -- How the value of a string is found, one node at a time.
-use Rattle.std.proofs.Common.{◌≡◌, ℕ, suc, zero, ◌+◌, ◌<◌, ◌≤◌, max, List, [], ◌∷◌, Option, Some, None, IsSome, slice_get, length, drop, cond, Bool, true, false, refl, arith, sym, ap, subst, ◌∙◌}
-use Rattle.std.specs.Prelude.{◌==◌, IsTrue}
+use Rattle.std.proofs.Common.{◌≡◌, ℕ, ◌<◌, ◌≤◌, max, List, [], ◌∷◌, Some, None, length, drop, cond, Bool, true, false, refl, arith, sym, subst}
+use Rattle.std.specs.Prelude.{◌==◌}
 use Rattle.std.specs.Option.{option_and_then}
-use Rattle.std.specs.Ordering.{nat_cmp, eq_by_cmp}
 use Rattle.std.specs.Cmp.{unsigned_tied}
-use Rattle.std.proofs.lemmas.Bool.{eqb-true, eqb-false, false≢true}
+use Rattle.std.proofs.lemmas.Bool.{eqb-true}
 use Rattle.std.proofs.lemmas.Option.{same_Some, none-some}
 use Rattle.rart_below.specs.Bytes.{common_length}
 use Rattle.rart_below.specs.Children.{child_at}
 use Rattle.rart_node.specs.Shape.{Shape, Forest, node, bare, grown, prefix_of, value_of, children_of, entries_of, height, height_below, IsAscending}
-use Rattle.rart_versioned.specs.Trees.{behind, BeginsWith, at_end, found, found_below, is_used, IsTree, IsOrdered, AreBranches}
+use Rattle.rart_versioned.specs.Trees.{BeginsWith, found, found_below, IsTree, IsOrdered, AreBranches}
 use Rattle.rart_versioned.proofs.Behind.{behind-short, behind-whole}
 
 module _ {V : Type 0} where

@@ -1,5 +1,6 @@
 pub mod Behind
 pub mod Finds
+pub mod Keyed
 pub mod Maps
 pub mod Puts
 pub mod Cuts

@@ -1,14 +1,10 @@
 -- The map of a tree has the values that are found in it.
-use Rattle.std.proofs.Common.{◌≡◌, ◌≤◌, ℕ, List, [], ◌∷◌, ◌++◌, Option, Some, None, map, cond, Bool, true, false, ◌&&◌, refl, sym, ap, subst, ◌∙◌}
+use Rattle.std.proofs.Common.{◌≡◌, ◌≤◌, ℕ, List, [], ◌∷◌, ◌++◌, Option, Some, None, map, cond, Bool, true, false, refl, sym, ap, subst, ◌∙◌}
 use Rattle.std.proofs.Math.Nat.{le_refl}
 use Rattle.std.specs.Prelude.{◌==◌}
 use Rattle.std.specs.Option.{option_or, option_and_then}
-use Rattle.std.specs.declared.cmp.Ordering.{Ordering}
-use Rattle.std.specs.Ordering.{nat_cmp, eq_by_cmp}
-use Rattle.std.specs.Cmp.{unsigned_tied}
-use Rattle.std.specs.Cmp.Lexicographic.{slice_cmp}
-use Rattle.std.specs.Str.{bytes_eq}
-use Rattle.std.proofs.lemmas.Bool.{eqb-true, eqb-false, ne_eqb}
+use Rattle.std.specs.Ordering.{eq_by_cmp}
+use Rattle.std.proofs.lemmas.Bool.{eqb-true}
 use Rattle.std.proofs.lemmas.Cmp.{nat_list_cmp_total}
 use Rattle.std.proofs.lemmas.Map.Text.{is_eq-slice_cmp}
 use Rattle.std.specs.FinMap as finite
@@ -18,7 +14,7 @@ use Rattle.rart_below.specs.Children as children
 use Rattle.rart_below.specs.Children.{child_at}
 use Rattle.rart_below.proofs.Ascending.{child_at-below, ascending_parts}
 use Rattle.rart_node.specs.Shape.{Shape, Forest, node, bare, grown, prefix_of, entries_of}
-use Rattle.rart_versioned.specs.Trees.{behind, BeginsWith, is_first, at_end, own_pair, found, found_in, found_below, pairs_of, pairs_below, map_of, IsTree, AreBranches}
+use Rattle.rart_versioned.specs.Trees.{behind, BeginsWith, at_end, own_pair, found, found_in, found_below, pairs_of, pairs_below, map_of, IsTree, AreBranches}
 use Rattle.rart_versioned.proofs.Behind.{is_left, bytes_eq-behind}
 use Rattle.rart_versioned.proofs.Finds.{found-below}
 
@@ -81,9 +77,9 @@ module _ {V : Type 0} where
     find-pairs (node prefix value width forest) q tree =
         find-behind prefix q (own_pair value ++ pairs_below forest)
         ∙ alike (behind prefix q) _ _ (λ rest. find-append rest (own_pair value) (pairs_below forest)
-            ∙ ap (λ o. option_or o (find byte_order rest (pairs_below forest))) (find-own value rest)
-            ∙ ap (option_or (at_end rest value None)) (find-below forest rest tree.0 tree.1)
-            ∙ own-or-below value forest rest)
+        ∙ ap (λ o. option_or o (find byte_order rest (pairs_below forest))) (find-own value rest)
+        ∙ ap (option_or (at_end rest value None)) (find-below forest rest tree.0 tree.1)
+        ∙ own-or-below value forest rest)
 
     find-below : (forest : Forest V) (q : List ℕ) → children.IsAscending (entries_of forest) → AreBranches forest → find byte_order q (pairs_below forest) ≡ at_end q None (found_below forest q)
     find-below bare [] ascending branches = refl

@@ -5,7 +5,7 @@ use Rattle.rart_below.proofs.Ascending.{ascending-with_child}
 use Rattle.std.specs.Option.{option_and_then}
 use Rattle.std.specs.declared.cmp.Ordering.{Ordering}
 use Rattle.std.specs.declared.cmp.Ordering.TheVariants.{Less, Equal, Greater}
-use Rattle.std.specs.Ordering.{nat_cmp, eq_by_cmp}
+use Rattle.std.specs.Ordering.{nat_cmp}
 use Rattle.std.specs.Cmp.{unsigned_tied}
 use Rattle.std.specs.Str.{bytes_eq}
 use Rattle.std.proofs.lemmas.Bool.{eqb-true}
@@ -13,13 +13,13 @@ use Rattle.std.proofs.lemmas.Cmp.{nat_cmp_total}
 use Rattle.std.proofs.lemmas.List.{append-nil}
 use Rattle.std.proofs.lemmas.Option.{same_Some, none-some}
 use Rattle.std.specs.FinMap.{nat_cmp-IsAntisymmetric}
-use Rattle.std.specs.FinMap.Entries.{by_order, put, find-put, same_entries}
+use Rattle.std.specs.FinMap.Entries.{by_order, find-put, same_entries}
 use Rattle.rart_below.specs.Children as children
 use Rattle.rart_below.specs.Children.{child_at, with_child}
-use Rattle.rart_node.specs.Shape.{Shape, Forest, node, bare, grown, prefix_of, value_of, children_of, entries_of, forest_of, node_of, widened, with_value, with_added, with_replaced, entries_of-forest_of}
+use Rattle.rart_node.specs.Shape.{Shape, Forest, node, bare, grown, prefix_of, children_of, entries_of, forest_of, node_of, widened, with_value, with_added, with_replaced, entries_of-forest_of}
 use Rattle.rart_versioned.specs.Trees.{behind, BeginsWith, at_end, found, found_below, is_used, IsTree, IsOrdered, AreBranches, IsPut}
-use Rattle.rart_versioned.proofs.Behind.{is_left, bytes_eq-behind, no-first}
-use Rattle.rart_versioned.proofs.Finds.{found-below, branch, ordered}
+use Rattle.rart_versioned.proofs.Behind.{is_left, bytes_eq-behind}
+use Rattle.rart_versioned.proofs.Finds.{found-below, branch}
 
 holds : {t : Bool} → IsTrue t → T t
 holds is = subst T (sym is) tt
@@ -120,7 +120,8 @@ module _ {V : Type 0} where
       rw is (
         (ascending-with forest byte child order.0, branches-with forest byte child order.1 tree begins, used-with old forest byte child),
         (λ q. lift prefix (byte ∷ rest) q (Some value) (inside old forest) (inside old after) (inside-with old forest byte child rest (Some value) puts)),
-        λ first begins also. begins)
+        λ first begins also. begins,
+      )
 
   nothing-left : (o : Option (List ℕ)) → option_and_then (inside None bare) o ≡ None
   nothing-left None = refl
@@ -155,9 +156,9 @@ module _ {V : Type 0} where
   with_child-same : (entries : List (ℕ × Shape V)) (byte : ℕ) (child : Shape V) → children.IsAscending entries → child_at byte entries ≡ Some child → with_child byte child entries ≡ entries
   with_child-same entries byte child ascending here =
       same_entries nat_cmp nat_cmp_total nat_cmp-IsAntisymmetric (with_child byte child entries) entries (holds (ascending-with_child byte child entries ascending)) (holds ascending) (λ q.
-        let P : Bool → Type 0 = λ t. (q == byte) ≡ t → cond t (Some child) (child_at q entries) ≡ child_at q entries in
-        let both : (t : Bool) → P t = elim [ true ↦ (λ same. sym (ap (λ z. child_at z entries) (eqb-true q byte same) ∙ here)) | false ↦ (λ differs. refl) ] in
-        find-put nat_cmp nat_cmp_total q byte child entries ∙ ap (λ t. cond t (Some child) (child_at q entries)) (unsigned_tied q byte) ∙ both (q == byte) refl)
+      let P : Bool → Type 0 = λ t. (q == byte) ≡ t → cond t (Some child) (child_at q entries) ≡ child_at q entries in
+      let both : (t : Bool) → P t = elim [ true ↦ (λ same. sym (ap (λ z. child_at z entries) (eqb-true q byte same) ∙ here)) | false ↦ (λ differs. refl) ] in
+      find-put nat_cmp nat_cmp_total q byte child entries ∙ ap (λ t. cond t (Some child) (child_at q entries)) (unsigned_tied q byte) ∙ both (q == byte) refl)
 
   pub replaced-same : (s : Shape V) (byte : ℕ) (child : Shape V) → IsOrdered s → child_at byte (children_of s) ≡ Some child → with_replaced byte child s ≡ s
   replaced-same (node prefix value width forest) byte child order here =

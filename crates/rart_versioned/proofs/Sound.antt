@@ -1,7 +1,6 @@
 -- What a change below the root makes of the map, and that all stays in order.
-use Rattle.std.proofs.Common.{◌≡◌, ℕ, ◌+◌, ◌≤◌, List, [], ◌∷◌, Option, Some, None, IsSome, is_some, length, cond, Bool, true, false, refl, arith, sym, ap, subst, ◌∙◌}
-use Rattle.std.specs.Prelude.{◌==◌}
-use Rattle.std.specs.Ordering.{nat_cmp, eq_by_cmp}
+use Rattle.std.proofs.Common.{◌≡◌, ℕ, ◌+◌, ◌≤◌, List, [], Option, Some, None, IsSome, length, cond, Bool, true, false, refl, arith, sym, ap, subst, ◌∙◌}
+use Rattle.std.specs.Ordering.{eq_by_cmp}
 use Rattle.std.specs.Str.{bytes_eq}
 use Rattle.std.proofs.lemmas.Cmp.{nat_list_cmp_total}
 use Rattle.std.proofs.lemmas.Map.Text.{is_eq-slice_cmp}
@@ -11,12 +10,16 @@ use Rattle.std.specs.FinMap as finite
 use Rattle.rart_below.specs.Bytes.{byte_order, IsAdmitted}
 use Rattle.rart_node.specs.Shape.{Shape, node_of}
 use Rattle.rart_versioned.specs.Trees.{found, found_in, map_of, IsTree, IsPut, IsSound}
+use Rattle.rart_versioned.specs.Versions.{value_at, has_no_key}
 use Rattle.rart_versioned.proofs.Maps.{IsTreeIn, get-found}
 use Rattle.rart_versioned.proofs.Puts.{found-leaf}
 
 one-more : (t : Bool) (m n : ℕ) → m ≤ n → cond t m (m + 1) ≤ n + 1
 one-more true m n le = omega (arith, le)
 one-more false m n le = omega (arith, le)
+
+pub no-key : (V : Type 0) (number : ℕ) → has_no_key (record { content = map_of {V = V} None; number = number }) ≡ true
+no-key V number = rw (finite.len-empty byte_order V) refl
 
 module _ {V : Type 0} where
   -- After, the root has the value at the key, and else what was below the root before, if there was one.
@@ -48,8 +51,8 @@ module _ {V : Type 0} where
   pub map-put : (o : Option (Shape V)) (after : Shape V) (key : List ℕ) (value : V) → IsTreeIn o → IsPutIn key value o after → map_of (Some after) ≡ finite.insert (map_of o) key value
   map-put o after key value tree puts =
       same-map (map_of (Some after)) (finite.insert (map_of o) key value) (λ q.
-        get-found (Some after) q puts.0 ∙ puts.1 q ∙ ap (λ t. cond t (Some value) (found_in o q)) (sym (is_eq-slice_cmp q key)) ∙ ap (cond (eq_by_cmp byte_order q key) (Some value)) (sym (get-found o q tree))
-        ∙ sym (finite.get-insert nat_list_cmp_total (map_of o) key value q))
+      get-found (Some after) q puts.0 ∙ puts.1 q ∙ ap (λ t. cond t (Some value) (found_in o q)) (sym (is_eq-slice_cmp q key)) ∙ ap (cond (eq_by_cmp byte_order q key) (Some value)) (sym (get-found o q tree))
+      ∙ sym (finite.get-insert nat_list_cmp_total (map_of o) key value q))
 
   -- A map that keeps within a count keeps within a greater one.
   pub sound-later : (most : Option ℕ) (count later : ℕ) (o : Option (Shape V)) → IsSound most count o → count ≤ later → IsSound most later o
@@ -66,3 +69,7 @@ module _ {V : Type 0} where
       ] in
       let length-now : finite.len (map_of (Some after)) ≤ count + 1 = rw (map-put o after key value (tree-in most count o sound) puts, finite.len-insert nat_list_cmp_total (map_of o) key value) (one-more (finite.contains_key (map_of o) key) _ count (few most count o sound)) in
       (puts.0, (λ q there. both q (bytes_eq q key) refl (subst IsSome (puts.1 q) there)), omega (arith, length-now, le))
+
+  -- what a version shows, whose root this is
+  pub value-in : (most : Option ℕ) (count : ℕ) (o : Option (Shape V)) (number : ℕ) (w : List ℕ) → IsSound most count o → value_at (record { content = map_of o; number = number }) w ≡ found_in o w
+  value-in most count o number w sound = get-found o w (tree-in most count o sound)

@@ -1,5 +1,5 @@
 -- The steps of a change below a node s, for a key w of which `depth` bytes stand above the node and whose match with the node's prefix stops at `end`.
-use Rattle.std.proofs.Common.{◌≡◌, ℕ, ◌+◌, ◌-◌, ◌<◌, ◌≤◌, List, [], ◌∷◌, ◌++◌, Option, Some, None, slice_get, length, take, drop, length-drop, refl, arith, sym, ap, subst, ◌∙◌}
+use Rattle.std.proofs.Common.{◌≡◌, ℕ, ◌+◌, ◌-◌, ◌<◌, ◌≤◌, List, [], ◌∷◌, ◌++◌, Some, None, slice_get, length, take, drop, length-drop, refl, arith, sym, ap, subst, ◌∙◌}
 use Rattle.std.proofs.lemmas.List.{drop-drop}
 use Rattle.rart_below.specs.Bytes.{common_length}
 use Rattle.rart_below.specs.Children.{child_at}
@@ -8,7 +8,7 @@ use Rattle.rart_node.specs.Shape.{Shape, node, prefix_of, children_of, value_of,
 use Rattle.rart_versioned.specs.Trees.{BeginsWith, found, IsTree, IsPut, cut_at, path_bound}
 use Rattle.rart_versioned.proofs.Behind.{behind-own, split-common, split-whole, common-within, common-long, begins-first, begins-long, no-first, first-parts}
 use Rattle.rart_versioned.proofs.Counting.{path-step}
-use Rattle.rart_versioned.proofs.Cuts.{cut-tree, cut-found, cut-absent, put-cut, put-whole}
+use Rattle.rart_versioned.proofs.Cuts.{cut-found, cut-absent, put-cut}
 use Rattle.rart_versioned.proofs.Finds.{found-below, found-child, found-end, found-short, ordered, IsBranch}
 use Rattle.rart_versioned.proofs.Puts.{put-below}
 

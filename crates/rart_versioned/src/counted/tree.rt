@@ -60,6 +60,16 @@ impl<K: KeyTrait, V: Clone + Drop> VersionedAdaptiveRadixTree<K, V> {
         }
     }
 
+    /// Whether there is no key.
+    pub fn is_empty(&self) -> bool
+        ensures { result ≡ has_no_key self.now }
+    {
+        match &self.root {
+            None => true,
+            Some(_) => false,
+        }
+    }
+
     /// The number: how often the map was changed, or a snapshot taken, since `new`.
     pub fn version(&self) -> u64
         ensures { result ≡ self.now.number }

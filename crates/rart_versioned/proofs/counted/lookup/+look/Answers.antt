@@ -1,12 +1,12 @@
-use Rattle.std.proofs.Common.{◌≡◌, ◌≤◌, ◌<◌, ◌-◌, ◌+◌, ℕ, None, Some, length, slice_get, drop, sym, ap, subst, ◌∙◌, arith}
+use Rattle.std.proofs.Common.{◌≡◌, ◌≤◌, ◌<◌, ◌-◌, ◌+◌, None, Some, length, drop, sym, ap, subst, ◌∙◌, arith}
 use Rattle.std.specs.Option.{option_and_then}
 use Rattle.rart_below.specs.Bytes.{common_length}
 use Rattle.rart_below.specs.Children.{child_at}
-use Rattle.rart_node.specs.Seen.{seen, shown}
-use Rattle.rart_node.specs.Shape.{Shape, prefix_of, value_of, children_of}
+use Rattle.rart_node.specs.Seen.{shown}
+use Rattle.rart_node.specs.Shape.{prefix_of, value_of, children_of}
 use Rattle.rart_versioned.specs.Trees.{found}
 use Rattle.rart_versioned.proofs.Counting.{counts-entered, counts-then}
-use Rattle.rart_versioned.proofs.Finds.{IsBranch, branch, ordered, ascending}
+use Rattle.rart_versioned.proofs.Finds.{branch, ordered, ascending}
 use Rattle.rart_versioned.proofs.Steps.{found-left, found-here, found-in-child, path-down}
 use Rattle.rart_versioned.proofs.counted.lookup.+look.Goals as goal
 

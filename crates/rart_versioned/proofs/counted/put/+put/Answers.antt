@@ -1,12 +1,11 @@
-use Rattle.std.proofs.Common.{◌≡◌, ◌≤◌, ◌-◌, ◌+◌, ◌++◌, None, Some, length, slice_get, drop, refl, sym, ap, subst, ◌∙◌, arith, rules}
-use Rattle.std.proofs.lemmas.Option.{none-some}
+use Rattle.std.proofs.Common.{◌≡◌, ◌≤◌, ◌-◌, ◌+◌, ◌++◌, Some, length, slice_get, drop, sym, ap, subst, ◌∙◌, arith, rules}
 use Rattle.std.proofs.lemmas.Result.{IfOk-weaker, IfErr-weaker}
 use Rattle.std.specs.Option.{option_and_then, OnSome}
 use Rattle.rart_below.specs.Bytes.{common_length}
 use Rattle.rart_below.specs.Children.{child_at}
 use Rattle.rart_node.specs.Seen.{seen, shown}
-use Rattle.rart_node.specs.Shape.{Shape, prefix_of, children_of, with_replaced}
-use Rattle.rart_versioned.specs.Trees.{IsTree, IsPut, found}
+use Rattle.rart_node.specs.Shape.{prefix_of, children_of, with_replaced}
+use Rattle.rart_versioned.specs.Trees.{IsPut, found}
 use Rattle.rart_versioned.proofs.Behind.{begins-first}
 use Rattle.rart_versioned.proofs.Counting.{counts-opened, counts-then, counts-below, path-one, ending-most}
 use Rattle.rart_versioned.proofs.Finds.{branch, ordered, ascending}
@@ -88,7 +87,7 @@ returns-in-None-clause-put g t c =
     let after = c.finish.new.node in
     let shows : shown bytes (c.open_mut.follows.lender after) ≡ seen bytes after = c.open_mut.follows.holds after (search rules) in
     IfOk-weaker c.finish.result _ _ (λ _ puts. subst (λ z. IsPut (drop depth w) c.args.value s z) (sym shows)
-      (put-at-whole s w depth end c.requires.depth is (seen bytes after) c.args.value whole (subst (λ z. IsPut (prefix_of z ++ drop end w) c.args.value z (seen bytes after)) node-same puts))) c.finish.ensures.put
+    (put-at-whole s w depth end c.requires.depth is (seen bytes after) c.args.value whole (subst (λ z. IsPut (prefix_of z ++ drop end w) c.args.value z (seen bytes after)) node-same puts))) c.finish.ensures.put
 
 pub returns-in-None-clause-replaced : goal.returns-in-None-clause-replaced
 returns-in-None-clause-replaced g t c =
@@ -151,7 +150,7 @@ returns-in-None-seek_child_mut-clause-put g t c =
     let after = c.finish-in-None-seek_child_mut.new.node in
     let shows : shown bytes (c.open_mut.follows.lender after) ≡ seen bytes after = c.open_mut.follows.holds after (search rules) in
     IfOk-weaker c.finish-in-None-seek_child_mut.result _ _ (λ _ puts. subst (λ z. IsPut (drop depth w) c.args.value s z) (sym shows)
-      (put-at-whole s w depth end c.requires.depth is (seen bytes after) c.args.value whole (subst (λ z. IsPut (prefix_of z ++ drop end w) c.args.value z (seen bytes after)) node-same puts))) c.finish-in-None-seek_child_mut.ensures.put
+    (put-at-whole s w depth end c.requires.depth is (seen bytes after) c.args.value whole (subst (λ z. IsPut (prefix_of z ++ drop end w) c.args.value z (seen bytes after)) node-same puts))) c.finish-in-None-seek_child_mut.ensures.put
 
 pub returns-in-None-seek_child_mut-clause-replaced : goal.returns-in-None-seek_child_mut-clause-replaced
 returns-in-None-seek_child_mut-clause-replaced g t c =
@@ -218,7 +217,7 @@ returns-in-Some-seek_child_mut-clause-put g t c =
     let shows : shown bytes (c.open_mut.follows.lender inner) ≡ with_replaced byte (shown bytes c.put.new.at) s = c.open_mut.follows.holds inner (search rules) ∙ written in
     let next : slice_get (drop end w) 0 ≡ Some byte = sym c.in-Some.ensures in
     IfOk-weaker c.put.result _ _ (λ _ puts. subst (λ z. IsPut (drop depth w) c.args.value s z) (sym shows)
-      (put-in-child s w depth end c.requires.depth is child (shown bytes c.put.new.at) c.args.value byte c.requires.tree whole next here puts)) c.put.ensures.put
+    (put-in-child s w depth end c.requires.depth is child (shown bytes c.put.new.at) c.args.value byte c.requires.tree whole next here puts)) c.put.ensures.put
 
 pub returns-in-Some-seek_child_mut-clause-replaced : goal.returns-in-Some-seek_child_mut-clause-replaced
 returns-in-Some-seek_child_mut-clause-replaced g t c =

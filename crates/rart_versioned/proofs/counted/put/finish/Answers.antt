@@ -1,6 +1,6 @@
-use Rattle.std.proofs.Common.{◌≡◌, None, Some, ◌++◌, drop, refl, sym, ap, subst, ◌∙◌}
-use Rattle.rart_node.specs.Seen.{seen, shown}
-use Rattle.rart_node.specs.Shape.{prefix_of, children_of, with_added}
+use Rattle.std.proofs.Common.{◌++◌, drop, refl, sym, ap, subst, ◌∙◌}
+use Rattle.rart_node.specs.Seen.{seen}
+use Rattle.rart_node.specs.Shape.{prefix_of, with_added}
 use Rattle.rart_versioned.specs.Trees.{IsPut}
 use Rattle.rart_versioned.proofs.Finds.{ascending, ordered}
 use Rattle.rart_versioned.proofs.Puts.{put-end, put-leaf}

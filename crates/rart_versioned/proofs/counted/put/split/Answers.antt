@@ -1,8 +1,7 @@
-use Rattle.std.proofs.Common.{◌≡◌, ◌-◌, ◌≤◌, ◌++◌, length, drop, sym, ap, subst, ◌∙◌, arith}
+use Rattle.std.proofs.Common.{◌-◌, ◌≤◌, ◌++◌, length, drop, sym, ap, subst, ◌∙◌, arith}
 use Rattle.rart_node.specs.Seen.{seen}
 use Rattle.rart_node.specs.Shape.{Shape, prefix_of, children_of}
 use Rattle.rart_below.specs.Children.{child_at}
-use Rattle.rart_versioned.specs.Bounds.{CountsUpTo}
 use Rattle.rart_versioned.specs.Trees.{IsTree, IsPut, found, cut_at, ending}
 use Rattle.rart_versioned.proofs.Counting.{counts-then, ending-cut}
 use Rattle.rart_versioned.proofs.Cuts.{cut-tree}
@@ -24,7 +23,7 @@ returns-clause-put g c =
     let after = seen g.K.PartialType.Partial.bytes c.finish.new.node in
     let rest = drop c.args.end (g.K.KeyTrait.bytes c.args.key.now) in
     let puts : IsPut (prefix_of (cut_at (c.args.end - c.args.depth) s) ++ rest) c.args.value (cut_at (c.args.end - c.args.depth) s) after =
-        subst (λ (z : Shape g.row.V.Denot). IsPut (prefix_of z ++ rest) c.args.value z after) c.in_ok-upper.ensures.cut c.in_ok-old.ensures.put in
+    subst (λ (z : Shape g.row.V.Denot). IsPut (prefix_of z ++ rest) c.args.value z after) c.in_ok-upper.ensures.cut c.in_ok-old.ensures.put in
     put-at-cut s _ c.args.depth c.args.end c.requires.depth c.requires.end after c.args.value c.requires.inside puts
 
 pub returns-clause-replaced : goal.returns-clause-replaced

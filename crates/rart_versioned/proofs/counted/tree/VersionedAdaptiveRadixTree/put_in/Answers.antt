@@ -1,0 +1,45 @@
+use Rattle.std.proofs.Common.{◌+◌, None, Some, sym, ap, subst, ◌∙◌, arith}
+use Rattle.std.specs.Option.{option_map}
+use Rattle.rart_node.specs.Seen.{shown}
+use Rattle.rart_versioned.specs.Trees.{IsSound, found_in}
+use Rattle.rart_versioned.proofs.Maps.{get-found}
+use Rattle.rart_versioned.proofs.Sound.{IsPutIn, leaf-put, root-put, sound-put, map-put, value-in}
+use Rattle.rart_versioned.proofs.counted.tree.VersionedAdaptiveRadixTree.put_in.Goals as goal
+
+pub invariant_of-self-in-None : goal.invariant_of-self-in-None
+invariant_of-self-in-None g c =
+    let f = shown g.K.PartialType.Partial.bytes in
+    let w = g.K.KeyTrait.bytes c.args.key.now in
+    let n = c.self.inside.version in
+    let raised = c.requires.raised in
+    sound-put g.K.KeyTrait.MAXIMUM_SIZE n (n + c.args.more) None (f c.in_ok-leaf-in-None.leaf) w c.args.value tt (omega (arith, raised)) (g.met.K.KeyTrait.admitted c.args.key.now)
+    (subst (IsPutIn w c.args.value None) (sym c.in_ok-leaf-in-None.ensures.leaf) (leaf-put w c.args.value))
+
+pub invariant_of-self-in-Some : goal.invariant_of-self-in-Some
+invariant_of-self-in-Some g c =
+    let f = shown g.K.PartialType.Partial.bytes in
+    let w = g.K.KeyTrait.bytes c.args.key.now in
+    let n = c.self.inside.version in
+    let raised = c.requires.raised in
+    let sound : IsSound g.K.KeyTrait.MAXIMUM_SIZE n (Some (f c.in-Some.root)) = subst (λ z. IsSound g.K.KeyTrait.MAXIMUM_SIZE n (option_map f z)) c.in-Some.is c.self.invariant in
+    sound-put g.K.KeyTrait.MAXIMUM_SIZE n (n + c.args.more) (Some (f c.in-Some.root)) (f c.put.new.at) w c.args.value sound (omega (arith, raised)) (g.met.K.KeyTrait.admitted c.args.key.now)
+    (root-put w c.args.value (f c.in-Some.root) (f c.put.new.at) c.in_ok-old-in-Some.ensures.put)
+
+pub returns-in_ok-leaf-in-None-clause-replaced : goal.returns-in_ok-leaf-in-None-clause-replaced
+returns-in_ok-leaf-in-None-clause-replaced g c = rw (← c.self.view_is, c.in-None.is) (sym (get-found None (g.K.KeyTrait.bytes c.args.key.now) tt))
+
+pub returns-in_ok-old-in-Some-clause-replaced : goal.returns-in_ok-old-in-Some-clause-replaced
+returns-in_ok-old-in-Some-clause-replaced g c =
+    let f = shown g.K.PartialType.Partial.bytes in
+    let w = g.K.KeyTrait.bytes c.args.key.now in
+    let o = option_map f c.self.inside.root in
+    rw (← c.self.view_is) (c.in_ok-old-in-Some.ensures.replaced ∙ sym (value-in g.K.KeyTrait.MAXIMUM_SIZE c.self.inside.version o c.self.inside.version w c.self.invariant ∙ ap (λ z. found_in (option_map f z) w) c.in-Some.is))
+
+pub returns-in_ok-old-in-Some-clause-ok : goal.returns-in_ok-old-in-Some-clause-ok
+returns-in_ok-old-in-Some-clause-ok g c =
+    let f = shown g.K.PartialType.Partial.bytes in
+    let w = g.K.KeyTrait.bytes c.args.key.now in
+    let n = c.self.inside.version in
+    let sound : IsSound g.K.KeyTrait.MAXIMUM_SIZE n (Some (f c.in-Some.root)) = subst (λ z. IsSound g.K.KeyTrait.MAXIMUM_SIZE n (option_map f z)) c.in-Some.is c.self.invariant in
+    rw (← c.self.view_is, c.in-Some.is)
+    (ap (λ m. record { content = m; number = n + c.args.more }) (map-put (Some (f c.in-Some.root)) (f c.put.new.at) w c.args.value sound.0 (root-put w c.args.value (f c.in-Some.root) (f c.put.new.at) c.in_ok-old-in-Some.ensures.put)))

@@ -1,0 +1,4 @@
+//! Whatever makes a `Work` of its own, or calls what does: the forms that count nothing.
+
+mod insert;
+mod lookup;

@@ -1,0 +1,55 @@
+ghost use Rattle.std.specs.Prelude.{◌≡◌, IfOk, OnOk, OnErr};
+ghost use Rattle.rart_below.specs.Clones.{ClonesEqual};
+ghost use Rattle.rart_versioned.specs.Versions.{HasRoom, has_key, value_at, with_key};
+
+use crate::counted::VersionedAdaptiveRadixTree;
+use rart_below::KeyTrait;
+use rart_node::Work;
+use std::alloc::AllocError;
+
+impl<K: KeyTrait, V: Clone + Drop> VersionedAdaptiveRadixTree<K, V> {
+    /// Sets a key to a value, raises the number by one, and answers whether a value was replaced.
+    /// Refused for memory, map and number are as before.
+    pub fn insert_k(&mut self, key: &K, value: V) -> Result<bool, AllocError>
+        requires clones { ClonesEqual V.is_clone }
+        requires room { HasRoom self.old 1 }
+        ensures replaced { IfOk result (λ replaced. replaced ≡ has_key self.old (K.bytes key.now)) }
+        ensures ok { OnOk result (self.new ≡ with_key self.old (K.bytes key.now) value 1) }
+        ensures refused { OnErr result (self.new ≡ self.old) }
+    {
+        self.insert_k_counted(key, value, &mut Work::new())
+    }
+
+    /// As `insert_k`, the key by value.
+    pub fn insert(&mut self, key: K, value: V) -> Result<bool, AllocError>
+        requires clones { ClonesEqual V.is_clone }
+        requires room { HasRoom self.old 1 }
+        ensures replaced { IfOk result (λ replaced. replaced ≡ has_key self.old (K.bytes key)) }
+        ensures ok { OnOk result (self.new ≡ with_key self.old (K.bytes key) value 1) }
+        ensures refused { OnErr result (self.new ≡ self.old) }
+    {
+        self.insert_k(&key, value)
+    }
+
+    /// As `insert_k`, and answers the value that was replaced, if one was.
+    pub fn insert_and_replace_k(&mut self, key: &K, value: V) -> Result<Option<V>, AllocError>
+        requires clones { ClonesEqual V.is_clone }
+        requires room { HasRoom self.old 1 }
+        ensures replaced { IfOk result (λ replaced. replaced ≡ value_at self.old (K.bytes key.now)) }
+        ensures ok { OnOk result (self.new ≡ with_key self.old (K.bytes key.now) value 1) }
+        ensures refused { OnErr result (self.new ≡ self.old) }
+    {
+        self.insert_and_replace_k_counted(key, value, &mut Work::new())
+    }
+
+    /// As `insert_and_replace_k`, the key by value.
+    pub fn insert_and_replace(&mut self, key: K, value: V) -> Result<Option<V>, AllocError>
+        requires clones { ClonesEqual V.is_clone }
+        requires room { HasRoom self.old 1 }
+        ensures replaced { IfOk result (λ replaced. replaced ≡ value_at self.old (K.bytes key)) }
+        ensures ok { OnOk result (self.new ≡ with_key self.old (K.bytes key) value 1) }
+        ensures refused { OnErr result (self.new ≡ self.old) }
+    {
+        self.insert_and_replace_k(&key, value)
+    }
+}

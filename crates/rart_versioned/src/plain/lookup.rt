@@ -1,0 +1,23 @@
+ghost use Rattle.std.specs.Prelude.{◌≡◌};
+ghost use Rattle.std.specs.Option.{option_copied};
+ghost use Rattle.rart_versioned.specs.Versions.{value_at};
+
+use crate::counted::VersionedAdaptiveRadixTree;
+use rart_below::KeyTrait;
+use rart_node::Work;
+
+impl<K: KeyTrait, V: Clone + Drop> VersionedAdaptiveRadixTree<K, V> {
+    /// The value of a key, if the key is there. It takes no memory.
+    pub fn get_k(&self, key: &K) -> Option<&V>
+        ensures { option_copied result ≡ value_at self.now (K.bytes key.now) }
+    {
+        self.get_k_counted(key, &mut Work::new())
+    }
+
+    /// As `get_k`, the key by value.
+    pub fn get(&self, key: K) -> Option<&V>
+        ensures { option_copied result ≡ value_at self.now (K.bytes key) }
+    {
+        self.get_k(&key)
+    }
+}

@@ -32,12 +32,12 @@ module _ {V : Type 0} where
   insert-same : (m : Map V) (key : List ℕ) (value : V) → finite.get m key ≡ Some value → finite.insert m key value ≡ m
   insert-same m key value is =
       same-map (finite.insert m key value) m (λ q.
-        let P : Bool → Type 0 = λ t. eq_by_cmp byte_order q key ≡ t → cond t (Some value) (finite.get m q) ≡ finite.get m q in
-        let both : (t : Bool) → P t = elim [
-          | true ↦ (λ same. sym is ∙ finite.get_tied nat_list_cmp_total m q key (tied (byte_order q key) same))
-          | false ↦ (λ differs. refl)
-        ] in
-        finite.get-insert nat_list_cmp_total m key value q ∙ both (eq_by_cmp byte_order q key) refl)
+      let P : Bool → Type 0 = λ t. eq_by_cmp byte_order q key ≡ t → cond t (Some value) (finite.get m q) ≡ finite.get m q in
+      let both : (t : Bool) → P t = elim [
+        | true ↦ (λ same. sym is ∙ finite.get_tied nat_list_cmp_total m q key (tied (byte_order q key) same))
+        | false ↦ (λ differs. refl)
+      ] in
+      finite.get-insert nat_list_cmp_total m key value q ∙ both (eq_by_cmp byte_order q key) refl)
 
   -- ---- whether the key was there, by the slot that the callback is lent
   occupied : (o : Option V) (slot : Slot V) → slot ≡ slot_of o → is_occupied slot ≡ true → (value : V) × (o ≡ Some value)

@@ -16,7 +16,7 @@ impl<K: KeyTrait, V: Clone + Drop> VersionedAdaptiveRadixTree<K, V> {
     pub fn remove_k_counted(&mut self, key: &K, work: &mut Work) -> Result<Option<V>, AllocError>
         requires clones { ClonesEqual V.is_clone }
         requires room { HasRoom self.old 1 }
-        ensures value { IfOk result (λ value. value ≡ value_at self.old (K.bytes key.now)) }
+        ensures removed { IfOk result (λ value. value ≡ value_at self.old (K.bytes key.now)) }
         ensures ok { OnOk result (self.new ≡ removed self.old (K.bytes key.now)) }
         ensures refused { OnErr result (self.new ≡ self.old) }
         ensures present { OnErr result (IsTrue (has_key self.old (K.bytes key.now))) }
@@ -32,7 +32,7 @@ impl<K: KeyTrait, V: Clone + Drop> VersionedAdaptiveRadixTree<K, V> {
     pub fn delete_k_counted(&mut self, key: &K, work: &mut Work) -> Result<bool, AllocError>
         requires clones { ClonesEqual V.is_clone }
         requires room { HasRoom self.old 1 }
-        ensures was_there { IfOk result (λ was_there. was_there ≡ has_key self.old (K.bytes key.now)) }
+        ensures removed { IfOk result (λ was_there. was_there ≡ has_key self.old (K.bytes key.now)) }
         ensures ok { OnOk result (self.new ≡ removed self.old (K.bytes key.now)) }
         ensures refused { OnErr result (self.new ≡ self.old) }
         ensures present { OnErr result (IsTrue (has_key self.old (K.bytes key.now))) }

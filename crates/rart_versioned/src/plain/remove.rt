@@ -13,7 +13,7 @@ impl<K: KeyTrait, V: Clone + Drop> VersionedAdaptiveRadixTree<K, V> {
     pub fn remove(&mut self, key: K) -> Result<Option<V>, AllocError>
         requires clones { ClonesEqual V.is_clone }
         requires room { HasRoom self.old 1 }
-        ensures value { IfOk result (λ value. value ≡ value_at self.old (K.bytes key)) }
+        ensures removed { IfOk result (λ value. value ≡ value_at self.old (K.bytes key)) }
         ensures ok { OnOk result (self.new ≡ removed self.old (K.bytes key)) }
         ensures refused { OnErr result (self.new ≡ self.old) }
         ensures present { OnErr result (IsTrue (has_key self.old (K.bytes key))) }
@@ -27,7 +27,7 @@ impl<K: KeyTrait, V: Clone + Drop> VersionedAdaptiveRadixTree<K, V> {
     pub fn remove_k(&mut self, key: &K) -> Result<Option<V>, AllocError>
         requires clones { ClonesEqual V.is_clone }
         requires room { HasRoom self.old 1 }
-        ensures value { IfOk result (λ value. value ≡ value_at self.old (K.bytes key.now)) }
+        ensures removed { IfOk result (λ value. value ≡ value_at self.old (K.bytes key.now)) }
         ensures ok { OnOk result (self.new ≡ removed self.old (K.bytes key.now)) }
         ensures refused { OnErr result (self.new ≡ self.old) }
         ensures present { OnErr result (IsTrue (has_key self.old (K.bytes key.now))) }
@@ -39,7 +39,7 @@ impl<K: KeyTrait, V: Clone + Drop> VersionedAdaptiveRadixTree<K, V> {
     pub fn delete(&mut self, key: K) -> Result<bool, AllocError>
         requires clones { ClonesEqual V.is_clone }
         requires room { HasRoom self.old 1 }
-        ensures was_there { IfOk result (λ was_there. was_there ≡ has_key self.old (K.bytes key)) }
+        ensures removed { IfOk result (λ was_there. was_there ≡ has_key self.old (K.bytes key)) }
         ensures ok { OnOk result (self.new ≡ removed self.old (K.bytes key)) }
         ensures refused { OnErr result (self.new ≡ self.old) }
         ensures present { OnErr result (IsTrue (has_key self.old (K.bytes key))) }
@@ -51,7 +51,7 @@ impl<K: KeyTrait, V: Clone + Drop> VersionedAdaptiveRadixTree<K, V> {
     pub fn delete_k(&mut self, key: &K) -> Result<bool, AllocError>
         requires clones { ClonesEqual V.is_clone }
         requires room { HasRoom self.old 1 }
-        ensures was_there { IfOk result (λ was_there. was_there ≡ has_key self.old (K.bytes key.now)) }
+        ensures removed { IfOk result (λ was_there. was_there ≡ has_key self.old (K.bytes key.now)) }
         ensures ok { OnOk result (self.new ≡ removed self.old (K.bytes key.now)) }
         ensures refused { OnErr result (self.new ≡ self.old) }
         ensures present { OnErr result (IsTrue (has_key self.old (K.bytes key.now))) }

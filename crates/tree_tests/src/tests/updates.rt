@@ -18,10 +18,11 @@ fn update(
     requires { length bytes.now ≤ 16 }
 {
     assert_room(rt, tree);
-    tree.update_k(&key(alloc, bytes)?, move |slot| {
+    let callback = move |slot: &mut Slot<u64>| -> SlotUpdate<u64> {
         fill(slot, write);
         told
-    })
+    };
+    tree.update_k(&key(alloc, bytes)?, callback)
 }
 
 // The same for a callback that may fail: None is its error.
@@ -36,22 +37,28 @@ fn try_update(
     requires { length bytes.now ≤ 16 }
 {
     assert_room(rt, tree);
-    let key = key(alloc, bytes)?;
-    let result = tree.try_update_k(&key, move |slot| {
+    let callback = move |slot: &mut Slot<u64>| -> Result<SlotUpdate<u64>, Stop> {
         fill(slot, write);
-        told.ok_or("stop")
-    });
-    match result {
+        match told {
+            Some(told) => Ok(told),
+            None => Err(Stop),
+        }
+    };
+    match tree.try_update_k(&key(alloc, bytes)?, callback) {
         Ok(answer) => Ok(Tried::Answered(answer)),
-        Err(Refusal::Callback(error)) => Ok(Tried::Failed(error)),
+        Err(Refusal::Callback(Stop)) => Ok(Tried::Stopped),
         Err(Refusal::Memory(refused)) => Err(refused),
     }
 }
 
-#[derive(PartialEq, Eq, Debug, Drop)]
+// The error of a callback.
+#[derive(Clone, Copy)]
+struct Stop;
+
+#[derive(Clone, Copy, PartialEq, Eq, Debug)]
 enum Tried {
     Answered(bool),
-    Failed(&'static str),
+    Stopped,
 }
 
 fn fill(slot: &mut Slot<u64>, write: Option<u64>) {
@@ -84,7 +91,7 @@ fn error_of_the_callback_leaves_the_value(rt: HostRuntime) -> Result<(), Fail> {
     assert_room(&rt, &tree);
     let snapshot = tree.snapshot()?;
     let failed = try_update(&rt, rt.alloc(), &mut tree, b"err", Some(99), None)?;
-    assert_eq!(rt; failed, Tried::Failed("stop"));
+    assert_eq!(rt; failed, Tried::Stopped);
     assert_value(&rt, rt.alloc(), &tree, b"err", Some(1))?;
     assert_value(&rt, rt.alloc(), &snapshot, b"err", Some(1))?;
     assert_eq!(rt; tree.version(), 3);
@@ -134,7 +141,7 @@ fn tried_update_counts_two_but_for_keep(rt: HostRuntime) -> Result<(), Fail> {
     try_update(&rt, rt.alloc(), &mut tree, b"a", None, Some(SlotUpdate::Insert(7)))?;
     assert_eq!(rt; tree.version(), 4);
     let failed = try_update(&rt, rt.alloc(), &mut tree, b"b", None, None)?;
-    assert_eq!(rt; failed, Tried::Failed("stop"));
+    assert_eq!(rt; failed, Tried::Stopped);
     let kept = try_update(&rt, rt.alloc(), &mut tree, b"b", None, Some(SlotUpdate::Keep))?;
     assert_eq!(rt; kept, Tried::Answered(false));
     assert_eq!(rt; tree.version(), 4);

@@ -1,6 +1,6 @@
 ghost use Rattle.std.specs.Prelude.{◌≤◌, length};
 
-use crate::tests::{assert_room, assert_value, insert, key, Tree};
+use crate::tests::{Tree, assert_room, assert_value, insert, key};
 use rart_versioned::Work;
 use std::alloc::{AllocError, Global};
 use std::process::Abort;
@@ -18,12 +18,7 @@ fn remove(
     tree.remove_k(&key(alloc, bytes)?)
 }
 
-fn delete(
-    rt: &impl Abort,
-    alloc: Global,
-    tree: &mut Tree,
-    bytes: &[u8],
-) -> Result<bool, AllocError>
+fn delete(rt: &impl Abort, alloc: Global, tree: &mut Tree, bytes: &[u8]) -> Result<bool, AllocError>
     requires { length bytes.now ≤ 16 }
 {
     assert_room(rt, tree);
@@ -104,7 +99,10 @@ fn each_form_of_removal_succeeds(rt: HostRuntime) -> Result<(), Fail> {
     assert_room(&rt, &tree);
     assert_eq!(rt; tree.remove(key(rt.alloc(), b"a")?)?, Some(1));
     assert_room(&rt, &tree);
-    assert_eq!(rt; tree.remove_k_counted(&key(rt.alloc(), b"b")?, &mut Work::new())?, Some(2));
+    assert_eq!(rt;
+        tree.remove_k_counted(&key(rt.alloc(), b"b")?, &mut Work::new())?,
+        Some(2)
+    );
     assert_room(&rt, &tree);
     assert!(rt; tree.delete(key(rt.alloc(), b"c")?)?);
     assert_room(&rt, &tree);

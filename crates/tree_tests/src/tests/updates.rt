@@ -1,6 +1,6 @@
 ghost use Rattle.std.specs.Prelude.{◌≤◌, length};
 
-use crate::tests::{assert_room, assert_value, insert, key, Tree};
+use crate::tests::{Tree, assert_room, assert_value, insert, key};
 use rart_versioned::{Refusal, Slot, SlotUpdate, Work};
 use std::alloc::{AllocError, Global};
 use std::process::Abort;
@@ -75,8 +75,26 @@ fn update_changes_one_version(rt: HostRuntime) -> Result<(), Fail> {
     insert(&rt, rt.alloc(), &mut tree, b"bucket", 1)?;
     assert_room(&rt, &tree);
     let snapshot = tree.snapshot()?;
-    assert!(rt; update(&rt, rt.alloc(), &mut tree, b"bucket", Some(2), SlotUpdate::Keep)?);
-    assert!(rt; update(&rt, rt.alloc(), &mut tree, b"bucket-2", Some(4), SlotUpdate::Insert(3))?);
+    assert!(rt;
+        update(
+            &rt,
+            rt.alloc(),
+            &mut tree,
+            b"bucket",
+            Some(2),
+            SlotUpdate::Keep
+        )?
+    );
+    assert!(rt;
+        update(
+            &rt,
+            rt.alloc(),
+            &mut tree,
+            b"bucket-2",
+            Some(4),
+            SlotUpdate::Insert(3)
+        )?
+    );
     assert_value(&rt, rt.alloc(), &tree, b"bucket", Some(2))?;
     assert_value(&rt, rt.alloc(), &tree, b"bucket-2", Some(3))?;
     assert_value(&rt, rt.alloc(), &snapshot, b"bucket", Some(1))?;
@@ -105,9 +123,27 @@ fn update_of_an_absent_key_inserts_or_does_nothing(rt: HostRuntime) -> Result<()
     assert!(rt; !update(&rt, rt.alloc(), &mut tree, b"x", None, SlotUpdate::Keep)?);
     assert!(rt; !update(&rt, rt.alloc(), &mut tree, b"x", None, SlotUpdate::Remove)?);
     assert_eq!(rt; tree.version(), 1);
-    assert!(rt; update(&rt, rt.alloc(), &mut tree, b"x", None, SlotUpdate::Insert(3))?);
+    assert!(rt;
+        update(
+            &rt,
+            rt.alloc(),
+            &mut tree,
+            b"x",
+            None,
+            SlotUpdate::Insert(3)
+        )?
+    );
     assert_eq!(rt; tree.version(), 2);
-    assert!(rt; update(&rt, rt.alloc(), &mut tree, b"bucket", Some(2), SlotUpdate::Remove)?);
+    assert!(rt;
+        update(
+            &rt,
+            rt.alloc(),
+            &mut tree,
+            b"bucket",
+            Some(2),
+            SlotUpdate::Remove
+        )?
+    );
     assert_eq!(rt; tree.version(), 3);
     assert_value(&rt, rt.alloc(), &tree, b"bucket", None)?;
     assert_value(&rt, rt.alloc(), &tree, b"x", Some(3))?;
@@ -118,7 +154,16 @@ fn update_of_an_absent_key_inserts_or_does_nothing(rt: HostRuntime) -> Result<()
 fn inserted_value_takes_the_place_of_what_was_written(rt: HostRuntime) -> Result<(), Fail> {
     let mut tree = Tree::new(rt.alloc());
     insert(&rt, rt.alloc(), &mut tree, b"a", 1)?;
-    assert!(rt; update(&rt, rt.alloc(), &mut tree, b"a", Some(5), SlotUpdate::Insert(6))?);
+    assert!(rt;
+        update(
+            &rt,
+            rt.alloc(),
+            &mut tree,
+            b"a",
+            Some(5),
+            SlotUpdate::Insert(6)
+        )?
+    );
     assert_value(&rt, rt.alloc(), &tree, b"a", Some(6))?;
     let told = Some(SlotUpdate::Insert(8));
     let tried = try_update(&rt, rt.alloc(), &mut tree, b"a", Some(7), told)?;
@@ -135,19 +180,54 @@ fn inserted_value_takes_the_place_of_what_was_written(rt: HostRuntime) -> Result
 fn tried_update_counts_two_but_for_keep(rt: HostRuntime) -> Result<(), Fail> {
     let mut tree = Tree::new(rt.alloc());
     insert(&rt, rt.alloc(), &mut tree, b"a", 1)?;
-    try_update(&rt, rt.alloc(), &mut tree, b"a", Some(5), Some(SlotUpdate::Keep))?;
+    try_update(
+        &rt,
+        rt.alloc(),
+        &mut tree,
+        b"a",
+        Some(5),
+        Some(SlotUpdate::Keep),
+    )?;
     assert_eq!(rt; tree.version(), 2);
     assert_value(&rt, rt.alloc(), &tree, b"a", Some(5))?;
-    try_update(&rt, rt.alloc(), &mut tree, b"a", None, Some(SlotUpdate::Insert(7)))?;
+    try_update(
+        &rt,
+        rt.alloc(),
+        &mut tree,
+        b"a",
+        None,
+        Some(SlotUpdate::Insert(7)),
+    )?;
     assert_eq!(rt; tree.version(), 4);
     let failed = try_update(&rt, rt.alloc(), &mut tree, b"b", None, None)?;
     assert_eq!(rt; failed, Tried::Stopped);
-    let kept = try_update(&rt, rt.alloc(), &mut tree, b"b", None, Some(SlotUpdate::Keep))?;
+    let kept = try_update(
+        &rt,
+        rt.alloc(),
+        &mut tree,
+        b"b",
+        None,
+        Some(SlotUpdate::Keep),
+    )?;
     assert_eq!(rt; kept, Tried::Answered(false));
     assert_eq!(rt; tree.version(), 4);
-    try_update(&rt, rt.alloc(), &mut tree, b"b", None, Some(SlotUpdate::Insert(8)))?;
+    try_update(
+        &rt,
+        rt.alloc(),
+        &mut tree,
+        b"b",
+        None,
+        Some(SlotUpdate::Insert(8)),
+    )?;
     assert_eq!(rt; tree.version(), 5);
-    try_update(&rt, rt.alloc(), &mut tree, b"a", Some(9), Some(SlotUpdate::Remove))?;
+    try_update(
+        &rt,
+        rt.alloc(),
+        &mut tree,
+        b"a",
+        Some(9),
+        Some(SlotUpdate::Remove),
+    )?;
     assert_eq!(rt; tree.version(), 7);
     assert_value(&rt, rt.alloc(), &tree, b"a", None)?;
     assert_value(&rt, rt.alloc(), &tree, b"b", Some(8))?;

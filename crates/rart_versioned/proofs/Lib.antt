@@ -10,3 +10,4 @@ pub mod Sound
 pub mod Takes
 pub mod TakeSteps
 pub mod TakenIn
+pub mod Settles

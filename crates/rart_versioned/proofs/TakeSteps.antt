@@ -33,10 +33,6 @@ first-long : (rest : List ℕ) (byte : ℕ) → slice_get rest 0 ≡ Some byte �
 first-long [] byte next = absurd (none-some byte next)
 first-long (b ∷ rest) byte next = omega arith
 
--- counts that keep within some bounds keep within greater ones
-pub counts-at-most : {entered made most most_made : ℕ} {before after : Counts} → CountsUpTo entered made before after → entered ≤ most → made ≤ most_made → CountsUpTo most most_made before after
-counts-at-most {after = after} counted entered made = counts-then counted (counts-none after) (omega (arith, entered)) (omega (arith, made))
-
 module _ {V : Type 0} where
   pub counted-first : (s : Shape V) (key : List ℕ) (before after : Counts) → after ≡ record { entered = before.entered + 1; made = before.made + 1 } → CountsUpTo (path_bound s key) (path_bound s key) before after
   counted-first s key before after is = let some = path-one s key in counts-then (counts-opened before after is) (counts-none after) (omega (arith, some)) (omega (arith, some))

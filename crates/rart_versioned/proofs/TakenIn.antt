@@ -38,8 +38,8 @@ module _ {V : Type 0} where
   pub map-taken : (before after : Option (Shape V)) (key : List ℕ) → IsTreeIn before → IsTakenIn key before after → map_of after ≡ finite.remove (map_of before) key
   map-taken before after key tree taken =
       same-map (map_of after) (finite.remove (map_of before) key) (λ q.
-        get-found after q taken.0 ∙ taken.1 q ∙ ap (λ t. cond t None (found_in before q)) (sym (is_eq-slice_cmp q key)) ∙ ap (cond (eq_by_cmp byte_order q key) None) (sym (get-found before q tree))
-        ∙ sym (finite.get-remove nat_list_cmp_total (map_of before) key q))
+      get-found after q taken.0 ∙ taken.1 q ∙ ap (λ t. cond t None (found_in before q)) (sym (is_eq-slice_cmp q key)) ∙ ap (cond (eq_by_cmp byte_order q key) None) (sym (get-found before q tree))
+      ∙ sym (finite.get-remove nat_list_cmp_total (map_of before) key q))
 
   pub sound-taken : (most : Option ℕ) (count later : ℕ) (before after : Option (Shape V)) (key : List ℕ) → IsSound most count before → count ≤ later → IsTakenIn key before after → IsSound most later after
   sound-taken most count later before None key sound le taken = tt
@@ -47,5 +47,5 @@ module _ {V : Type 0} where
       let Keys : Bool → List ℕ → Type 0 = λ t q. IsSome (cond t None (found_in before q)) → IsAdmitted most (length q) in
       let both : (q : List ℕ) (t : Bool) → Keys t q = λ q. elim [ true ↦ (λ there. absurd (false≢true there)) | false ↦ (λ there. admitted most count before sound q there) ] in
       let fewer : finite.len (map_of (Some root)) ≤ count =
-          rw (map-taken before (Some root) key (tree-in most count before sound) taken, finite.len-remove nat_list_cmp_total (map_of before) key) (one-less (finite.contains_key (map_of before) key) _ count (few most count before sound)) in
+      rw (map-taken before (Some root) key (tree-in most count before sound) taken, finite.len-remove nat_list_cmp_total (map_of before) key) (one-less (finite.contains_key (map_of before) key) _ count (few most count before sound)) in
       (taken.0, (λ q there. both q (bytes_eq q key) (subst IsSome (taken.1 q) there)), omega (arith, fewer, le))

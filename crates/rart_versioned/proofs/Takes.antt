@@ -95,10 +95,10 @@ module _ {V : Type 0} where
   without-with entries byte child ascending =
       let without : (list : List (ℕ × Shape V)) → children.IsAscending list → T (is_sorted nat_cmp (without_child byte list)) = λ list h. holds (ascending-where_key (λ k. not (k == byte)) list h) in
       same_entries nat_cmp nat_cmp_total nat_cmp-IsAntisymmetric _ _ (without _ (ascending-with_child byte child entries ascending)) (without entries ascending) (λ q.
-        child_at-without (with_child byte child entries) byte q
-        ∙ ap (cond (q == byte) None) (find-put nat_cmp nat_cmp_total q byte child entries ∙ ap (λ t. cond t (Some child) (child_at q entries)) (unsigned_tied q byte))
-        ∙ elim (q == byte) as (λ t. cond t None (cond t (Some child) (child_at q entries)) ≡ cond t None (child_at q entries)) [ true ↦ refl | false ↦ refl ]
-        ∙ sym (child_at-without entries byte q))
+      child_at-without (with_child byte child entries) byte q
+      ∙ ap (cond (q == byte) None) (find-put nat_cmp nat_cmp_total q byte child entries ∙ ap (λ t. cond t (Some child) (child_at q entries)) (unsigned_tied q byte))
+      ∙ elim (q == byte) as (λ t. cond t None (cond t (Some child) (child_at q entries)) ≡ cond t None (child_at q entries)) [ true ↦ refl | false ↦ refl ]
+      ∙ sym (child_at-without entries byte q))
 
   -- ---- taking
   -- in a node without value and child nothing is found
@@ -129,9 +129,11 @@ module _ {V : Type 0} where
       let begins = subst (BeginsWith byte) (sym taken.2) (branch (node prefix old width forest) byte child order here).begins in
       let forest' = forest_of (with_child byte after (entries_of forest)) in
       let changed : (q : List ℕ) → found after q ≡ cond (bytes_eq q (byte ∷ rest)) None (in-child byte forest q) = λ q. rw here (taken.1 q ∙ ap (λ z. cond (bytes_eq q (z ∷ rest)) None (found child q)) same) in
-      rw (is, same) ((ascending-with forest byte after order.0, branches-with forest byte after order.1 tree begins),
+      rw (is, same) (
+        (ascending-with forest byte after order.0, branches-with forest byte after order.1 tree begins),
         (λ q. lift prefix (byte ∷ rest) q None (inside old forest) (inside old forest') (inside-with old forest byte after rest None changed)),
-        refl)
+        refl,
+      )
 
   -- it was left without value and child, and goes
   take-whole : (s child after : Shape V) (key rest : List ℕ) (byte : ℕ) → IsOrdered s → key ≡ prefix_of s ++ rest → slice_get rest 0 ≡ Some byte → child_at byte (children_of s) ≡ Some child
@@ -143,9 +145,11 @@ module _ {V : Type 0} where
       let forest' = forest_of (without_child byte entries) in
       let alone : (q : List ℕ) → None ≡ cond (bytes_eq q (byte ∷ rest)) None (in-child byte forest q) = λ q. rw here (sym (found-unused after q unused) ∙ taken.1 q ∙ ap (λ z. cond (bytes_eq q (z ∷ rest)) None (found child q)) same) in
       let ascends = subst children.IsAscending (sym (entries_of-forest_of (without_child byte entries))) (ascending-where_key (λ k. not (k == byte)) entries order.0) in
-      rw (is, same) ((ascends, branches-without entries byte (subst AreBranches (sym (forest_of-entries_of forest)) order.1)),
+      rw (is, same) (
+        (ascends, branches-without entries byte (subst AreBranches (sym (forest_of-entries_of forest)) order.1)),
         (λ q. lift prefix (byte ∷ rest) q None (inside old forest) (inside old forest') (inside-without old forest byte rest alone)),
-        refl)
+        refl,
+      )
 
   deleted-replaced : (s : Shape V) (byte : ℕ) (child : Shape V) → IsOrdered s → with_deleted byte (with_replaced byte child s) ≡ with_deleted byte s
   deleted-replaced (node prefix value width forest) byte child order =

@@ -2,3 +2,5 @@
 
 mod insert;
 mod lookup;
+mod remove;
+mod update;

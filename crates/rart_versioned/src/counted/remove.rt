@@ -16,7 +16,7 @@ impl<K: KeyTrait, V: Clone + Drop> VersionedAdaptiveRadixTree<K, V> {
     pub fn remove_k_counted(&mut self, key: &K, work: &mut Work) -> Result<Option<V>, AllocError>
         requires clones { ClonesEqual V.is_clone }
         requires room { HasRoom self.old 1 }
-        ensures removed { IfOk result (λ taken. taken ≡ value_at self.old (K.bytes key.now)) }
+        ensures removed { IfOk result (λ value. value ≡ value_at self.old (K.bytes key.now)) }
         ensures ok { OnOk result (self.new ≡ removed self.old (K.bytes key.now)) }
         ensures refused { OnErr result (self.new ≡ self.old) }
         ensures present { OnErr result (IsTrue (has_key self.old (K.bytes key.now))) }

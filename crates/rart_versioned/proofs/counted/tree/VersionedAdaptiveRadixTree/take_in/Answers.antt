@@ -5,10 +5,9 @@ use Rattle.std.proofs.lemmas.Bool.{false≢true}
 use Rattle.rart_node.specs.Seen.{shown}
 use Rattle.rart_versioned.specs.Trees.{IsTaken, path_bound, found, found_in}
 use Rattle.rart_versioned.specs.Versions.{Version, value_at, without_key}
-use Rattle.rart_versioned.proofs.Counting.{path-most}
+use Rattle.rart_versioned.proofs.Counting.{counts-most, path-most}
 use Rattle.rart_versioned.proofs.Maps.{get-found}
 use Rattle.rart_versioned.proofs.Sound.{tree-in}
-use Rattle.rart_versioned.proofs.TakeSteps.{counts-at-most}
 use Rattle.rart_versioned.proofs.TakenIn.{IsTakenIn, kept, root-taken, there-found, map-taken, sound-taken}
 use Rattle.rart_versioned.proofs.counted.tree.VersionedAdaptiveRadixTree.take_in.Goals as goal
 use Rattle.rart_versioned.proofs.counted.tree.VersionedAdaptiveRadixTree.take_in.Goals.{then-taken+in-Some-1, then-taken+in-None-1, else-taken}
@@ -80,11 +79,11 @@ returns-in_err-taken-clause-counted g c =
     let f = shown g.K.PartialType.Partial.bytes in
     let w = g.K.KeyTrait.bytes c.args.key.now in
     let most : path_bound (f c.in-Some.root) c.as_ref.result.now ≤ length w + 1 = subst (λ (k : List ℕ). path_bound (f c.in-Some.root) c.as_ref.result.now ≤ length k + 1) c.as_ref.ensures (path-most (f c.in-Some.root) c.as_ref.result.now) in
-    counts-at-most c.take.ensures.counted most most
+    counts-most c.take.ensures.counted most most
 
 pub returns-clause-counted : goal.returns-clause-counted
 returns-clause-counted g c =
     let f = shown g.K.PartialType.Partial.bytes in
     let w = g.K.KeyTrait.bytes c.args.key.now in
     let most : path_bound (f c.in-Some.root) c.as_ref.result.now ≤ length w + 1 = subst (λ (k : List ℕ). path_bound (f c.in-Some.root) c.as_ref.result.now ≤ length k + 1) c.as_ref.ensures (path-most (f c.in-Some.root) c.as_ref.result.now) in
-    counts-at-most c.take.ensures.counted most most
+    counts-most c.take.ensures.counted most most

@@ -1,0 +1,52 @@
+-- What becomes of a key that is there, once a callback has answered.
+use Rattle.std.specs.Prelude.{◌≡◌, ℕ, Bool, true, false, List, Result, Ok}
+use Rattle.rart_below.specs.declared.slot.Slot.{Slot}
+use Rattle.rart_below.specs.declared.slot.Slot.TheVariants.{Vacant, Occupied}
+use Rattle.rart_below.specs.declared.slot.SlotUpdate.{SlotUpdate}
+use Rattle.rart_below.specs.declared.slot.SlotUpdate.TheVariants.{Keep, Insert, Remove}
+use Rattle.rart_versioned.specs.Changes.{tried}
+use Rattle.rart_versioned.specs.declared.counted.change.Change.{Change}
+use Rattle.rart_versioned.specs.declared.counted.change.Change.TheVariants.{Stay, Put, Take}
+use Rattle.rart_versioned.specs.Versions.{Version, raised, with_key, without_key}
+
+module _ {V : Type 0} where
+  -- by what was left in the slot, and by the answer
+  abbrev pub change_of : Slot V → SlotUpdate V → Change V
+  change_of left (Insert x) = Put x
+  change_of left Remove = Take
+  change_of Vacant Keep = Stay
+  change_of (Occupied x) Keep = Put x
+
+  -- the version after, its number so much greater
+  abbrev pub settled : Version V → List ℕ → Change V → ℕ → Version V
+  settled v w Stay more = raised v more
+  settled v w (Put x) more = with_key v w x more
+  settled v w Take more = without_key v w more
+
+  abbrev pub is_occupied : Slot V → Bool
+  is_occupied Vacant = false
+  is_occupied (Occupied x) = true
+
+  -- What becomes of an absent key by a callback's answer: whether it is there now, and the version after.
+  abbrev pub settled_absent : Version V → List ℕ → SlotUpdate V → Bool × Version V
+  settled_absent v w (Insert x) = (true, with_key v w x 1)
+  settled_absent v w Remove = (false, v)
+  settled_absent v w Keep = (false, v)
+
+  -- The answer asks for a value to be stored.
+  abbrev pub AsksMemory : SlotUpdate V → Type 0
+  AsksMemory told = (x : V) × (told ≡ Insert x)
+
+  -- how much greater the number is for an answer of a callback that may fail
+  abbrev pub rise_of : SlotUpdate V → ℕ
+  rise_of Keep = 1
+  rise_of (Insert x) = 2
+  rise_of Remove = 2
+
+  -- What a callback that may fail left in the slot and answered leads to this answer and this version.
+  abbrev pub IsTried : {E : Type 0} → Version V → List ℕ → Slot V → Result (SlotUpdate V) E → Result Bool E → Version V → Type 0
+  IsTried before w left told answer after = (answer, after) ≡ tried before w left told
+
+  -- The answer is no error and asks for a value to be stored.
+  abbrev pub TriesToInsert : {E : Type 0} → Result (SlotUpdate V) E → Type 0
+  TriesToInsert told = (x : V) × (told ≡ Ok (Insert x))

@@ -1,0 +1,112 @@
+//! Updates of a key's slot by a callback that may fail.
+ghost use Rattle.std.specs.Prelude.{◌≡◌, IsTrue, IfOk, IfErr, Ok, Err, false};
+ghost use Rattle.std.specs.Fn.{FnOnceTakesAtMut};
+ghost use Rattle.rart_below.specs.Clones.{ClonesEqual};
+ghost use Rattle.rart_versioned.specs.Bounds.{CountsUpTo, lookup_bound, touch_bound, change_bound};
+ghost use Rattle.rart_versioned.specs.Changes.{slot_of};
+ghost use Rattle.rart_versioned.specs.Settled.{rise_of, IsTried, TriesToInsert};
+ghost use Rattle.rart_versioned.specs.Updates.{TriesUpdate, TryTakesMemory, IfCallback, OnMemory};
+ghost use Rattle.rart_versioned.specs.Versions.{HasRoom, has_key, value_at};
+
+use crate::counted::change::Change;
+use crate::counted::tree::VersionedAdaptiveRadixTree;
+use crate::counted::update::is_occupied;
+use rart_below::{KeyTrait, Refusal, Slot, SlotUpdate};
+use rart_node::Work;
+
+impl<K: KeyTrait, V: Clone + Drop> VersionedAdaptiveRadixTree<K, V> {
+    /// As `try_update_k`, with the nodes entered and made counted into `work`.
+    pub fn try_update_k_counted<E: Drop, F: FnOnce(&mut Slot<V>) -> Result<SlotUpdate<V>, E>>(
+        &mut self,
+        key: &K,
+        f: F,
+        work: &mut Work,
+    ) -> Result<bool, Refusal<E>>
+        requires clones { ClonesEqual V.is_clone }
+        requires room { HasRoom self.old 2 }
+        requires callable { FnOnceTakesAtMut F.FnOnce f (slot_of (value_at self.old (K.bytes key.now))) }
+        ensures ok { IfOk result (λ answer. TriesUpdate F.FnOnce f self.old (K.bytes key.now) (Ok answer) self.new) }
+        ensures failed { IfErr result (λ refusal. IfCallback refusal (λ e. TriesUpdate F.FnOnce f self.old (K.bytes key.now) (Err e) self.new)) }
+        ensures refused { IfErr result (λ refusal. OnMemory refusal (self.new ≡ self.old)) }
+        ensures memory { IfErr result (λ refusal. OnMemory refusal (TryTakesMemory F.FnOnce f self.old (K.bytes key.now))) }
+        ensures counted { CountsUpTo (touch_bound (K.bytes key.now)) (change_bound (K.bytes key.now)) work.old work.new }
+    {
+        let mut slot = match self.slot_at(key, work) {
+            Ok(slot) => slot,
+            Err(refused) => return Err(Refusal::Memory(refused)),
+        };
+        let was_there = is_occupied(&slot);
+        let told = f(&mut slot);
+        if was_there {
+            return self.settle_tried(key, slot, told, work);
+        }
+        self.settle_tried_absent(key, told, work)
+    }
+
+    /// Does what a callback left and answered where the key is there.
+    fn settle_tried<E: Drop>(
+        &mut self,
+        key: &K,
+        left: Slot<V>,
+        told: Result<SlotUpdate<V>, E>,
+        work: &mut Work,
+    ) -> Result<bool, Refusal<E>>
+        requires clones { ClonesEqual V.is_clone }
+        requires room { HasRoom self.old 2 }
+        requires present { IsTrue (has_key self.old (K.bytes key.now)) }
+        ensures ok { IfOk result (λ answer. IsTried self.old (K.bytes key.now) left told (Ok answer) self.new) }
+        ensures failed { IfErr result (λ refusal. IfCallback refusal (λ e. IsTried self.old (K.bytes key.now) left told (Err e) self.new)) }
+        ensures refused { IfErr result (λ refusal. OnMemory refusal (self.new ≡ self.old)) }
+        ensures counted { CountsUpTo (lookup_bound (K.bytes key.now)) (change_bound (K.bytes key.now)) work.old work.new }
+    {
+        match told {
+            Err(error) => {
+                self.raise(2);
+                Err(Refusal::Callback(error))
+            }
+            Ok(told) => {
+                let more = rise_of(&told);
+                match self.settle(key, Change::of(left, told), more, work) {
+                    Ok(()) => Ok(true),
+                    Err(refused) => Err(Refusal::Memory(refused)),
+                }
+            }
+        }
+    }
+
+    /// Does what a callback answered where the key is absent.
+    fn settle_tried_absent<E: Drop>(
+        &mut self,
+        key: &K,
+        told: Result<SlotUpdate<V>, E>,
+        work: &mut Work,
+    ) -> Result<bool, Refusal<E>>
+        requires clones { ClonesEqual V.is_clone }
+        requires room { HasRoom self.old 1 }
+        requires absent { has_key self.old (K.bytes key.now) ≡ false }
+        ensures ok { IfOk result (λ answer. (left : _) → IsTried self.old (K.bytes key.now) left told (Ok answer) self.new) }
+        ensures failed { IfErr result (λ refusal. IfCallback refusal (λ e. (left : _) → IsTried self.old (K.bytes key.now) left told (Err e) self.new)) }
+        ensures refused { IfErr result (λ refusal. OnMemory refusal (self.new ≡ self.old)) }
+        ensures memory { IfErr result (λ refusal. OnMemory refusal (TriesToInsert told)) }
+        ensures counted { CountsUpTo (lookup_bound (K.bytes key.now)) (change_bound (K.bytes key.now)) work.old work.new }
+    {
+        match told {
+            Err(error) => Err(Refusal::Callback(error)),
+            Ok(told) => match self.settle_absent(key, told, work) {
+                Ok(answer) => Ok(answer),
+                Err(refused) => Err(Refusal::Memory(refused)),
+            },
+        }
+    }
+}
+
+/// How much greater the number is for an answer where the key is there.
+fn rise_of<V: Drop>(told: &SlotUpdate<V>) -> u64
+    ensures { result ≡ rise_of told.now }
+{
+    match told {
+        SlotUpdate::Keep => 1,
+        SlotUpdate::Insert(_) => 2,
+        SlotUpdate::Remove => 2,
+    }
+}

@@ -1,0 +1,90 @@
+//! Updates of a key's slot by a callback.
+ghost use Rattle.std.specs.Prelude.{◌≡◌, IsTrue, IfOk, OnErr, false};
+ghost use Rattle.std.specs.Fn.{FnOnceTakesAtMut};
+ghost use Rattle.rart_below.specs.Clones.{ClonesEqual};
+ghost use Rattle.rart_versioned.specs.Bounds.{CountsUpTo, lookup_bound, touch_bound, change_bound};
+ghost use Rattle.rart_versioned.specs.Changes.{slot_of};
+ghost use Rattle.rart_versioned.specs.Settled.{settled_absent, AsksMemory, is_occupied};
+ghost use Rattle.rart_versioned.specs.Updates.{Updates, UpdateTakesMemory};
+ghost use Rattle.rart_versioned.specs.Versions.{HasRoom, has_key, value_at};
+
+use crate::counted::change::Change;
+use crate::counted::tree::VersionedAdaptiveRadixTree;
+use rart_below::{KeyTrait, Slot, SlotUpdate};
+use rart_node::Work;
+use std::alloc::AllocError;
+
+impl<K: KeyTrait, V: Clone + Drop> VersionedAdaptiveRadixTree<K, V> {
+    /// As `update_k`, with the nodes entered and made counted into `work`.
+    pub fn update_k_counted<F: FnOnce(&mut Slot<V>) -> SlotUpdate<V>>(
+        &mut self,
+        key: &K,
+        f: F,
+        work: &mut Work,
+    ) -> Result<bool, AllocError>
+        requires clones { ClonesEqual V.is_clone }
+        requires room { HasRoom self.old 1 }
+        requires callable { FnOnceTakesAtMut F.FnOnce f (slot_of (value_at self.old (K.bytes key.now))) }
+        ensures ok { IfOk result (λ answer. Updates F.FnOnce f self.old (K.bytes key.now) answer self.new) }
+        ensures refused { OnErr result (self.new ≡ self.old) }
+        ensures memory { OnErr result (UpdateTakesMemory F.FnOnce f self.old (K.bytes key.now)) }
+        ensures counted { CountsUpTo (touch_bound (K.bytes key.now)) (change_bound (K.bytes key.now)) work.old work.new }
+    {
+        let mut slot = self.slot_at(key, work)?;
+        let was_there = is_occupied(&slot);
+        let told = f(&mut slot);
+        if was_there {
+            self.settle(key, Change::of(slot, told), 1, work)?;
+            return Ok(true);
+        }
+        self.settle_absent(key, told, work)
+    }
+
+    /// The slot that a callback is lent, with a copy of the value.
+    pub(crate) fn slot_at(&self, key: &K, work: &mut Work) -> Result<Slot<V>, AllocError>
+        requires clones { ClonesEqual V.is_clone }
+        ensures slot { IfOk result (λ slot. slot ≡ slot_of (value_at self.now (K.bytes key.now))) }
+        ensures present { OnErr result (IsTrue (has_key self.now (K.bytes key.now))) }
+        ensures counted { CountsUpTo (lookup_bound (K.bytes key.now)) 0 work.old work.new }
+    {
+        match self.get_k_counted(key, work) {
+            None => Ok(Slot::Vacant),
+            Some(value) => Ok(Slot::Occupied(value.clone()?)),
+        }
+    }
+
+    /// Does what a callback answered where the key is absent, and says whether it is there now.
+    pub(crate) fn settle_absent(
+        &mut self,
+        key: &K,
+        told: SlotUpdate<V>,
+        work: &mut Work,
+    ) -> Result<bool, AllocError>
+        requires clones { ClonesEqual V.is_clone }
+        requires room { HasRoom self.old 1 }
+        requires absent { has_key self.old (K.bytes key.now) ≡ false }
+        ensures ok { IfOk result (λ answer. (answer, self.new) ≡ settled_absent self.old (K.bytes key.now) told) }
+        ensures refused { OnErr result (self.new ≡ self.old) }
+        ensures memory { OnErr result (AsksMemory told) }
+        ensures counted { CountsUpTo (lookup_bound (K.bytes key.now)) (change_bound (K.bytes key.now)) work.old work.new }
+    {
+        match told {
+            SlotUpdate::Insert(value) => {
+                self.put_in(key, value, 1, work)?;
+                Ok(true)
+            }
+            SlotUpdate::Keep => Ok(false),
+            SlotUpdate::Remove => Ok(false),
+        }
+    }
+}
+
+/// Whether the slot is one of a key that is there.
+pub(crate) fn is_occupied<V: Drop>(slot: &Slot<V>) -> bool
+    ensures { result ≡ is_occupied slot.now }
+{
+    match slot {
+        Slot::Vacant => false,
+        Slot::Occupied(_) => true,
+    }
+}

@@ -1,0 +1,61 @@
+ghost use Rattle.std.specs.Prelude.{◌≡◌, IsTrue, IfOk, OnOk, OnErr};
+ghost use Rattle.rart_below.specs.Clones.{ClonesEqual};
+ghost use Rattle.rart_versioned.specs.Changes.{removed};
+ghost use Rattle.rart_versioned.specs.Versions.{HasRoom, has_key, value_at};
+
+use crate::counted::VersionedAdaptiveRadixTree;
+use rart_below::KeyTrait;
+use rart_node::Work;
+use std::alloc::AllocError;
+
+impl<K: KeyTrait, V: Clone + Drop> VersionedAdaptiveRadixTree<K, V> {
+    /// As `remove_k`, with the key by value.
+    pub fn remove(&mut self, key: K) -> Result<Option<V>, AllocError>
+        requires clones { ClonesEqual V.is_clone }
+        requires room { HasRoom self.old 1 }
+        ensures removed { IfOk result (λ value. value ≡ value_at self.old (K.bytes key)) }
+        ensures ok { OnOk result (self.new ≡ removed self.old (K.bytes key)) }
+        ensures refused { OnErr result (self.new ≡ self.old) }
+        ensures present { OnErr result (IsTrue (has_key self.old (K.bytes key))) }
+    {
+        self.remove_k(&key)
+    }
+
+    /// Takes the key out and gives its value: the number is then one greater. Where the key is
+    /// absent the answer is None, map and number stay, and no memory is taken. Refused for memory,
+    /// map and number are as before.
+    pub fn remove_k(&mut self, key: &K) -> Result<Option<V>, AllocError>
+        requires clones { ClonesEqual V.is_clone }
+        requires room { HasRoom self.old 1 }
+        ensures removed { IfOk result (λ value. value ≡ value_at self.old (K.bytes key.now)) }
+        ensures ok { OnOk result (self.new ≡ removed self.old (K.bytes key.now)) }
+        ensures refused { OnErr result (self.new ≡ self.old) }
+        ensures present { OnErr result (IsTrue (has_key self.old (K.bytes key.now))) }
+    {
+        self.remove_k_counted(key, &mut Work::new())
+    }
+
+    /// As `delete_k`, with the key by value.
+    pub fn delete(&mut self, key: K) -> Result<bool, AllocError>
+        requires clones { ClonesEqual V.is_clone }
+        requires room { HasRoom self.old 1 }
+        ensures removed { IfOk result (λ was_there. was_there ≡ has_key self.old (K.bytes key)) }
+        ensures ok { OnOk result (self.new ≡ removed self.old (K.bytes key)) }
+        ensures refused { OnErr result (self.new ≡ self.old) }
+        ensures present { OnErr result (IsTrue (has_key self.old (K.bytes key))) }
+    {
+        self.delete_k(&key)
+    }
+
+    /// Takes the key out and says whether it was there, otherwise as `remove_k`.
+    pub fn delete_k(&mut self, key: &K) -> Result<bool, AllocError>
+        requires clones { ClonesEqual V.is_clone }
+        requires room { HasRoom self.old 1 }
+        ensures removed { IfOk result (λ was_there. was_there ≡ has_key self.old (K.bytes key.now)) }
+        ensures ok { OnOk result (self.new ≡ removed self.old (K.bytes key.now)) }
+        ensures refused { OnErr result (self.new ≡ self.old) }
+        ensures present { OnErr result (IsTrue (has_key self.old (K.bytes key.now))) }
+    {
+        self.delete_k_counted(key, &mut Work::new())
+    }
+}

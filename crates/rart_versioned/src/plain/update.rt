@@ -1,0 +1,90 @@
+ghost use Rattle.std.specs.Prelude.{◌≡◌, IfOk, IfErr, OnErr, Ok, Err};
+ghost use Rattle.std.specs.Fn.{FnOnceTakesAtMut};
+ghost use Rattle.rart_below.specs.Clones.{ClonesEqual};
+ghost use Rattle.rart_versioned.specs.Changes.{slot_of};
+ghost use Rattle.rart_versioned.specs.Updates.{Updates, UpdateTakesMemory, TriesUpdate, TryTakesMemory, IfCallback, OnMemory};
+ghost use Rattle.rart_versioned.specs.Versions.{HasRoom, value_at};
+
+use crate::counted::VersionedAdaptiveRadixTree;
+use rart_below::{KeyTrait, Refusal, Slot, SlotUpdate};
+use rart_node::Work;
+use std::alloc::AllocError;
+
+impl<K: KeyTrait, V: Clone + Drop> VersionedAdaptiveRadixTree<K, V> {
+    /// As `update_k`, with the key by value.
+    pub fn update<F: FnOnce(&mut Slot<V>) -> SlotUpdate<V>>(
+        &mut self,
+        key: K,
+        f: F,
+    ) -> Result<bool, AllocError>
+        requires clones { ClonesEqual V.is_clone }
+        requires room { HasRoom self.old 1 }
+        requires callable { FnOnceTakesAtMut F.FnOnce f (slot_of (value_at self.old (K.bytes key))) }
+        ensures ok { IfOk result (λ answer. Updates F.FnOnce f self.old (K.bytes key) answer self.new) }
+        ensures refused { OnErr result (self.new ≡ self.old) }
+        ensures memory { OnErr result (UpdateTakesMemory F.FnOnce f self.old (K.bytes key)) }
+    {
+        self.update_k(&key, f)
+    }
+
+    /// Lends the callback the slot of the key, and does what it answers. `Keep` stores what it left
+    /// in an occupied slot, `Insert` stores its value, `Remove` takes the key out. Each of them
+    /// makes the number one greater and answers whether the key was there or is now.
+    ///
+    /// Of an absent key `Keep` and `Remove` leave map and number and take no memory. Where the
+    /// callback leaves an occupied slot vacant and answers `Keep`, the value stays. Refused for
+    /// memory, map and number are as before, and the callback may have run.
+    pub fn update_k<F: FnOnce(&mut Slot<V>) -> SlotUpdate<V>>(
+        &mut self,
+        key: &K,
+        f: F,
+    ) -> Result<bool, AllocError>
+        requires clones { ClonesEqual V.is_clone }
+        requires room { HasRoom self.old 1 }
+        requires callable { FnOnceTakesAtMut F.FnOnce f (slot_of (value_at self.old (K.bytes key.now))) }
+        ensures ok { IfOk result (λ answer. Updates F.FnOnce f self.old (K.bytes key.now) answer self.new) }
+        ensures refused { OnErr result (self.new ≡ self.old) }
+        ensures memory { OnErr result (UpdateTakesMemory F.FnOnce f self.old (K.bytes key.now)) }
+    {
+        self.update_k_counted(key, f, &mut Work::new())
+    }
+
+    /// As `try_update_k`, with the key by value.
+    pub fn try_update<E: Drop, F: FnOnce(&mut Slot<V>) -> Result<SlotUpdate<V>, E>>(
+        &mut self,
+        key: K,
+        f: F,
+    ) -> Result<bool, Refusal<E>>
+        requires clones { ClonesEqual V.is_clone }
+        requires room { HasRoom self.old 2 }
+        requires callable { FnOnceTakesAtMut F.FnOnce f (slot_of (value_at self.old (K.bytes key))) }
+        ensures ok { IfOk result (λ answer. TriesUpdate F.FnOnce f self.old (K.bytes key) (Ok answer) self.new) }
+        ensures failed { IfErr result (λ refusal. IfCallback refusal (λ e. TriesUpdate F.FnOnce f self.old (K.bytes key) (Err e) self.new)) }
+        ensures refused { IfErr result (λ refusal. OnMemory refusal (self.new ≡ self.old)) }
+        ensures memory { IfErr result (λ refusal. OnMemory refusal (TryTakesMemory F.FnOnce f self.old (K.bytes key))) }
+    {
+        self.try_update_k(&key, f)
+    }
+
+    /// As `update_k` for a callback that may fail.
+    ///
+    /// Its error is answered as `Refusal::Callback`: nothing that it wrote is stored, and no further
+    /// memory is taken. Where the key is there the number is two greater for an error and for each
+    /// answer but `Keep`. Refused for memory the answer is `Refusal::Memory`, map and number are as
+    /// before, and the callback may have run.
+    pub fn try_update_k<E: Drop, F: FnOnce(&mut Slot<V>) -> Result<SlotUpdate<V>, E>>(
+        &mut self,
+        key: &K,
+        f: F,
+    ) -> Result<bool, Refusal<E>>
+        requires clones { ClonesEqual V.is_clone }
+        requires room { HasRoom self.old 2 }
+        requires callable { FnOnceTakesAtMut F.FnOnce f (slot_of (value_at self.old (K.bytes key.now))) }
+        ensures ok { IfOk result (λ answer. TriesUpdate F.FnOnce f self.old (K.bytes key.now) (Ok answer) self.new) }
+        ensures failed { IfErr result (λ refusal. IfCallback refusal (λ e. TriesUpdate F.FnOnce f self.old (K.bytes key.now) (Err e) self.new)) }
+        ensures refused { IfErr result (λ refusal. OnMemory refusal (self.new ≡ self.old)) }
+        ensures memory { IfErr result (λ refusal. OnMemory refusal (TryTakesMemory F.FnOnce f self.old (K.bytes key.now))) }
+    {
+        self.try_update_k_counted(key, f, &mut Work::new())
+    }
+}

@@ -114,3 +114,15 @@ fn assert_common_lengths<P: Partial>(rt: &impl Abort, prefix: &P) {
     assert_eq!(rt; prefix.prefix_length_slice(b"wxyz"), 4);
     assert_eq!(rt; prefix.prefix_length_slice(b"wxyzwxyz"), 4);
 }
+
+// Strings that leave the prefix `abcdefghijklmnop` at each place, or end there.
+fn assert_common_length_at_each_place<P: Partial>(rt: &impl Abort, prefix: &P) {
+    for place in 0..16 {
+        let mut other = *b"abcdefghijklmnop";
+        assert_eq!(rt; prefix.prefix_length_slice(&other[..place]), place);
+        other[place] = b'z';
+        assert_eq!(rt; prefix.prefix_length_slice(&other), place);
+    }
+    assert_eq!(rt; prefix.prefix_length_slice(b"abcdefghijklmnop"), 16);
+    assert_eq!(rt; prefix.prefix_length_slice(b"abcdefghijklmnopq"), 16);
+}

@@ -1,19 +1,17 @@
 -- What a node is seen as beside what its content holds.
-use Rattle.std.proofs.Common.{◌≡◌, ◌<◌, ◌≤◌, ℕ, suc, List, [], ◌∷◌, Bool, true, false, Option, Some, None, IsSome, cond, length, refl, sym, ap, subst, ◌∙◌, arith}
-use Rattle.std.specs.Prelude.{nat_lt, nat_le, ◌&&◌, ◌↔◌, IsTrue, option_copied}
+use Rattle.std.proofs.Common.{◌≡◌, ℕ, List, Bool, true, false, Option, Some, None, IsSome, cond, length, refl, sym, ap, subst, ◌∙◌}
+use Rattle.std.specs.Prelude.{◌↔◌, IsTrue, option_copied}
 use Rattle.std.specs.Borrow.{Bor, MutBor}
 use Rattle.std.specs.Option.{option_map, option_copied_mut, OnSome}
-use Rattle.std.specs.Ordering.{nat_cmp}
-use Rattle.std.specs.FinMap.Entries.{is_sorted}
 use Rattle.std.proofs.lemmas.Option.{none-some}
 use Rattle.rart_below.specs.Children.{child_at, with_child, without_child, children_from, first_of, IsAscending as IsRising}
 use Rattle.rart_below.specs.Layouts.{entry_copied}
 use Rattle.rart_node.specs.declared.node.VersionedNode.{VersionedNode, out-VersionedNode, roll-VersionedNode}
 use Rattle.rart_node.specs.declared.node_ref.NodeRef.{NodeRef}
-use Rattle.rart_node.specs.Contents.{Content, Held, held, Holds}
+use Rattle.rart_node.specs.Contents.{Content, held, Holds}
 use Rattle.rart_node.specs.Shape.{Shape, node, bare, Forest, grown, forest_of, entries_of, node_of, prefix_of, value_of, width_of, children_of, with_children, with_replaced, with_deleted, with_added, with_width, widened, widenings, is_full_at, entries_of-forest_of, IsAscending, IsFull, IsFullAt}
-use Rattle.rart_node.specs.Seen.{seen, shown, shown_children, shown_entry, shown_held, seen_of, seen_roll, seen_out, if_in_order, disorder}
-use Rattle.rart_node.proofs.Entries.{length-each, child_at-each, is_sorted-each, with_child-each, without_child-each, children_from-each, first_of-each}
+use Rattle.rart_node.specs.Seen.{seen, shown, shown_children, shown_entry, shown_held, seen_of, seen_roll, seen_out, if_in_order}
+use Rattle.rart_node.proofs.Entries.{length-each, child_at-each, with_child-each, without_child-each, children_from-each, first_of-each}
 
 -- a list that ascends is none that stands for disorder
 in_order-ascending : {V : Type 0} (in_order : Bool) (children : List (ℕ × Shape V)) → IsRising (if_in_order in_order children) → in_order ≡ true

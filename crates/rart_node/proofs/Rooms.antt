@@ -1,7 +1,6 @@
 -- How many children a content has room for.
-use Rattle.std.proofs.Common.{◌≡◌, ◌<◌, ◌≤◌, ℕ, List, Bool, true, false, None, ap, cond, length, lit<, refl, subst, sym, ◌∙◌, arith}
+use Rattle.std.proofs.Common.{◌≡◌, ◌<◌, ◌≤◌, ℕ, List, true, None, ap, cond, length, lit<, refl, subst, sym, ◌∙◌, arith}
 use Rattle.std.specs.Prelude.{nat_le}
-use Rattle.std.proofs.lemmas.Bool.{leb-true}
 use Rattle.rart_below.specs.Children.{child_at, with_child}
 use Rattle.rart_below.specs.Laws.{sorted-fits, indexed-fits, direct-fits}
 use Rattle.rart_below.proofs.Direct.{kept_from_order, room_for_one}

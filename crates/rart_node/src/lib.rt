@@ -10,6 +10,8 @@ mod grow_error;
 mod node;
 mod node_iter;
 mod node_ref;
+#[cfg(test)]
+mod tests;
 mod wide_box;
 mod work;
 

@@ -1,6 +1,6 @@
 use crate::tests::{
-    assert_common_lengths, assert_key_shows_its_bytes, assert_keys_of_each_length,
-    assert_order_of_bytes, assert_prefix_shows_its_bytes,
+    assert_common_length_at_each_place, assert_common_lengths, assert_key_shows_its_bytes,
+    assert_keys_of_each_length, assert_order_of_bytes, assert_prefix_shows_its_bytes,
 };
 use crate::{KeyTrait, VectorKey, VectorPartial};
 use std::test::Fail;
@@ -25,5 +25,13 @@ fn heap_prefix_shows_its_bytes(rt: HostRuntime) -> Result<(), Fail> {
     let prefix: VectorPartial = key.to_partial(rt.alloc(), 0)?;
     assert_prefix_shows_its_bytes(&rt, rt.alloc(), &prefix)?;
     assert_common_lengths(&rt, &prefix);
+    Ok(())
+}
+
+#[test]
+fn heap_prefix_of_two_blocks_is_compared(rt: HostRuntime) -> Result<(), Fail> {
+    let key = VectorKey::new_from_slice(rt.alloc(), b"abcdefghijklmnop")?;
+    let prefix: VectorPartial = key.to_partial(rt.alloc(), 0)?;
+    assert_common_length_at_each_place(&rt, &prefix);
     Ok(())
 }

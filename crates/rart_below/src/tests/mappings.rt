@@ -40,6 +40,17 @@ pub fn assert_next<M: NodeMapping<u32>>(
     }
 }
 
+// Writes over the child under the byte.
+pub fn write_child<M: NodeMapping<u32>>(rt: &impl Abort, mapping: &mut M, byte: u8, child: u32)
+    requires { IsTrue (M.in_order mapping.old) }
+    ensures { IsTrue (M.in_order mapping.new) }
+{
+    match mapping.seek_child_mut(byte) {
+        Some(lent) => *lent = child,
+        None => assert!(rt; false),
+    }
+}
+
 // Four children in an order of their own, and each call on them.
 pub fn assert_four_children<M: NodeMapping<u32>>(rt: &impl Abort, mapping: &mut M)
     requires order { IsTrue (M.in_order mapping.old) }
@@ -62,7 +73,7 @@ pub fn assert_four_children<M: NodeMapping<u32>>(rt: &impl Abort, mapping: &mut 
     assert_eq!(rt; mapping.seek_child(8), None);
 }
 
-// What stands after `assert_four_children` is deleted and replaced.
+// What stands after `assert_four_children` is deleted, replaced and written over.
 pub fn assert_children_change<M: NodeMapping<u32>>(rt: &impl Abort, mapping: &mut M)
     requires { IsTrue (M.in_order mapping.old) }
     ensures { IsTrue (M.in_order mapping.new) }
@@ -75,4 +86,9 @@ pub fn assert_children_change<M: NodeMapping<u32>>(rt: &impl Abort, mapping: &mu
     assert_eq!(rt; mapping.seek_child(9).copied(), Some(8));
     assert_eq!(rt; mapping.seek_child(0).copied(), Some(2));
     assert_next(rt, mapping, 1, 9, 8);
+    write_child(rt, mapping, 255, 6);
+    assert_eq!(rt; mapping.seek_child(255).copied(), Some(6));
+    assert_eq!(rt; mapping.seek_child(9).copied(), Some(8));
+    assert!(rt; mapping.seek_child_mut(7).is_none());
+    assert_eq!(rt; mapping.num_children(), 3);
 }

@@ -1,5 +1,5 @@
-use Rattle.std.proofs.Common.{◌≡◌, ◌<◌, ◌∷◌, Some, length, ap, sym, subst, ◌∙◌, arith}
-use Rattle.rart_node.specs.Seen.{seen, shown, children_left}
+use Rattle.std.proofs.Common.{length, ap, sym, arith}
+use Rattle.rart_node.specs.Seen.{seen, shown}
 use Rattle.rart_node.specs.Shape.{children_of}
 use Rattle.rart_node.proofs.Froms.{from-next}
 use Rattle.rart_node.proofs.node_iter.VersionedNodeIterIterator.next.Goals as goal

@@ -1,5 +1,6 @@
 pub mod Bounds
 pub mod Changes
+pub mod Given
 pub mod Pairs
 pub mod Trees
 pub mod Updates

@@ -1,0 +1,5 @@
+pub mod Attempts
+pub mod Costs
+pub mod Families
+pub mod Replies
+pub mod Runs

@@ -1,13 +1,13 @@
 -- Laws of steps and runs: want of memory is no command's own reply, a reply fixes the family after
 -- it, and a run goes on by one step at its end.
-use Rattle.std.proofs.Common.{◌≡◌, ℕ, ◌+◌, ◌^◌, Bool, true, false, nat_lt, cond, List, [], ◌∷◌, ◌++◌, length, refl, sym, ap, ◌∙◌, subst, add_assoc, ⊎_elim, zero-add, add-zero, rules}
+use Rattle.std.proofs.Common.{◌≡◌, ℕ, ◌+◌, Bool, true, false, List, [], ◌∷◌, ◌++◌, refl, sym, ap, ◌∙◌, subst, add_assoc, ⊎_elim, zero-add, add-zero, rules}
 use Rattle.std.specs.Prelude.{Option, Some, None, Result, Ok, Err}
 use Rattle.rart_versioned.specs.Versions.{Version}
 use Rattle.vtree.specs.declared.family.command.Failure.{Failure}
 use Rattle.vtree.specs.declared.family.command.Command.{Command}
 use Rattle.vtree.specs.declared.family.command.Command.TheVariants.{New, NewAt, Snapshot, Duplicate, Discard, Version as NumberOf, IsEmpty, Get, Insert, Replace, Remove, Delete, Update, TryUpdate}
-use Rattle.vtree.specs.Replies.{Reply, Place, Discarded, Number, Flag, Value, Entries, Failed, NoVersion, NoRoom, NoMemory}
-use Rattle.vtree.specs.Families.{Family, Outcome, called, with_room, tried_reply, version_at, reply_to, after}
+use Rattle.vtree.specs.Replies.{Reply, NoMemory}
+use Rattle.vtree.specs.Families.{Family, Outcome, called, tried_reply, version_at, reply_to, after}
 use Rattle.vtree.specs.Runs.{Step, Run, next}
 use Rattle.vtree.specs.Costs.{along}
 

@@ -1,5 +1,5 @@
 -- Steps and runs: where a list of commands may lead a family, and what it may be replied.
-use Rattle.std.specs.Prelude.{◌≡◌, ℕ, Bool, true, false, List, [], ◌∷◌, Option, Some, None, ◌⊎◌, IsTrue}
+use Rattle.std.specs.Prelude.{◌≡◌, ℕ, Bool, true, false, List, [], ◌∷◌, None, ◌⊎◌, IsTrue}
 use Rattle.vtree.specs.declared.family.command.Command.{Command}
 use Rattle.vtree.specs.declared.family.command.Command.TheVariants.{Discard, Version as NumberOf, IsEmpty, Get, Remove, Delete}
 use Rattle.vtree.specs.Replies.{Reply, Value, Flag, NoVersion, NoRoom, NoMemory}

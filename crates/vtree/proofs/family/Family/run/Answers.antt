@@ -1,7 +1,7 @@
 use Rattle.std.proofs.Common.{◌≡◌, ◌+◌, take, map, ◌∷◌, [], ◌++◌, arith, sym, ap, ◌∙◌, rules}
 use Rattle.std.proofs.lemmas.List.{take_more, map-append}
 use Rattle.vtree.specs.Replies.{seen}
-use Rattle.vtree.specs.Costs.{along, read_cost_of, read_least_of, change_cost_of, change_least_of}
+use Rattle.vtree.specs.Costs.{read_cost_of, read_least_of, change_cost_of, change_least_of}
 use Rattle.vtree.proofs.RunLemmas.{run_more, along_more}
 use Rattle.vtree.proofs.family.Family.run.Goals as goal
 

@@ -11,7 +11,7 @@ use Rattle.vtree.specs.Families.{Family, Outcome, called, tried_reply, version_a
 use Rattle.vtree.specs.Runs.{Step, Run, next}
 use Rattle.vtree.specs.Costs.{along}
 
-abbrev is_no_memory : {V : Type 0} → Reply V → Bool
+abbrev pub is_no_memory : {V : Type 0} → Reply V → Bool
 is_no_memory NoMemory = true
 is_no_memory r = false
 

@@ -6,6 +6,7 @@
 #![tactic(auto)]
 
 mod family;
+mod laws;
 mod line;
 mod server;
 

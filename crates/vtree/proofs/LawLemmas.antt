@@ -5,8 +5,8 @@ use Rattle.std.specs.Prelude.{Option, Some, None, slice_get, slice_set}
 use Rattle.rart_versioned.specs.Versions.{Version, raised}
 use Rattle.vtree.specs.declared.family.command.Command.{Command}
 use Rattle.vtree.specs.declared.family.command.Command.TheVariants.{New, NewAt, Snapshot, Duplicate, Discard, Version as NumberOf, IsEmpty, Get, Insert, Replace, Remove, Delete, Update, TryUpdate}
-use Rattle.vtree.specs.Replies.{Reply, NoRoom, NoMemory}
-use Rattle.vtree.specs.Families.{Family, Outcome, called, placed, changes, version_at, reply_to, after}
+use Rattle.vtree.specs.Replies.{Reply, NoRoom}
+use Rattle.vtree.specs.Families.{Family, Outcome, called, placed, changes, version_at, after}
 use Rattle.vtree.specs.Runs.{Step, Run}
 use Rattle.vtree.specs.Laws.{place_changed, StepsAreIsolated, PlacesStay, RepliesFixSteps, RepliesFixRuns, NoReplyIsWant}
 use Rattle.vtree.proofs.RunLemmas.{is_no_memory, reply_is_no_want, step_next}
@@ -69,16 +69,16 @@ module _ (K V : Type 0) (bytes : K → List ℕ) where
   pub isolated : StepsAreIsolated K V bytes
   isolated old new c r place step within other =
       kept_step bytes (λ f. slice_get f place ≡ slice_get old place) old new c r step
-        refl
-        (λ v. get-push old v place within)
-        (λ changed v is. get-set_other old changed v place (λ e. other (is ∙ ap Some e)))
+      refl
+      (λ v. get-push old v place within)
+      (λ changed v is. get-set_other old changed v place (λ e. other (is ∙ ap Some e)))
 
   pub places_stay : PlacesStay K V bytes
   places_stay old new c r step =
       kept_step bytes (λ f. length old ≤ length f) old new c r step
-        (omega arith)
-        (λ v. omega (arith, length-append old (v ∷ [])))
-        (λ changed v is. omega (arith, length-slice_set old changed v))
+      (omega arith)
+      (λ v. omega (arith, length-append old (v ∷ [])))
+      (λ changed v is. omega (arith, length-slice_set old changed v))
 
   pub steps_fixed : RepliesFixSteps K V bytes
   steps_fixed old new other c r step again = step_next bytes old c r new step ∙ sym (step_next bytes old c r other again)

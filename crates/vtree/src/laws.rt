@@ -10,23 +10,20 @@ use rart_versioned::KeyTrait;
 pub fn steps_are_isolated<K: KeyTrait, V>()
     ensures isolated { StepsAreIsolated K V K.bytes }
     ensures places { PlacesStay K V K.bytes }
-{
-}
+{}
 
 #[tactic(auto, using(crate::proofs::LawLemmas::steps_fixed, crate::proofs::LawLemmas::runs_fixed))]
 /// The replies fix the family after each step, and after a whole run.
 pub fn replies_fix_families<K: KeyTrait, V>()
     ensures step { RepliesFixSteps K V K.bytes }
     ensures run { RepliesFixRuns K V K.bytes }
-{
-}
+{}
 
 #[tactic(auto, using(crate::proofs::LawLemmas::no_want))]
 /// Want of memory is no command's own reply.
 pub fn no_reply_is_want<K: KeyTrait, V>()
     ensures { NoReplyIsWant K V K.bytes }
-{
-}
+{}
 
 /// Worked runs of commands, their expected replies found by hand.
 pub fn worked_runs()
@@ -43,5 +40,4 @@ pub fn worked_runs()
     ensures room_two_is_asked { RoomTwoIsAsked }
     ensures insertion_by_update_takes_one { InsertionByUpdateTakesOne }
     ensures removal_outweighs_write { RemovalOutweighsWrite }
-{
-}
+{}

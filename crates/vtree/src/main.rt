@@ -9,6 +9,8 @@ mod family;
 mod laws;
 mod line;
 mod server;
+#[cfg(test)]
+mod tests;
 
 use server::{Served, serve};
 use std::io::{self, BufReader};

@@ -19,7 +19,7 @@ loop-command-preserved g c =
     let reply = see c.step-reply.result in
     let before = c.loop-command.invariant in
     let commands : take (i + 1) items ≡ done ++ item ∷ [] = take_more items i item c.loop-command-test.true ∙ ap (λ x. done ++ x ∷ []) (sym c.command-item.is) in
-    let replies : map see c.push_reserved.new.self.items ≡ so_far ++ reply ∷ [] = ap (map see) c.push_reserved.ensures.items ∙ map-append see c.loop-command.replies.items (c.step-reply.result ∷ []) in
+    let replies : map see c.push_reserved.new.self.items ≡ so_far ++ reply ∷ [] = ap (map see) {y = c.loop-command.replies.items ++ c.step-reply.result ∷ []} c.push_reserved.ensures.items ∙ map-append see c.loop-command.replies.items (c.step-reply.result ∷ []) in
     let more = λ (cost : _). along_more bytes cost old mid done so_far item reply before.run in
     let read_most = more (read_cost_of bytes) in
     let read_few = more (read_least_of bytes) in

@@ -6,8 +6,6 @@ use Rattle.vtree.specs.declared.family.reply.Reply as program
 use Rattle.vtree.specs.Replies.{Reply, NoMemory, seen}
 use Rattle.vtree.specs.Families.{Family, Outcome, reply_to, after}
 use Rattle.vtree.specs.Runs.{may_want_memory}
-use Rattle.vtree.specs.Costs.{read_least_of, read_cost_of, change_least_of, change_cost_of, ReadsBetween, ChangesBetween}
-use Rattle.rart_versioned.specs.Given.{Counts}
 
 module _ {K V : Type 0} (bytes : K → List ℕ) where
   -- The reply and what it leaves; or want of memory where it may be replied, which leaves the family.
@@ -23,10 +21,3 @@ module _ {K V : Type 0} (bytes : K → List ℕ) where
   abbrev pub replied : Result (program.Reply K V) AllocError → Reply V
   replied (Ok r) = seen bytes r
   replied (Err e) = NoMemory
-
-  -- The counts rise by what the command costs with that reply.
-  abbrev pub CountsReads : Family V → Command K V → Result (program.Reply K V) AllocError → Counts → Counts → Type 0
-  CountsReads old c r = ReadsBetween (read_least_of bytes old c (replied r)) (read_cost_of bytes old c (replied r))
-
-  abbrev pub CountsChanges : Family V → Command K V → Result (program.Reply K V) AllocError → Counts → Counts → Type 0
-  CountsChanges old c r = ChangesBetween (change_least_of bytes old c (replied r)) (change_cost_of bytes old c (replied r))

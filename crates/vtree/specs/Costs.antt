@@ -28,6 +28,17 @@ module _ {V : Type 0} where
   one_with_key None = 0
   one_with_key (Some v) = if has_no_key v then 0 else 1
 
+-- From the counts before to those after, so many nodes were entered to read.
+pub record ReadsBetween (least most : ℕ) (before after : Counts) : Type 0 where
+  pub entered_at_least : before.entered + least ≤ after.entered
+  pub entered_at_most : after.entered ≤ before.entered + most
+
+-- From the counts before to those after, so many nodes were made, and at most three times as many entered.
+pub record ChangesBetween (least most : ℕ) (before after : Counts) : Type 0 where
+  pub made_at_least : before.made + least ≤ after.made
+  pub made_at_most : after.made ≤ before.made + most
+  pub entered_at_most : after.entered ≤ before.entered + 3 * most
+
 module _ {K V : Type 0} (bytes : K → List ℕ) where
   -- a command, replied so, enters at most so many nodes to read
   abbrev pub read_cost_of : Family V → Command K V → Reply V → ℕ
@@ -55,6 +66,13 @@ module _ {K V : Type 0} (bytes : K → List ℕ) where
   change_least_of f (Replace place key value) r = if_done r 1
   change_least_of f c r = 0
 
+  -- A command, replied so, raises the counts by what it costs.
+  abbrev pub CountsReads : Family V → Command K V → Reply V → Counts → Counts → Type 0
+  CountsReads f c r = ReadsBetween (read_least_of f c r) (read_cost_of f c r)
+
+  abbrev pub CountsChanges : Family V → Command K V → Reply V → Counts → Counts → Type 0
+  CountsChanges f c r = ChangesBetween (change_least_of f c r) (change_cost_of f c r)
+
   -- costs added up along a run, each at the family before its command
   abbrev pub along : (Family V → Command K V → Reply V → ℕ) → Family V → List (Command K V) → List (Reply V) → ℕ
   along cost f (c ∷ cs) (r ∷ rs) = cost f c r + along cost (next bytes f c r) cs rs
@@ -72,14 +90,3 @@ module _ {K V : Type 0} (bytes : K → List ℕ) where
 
   abbrev pub change_least : Family V → List (Command K V) → List (Reply V) → ℕ
   change_least = along change_least_of
-
--- From the counts before to those after, so many nodes were entered to read.
-pub record ReadsBetween (least most : ℕ) (before after : Counts) : Type 0 where
-  pub entered_at_least : before.entered + least ≤ after.entered
-  pub entered_at_most : after.entered ≤ before.entered + most
-
--- From the counts before to those after, so many nodes were made, and at most three times as many entered.
-pub record ChangesBetween (least most : ℕ) (before after : Counts) : Type 0 where
-  pub made_at_least : before.made + least ≤ after.made
-  pub made_at_most : after.made ≤ before.made + most
-  pub entered_at_most : after.entered ≤ before.entered + 3 * most

@@ -2,8 +2,8 @@
 ghost use Rattle.std.specs.Prelude.{◌≡◌, ◌+◌, ◌*◌, ◌≤◌, [], map, length, IfOk, OnErr};
 ghost use Rattle.std.specs.Option.{option_copied};
 ghost use Rattle.rart_versioned.specs.Given.{ClonesEqual};
-ghost use Rattle.vtree.specs.Attempts.{Tries, Gives, CountsReads, CountsChanges};
-ghost use Rattle.vtree.specs.Costs.{read_cost, read_least, change_cost, change_least, read_cost_of, read_least_of, change_cost_of, change_least_of, ReadsBetween, ChangesBetween};
+ghost use Rattle.vtree.specs.Attempts.{Tries, Gives, replied};
+ghost use Rattle.vtree.specs.Costs.{read_cost, read_least, change_cost, change_least, CountsReads, CountsChanges};
 ghost use Rattle.vtree.specs.Families.{version_at, placed};
 ghost use Rattle.vtree.specs.Replies.{seen};
 ghost use Rattle.vtree.specs.Runs.{Step, Run};
@@ -83,18 +83,29 @@ impl<K: KeyTrait, V: Clone + Drop> Family<K, V> {
         changes: &mut Work,
     ) -> Result<Vec<Reply<K, V>>, AllocError>
         requires clones { ClonesEqual V.is_clone }
-        ensures run { IfOk result (λ replies. Run K.bytes self.old commands.now (map (seen K.bytes) replies.items) self.new) }
+        ensures run { IfOk result (λ replies. Run K.bytes self.old commands.now (map
+            (seen K.bytes) replies.items) self.new) }
 
         ensures entered_to_read_at_least { IfOk result (λ replies.
-            reads.old.entered + read_least K.bytes self.old commands.now (map (seen K.bytes) replies.items) ≤ reads.new.entered) }
+            reads.old.entered
+            + read_least K.bytes self.old commands.now (map (seen K.bytes) replies.items)
+            ≤ reads.new.entered) }
         ensures entered_to_read_at_most { IfOk result (λ replies.
-            reads.new.entered ≤ reads.old.entered + read_cost K.bytes self.old commands.now (map (seen K.bytes) replies.items)) }
+            reads.new.entered
+            ≤ reads.old.entered
+            + read_cost K.bytes self.old commands.now (map (seen K.bytes) replies.items)) }
         ensures made_at_least { IfOk result (λ replies.
-            changes.old.made + change_least K.bytes self.old commands.now (map (seen K.bytes) replies.items) ≤ changes.new.made) }
+            changes.old.made
+            + change_least K.bytes self.old commands.now (map (seen K.bytes) replies.items)
+            ≤ changes.new.made) }
         ensures made_at_most { IfOk result (λ replies.
-            changes.new.made ≤ changes.old.made + change_cost K.bytes self.old commands.now (map (seen K.bytes) replies.items)) }
+            changes.new.made
+            ≤ changes.old.made
+            + change_cost K.bytes self.old commands.now (map (seen K.bytes) replies.items)) }
         ensures entered_to_change_at_most { IfOk result (λ replies.
-            changes.new.entered ≤ changes.old.entered + 3 * change_cost K.bytes self.old commands.now (map (seen K.bytes) replies.items)) }
+            changes.new.entered
+            ≤ changes.old.entered
+            + 3 * change_cost K.bytes self.old commands.now (map (seen K.bytes) replies.items)) }
 
         ensures refused { OnErr result (self.new ≡ self.old) }
         ensures refused_reads { OnErr result (reads.new ≡ reads.old) }
@@ -111,8 +122,10 @@ impl<K: KeyTrait, V: Clone + Drop> Family<K, V> {
     fn step(&mut self, command: &Command<K, V>, reads: &mut Work, changes: &mut Work) -> Reply<K, V>
         requires clones { ClonesEqual V.is_clone }
         ensures step { Step K.bytes self.old command.now (seen K.bytes result) self.new }
-        ensures reads { ReadsBetween (read_least_of K.bytes self.old command.now (seen K.bytes result)) (read_cost_of K.bytes self.old command.now (seen K.bytes result)) reads.old reads.new }
-        ensures changes { ChangesBetween (change_least_of K.bytes self.old command.now (seen K.bytes result)) (change_cost_of K.bytes self.old command.now (seen K.bytes result)) changes.old changes.new }
+        ensures reads { CountsReads K.bytes self.old command.now
+            (seen K.bytes result) reads.old reads.new }
+        ensures changes { CountsChanges K.bytes self.old command.now
+            (seen K.bytes result) changes.old changes.new }
     {
         match self.try_step(command, reads, changes) {
             Ok(reply) => reply,
@@ -128,8 +141,10 @@ impl<K: KeyTrait, V: Clone + Drop> Family<K, V> {
     ) -> Result<Reply<K, V>, AllocError>
         requires clones { ClonesEqual V.is_clone }
         ensures tries { Tries K.bytes self.old command.now result self.new }
-        ensures reads { CountsReads K.bytes self.old command.now result reads.old reads.new }
-        ensures changes { CountsChanges K.bytes self.old command.now result changes.old changes.new }
+        ensures reads { CountsReads K.bytes self.old command.now
+            (replied K.bytes result) reads.old reads.new }
+        ensures changes { CountsChanges K.bytes self.old command.now
+            (replied K.bytes result) changes.old changes.new }
     {
         match command {
             Command::New => self.place(VersionedAdaptiveRadixTree::new(self.alloc)),
@@ -169,7 +184,7 @@ impl<K: KeyTrait, V: Clone + Drop> Family<K, V> {
         ensures ok { IfOk result (λ reply. Gives K.bytes (placed self.old version) reply self.new) }
         ensures refused { OnErr result (self.new ≡ self.old) }
     {
-        let place = self.versions.len();
+        let place = self.len();
         self.versions.push(Some(version))?;
         Ok(Reply::Place(place))
     }

@@ -4,7 +4,8 @@ ghost use Rattle.rart_versioned.specs.Given.{ClonesEqual};
 ghost use Rattle.rart_versioned.specs.Versions.{HasRoom, value_at, has_key, with_key};
 ghost use Rattle.rart_versioned.specs.Changes.{removed};
 ghost use Rattle.rart_versioned.specs.Bounds.{CountsUpTo, touch_bound, change_bound};
-ghost use Rattle.vtree.specs.Attempts.{Tries, CountsChanges};
+ghost use Rattle.vtree.specs.Attempts.{Tries, replied};
+ghost use Rattle.vtree.specs.Costs.{CountsChanges};
 ghost use Rattle.vtree.specs.Families.{version_at};
 ghost use Rattle.vtree.specs.declared.family.command.Command.TheVariants.{Insert, Replace, Remove, Delete};
 
@@ -23,7 +24,8 @@ impl<K: KeyTrait, V: Clone + Drop> Family<K, V> {
     ) -> Result<Reply<K, V>, AllocError>
         requires clones { ClonesEqual V.is_clone }
         ensures tries { Tries K.bytes self.old (Insert place key.now value.now) result self.new }
-        ensures changes { CountsChanges K.bytes self.old (Insert place key.now value.now) result changes.old changes.new }
+        ensures changes { CountsChanges K.bytes self.old (Insert place key.now value.now)
+            (replied K.bytes result) changes.old changes.new }
     {
         let Some(version) = self.version_at(place) else {
             return Ok(Reply::NoVersion);
@@ -45,7 +47,8 @@ impl<K: KeyTrait, V: Clone + Drop> Family<K, V> {
     ) -> Result<Reply<K, V>, AllocError>
         requires clones { ClonesEqual V.is_clone }
         ensures tries { Tries K.bytes self.old (Replace place key.now value.now) result self.new }
-        ensures changes { CountsChanges K.bytes self.old (Replace place key.now value.now) result changes.old changes.new }
+        ensures changes { CountsChanges K.bytes self.old (Replace place key.now value.now)
+            (replied K.bytes result) changes.old changes.new }
     {
         let Some(version) = self.version_at(place) else {
             return Ok(Reply::NoVersion);
@@ -66,7 +69,8 @@ impl<K: KeyTrait, V: Clone + Drop> Family<K, V> {
     ) -> Result<Reply<K, V>, AllocError>
         requires clones { ClonesEqual V.is_clone }
         ensures tries { Tries K.bytes self.old (Remove place key.now) result self.new }
-        ensures changes { CountsChanges K.bytes self.old (Remove place key.now) result changes.old changes.new }
+        ensures changes { CountsChanges K.bytes self.old (Remove place key.now)
+            (replied K.bytes result) changes.old changes.new }
     {
         let Some(version) = self.version_at(place) else {
             return Ok(Reply::NoVersion);
@@ -86,7 +90,8 @@ impl<K: KeyTrait, V: Clone + Drop> Family<K, V> {
     ) -> Result<Reply<K, V>, AllocError>
         requires clones { ClonesEqual V.is_clone }
         ensures tries { Tries K.bytes self.old (Delete place key.now) result self.new }
-        ensures changes { CountsChanges K.bytes self.old (Delete place key.now) result changes.old changes.new }
+        ensures changes { CountsChanges K.bytes self.old (Delete place key.now)
+            (replied K.bytes result) changes.old changes.new }
     {
         let Some(version) = self.version_at(place) else {
             return Ok(Reply::NoVersion);
@@ -108,10 +113,13 @@ fn insert_at<K: KeyTrait, V: Clone + Drop>(
 ) -> Result<bool, AllocError>
     requires clones { ClonesEqual V.is_clone }
     requires there { IsSomeAnd (version_at versions.old place) (λ v. HasRoom v 1) }
-    ensures replaced { IfOk result (λ replaced. IfSome (version_at versions.old place) (λ v. replaced ≡ has_key v (K.bytes key.now))) }
-    ensures ok { OnOk result (IfSome (version_at versions.old place) (λ v. versions.new ≡ slice_set versions.old place (Some (with_key v (K.bytes key.now) value 1)))) }
+    ensures replaced { IfOk result (λ replaced. IfSome (version_at versions.old place) (λ v.
+        replaced ≡ has_key v (K.bytes key.now))) }
+    ensures ok { OnOk result (IfSome (version_at versions.old place) (λ v.
+        versions.new ≡ slice_set versions.old place (Some (with_key v (K.bytes key.now) value 1)))) }
     ensures refused { OnErr result (versions.new ≡ versions.old) }
-    ensures counted { CountsUpTo (touch_bound (K.bytes key.now)) (change_bound (K.bytes key.now)) changes.old changes.new }
+    ensures counted { CountsUpTo (touch_bound (K.bytes key.now)) (change_bound (K.bytes key.now))
+        changes.old changes.new }
     ensures made { OnOk result (changes.old.made < changes.new.made) }
 {
     match &mut versions[place] {
@@ -129,10 +137,13 @@ fn replace_at<K: KeyTrait, V: Clone + Drop>(
 ) -> Result<Option<V>, AllocError>
     requires clones { ClonesEqual V.is_clone }
     requires there { IsSomeAnd (version_at versions.old place) (λ v. HasRoom v 1) }
-    ensures replaced { IfOk result (λ replaced. IfSome (version_at versions.old place) (λ v. replaced ≡ value_at v (K.bytes key.now))) }
-    ensures ok { OnOk result (IfSome (version_at versions.old place) (λ v. versions.new ≡ slice_set versions.old place (Some (with_key v (K.bytes key.now) value 1)))) }
+    ensures replaced { IfOk result (λ replaced. IfSome (version_at versions.old place) (λ v.
+        replaced ≡ value_at v (K.bytes key.now))) }
+    ensures ok { OnOk result (IfSome (version_at versions.old place) (λ v.
+        versions.new ≡ slice_set versions.old place (Some (with_key v (K.bytes key.now) value 1)))) }
     ensures refused { OnErr result (versions.new ≡ versions.old) }
-    ensures counted { CountsUpTo (touch_bound (K.bytes key.now)) (change_bound (K.bytes key.now)) changes.old changes.new }
+    ensures counted { CountsUpTo (touch_bound (K.bytes key.now)) (change_bound (K.bytes key.now))
+        changes.old changes.new }
     ensures made { OnOk result (changes.old.made < changes.new.made) }
 {
     match &mut versions[place] {
@@ -149,11 +160,15 @@ fn remove_at<K: KeyTrait, V: Clone + Drop>(
 ) -> Result<Option<V>, AllocError>
     requires clones { ClonesEqual V.is_clone }
     requires there { IsSomeAnd (version_at versions.old place) (λ v. HasRoom v 1) }
-    ensures found { IfOk result (λ found. IfSome (version_at versions.old place) (λ v. found ≡ value_at v (K.bytes key.now))) }
-    ensures ok { OnOk result (IfSome (version_at versions.old place) (λ v. versions.new ≡ slice_set versions.old place (Some (removed v (K.bytes key.now))))) }
+    ensures found { IfOk result (λ found. IfSome (version_at versions.old place) (λ v.
+        found ≡ value_at v (K.bytes key.now))) }
+    ensures ok { OnOk result (IfSome (version_at versions.old place) (λ v.
+        versions.new ≡ slice_set versions.old place (Some (removed v (K.bytes key.now))))) }
     ensures refused { OnErr result (versions.new ≡ versions.old) }
-    ensures present { OnErr result (IfSome (version_at versions.old place) (λ v. IsTrue (has_key v (K.bytes key.now)))) }
-    ensures counted { CountsUpTo (touch_bound (K.bytes key.now)) (change_bound (K.bytes key.now)) changes.old changes.new }
+    ensures present { OnErr result (IfSome (version_at versions.old place) (λ v.
+        IsTrue (has_key v (K.bytes key.now)))) }
+    ensures counted { CountsUpTo (touch_bound (K.bytes key.now)) (change_bound (K.bytes key.now))
+        changes.old changes.new }
 {
     match &mut versions[place] {
         Some(version) => version.remove_k_counted(key, changes),
@@ -169,11 +184,15 @@ fn delete_at<K: KeyTrait, V: Clone + Drop>(
 ) -> Result<bool, AllocError>
     requires clones { ClonesEqual V.is_clone }
     requires there { IsSomeAnd (version_at versions.old place) (λ v. HasRoom v 1) }
-    ensures found { IfOk result (λ found. IfSome (version_at versions.old place) (λ v. found ≡ has_key v (K.bytes key.now))) }
-    ensures ok { OnOk result (IfSome (version_at versions.old place) (λ v. versions.new ≡ slice_set versions.old place (Some (removed v (K.bytes key.now))))) }
+    ensures found { IfOk result (λ found. IfSome (version_at versions.old place) (λ v.
+        found ≡ has_key v (K.bytes key.now))) }
+    ensures ok { OnOk result (IfSome (version_at versions.old place) (λ v.
+        versions.new ≡ slice_set versions.old place (Some (removed v (K.bytes key.now))))) }
     ensures refused { OnErr result (versions.new ≡ versions.old) }
-    ensures present { OnErr result (IfSome (version_at versions.old place) (λ v. IsTrue (has_key v (K.bytes key.now)))) }
-    ensures counted { CountsUpTo (touch_bound (K.bytes key.now)) (change_bound (K.bytes key.now)) changes.old changes.new }
+    ensures present { OnErr result (IfSome (version_at versions.old place) (λ v.
+        IsTrue (has_key v (K.bytes key.now)))) }
+    ensures counted { CountsUpTo (touch_bound (K.bytes key.now)) (change_bound (K.bytes key.now))
+        changes.old changes.new }
 {
     match &mut versions[place] {
         Some(version) => version.delete_k_counted(key, changes),

@@ -1,5 +1,6 @@
 // Commands that leave the family.
-ghost use Rattle.vtree.specs.Attempts.{Tries, Gives, CountsReads};
+ghost use Rattle.vtree.specs.Attempts.{Tries, Gives, replied};
+ghost use Rattle.vtree.specs.Costs.{CountsReads};
 ghost use Rattle.vtree.specs.Families.{outcome};
 ghost use Rattle.rart_versioned.specs.Given.{ClonesEqual};
 ghost use Rattle.vtree.specs.declared.family.command.Command.TheVariants.{Version, IsEmpty, Get};
@@ -35,7 +36,8 @@ impl<K: KeyTrait, V: Clone + Drop> Family<K, V> {
     ) -> Result<Reply<K, V>, AllocError>
         requires clones { ClonesEqual V.is_clone }
         ensures tries { Tries K.bytes self.now (Get place key.now) result self.now }
-        ensures reads { CountsReads K.bytes self.now (Get place key.now) result reads.old reads.new }
+        ensures reads { CountsReads K.bytes self.now (Get place key.now)
+            (replied K.bytes result) reads.old reads.new }
     {
         let Some(version) = self.version_at(place) else {
             return Ok(Reply::NoVersion);

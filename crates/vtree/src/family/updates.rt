@@ -4,7 +4,8 @@ ghost use Rattle.rart_versioned.specs.Given.{ClonesEqual};
 ghost use Rattle.rart_versioned.specs.Versions.{HasRoom, value_at};
 ghost use Rattle.rart_versioned.specs.Changes.{slot_of, updated, tried};
 ghost use Rattle.rart_versioned.specs.Bounds.{CountsUpTo, touch_bound, change_bound};
-ghost use Rattle.vtree.specs.Attempts.{Tries, CountsChanges};
+ghost use Rattle.vtree.specs.Attempts.{Tries, replied};
+ghost use Rattle.vtree.specs.Costs.{CountsChanges};
 ghost use Rattle.vtree.specs.Families.{version_at, written, told};
 ghost use Rattle.vtree.specs.declared.family.command.Command.TheVariants.{Update, TryUpdate};
 
@@ -24,7 +25,8 @@ impl<K: KeyTrait, V: Clone + Drop> Family<K, V> {
     ) -> Result<Reply<K, V>, AllocError>
         requires clones { ClonesEqual V.is_clone }
         ensures tries { Tries K.bytes self.old (Update place key.now write.now answer.now) result self.new }
-        ensures changes { CountsChanges K.bytes self.old (Update place key.now write.now answer.now) result changes.old changes.new }
+        ensures changes { CountsChanges K.bytes self.old (Update place key.now write.now answer.now)
+            (replied K.bytes result) changes.old changes.new }
     {
         let Some(version) = self.version_at(place) else {
             return Ok(Reply::NoVersion);
@@ -48,7 +50,8 @@ impl<K: KeyTrait, V: Clone + Drop> Family<K, V> {
     ) -> Result<Reply<K, V>, AllocError>
         requires clones { ClonesEqual V.is_clone }
         ensures tries { Tries K.bytes self.old (TryUpdate place key.now write.now answer.now) result self.new }
-        ensures changes { CountsChanges K.bytes self.old (TryUpdate place key.now write.now answer.now) result changes.old changes.new }
+        ensures changes { CountsChanges K.bytes self.old (TryUpdate place key.now write.now answer.now)
+            (replied K.bytes result) changes.old changes.new }
     {
         let Some(version) = self.version_at(place) else {
             return Ok(Reply::NoVersion);
@@ -113,7 +116,8 @@ fn update_at<K: KeyTrait, V: Clone + Drop>(
         let after = updated v (K.bytes key.now) (slot_of (written (value_at v (K.bytes key.now)) write)) answer in
         (is_there ≡ after.0) × (versions.new ≡ slice_set versions.old place (Some after.1)))) }
     ensures refused { OnErr result (versions.new ≡ versions.old) }
-    ensures counted { CountsUpTo (touch_bound (K.bytes key.now)) (change_bound (K.bytes key.now)) changes.old changes.new }
+    ensures counted { CountsUpTo (touch_bound (K.bytes key.now)) (change_bound (K.bytes key.now))
+        changes.old changes.new }
 {
     match &mut versions[place] {
         Some(version) => version.update_k_counted(
@@ -142,7 +146,8 @@ fn try_update_at<K: KeyTrait, V: Clone + Drop>(
         let after = tried v (K.bytes key.now) (slot_of (written (value_at v (K.bytes key.now)) write)) (told answer) in
         (reply ≡ after.0) × (versions.new ≡ slice_set versions.old place (Some after.1)))) }
     ensures refused { OnErr result (versions.new ≡ versions.old) }
-    ensures counted { CountsUpTo (touch_bound (K.bytes key.now)) (change_bound (K.bytes key.now)) changes.old changes.new }
+    ensures counted { CountsUpTo (touch_bound (K.bytes key.now)) (change_bound (K.bytes key.now))
+        changes.old changes.new }
 {
     match &mut versions[place] {
         Some(version) => {

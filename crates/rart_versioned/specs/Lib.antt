@@ -5,3 +5,4 @@ pub mod Pairs
 pub mod Trees
 pub mod Updates
 pub mod Versions
+pub mod PairLaws

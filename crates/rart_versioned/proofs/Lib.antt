@@ -11,3 +11,4 @@ pub mod Takes
 pub mod TakeSteps
 pub mod TakenIn
 pub mod Settles
+pub mod PairLawLemmas

@@ -1,8 +1,10 @@
 pub mod Bounds
 pub mod Changes
+pub mod Given
 pub mod Pairs
 pub mod Removals
 pub mod Settled
 pub mod Trees
 pub mod Updates
 pub mod Versions
+pub mod PairLaws

@@ -6,6 +6,7 @@
 
 mod counted;
 mod plain;
+pub mod laws;
 
 pub use counted::VersionedAdaptiveRadixTree;
 pub use rart_below::{

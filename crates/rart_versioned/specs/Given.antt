@@ -1,0 +1,5 @@
+-- Words of the two crates below that the crates above need, given again.
+pub use Rattle.rart_below.specs.Bytes.{byte_order, begins, IsAdmitted}
+pub use Rattle.rart_below.specs.Clones.{ClonesEqual}
+pub use Rattle.rart_node.specs.Counts.{Counts}
+pub use Rattle.rart_below.specs.declared.slot.SlotUpdate.TheVariants.{Keep, Insert, Remove}

@@ -1,0 +1,24 @@
+/// What a command is answered.
+#[derive(Drop)]
+pub enum Reply<K, V> {
+    /// The place of the new version.
+    Place(usize),
+    /// The place was discarded.
+    Discarded,
+    /// The version's number.
+    Number(u64),
+    /// As the command says.
+    Flag(bool),
+    /// The value of the key, where it is there or was.
+    Value(Option<V>),
+    /// Keys with their values, ascending.
+    Entries(Vec<(K, V)>),
+    /// The callback answered its error.
+    Failed,
+    /// The place is past the last one, or was discarded.
+    NoVersion,
+    /// The number would pass `2^64 - 1`.
+    NoRoom,
+    /// Memory was refused.
+    NoMemory,
+}

@@ -1,0 +1,165 @@
+//! Lines of commands, as the program reads them.
+use crate::family::Command;
+use rart_versioned::{ArrayKey, KeyTrait, SlotUpdate};
+use std::alloc::{AllocError, Global};
+
+/// A command as the program has it: keys of at most 16 bytes, and numbers for values.
+pub type LineCommand = Command<ArrayKey<16>, u64>;
+
+/// Why a line gives no command.
+#[derive(Drop)]
+pub enum LineError {
+    /// It is in no form of the table.
+    Bad,
+    /// Memory for its words was refused.
+    Memory,
+}
+
+impl From<AllocError> for LineError {
+    fn from(_refused: AllocError) -> LineError {
+        LineError::Memory
+    }
+}
+
+/// The command of a line, without its line feed.
+///
+/// A line is words parted by exactly one space. P, N and V are numbers of 1 to 20 digits, below
+/// `2^64`. K is an apostrophe and then the key, 0 to 16 bytes from 0x21 to 0x7E. W is a V or `-`.
+/// A is `keep`, `remove` or `insert V`.
+///
+/// | line | command |
+/// |---|---|
+/// | `new`, `new-at N` | `New`, `NewAt` |
+/// | `snapshot P`, `clone P`, `discard P` | `Snapshot`, `Duplicate`, `Discard` |
+/// | `version P`, `empty P` | `Version`, `IsEmpty` |
+/// | `get P K` | `Get` |
+/// | `insert P K V`, `replace P K V` | `Insert`, `Replace` |
+/// | `remove P K`, `delete P K` | `Remove`, `Delete` |
+/// | `update P K W A` | `Update` |
+/// | `try-update P K W A`, `try-update P K W fail` | `TryUpdate`, which answers its error for `fail` |
+pub fn parse(alloc: Global, line: &[u8]) -> Result<LineCommand, LineError> {
+    let words = words_of(alloc, line)?;
+    match words.as_slice() {
+        [b"new"] => Ok(Command::New),
+        [b"new-at", number] => Ok(Command::NewAt {
+            number: parse_number(number)?,
+        }),
+        [name, place] => parse_place_command(name, parse_place(place)?),
+        [name, place, key, rest @ ..] => {
+            let place = parse_place(place)?;
+            let key = parse_key(alloc, key)?;
+            parse_key_command(name, place, key, rest)
+        }
+        _ => Err(LineError::Bad),
+    }
+}
+
+fn words_of(alloc: Global, line: &[u8]) -> Result<Vec<&[u8]>, AllocError> {
+    let mut words = Vec::new(alloc);
+    for word in line.split(|byte| *byte == b' ') {
+        words.push(word)?;
+    }
+    Ok(words)
+}
+
+fn parse_place_command(name: &[u8], place: usize) -> Result<LineCommand, LineError> {
+    match name {
+        b"snapshot" => Ok(Command::Snapshot { place }),
+        b"clone" => Ok(Command::Duplicate { place }),
+        b"discard" => Ok(Command::Discard { place }),
+        b"version" => Ok(Command::Version { place }),
+        b"empty" => Ok(Command::IsEmpty { place }),
+        _ => Err(LineError::Bad),
+    }
+}
+
+fn parse_key_command(
+    name: &[u8],
+    place: usize,
+    key: ArrayKey<16>,
+    rest: &[&[u8]],
+) -> Result<LineCommand, LineError> {
+    match (name, rest) {
+        (b"get", []) => Ok(Command::Get { place, key }),
+        (b"remove", []) => Ok(Command::Remove { place, key }),
+        (b"delete", []) => Ok(Command::Delete { place, key }),
+        (b"insert", [value]) => Ok(Command::Insert {
+            place,
+            key,
+            value: parse_number(value)?,
+        }),
+        (b"replace", [value]) => Ok(Command::Replace {
+            place,
+            key,
+            value: parse_number(value)?,
+        }),
+        (b"update", [write, answer @ ..]) => Ok(Command::Update {
+            place,
+            key,
+            write: parse_write(write)?,
+            answer: parse_answer(answer)?,
+        }),
+        (b"try-update", [write, b"fail"]) => Ok(Command::TryUpdate {
+            place,
+            key,
+            write: parse_write(write)?,
+            answer: None,
+        }),
+        (b"try-update", [write, answer @ ..]) => Ok(Command::TryUpdate {
+            place,
+            key,
+            write: parse_write(write)?,
+            answer: Some(parse_answer(answer)?),
+        }),
+        _ => Err(LineError::Bad),
+    }
+}
+
+fn parse_place(word: &[u8]) -> Result<usize, LineError> {
+    Ok(parse_number(word)? as usize)
+}
+
+fn parse_number(word: &[u8]) -> Result<u64, LineError> {
+    number_of(word).ok_or(LineError::Bad)
+}
+
+fn number_of(word: &[u8]) -> Option<u64> {
+    if word.is_empty() || word.len() > 20 {
+        return None;
+    }
+    let mut number: u64 = 0;
+    for byte in word {
+        if !byte.is_ascii_digit() {
+            return None;
+        }
+        number = number
+            .checked_mul(10)?
+            .checked_add(u64::from(*byte - b'0'))?;
+    }
+    Some(number)
+}
+
+fn parse_key(alloc: Global, word: &[u8]) -> Result<ArrayKey<16>, LineError> {
+    match word {
+        [b'\'', key @ ..] if key.len() <= 16 && key.iter().all(|byte| byte.is_ascii_graphic()) => {
+            Ok(ArrayKey::new_from_slice(alloc, key)?)
+        }
+        _ => Err(LineError::Bad),
+    }
+}
+
+fn parse_write(word: &[u8]) -> Result<Option<u64>, LineError> {
+    match word {
+        b"-" => Ok(None),
+        _ => Ok(Some(parse_number(word)?)),
+    }
+}
+
+fn parse_answer(words: &[&[u8]]) -> Result<SlotUpdate<u64>, LineError> {
+    match words {
+        [b"keep"] => Ok(SlotUpdate::Keep),
+        [b"remove"] => Ok(SlotUpdate::Remove),
+        [b"insert", value] => Ok(SlotUpdate::Insert(parse_number(value)?)),
+        _ => Err(LineError::Bad),
+    }
+}

@@ -1,0 +1,173 @@
+//! The program's engine: a line is read, its command is run, and its reply is written.
+use crate::family::{Family, Reply};
+use crate::line::{LineCommand, LineError, parse};
+use rart_versioned::{ArrayKey, KeyTrait, Work};
+use std::alloc::{AllocError, Global};
+use std::io::{Read, Write};
+
+// The greatest length of a good line, without its line feed.
+const LONGEST: usize = 200;
+
+/// How a whole input was served.
+#[derive(Debug, Clone, Copy, PartialEq, Eq)]
+pub enum Served {
+    /// Each line was a good one.
+    Clean,
+    /// At least one line was bad.
+    BadLine,
+}
+
+/// What ended the serving of an input before its end.
+#[derive(Debug, Clone, Copy, PartialEq, Eq)]
+pub enum ServeError {
+    /// Reading failed.
+    Read,
+    /// Writing failed.
+    Write,
+    /// Memory for a line's own text, as it is read or written, was refused.
+    Memory,
+}
+
+impl From<AllocError> for ServeError {
+    fn from(_refused: AllocError) -> ServeError {
+        ServeError::Memory
+    }
+}
+
+type LineFamily = Family<ArrayKey<16>, u64>;
+
+type LineReply = Reply<ArrayKey<16>, u64>;
+
+/// Reads lines to the end of input, runs the command of each on one family, and writes its reply
+/// before the next line is read.
+///
+/// `crate::line::parse` says what a line commands. Every other line is a bad one, also each of more
+/// than 200 bytes: it does no command, and its reply is `bad line`. The last line may lack its line
+/// feed. `2^64 - 1` bytes read count as the end of input.
+pub fn serve<R: Read + Drop, W: Write>(
+    alloc: Global,
+    reader: R,
+    writer: &mut W,
+) -> Result<Served, ServeError> {
+    let mut session = Session::new(alloc);
+    for byte in reader.bytes().take(usize::MAX) {
+        match byte {
+            Ok(b'\n') => session.end_line(writer)?,
+            Ok(byte) => session.push(byte)?,
+            Err(_) => return Err(ServeError::Read),
+        }
+    }
+    if session.length > 0 {
+        session.end_line(writer)?;
+    }
+    Ok(session.served)
+}
+
+// The family, the line that is being read, and whether each line so far was a good one. Of a line
+// that is too long the bytes past the greatest length are counted alone.
+#[derive(Drop)]
+struct Session {
+    alloc: Global,
+    family: LineFamily,
+    line: Vec<u8>,
+    length: usize,
+    served: Served,
+}
+
+impl Session {
+    fn new(alloc: Global) -> Session {
+        Session {
+            alloc,
+            family: Family::new(alloc),
+            line: Vec::new(alloc),
+            length: 0,
+            served: Served::Clean,
+        }
+    }
+
+    fn push(&mut self, byte: u8) -> Result<(), AllocError> {
+        self.length = self.length.saturating_add(1);
+        if self.length <= LONGEST {
+            self.line.push(byte)?;
+        }
+        Ok(())
+    }
+
+    fn end_line<W: Write>(&mut self, writer: &mut W) -> Result<(), ServeError> {
+        let is_long = self.length > LONGEST;
+        let command = if is_long {
+            Err(LineError::Bad)
+        } else {
+            parse(self.alloc, &self.line)
+        };
+        self.line.clear();
+        self.length = 0;
+        match command {
+            Ok(command) => {
+                let reply = self.reply_to(command);
+                write_reply(self.alloc, &reply, writer)
+            }
+            Err(LineError::Bad) => {
+                self.served = Served::BadLine;
+                write_text(writer, "bad line\n")
+            }
+            Err(LineError::Memory) => Err(ServeError::Memory),
+        }
+    }
+
+    fn reply_to(&mut self, command: LineCommand) -> LineReply {
+        let mut reads = Work::new();
+        let mut changes = Work::new();
+        match self.family.run(&[command], &mut reads, &mut changes) {
+            Ok(mut replies) => replies.pop().unwrap_or(Reply::NoMemory),
+            Err(AllocError) => Reply::NoMemory,
+        }
+    }
+}
+
+fn write_reply<W: Write>(
+    alloc: Global,
+    reply: &LineReply,
+    writer: &mut W,
+) -> Result<(), ServeError> {
+    match reply {
+        Reply::Place(place) => write_text(writer, format!(in alloc; "at {place}\n")?.as_str()),
+        Reply::Discarded => write_text(writer, "discarded\n"),
+        Reply::Number(number) => write_text(
+            writer,
+            format!(in alloc; "version {number}\n")?.as_str(),
+        ),
+        Reply::Flag(true) => write_text(writer, "true\n"),
+        Reply::Flag(false) => write_text(writer, "false\n"),
+        Reply::Value(Some(value)) => write_text(
+            writer,
+            format!(in alloc; "some {value}\n")?.as_str(),
+        ),
+        Reply::Value(None) => write_text(writer, "none\n"),
+        Reply::Entries(entries) => write_text(writer, entries_text(alloc, entries)?.as_str()),
+        Reply::Failed => write_text(writer, "failed\n"),
+        Reply::NoVersion => write_text(writer, "no version\n"),
+        Reply::NoRoom => write_text(writer, "no room\n"),
+        Reply::NoMemory => write_text(writer, "no memory\n"),
+    }
+}
+
+fn entries_text(alloc: Global, entries: &[(ArrayKey<16>, u64)]) -> Result<String, AllocError> {
+    let mut text = String::from_str(alloc, "entries")?;
+    for (key, value) in entries {
+        text.push_str(" '")?;
+        for byte in key.as_ref() {
+            text.push(char::from(*byte))?;
+        }
+        text.push_str(format!(in alloc; " {value}")?.as_str())?;
+    }
+    text.push('\n')?;
+    Ok(text)
+}
+
+fn write_text<W: Write>(writer: &mut W, text: &str) -> Result<(), ServeError> {
+    match writer.write_all(text.as_bytes()) {
+        Ok(()) => Ok(()),
+        Err(_) => Err(ServeError::Write),
+    }
+}

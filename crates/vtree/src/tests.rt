@@ -1,0 +1,39 @@
+// What no clause says: the lines of the program, and that calls succeed where there is memory.
+
+mod changes;
+mod families;
+mod lines;
+mod refusals;
+mod streams;
+mod updates;
+
+use crate::server::{Served, serve};
+use std::alloc::Global;
+use std::process::Abort;
+use std::test::Fail;
+
+// Serves the lines, of which the last one has its line feed too, and compares what is written.
+fn assert_served(
+    rt: &impl Abort,
+    alloc: Global,
+    lines: &[&str],
+    replies: &[&str],
+    served: Served,
+) -> Result<(), Fail> {
+    let input = text_of(alloc, lines)?;
+    let mut output = Vec::new(alloc);
+    let answer = serve(alloc, input.as_bytes(), &mut output)?;
+    let wanted = text_of(alloc, replies)?;
+    assert_eq!(rt; str::from_utf8(&output)?, wanted.as_str());
+    assert_eq!(rt; answer, served);
+    Ok(())
+}
+
+fn text_of(alloc: Global, lines: &[&str]) -> Result<String, Fail> {
+    let mut text = String::new(alloc);
+    for line in lines {
+        text.push_str(line)?;
+        text.push('\n')?;
+    }
+    Ok(text)
+}

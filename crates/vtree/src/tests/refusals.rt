@@ -1,0 +1,255 @@
+// A place without a version, and a number without room, for each command.
+use super::assert_served;
+use crate::server::Served;
+use std::test::Fail;
+
+#[test]
+fn place_past_the_last_one_has_no_version(rt: HostRuntime) -> Result<(), Fail> {
+    assert_served(
+        &rt,
+        rt.alloc(),
+        &[
+            "snapshot 0",
+            "clone 0",
+            "discard 0",
+            "version 0",
+            "empty 0",
+            "get 0 'a",
+            "insert 0 'a 1",
+            "replace 0 'a 1",
+            "remove 0 'a",
+            "delete 0 'a",
+            "update 0 'a - keep",
+            "try-update 0 'a - fail",
+            "new",
+            "version 1",
+            "version 18446744073709551615",
+        ],
+        &[
+            "no version",
+            "no version",
+            "no version",
+            "no version",
+            "no version",
+            "no version",
+            "no version",
+            "no version",
+            "no version",
+            "no version",
+            "no version",
+            "no version",
+            "at 0",
+            "no version",
+            "no version",
+        ],
+        Served::Clean,
+    )
+}
+
+// The number is the greatest one, so a place that was tested after room would show `no room`.
+#[test]
+fn discarded_place_has_no_version(rt: HostRuntime) -> Result<(), Fail> {
+    assert_served(
+        &rt,
+        rt.alloc(),
+        &[
+            "new-at 18446744073709551615",
+            "discard 0",
+            "snapshot 0",
+            "clone 0",
+            "discard 0",
+            "version 0",
+            "empty 0",
+            "get 0 'a",
+            "insert 0 'a 1",
+            "replace 0 'a 1",
+            "remove 0 'a",
+            "delete 0 'a",
+            "update 0 'a - keep",
+            "try-update 0 'a - fail",
+        ],
+        &[
+            "at 0",
+            "discarded",
+            "no version",
+            "no version",
+            "no version",
+            "no version",
+            "no version",
+            "no version",
+            "no version",
+            "no version",
+            "no version",
+            "no version",
+            "no version",
+            "no version",
+        ],
+        Served::Clean,
+    )
+}
+
+#[test]
+fn greatest_number_has_no_room(rt: HostRuntime) -> Result<(), Fail> {
+    assert_served(
+        &rt,
+        rt.alloc(),
+        &[
+            "new-at 18446744073709551615",
+            "snapshot 0",
+            "insert 0 'a 1",
+            "replace 0 'a 1",
+            "remove 0 'a",
+            "delete 0 'a",
+            "update 0 'a - keep",
+            "try-update 0 'a - keep",
+            "clone 0",
+            "version 1",
+            "empty 1",
+            "get 1 'a",
+            "discard 1",
+        ],
+        &[
+            "at 0",
+            "no room",
+            "no room",
+            "no room",
+            "no room",
+            "no room",
+            "no room",
+            "no room",
+            "at 1",
+            "version 18446744073709551615",
+            "true",
+            "none",
+            "discarded",
+        ],
+        Served::Clean,
+    )
+}
+
+#[test]
+fn number_before_the_greatest_has_room_for_one(rt: HostRuntime) -> Result<(), Fail> {
+    assert_served(
+        &rt,
+        rt.alloc(),
+        &[
+            "new-at 18446744073709551614",
+            "try-update 0 'a - keep",
+            "snapshot 0",
+            "version 1",
+            "update 0 'a - keep",
+            "remove 0 'a",
+            "delete 0 'a",
+            "version 0",
+            "clone 0",
+            "replace 2 'a 1",
+            "version 2",
+            "clone 0",
+            "update 3 'a - insert 1",
+            "version 3",
+            "insert 0 'a 1",
+            "version 0",
+        ],
+        &[
+            "at 0",
+            "no room",
+            "at 1",
+            "version 18446744073709551615",
+            "false",
+            "none",
+            "false",
+            "version 18446744073709551614",
+            "at 2",
+            "none",
+            "version 18446744073709551615",
+            "at 3",
+            "true",
+            "version 18446744073709551615",
+            "false",
+            "version 18446744073709551615",
+        ],
+        Served::Clean,
+    )
+}
+
+#[test]
+fn room_ends_with_the_greatest_number(rt: HostRuntime) -> Result<(), Fail> {
+    assert_served(
+        &rt,
+        rt.alloc(),
+        &[
+            "new-at 18446744073709551615",
+            "insert 0 'a 1",
+            "snapshot 0",
+            "clone 0",
+            "new-at 18446744073709551614",
+            "try-update 2 'a - keep",
+            "insert 2 'a 1",
+            "version 2",
+            "delete 2 'a",
+            "get 2 'a",
+        ],
+        &[
+            "at 0",
+            "no room",
+            "no room",
+            "at 1",
+            "at 2",
+            "no room",
+            "false",
+            "version 18446744073709551615",
+            "no room",
+            "some 1",
+        ],
+        Served::Clean,
+    )
+}
+
+#[test]
+fn update_that_may_fail_asks_room_for_two(rt: HostRuntime) -> Result<(), Fail> {
+    assert_served(
+        &rt,
+        rt.alloc(),
+        &[
+            "new-at 18446744073709551613",
+            "insert 0 'a 1",
+            "try-update 0 'a 2 keep",
+            "version 0",
+            "update 0 'a 2 keep",
+            "update 0 'a 3 keep",
+            "delete 0 'x",
+            "clone 0",
+            "get 1 'a",
+            "new-at 18446744073709551616",
+        ],
+        &[
+            "at 0",
+            "false",
+            "no room",
+            "version 18446744073709551614",
+            "true",
+            "no room",
+            "no room",
+            "at 1",
+            "some 2",
+            "bad line",
+        ],
+        Served::BadLine,
+    )
+}
+
+#[test]
+fn insertion_by_update_raises_the_number_by_one(rt: HostRuntime) -> Result<(), Fail> {
+    assert_served(
+        &rt,
+        rt.alloc(),
+        &[
+            "new-at 18446744073709551613",
+            "try-update 0 'a - insert 1",
+            "version 0",
+            "try-update 0 'a - keep",
+        ],
+        &["at 0", "true", "version 18446744073709551614", "no room"],
+        Served::Clean,
+    )
+}

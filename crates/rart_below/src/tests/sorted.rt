@@ -17,3 +17,13 @@ fn four_children_of_a_sorted_mapping_of_sixteen(rt: HostRuntime) -> Result<(), F
     assert_children_change(&rt, &mut mapping);
     Ok(())
 }
+
+#[test]
+fn copy_of_a_sorted_mapping_changes_alone(rt: HostRuntime) -> Result<(), Fail> {
+    let mut mapping: SortedKeyedMapping<u32, 4> = SortedKeyedMapping::new();
+    assert_four_children(&rt, &mut mapping);
+    let mut copy = mapping.clone()?;
+    assert_children_change(&rt, &mut mapping);
+    assert_children_change(&rt, &mut copy);
+    Ok(())
+}

@@ -7,7 +7,6 @@ mod heap;
 mod indexed;
 mod inline;
 mod mappings;
-mod moves;
 mod sorted;
 
 ghost use Rattle.std.specs.Prelude.{ℕ, ◌≤◌, length};

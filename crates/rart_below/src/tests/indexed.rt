@@ -9,3 +9,13 @@ fn four_children_of_an_indexed_mapping(rt: HostRuntime) -> Result<(), Fail> {
     assert_children_change(&rt, &mut mapping);
     Ok(())
 }
+
+#[test]
+fn copy_of_an_indexed_mapping_changes_alone(rt: HostRuntime) -> Result<(), Fail> {
+    let mut mapping: IndexedMapping<u32> = IndexedMapping::new();
+    assert_four_children(&rt, &mut mapping);
+    let mut copy = mapping.clone()?;
+    assert_children_change(&rt, &mut mapping);
+    assert_children_change(&rt, &mut copy);
+    Ok(())
+}

@@ -21,7 +21,7 @@ pub use reply::Reply;
 use std::alloc::{AllocError, Global};
 use std::marker::Model;
 
-/// A list of places, each a version or discarded.
+/// A list of places, each a version or discarded. rart has no such type.
 ///
 /// Contracts see it as that list. No command on one version alters another.
 #[derive(Drop)]

@@ -12,12 +12,13 @@ use std::alloc::Global;
 use std::process::Abort;
 use std::test::Fail;
 
-// Serves the lines, of which the last one has its line feed too, and compares what is written.
+// Serves lines that are parted by ` / ` here, each with its line feed, and compares what is written
+// with the replies, which are parted so too.
 fn assert_served(
     rt: &impl Abort,
     alloc: Global,
-    lines: &[&str],
-    replies: &[&str],
+    lines: &str,
+    replies: &str,
     served: Served,
 ) -> Result<(), Fail> {
     let input = text_of(alloc, lines)?;
@@ -29,9 +30,12 @@ fn assert_served(
     Ok(())
 }
 
-fn text_of(alloc: Global, lines: &[&str]) -> Result<String, Fail> {
+fn text_of(alloc: Global, lines: &str) -> Result<String, Fail> {
     let mut text = String::new(alloc);
-    for line in lines {
+    if lines.is_empty() {
+        return Ok(text);
+    }
+    for line in lines.split(" / ") {
         text.push_str(line)?;
         text.push('\n')?;
     }

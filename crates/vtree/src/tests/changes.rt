@@ -8,15 +8,8 @@ fn snapshot_has_the_value_and_the_next_number(rt: HostRuntime) -> Result<(), Fai
     assert_served(
         &rt,
         rt.alloc(),
-        &[
-            "new",
-            "insert 0 'key1 1",
-            "snapshot 0",
-            "get 1 'key1",
-            "version 0",
-            "version 1",
-        ],
-        &["at 0", "false", "at 1", "some 1", "version 1", "version 2"],
+        "new / insert 0 'key1 1 / snapshot 0 / get 1 'key1 / version 0 / version 1",
+        "at 0 / false / at 1 / some 1 / version 1 / version 2",
         Served::Clean,
     )
 }
@@ -26,23 +19,10 @@ fn insertions_stay_in_their_version(rt: HostRuntime) -> Result<(), Fail> {
     assert_served(
         &rt,
         rt.alloc(),
-        &[
-            "new",
-            "insert 0 'key1 1",
-            "snapshot 0",
-            "insert 0 'key2 2",
-            "insert 1 'key3 3",
-            "get 0 'key2",
-            "get 0 'key3",
-            "get 1 'key2",
-            "get 1 'key3",
-            "get 0 'key1",
-            "get 1 'key1",
-        ],
-        &[
-            "at 0", "false", "at 1", "false", "false", "some 2", "none", "none", "some 3",
-            "some 1", "some 1",
-        ],
+        "new / insert 0 'key1 1 / snapshot 0 / insert 0 'key2 2 / insert 1 'key3 3 / \
+         get 0 'key2 / get 0 'key3 / get 1 'key2 / get 1 'key3 / get 0 'key1 / get 1 'key1",
+        "at 0 / false / at 1 / false / false / some 2 / none / none / some 3 / some 1 / \
+         some 1",
         Served::Clean,
     )
 }
@@ -52,24 +32,8 @@ fn clone_keeps_the_number(rt: HostRuntime) -> Result<(), Fail> {
     assert_served(
         &rt,
         rt.alloc(),
-        &[
-            "new",
-            "insert 0 'a 1",
-            "clone 0",
-            "snapshot 0",
-            "version 0",
-            "version 1",
-            "version 2",
-        ],
-        &[
-            "at 0",
-            "false",
-            "at 1",
-            "at 2",
-            "version 1",
-            "version 1",
-            "version 2",
-        ],
+        "new / insert 0 'a 1 / clone 0 / snapshot 0 / version 0 / version 1 / version 2",
+        "at 0 / false / at 1 / at 2 / version 1 / version 1 / version 2",
         Served::Clean,
     )
 }
@@ -79,15 +43,9 @@ fn replacement_gives_the_old_value(rt: HostRuntime) -> Result<(), Fail> {
     assert_served(
         &rt,
         rt.alloc(),
-        &[
-            "new",
-            "replace 0 'key1 100",
-            "replace 0 'key1 200",
-            "snapshot 0",
-            "replace 0 'key1 300",
-            "get 1 'key1",
-        ],
-        &["at 0", "none", "some 100", "at 1", "some 200", "some 200"],
+        "new / replace 0 'key1 100 / replace 0 'key1 200 / snapshot 0 / \
+         replace 0 'key1 300 / get 1 'key1",
+        "at 0 / none / some 100 / at 1 / some 200 / some 200",
         Served::Clean,
     )
 }
@@ -97,14 +55,8 @@ fn removal_of_an_absent_key_changes_nothing(rt: HostRuntime) -> Result<(), Fail>
     assert_served(
         &rt,
         rt.alloc(),
-        &[
-            "new",
-            "insert 0 'd 1",
-            "remove 0 'da",
-            "get 0 'd",
-            "version 0",
-        ],
-        &["at 0", "false", "none", "some 1", "version 1"],
+        "new / insert 0 'd 1 / remove 0 'da / get 0 'd / version 0",
+        "at 0 / false / none / some 1 / version 1",
         Served::Clean,
     )
 }
@@ -114,19 +66,9 @@ fn deletion_stays_in_its_version(rt: HostRuntime) -> Result<(), Fail> {
     assert_served(
         &rt,
         rt.alloc(),
-        &[
-            "new",
-            "insert 0 'a 1",
-            "insert 0 'ab 2",
-            "snapshot 0",
-            "delete 0 'a",
-            "get 0 'a",
-            "get 0 'ab",
-            "get 1 'a",
-        ],
-        &[
-            "at 0", "false", "false", "at 1", "true", "none", "some 2", "some 1",
-        ],
+        "new / insert 0 'a 1 / insert 0 'ab 2 / snapshot 0 / delete 0 'a / get 0 'a / \
+         get 0 'ab / get 1 'a",
+        "at 0 / false / false / at 1 / true / none / some 2 / some 1",
         Served::Clean,
     )
 }
@@ -136,24 +78,8 @@ fn removal_gives_the_value_once(rt: HostRuntime) -> Result<(), Fail> {
     assert_served(
         &rt,
         rt.alloc(),
-        &[
-            "new",
-            "insert 0 'a 1",
-            "remove 0 'a",
-            "remove 0 'a",
-            "delete 0 'a",
-            "empty 0",
-            "version 0",
-        ],
-        &[
-            "at 0",
-            "false",
-            "some 1",
-            "none",
-            "false",
-            "true",
-            "version 2",
-        ],
+        "new / insert 0 'a 1 / remove 0 'a / remove 0 'a / delete 0 'a / empty 0 / version 0",
+        "at 0 / false / some 1 / none / false / true / version 2",
         Served::Clean,
     )
 }
@@ -163,26 +89,9 @@ fn discarded_place_is_not_used_again(rt: HostRuntime) -> Result<(), Fail> {
     assert_served(
         &rt,
         rt.alloc(),
-        &[
-            "new",
-            "insert 0 'a 1",
-            "version 0",
-            "replace 0 'a 7",
-            "empty 0",
-            "discard 0",
-            "empty 0",
-            "new",
-        ],
-        &[
-            "at 0",
-            "false",
-            "version 1",
-            "some 1",
-            "false",
-            "discarded",
-            "no version",
-            "at 1",
-        ],
+        "new / insert 0 'a 1 / version 0 / replace 0 'a 7 / empty 0 / discard 0 / empty 0 / \
+         new",
+        "at 0 / false / version 1 / some 1 / false / discarded / no version / at 1",
         Served::Clean,
     )
 }
@@ -192,26 +101,8 @@ fn snapshot_outlives_its_version(rt: HostRuntime) -> Result<(), Fail> {
     assert_served(
         &rt,
         rt.alloc(),
-        &[
-            "new",
-            "new",
-            "insert 1 'a 1",
-            "snapshot 1",
-            "discard 1",
-            "get 1 'a",
-            "get 2 'a",
-            "new",
-        ],
-        &[
-            "at 0",
-            "at 1",
-            "false",
-            "at 2",
-            "discarded",
-            "no version",
-            "some 1",
-            "at 3",
-        ],
+        "new / new / insert 1 'a 1 / snapshot 1 / discard 1 / get 1 'a / get 2 'a / new",
+        "at 0 / at 1 / false / at 2 / discarded / no version / some 1 / at 3",
         Served::Clean,
     )
 }
@@ -221,32 +112,10 @@ fn empty_key_is_a_key(rt: HostRuntime) -> Result<(), Fail> {
     assert_served(
         &rt,
         rt.alloc(),
-        &[
-            "new",
-            "get 0 '",
-            "insert 0 ' 1",
-            "get 0 '",
-            "replace 0 ' 2",
-            "update 0 ' 3 keep",
-            "try-update 0 ' 4 keep",
-            "remove 0 '",
-            "delete 0 '",
-            "empty 0",
-            "version 0",
-        ],
-        &[
-            "at 0",
-            "none",
-            "false",
-            "some 1",
-            "some 1",
-            "true",
-            "true",
-            "some 4",
-            "false",
-            "true",
-            "version 5",
-        ],
+        "new / get 0 ' / insert 0 ' 1 / get 0 ' / replace 0 ' 2 / update 0 ' 3 keep / \
+         try-update 0 ' 4 keep / remove 0 ' / delete 0 ' / empty 0 / version 0",
+        "at 0 / none / false / some 1 / some 1 / true / true / some 4 / false / true / \
+         version 5",
         Served::Clean,
     )
 }

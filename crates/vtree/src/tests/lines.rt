@@ -8,8 +8,8 @@ fn bad_line_does_nothing(rt: HostRuntime) -> Result<(), Fail> {
     assert_served(
         &rt,
         rt.alloc(),
-        &["new", "insert 0 a 1", "", "get 7 'a"],
-        &["at 0", "bad line", "bad line", "no version"],
+        "new / insert 0 a 1 /  / get 7 'a",
+        "at 0 / bad line / bad line / no version",
         Served::BadLine,
     )
 }
@@ -19,21 +19,10 @@ fn words_are_parted_by_one_space(rt: HostRuntime) -> Result<(), Fail> {
     assert_served(
         &rt,
         rt.alloc(),
-        &[
-            "new",
-            "new\r",
-            "version  0",
-            " version 0",
-            "version 0 ",
-            "version",
-            "version 0 0",
-            "Version 0",
-            "version\t0",
-        ],
-        &[
-            "at 0", "bad line", "bad line", "bad line", "bad line", "bad line", "bad line",
-            "bad line", "bad line",
-        ],
+        "new / new\r / version  0 /  version 0 / version 0  / version / version 0 0 / \
+         Version 0 / version\t0",
+        "at 0 / bad line / bad line / bad line / bad line / bad line / bad line / bad line / \
+         bad line",
         Served::BadLine,
     )
 }
@@ -43,33 +32,13 @@ fn each_form_has_its_count_of_words(rt: HostRuntime) -> Result<(), Fail> {
     assert_served(
         &rt,
         rt.alloc(),
-        &[
-            "new 0",
-            "new-at",
-            "snapshot",
-            "clone 0 'a",
-            "discard 0 0",
-            "empty",
-            "get 0",
-            "get 0 'a 1",
-            "insert 0 'a",
-            "insert 0 'a 1 1",
-            "replace 0 'a",
-            "remove 0 'a 1",
-            "delete 0",
-            "update 0 'a -",
-            "update 0 'a - insert",
-            "update 0 'a - keep 1",
-            "update 0 'a - fail",
-            "try-update 0 'a -",
-            "try-update 0 'a - fail 1",
-            "iter",
-        ],
-        &[
-            "bad line", "bad line", "bad line", "bad line", "bad line", "bad line", "bad line",
-            "bad line", "bad line", "bad line", "bad line", "bad line", "bad line", "bad line",
-            "bad line", "bad line", "bad line", "bad line", "bad line", "bad line",
-        ],
+        "new 0 / new-at / snapshot / clone 0 'a / discard 0 0 / empty / get 0 / get 0 'a 1 / \
+         insert 0 'a / insert 0 'a 1 1 / replace 0 'a / remove 0 'a 1 / delete 0 / \
+         update 0 'a - / update 0 'a - insert / update 0 'a - keep 1 / update 0 'a - fail / \
+         try-update 0 'a - / try-update 0 'a - fail 1 / iter",
+        "bad line / bad line / bad line / bad line / bad line / bad line / bad line / \
+         bad line / bad line / bad line / bad line / bad line / bad line / bad line / \
+         bad line / bad line / bad line / bad line / bad line / bad line",
         Served::BadLine,
     )
 }
@@ -79,34 +48,13 @@ fn numbers_have_1_to_20_digits(rt: HostRuntime) -> Result<(), Fail> {
     assert_served(
         &rt,
         rt.alloc(),
-        &[
-            "new-at 00000000000000000007",
-            "version 00000000000000000000",
-            "new-at 000000000000000000007",
-            "new-at 18446744073709551615",
-            "new-at 18446744073709551616",
-            "new-at 99999999999999999999",
-            "new-at -1",
-            "new-at +1",
-            "new-at 1a",
-            "insert 0 'a 18446744073709551615",
-            "get 0 'a",
-            "insert 0 'a 18446744073709551616",
-        ],
-        &[
-            "at 0",
-            "version 7",
-            "bad line",
-            "at 1",
-            "bad line",
-            "bad line",
-            "bad line",
-            "bad line",
-            "bad line",
-            "false",
-            "some 18446744073709551615",
-            "bad line",
-        ],
+        "new-at 00000000000000000007 / version 00000000000000000000 / \
+         new-at 000000000000000000007 / new-at 18446744073709551615 / \
+         new-at 18446744073709551616 / new-at 99999999999999999999 / new-at -1 / new-at +1 / \
+         new-at 1a / insert 0 'a 18446744073709551615 / get 0 'a / \
+         insert 0 'a 18446744073709551616",
+        "at 0 / version 7 / bad line / at 1 / bad line / bad line / bad line / bad line / \
+         bad line / false / some 18446744073709551615 / bad line",
         Served::BadLine,
     )
 }
@@ -116,21 +64,10 @@ fn keys_have_0_to_16_bytes(rt: HostRuntime) -> Result<(), Fail> {
     assert_served(
         &rt,
         rt.alloc(),
-        &[
-            "new",
-            "insert 0 'abcdefghijklmnop 1",
-            "insert 0 'abcdefghijklmnopq 2",
-            "get 0 'abcdefghijklmnop",
-            "insert 0 ' 3",
-            "insert 0 ''~! 4",
-            "get 0 ''~!",
-            "get 0 '\u{7f}",
-            "get 0 'é",
-        ],
-        &[
-            "at 0", "false", "bad line", "some 1", "false", "false", "some 4", "bad line",
-            "bad line",
-        ],
+        "new / insert 0 'abcdefghijklmnop 1 / insert 0 'abcdefghijklmnopq 2 / \
+         get 0 'abcdefghijklmnop / insert 0 ' 3 / insert 0 ''~! 4 / get 0 ''~! / \
+         get 0 '\u{7f} / get 0 'é",
+        "at 0 / false / bad line / some 1 / false / false / some 4 / bad line / bad line",
         Served::BadLine,
     )
 }
@@ -143,11 +80,12 @@ fn long_line_is_skipped_to_its_end(rt: HostRuntime) -> Result<(), Fail> {
         for _ in 0..length {
             letters.push('n')?;
         }
+        letters.push_str(" / new / new\r / version  0")?;
         assert_served(
             &rt,
             alloc,
-            &[letters.as_str(), "new", "new\r", "version  0"],
-            &["bad line", "at 0", "bad line", "bad line"],
+            letters.as_str(),
+            "bad line / at 0 / bad line / bad line",
             Served::BadLine,
         )?;
     }
@@ -156,7 +94,7 @@ fn long_line_is_skipped_to_its_end(rt: HostRuntime) -> Result<(), Fail> {
 
 #[test]
 fn input_may_be_empty(rt: HostRuntime) -> Result<(), Fail> {
-    assert_served(&rt, rt.alloc(), &[], &[], Served::Clean)
+    assert_served(&rt, rt.alloc(), "", "", Served::Clean)
 }
 
 #[test]

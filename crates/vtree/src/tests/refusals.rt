@@ -8,40 +8,12 @@ fn place_past_the_last_one_has_no_version(rt: HostRuntime) -> Result<(), Fail> {
     assert_served(
         &rt,
         rt.alloc(),
-        &[
-            "snapshot 0",
-            "clone 0",
-            "discard 0",
-            "version 0",
-            "empty 0",
-            "get 0 'a",
-            "insert 0 'a 1",
-            "replace 0 'a 1",
-            "remove 0 'a",
-            "delete 0 'a",
-            "update 0 'a - keep",
-            "try-update 0 'a - fail",
-            "new",
-            "version 1",
-            "version 18446744073709551615",
-        ],
-        &[
-            "no version",
-            "no version",
-            "no version",
-            "no version",
-            "no version",
-            "no version",
-            "no version",
-            "no version",
-            "no version",
-            "no version",
-            "no version",
-            "no version",
-            "at 0",
-            "no version",
-            "no version",
-        ],
+        "snapshot 0 / clone 0 / discard 0 / version 0 / empty 0 / get 0 'a / insert 0 'a 1 / \
+         replace 0 'a 1 / remove 0 'a / delete 0 'a / update 0 'a - keep / \
+         try-update 0 'a - fail / new / version 1 / version 18446744073709551615",
+        "no version / no version / no version / no version / no version / no version / \
+         no version / no version / no version / no version / no version / no version / \
+         at 0 / no version / no version",
         Served::Clean,
     )
 }
@@ -52,38 +24,12 @@ fn discarded_place_has_no_version(rt: HostRuntime) -> Result<(), Fail> {
     assert_served(
         &rt,
         rt.alloc(),
-        &[
-            "new-at 18446744073709551615",
-            "discard 0",
-            "snapshot 0",
-            "clone 0",
-            "discard 0",
-            "version 0",
-            "empty 0",
-            "get 0 'a",
-            "insert 0 'a 1",
-            "replace 0 'a 1",
-            "remove 0 'a",
-            "delete 0 'a",
-            "update 0 'a - keep",
-            "try-update 0 'a - fail",
-        ],
-        &[
-            "at 0",
-            "discarded",
-            "no version",
-            "no version",
-            "no version",
-            "no version",
-            "no version",
-            "no version",
-            "no version",
-            "no version",
-            "no version",
-            "no version",
-            "no version",
-            "no version",
-        ],
+        "new-at 18446744073709551615 / discard 0 / snapshot 0 / clone 0 / discard 0 / \
+         version 0 / empty 0 / get 0 'a / insert 0 'a 1 / replace 0 'a 1 / remove 0 'a / \
+         delete 0 'a / update 0 'a - keep / try-update 0 'a - fail",
+        "at 0 / discarded / no version / no version / no version / no version / no version / \
+         no version / no version / no version / no version / no version / no version / \
+         no version",
         Served::Clean,
     )
 }
@@ -93,36 +39,11 @@ fn greatest_number_has_no_room(rt: HostRuntime) -> Result<(), Fail> {
     assert_served(
         &rt,
         rt.alloc(),
-        &[
-            "new-at 18446744073709551615",
-            "snapshot 0",
-            "insert 0 'a 1",
-            "replace 0 'a 1",
-            "remove 0 'a",
-            "delete 0 'a",
-            "update 0 'a - keep",
-            "try-update 0 'a - keep",
-            "clone 0",
-            "version 1",
-            "empty 1",
-            "get 1 'a",
-            "discard 1",
-        ],
-        &[
-            "at 0",
-            "no room",
-            "no room",
-            "no room",
-            "no room",
-            "no room",
-            "no room",
-            "no room",
-            "at 1",
-            "version 18446744073709551615",
-            "true",
-            "none",
-            "discarded",
-        ],
+        "new-at 18446744073709551615 / snapshot 0 / insert 0 'a 1 / replace 0 'a 1 / \
+         remove 0 'a / delete 0 'a / update 0 'a - keep / try-update 0 'a - keep / clone 0 / \
+         version 1 / empty 1 / get 1 'a / discard 1",
+        "at 0 / no room / no room / no room / no room / no room / no room / no room / at 1 / \
+         version 18446744073709551615 / true / none / discarded",
         Served::Clean,
     )
 }
@@ -132,42 +53,13 @@ fn number_before_the_greatest_has_room_for_one(rt: HostRuntime) -> Result<(), Fa
     assert_served(
         &rt,
         rt.alloc(),
-        &[
-            "new-at 18446744073709551614",
-            "try-update 0 'a - keep",
-            "snapshot 0",
-            "version 1",
-            "update 0 'a - keep",
-            "remove 0 'a",
-            "delete 0 'a",
-            "version 0",
-            "clone 0",
-            "replace 2 'a 1",
-            "version 2",
-            "clone 0",
-            "update 3 'a - insert 1",
-            "version 3",
-            "insert 0 'a 1",
-            "version 0",
-        ],
-        &[
-            "at 0",
-            "no room",
-            "at 1",
-            "version 18446744073709551615",
-            "false",
-            "none",
-            "false",
-            "version 18446744073709551614",
-            "at 2",
-            "none",
-            "version 18446744073709551615",
-            "at 3",
-            "true",
-            "version 18446744073709551615",
-            "false",
-            "version 18446744073709551615",
-        ],
+        "new-at 18446744073709551614 / try-update 0 'a - keep / snapshot 0 / version 1 / \
+         update 0 'a - keep / remove 0 'a / delete 0 'a / version 0 / clone 0 / \
+         replace 2 'a 1 / version 2 / clone 0 / update 3 'a - insert 1 / version 3 / \
+         insert 0 'a 1 / version 0",
+        "at 0 / no room / at 1 / version 18446744073709551615 / false / none / false / \
+         version 18446744073709551614 / at 2 / none / version 18446744073709551615 / at 3 / \
+         true / version 18446744073709551615 / false / version 18446744073709551615",
         Served::Clean,
     )
 }
@@ -177,30 +69,11 @@ fn room_ends_with_the_greatest_number(rt: HostRuntime) -> Result<(), Fail> {
     assert_served(
         &rt,
         rt.alloc(),
-        &[
-            "new-at 18446744073709551615",
-            "insert 0 'a 1",
-            "snapshot 0",
-            "clone 0",
-            "new-at 18446744073709551614",
-            "try-update 2 'a - keep",
-            "insert 2 'a 1",
-            "version 2",
-            "delete 2 'a",
-            "get 2 'a",
-        ],
-        &[
-            "at 0",
-            "no room",
-            "no room",
-            "at 1",
-            "at 2",
-            "no room",
-            "false",
-            "version 18446744073709551615",
-            "no room",
-            "some 1",
-        ],
+        "new-at 18446744073709551615 / insert 0 'a 1 / snapshot 0 / clone 0 / \
+         new-at 18446744073709551614 / try-update 2 'a - keep / insert 2 'a 1 / version 2 / \
+         delete 2 'a / get 2 'a",
+        "at 0 / no room / no room / at 1 / at 2 / no room / false / \
+         version 18446744073709551615 / no room / some 1",
         Served::Clean,
     )
 }
@@ -210,30 +83,11 @@ fn update_that_may_fail_asks_room_for_two(rt: HostRuntime) -> Result<(), Fail> {
     assert_served(
         &rt,
         rt.alloc(),
-        &[
-            "new-at 18446744073709551613",
-            "insert 0 'a 1",
-            "try-update 0 'a 2 keep",
-            "version 0",
-            "update 0 'a 2 keep",
-            "update 0 'a 3 keep",
-            "delete 0 'x",
-            "clone 0",
-            "get 1 'a",
-            "new-at 18446744073709551616",
-        ],
-        &[
-            "at 0",
-            "false",
-            "no room",
-            "version 18446744073709551614",
-            "true",
-            "no room",
-            "no room",
-            "at 1",
-            "some 2",
-            "bad line",
-        ],
+        "new-at 18446744073709551613 / insert 0 'a 1 / try-update 0 'a 2 keep / version 0 / \
+         update 0 'a 2 keep / update 0 'a 3 keep / delete 0 'x / clone 0 / get 1 'a / \
+         new-at 18446744073709551616",
+        "at 0 / false / no room / version 18446744073709551614 / true / no room / no room / \
+         at 1 / some 2 / bad line",
         Served::BadLine,
     )
 }
@@ -243,13 +97,9 @@ fn insertion_by_update_raises_the_number_by_one(rt: HostRuntime) -> Result<(), F
     assert_served(
         &rt,
         rt.alloc(),
-        &[
-            "new-at 18446744073709551613",
-            "try-update 0 'a - insert 1",
-            "version 0",
-            "try-update 0 'a - keep",
-        ],
-        &["at 0", "true", "version 18446744073709551614", "no room"],
+        "new-at 18446744073709551613 / try-update 0 'a - insert 1 / version 0 / \
+         try-update 0 'a - keep",
+        "at 0 / true / version 18446744073709551614 / no room",
         Served::Clean,
     )
 }

@@ -1,5 +1,6 @@
 //! Whatever counts into a `Work` that it is handed, or counts nothing.
 
+mod descent;
 mod insert;
 mod lookup;
 mod put;

@@ -48,7 +48,7 @@ module _ {V : Type 0} (s : Shape V) (w : List ℕ) (depth end : ℕ) (within : d
   whole-is : length (prefix_of s) ≤ end - depth → length (prefix_of s) ≤ common_length (prefix_of s) (drop depth w)
   whole-is le = subst (λ n. length (prefix_of s) ≤ n) matched-is le
 
-  next-is : drop end w ≡ drop (common_length (prefix_of s) (drop depth w)) (drop depth w)
+  pub next-is : drop end w ≡ drop (common_length (prefix_of s) (drop depth w)) (drop depth w)
   next-is = rest-is ∙ ap (λ n. drop n (drop depth w)) matched-is
 
   pub whole-key : length (prefix_of s) ≤ end - depth → drop depth w ≡ prefix_of s ++ drop end w

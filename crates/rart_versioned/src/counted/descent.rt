@@ -23,67 +23,67 @@ use std::marker::PhantomData;
 pub(crate) trait Descent<K: KeyTrait, V: Clone + Drop> {
     ghost most: { ℕ };
 
-    /// Opens so many nodes on the way of a key, from a pointer on, and lends the last one. `depth`
-    /// bytes of the key stand above the first, and then above the last.
+    /// Lends the node that is so many nodes down on the way of a key. `depth` bytes of the key stand
+    /// above the node of the pointer, and then above the last one.
     fn down<'a>(
         at: &'a mut NodeRef<K::PartialType, V>,
         key: &K,
         depth: &mut usize,
-        nodes: usize,
+        steps: usize,
         work: &mut Work,
     ) -> Result<&'a mut VersionedNode<K::PartialType, V>, AllocError>
         requires clones { ClonesEqual V.is_clone }
         requires depth { depth.old ≤ length (K.bytes key.now) }
         requires tree { IsTree (shown K.PartialType.bytes at.old) }
-        requires some { 1 ≤ nodes }
-        requires few { nodes ≤ most }
-        requires there { IsSome (descent (nodes - 1) (drop depth.old (K.bytes key.now)) (shown K.PartialType.bytes at.old)) }
-        ensures* writes_back { sem 𝓛 (LendsDescent K.PartialType.row V.row K.PartialType.bytes at.entry (nodes - 1) (drop depth.entry.now (K.bytes key.now)) result) }
-        ensures reached { IfOk result (λ end. descent (nodes - 1) (drop depth.old (K.bytes key.now)) (shown K.PartialType.bytes at.old) ≡ Some (seen K.PartialType.bytes end.now, drop depth.new (K.bytes key.now))) }
+        requires few { steps ≤ most }
+        requires there { IsSome (descent steps (drop depth.old (K.bytes key.now)) (shown K.PartialType.bytes at.old)) }
+        ensures* writes_back { sem 𝓛 (LendsDescent K.PartialType.row V.row K.PartialType.bytes at.entry steps (drop depth.entry.now (K.bytes key.now)) result) }
+        ensures reached { IfOk result (λ end. descent steps (drop depth.old (K.bytes key.now)) (shown K.PartialType.bytes at.old) ≡ Some (seen K.PartialType.bytes end.now, drop depth.new (K.bytes key.now))) }
         ensures within { depth.new ≤ length (K.bytes key.now) }
-        ensures counted { CountsUpTo nodes nodes work.old work.new };
+        ensures counted { CountsUpTo (steps + 1) (steps + 1) work.old work.new };
 }
 
-/// One node.
-struct One;
+/// The node of the pointer itself.
+struct Here;
 
-/// Twice as many nodes at most as by the type below.
+/// A way by the type below, one node down, and once more a way by the type below.
 struct Twice<L> {
     below: PhantomData<L>,
 }
 
-impl<K: KeyTrait, V: Clone + Drop> Descent<K, V> for One {
-    ghost most = { 1 };
+impl<K: KeyTrait, V: Clone + Drop> Descent<K, V> for Here {
+    ghost most = { 0 };
 
     fn down<'a>(
         at: &'a mut NodeRef<K::PartialType, V>,
         key: &K,
         depth: &mut usize,
-        nodes: usize,
+        steps: usize,
         work: &mut Work,
     ) -> Result<&'a mut VersionedNode<K::PartialType, V>, AllocError> {
-        let _ = (key, depth, nodes);
+        let _ = (key, depth, steps);
         at.open_mut(work)
     }
 }
 
 impl<K: KeyTrait, V: Clone + Drop, L: Descent<K, V>> Descent<K, V> for Twice<L> {
-    ghost most = { 2 * L.most };
+    ghost most = { 2 * L.most + 1 };
 
     fn down<'a>(
         at: &'a mut NodeRef<K::PartialType, V>,
         key: &K,
         depth: &mut usize,
-        nodes: usize,
+        steps: usize,
         work: &mut Work,
     ) -> Result<&'a mut VersionedNode<K::PartialType, V>, AllocError> {
-        if nodes == 1 {
+        if steps == 0 {
             return at.open_mut(work);
         }
-        let middle = L::down(at, key, depth, nodes / 2, work)?;
+        let half = (steps - 1) / 2;
+        let middle = L::down(at, key, depth, half, work)?;
         let byte = next_byte(middle, key, depth);
         match middle.seek_child_mut(byte) {
-            Some(child) => L::down(child, key, depth, nodes - nodes / 2, work),
+            Some(child) => L::down(child, key, depth, steps - 1 - half, work),
             None => unreachable!(),
         }
     }

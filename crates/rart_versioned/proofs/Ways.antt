@@ -10,7 +10,7 @@ use Rattle.rart_versioned.specs.Paths.{first_byte, child_along, step, descent, g
 use Rattle.rart_versioned.specs.Trees.{behind, found, IsTree, IsPut}
 use Rattle.rart_versioned.proofs.Behind.{behind-short, behind-whole, no-first, first-parts}
 use Rattle.rart_versioned.proofs.Finds.{found-child, branch, ordered}
-use Rattle.rart_versioned.proofs.Puts.{put-below}
+use Rattle.rart_versioned.proofs.Puts.{put-below, replaced-same}
 use Rattle.rart_versioned.proofs.Behind.{split-whole}
 
 pub first-of : (w : List ℕ) (byte : ℕ) → slice_get w 0 ≡ Some byte → first_byte w ≡ byte
@@ -145,3 +145,39 @@ module _ {V : Type 0} where
       let below = some-is (step key s) there in
       let goes = is-step s key below.0 below.1 in
       step-child s key byte goes.whole (ap (λ z. slice_get z 0) (sym is) ∙ next) ∙ ap (λ z. option_map (λ child. (child, z)) (child_at byte (children_of s))) (sym is)
+
+  -- ---- a way in two parts
+  pub front-there : (a b steps : ℕ) (key : List ℕ) (s : Shape V) → steps ≡ a + b → IsSome (descent steps key s) → IsSome (descent a key s)
+  front-there a b steps key s is there =
+      let P : Option (Shape V × List ℕ) → Type 0 = λ o. IsSome (option_and_then (λ end. descent b end.1 end.0) o) → IsSome o in
+      let both : (o : Option (Shape V × List ℕ)) → P o = elim [ None ↦ (λ none. absurd (false≢true none)) | Some end ↦ (λ some. refl) ] in
+      both (descent a key s) (subst IsSome (ap (λ n. descent n key s) is ∙ descent-add a b key s) there)
+
+  pub back-is : (a b steps : ℕ) (key : List ℕ) (s : Shape V) (middle : Shape V × List ℕ) → steps ≡ a + b → descent a key s ≡ Some middle → descent steps key s ≡ descent b middle.1 middle.0
+  back-is a b steps key s middle is there = ap (λ n. descent n key s) is ∙ descent-add a b key s ∙ ap (option_and_then (λ end. descent b end.1 end.0)) there
+
+  pub step-there : (b : ℕ) (key : List ℕ) (s : Shape V) → IsSome (descent (suc b) key s) → IsSome (step key s)
+  step-there b key s there =
+      let P : Option (Shape V × List ℕ) → Type 0 = λ o. IsSome (option_and_then (λ below. descent b below.1 below.0) o) → IsSome o in
+      let both : (o : Option (Shape V × List ℕ)) → P o = elim [ None ↦ (λ none. absurd (false≢true none)) | Some below ↦ (λ some. refl) ] in
+      both (step key s) there
+
+  pub below-is : (b : ℕ) (key : List ℕ) (s : Shape V) (below : Shape V × List ℕ) → step key s ≡ Some below → descent (suc b) key s ≡ descent b below.1 below.0
+  below-is b key s below goes = ap (option_and_then (λ z. descent b z.1 z.0)) goes
+
+  pub graft-below : (b : ℕ) (new : Shape V) (key : List ℕ) (s : Shape V) (below : Shape V × List ℕ) → step key s ≡ Some below → graft (suc b) new key s ≡ with_replaced (first_byte below.1) (graft b new below.1 below.0) s
+  graft-below b new key s below goes = ap (graft_at (graft b new) s) goes
+
+  -- the node at the end put back as it was
+  pub graft-same : (a : ℕ) (key : List ℕ) (s : Shape V) (end : Shape V × List ℕ) → IsTree s → descent a key s ≡ Some end → graft a end.0 key s ≡ s
+  graft-same zero key s end tree is = ap (λ z. z.0) (sym (same_Some (s, key) end is))
+  graft-same (suc a) key s end tree is =
+      let P : Option (Shape V × List ℕ) → Type 0 = λ o. step key s ≡ o → option_and_then (λ below. descent a below.1 below.0) o ≡ Some end → graft_at (graft a end.0) s o ≡ s in
+      let both : (o : Option (Shape V × List ℕ)) → P o = elim [
+        | None ↦ (λ goes none. refl)
+        | Some below ↦ (λ goes there.
+            let down = is-step s key below goes in
+            let known = branch s (first_byte below.1) below.0 (ordered s tree) down.child in
+            ap (λ z. with_replaced (first_byte below.1) z s) (graft-same a below.1 below.0 end known.tree there) ∙ replaced-same s (first_byte below.1) below.0 (ordered s tree) down.child)
+      ] in
+      both (step key s) refl is

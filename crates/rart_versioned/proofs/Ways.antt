@@ -5,12 +5,12 @@ use Rattle.std.proofs.lemmas.Bool.{false≢true, cases_lt}
 use Rattle.std.proofs.lemmas.Option.{same_Some, none-some}
 use Rattle.rart_below.specs.Bytes.{common_length}
 use Rattle.rart_below.specs.Children.{child_at}
-use Rattle.rart_node.specs.Shape.{Shape, Forest, node, prefix_of, value_of, children_of, entries_of, with_replaced}
+use Rattle.rart_node.specs.Shape.{Shape, Forest, node, prefix_of, value_of, children_of, entries_of, with_replaced, with_value}
 use Rattle.rart_versioned.specs.Paths.{first_byte, child_along, step, descent, graft, graft_at}
 use Rattle.rart_versioned.specs.Trees.{behind, found, IsTree, IsPut}
-use Rattle.rart_versioned.proofs.Behind.{behind-short, behind-whole, no-first, first-parts}
+use Rattle.rart_versioned.proofs.Behind.{behind-short, behind-whole, behind-is, no-first, first-parts}
 use Rattle.rart_versioned.proofs.Finds.{found-child, branch, ordered}
-use Rattle.rart_versioned.proofs.Puts.{put-below, replaced-same}
+use Rattle.rart_versioned.proofs.Puts.{put-below, put-end, replaced-same}
 use Rattle.rart_versioned.proofs.Behind.{split-whole}
 
 pub first-of : (w : List ℕ) (byte : ℕ) → slice_get w 0 ≡ Some byte → first_byte w ≡ byte
@@ -181,3 +181,10 @@ module _ {V : Type 0} where
             ap (λ z. with_replaced (first_byte below.1) z s) (graft-same a below.1 below.0 end known.tree there) ∙ replaced-same s (first_byte below.1) below.0 (ordered s tree) down.child)
       ] in
       both (step key s) refl is
+
+  -- a key that ends at a node
+  pub found-ended : (s : Shape V) (key : List ℕ) → behind (prefix_of s) key ≡ Some [] → found s key ≡ value_of s
+  found-ended (node prefix value width forest) key ended = rw ended refl
+
+  pub put-ended : (s : Shape V) (key : List ℕ) (value : V) → IsTree s → behind (prefix_of s) key ≡ Some [] → IsPut key value s (with_value (Some value) s)
+  put-ended s key value tree ended = put-end s key [] value tree (behind-is (prefix_of s) key [] ended) refl

@@ -1,4 +1,4 @@
-ghost use Rattle.std.specs.Prelude.{◌≡◌, ℕ, ◌+◌, ◌-◌, ◌*◌, ◌<◌, ◌≤◌, IfOk, Some, IsSome, length, drop};
+ghost use Rattle.std.specs.Prelude.{◌≡◌, ℕ, ◌+◌, ◌-◌, ◌*◌, ◌<◌, ◌≤◌, IfOk, IfSome, Some, None, IsSome, length, drop};
 ghost use Rattle.std.specs.Borrow.{sem};
 ghost use Rattle.std.specs.Option.{option_map};
 ghost use Rattle.rart_below.specs.Children.{child_at};
@@ -6,8 +6,8 @@ ghost use Rattle.rart_below.specs.Clones.{ClonesEqual};
 ghost use Rattle.rart_node.specs.Seen.{seen, shown};
 ghost use Rattle.rart_node.specs.Shape.{children_of};
 ghost use Rattle.rart_versioned.specs.Bounds.{CountsUpTo};
-ghost use Rattle.rart_versioned.specs.Paths.{step, descent, first_byte, LendsDescent};
-ghost use Rattle.rart_versioned.specs.Trees.{IsTree};
+ghost use Rattle.rart_versioned.specs.Paths.{step, descent, first_byte, Arrives, LendsDescent, LendsAlong};
+ghost use Rattle.rart_versioned.specs.Trees.{IsTree, found, path_bound};
 
 use crate::counted::lookup::{byte_at, match_end};
 use rart_below::{KeyTrait, Partial};
@@ -56,12 +56,11 @@ impl<K: KeyTrait, V: Clone + Drop> Descent<K, V> for Here {
 
     fn down<'a>(
         at: &'a mut NodeRef<K::PartialType, V>,
-        key: &K,
-        depth: &mut usize,
-        steps: usize,
+        _key: &K,
+        _depth: &mut usize,
+        _steps: usize,
         work: &mut Work,
     ) -> Result<&'a mut VersionedNode<K::PartialType, V>, AllocError> {
-        let _ = (key, depth, steps);
         at.open_mut(work)
     }
 }
@@ -107,5 +106,68 @@ fn next_byte<K: KeyTrait, V: Drop>(
     match byte_at(key, end) {
         Some(byte) => byte,
         None => unreachable!(),
+    }
+}
+
+// 64 times: 2^64 - 1 nodes down, more than a key has bytes.
+type Four<L> = Twice<Twice<Twice<Twice<L>>>>;
+type Sixteen<L> = Four<Four<Four<Four<L>>>>;
+type Whole = Sixteen<Sixteen<Sixteen<Sixteen<Here>>>>;
+
+/// Lends the value of a key that ends so many nodes down, for writing. Refused for memory, the
+/// pointer shows what it showed.
+pub(crate) fn lend<'a, K: KeyTrait, V: Clone + Drop>(
+    at: &'a mut NodeRef<K::PartialType, V>,
+    key: &K,
+    steps: usize,
+    work: &mut Work,
+) -> Result<&'a mut V, AllocError>
+    requires clones { ClonesEqual V.is_clone }
+    requires tree { IsTree (shown K.PartialType.bytes at.old) }
+    requires arrives { Arrives steps (K.bytes key.now) (shown K.PartialType.bytes at.old) }
+    ensures* writes_back { sem 𝓛 (LendsAlong K.PartialType.row V.row K.PartialType.bytes at.entry (K.bytes key.now) result) }
+    ensures value { IfOk result (λ value. found (shown K.PartialType.bytes at.old) (K.bytes key.now) ≡ Some value.now) }
+    ensures counted { CountsUpTo (steps + 1) (steps + 1) work.old work.new }
+{
+    let mut depth = 0;
+    let node = Whole::down(at, key, &mut depth, steps, work)?;
+    match node.value_mut() {
+        Some(value) => Ok(value),
+        None => unreachable!(),
+    }
+}
+
+/// How many nodes below a pointer what is left of a key behind `depth` bytes ends, if it has a value
+/// there.
+pub(crate) fn steps_to<K: KeyTrait, V: Drop>(
+    at: &NodeRef<K::PartialType, V>,
+    key: &K,
+    depth: usize,
+    work: &mut Work,
+) -> Option<usize>
+    requires depth { depth ≤ length (K.bytes key.now) }
+    requires tree { IsTree (shown K.PartialType.bytes at.now) }
+    ensures arrives { IfSome result (λ steps. Arrives steps (drop depth (K.bytes key.now)) (shown K.PartialType.bytes at.now)) }
+    ensures absent { result ≡ None → found (shown K.PartialType.bytes at.now) (drop depth (K.bytes key.now)) ≡ None }
+    ensures few { IfSome result (λ steps. steps + 1 ≤ path_bound (shown K.PartialType.bytes at.now) (drop depth (K.bytes key.now))) }
+    ensures counted { CountsUpTo (path_bound (shown K.PartialType.bytes at.now) (drop depth (K.bytes key.now))) 0 work.old work.new }
+{
+    let node = at.open(work);
+    let end = match_end(node, key, depth);
+    if end - depth < node.prefix().len() {
+        return None;
+    }
+    match byte_at(key, end) {
+        None => match node.value() {
+            None => None,
+            Some(_value) => Some(0),
+        },
+        Some(byte) => match node.seek_child(byte) {
+            None => None,
+            Some(child) => match steps_to(child, key, end, work) {
+                None => None,
+                Some(steps) => Some(steps + 1),
+            },
+        },
     }
 }

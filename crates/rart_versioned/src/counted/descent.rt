@@ -166,7 +166,12 @@ pub(crate) fn steps_to<K: KeyTrait, V: Drop>(
             None => None,
             Some(child) => match steps_to(child, key, end, work) {
                 None => None,
-                Some(steps) => Some(steps + 1),
+                Some(steps) => {
+                    // Below the root each node takes a byte of the key at least.
+                    let length = key.as_ref().len();
+                    prove!(steps < length);
+                    Some(steps + 1)
+                }
             },
         },
     }

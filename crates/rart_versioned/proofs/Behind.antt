@@ -36,6 +36,14 @@ pub behind-own : (p q : List ℕ) → behind p (p ++ q) ≡ Some q
 behind-own [] q = refl
 behind-own (b ∷ p) q = rw (eq-eqb b b refl) (behind-own p q)
 
+pub behind-is : (p q rest : List ℕ) → behind p q ≡ Some rest → q ≡ p ++ rest
+behind-is [] q rest is = same_Some q rest is
+behind-is (b ∷ p) [] rest is = absurd (none-some rest is)
+behind-is (b ∷ p) (c ∷ q) rest is =
+    let P : Bool → Type 0 = λ t. (c == b) ≡ t → cond t (behind p q) None ≡ Some rest → c ∷ q ≡ b ∷ (p ++ rest) in
+    let both : (t : Bool) → P t = elim [ true ↦ (λ e there. let same = eqb-true c b e in let later = behind-is p q rest there in λ i. same i ∷ later i) | false ↦ (λ e there. absurd (none-some rest there)) ] in
+    both (c == b) refl is
+
 pub behind-append : (p r q : List ℕ) → behind (p ++ r) q ≡ option_and_then (behind r) (behind p q)
 behind-append [] r q = refl
 behind-append (b ∷ p) r [] = refl

@@ -55,6 +55,10 @@ module _ {V : Type 0} where
   path-most (node [] value width forest) key = omega arith
   path-most (node (b ∷ prefix) value width forest) key = omega arith
 
+  pub path-inside : (s : Shape V) (key : List ℕ) (byte : ℕ) → BeginsWith byte (prefix_of s) → 0 < length key → path_bound s key ≤ length key
+  path-inside (node [] value width forest) key byte begins some = absurd begins
+  path-inside (node (b ∷ prefix) value width forest) key byte begins some = omega (arith, some)
+
   -- one node more than from the child on, where the whole prefix was matched
   pub path-step : (s child : Shape V) (key rest : List ℕ) (byte matched : ℕ) → BeginsWith byte (prefix_of child) → length (prefix_of s) ≤ matched → length key ≡ matched + length rest → 0 < length rest → 1 + path_bound child rest ≤ path_bound s key
   path-step s (node [] value width forest) key rest byte matched begins whole long some = absurd begins

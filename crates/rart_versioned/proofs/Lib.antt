@@ -2,6 +2,7 @@ pub mod Behind
 pub mod Finds
 pub mod Keyed
 pub mod Maps
+pub mod Ways
 pub mod Puts
 pub mod Cuts
 pub mod Counting

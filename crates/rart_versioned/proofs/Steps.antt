@@ -3,14 +3,16 @@ use Rattle.std.proofs.Common.{◌≡◌, ℕ, ◌+◌, ◌-◌, ◌<◌, ◌≤�
 use Rattle.std.proofs.lemmas.List.{drop-drop}
 use Rattle.rart_below.specs.Bytes.{common_length}
 use Rattle.rart_below.specs.Children.{child_at}
-use Rattle.std.specs.Option.{option_and_then}
+use Rattle.std.specs.Option.{option_and_then, option_map}
+use Rattle.rart_versioned.specs.Paths.{step}
 use Rattle.rart_node.specs.Shape.{Shape, node, prefix_of, children_of, value_of, with_replaced}
-use Rattle.rart_versioned.specs.Trees.{BeginsWith, found, IsTree, IsPut, cut_at, path_bound}
-use Rattle.rart_versioned.proofs.Behind.{behind-own, split-common, split-whole, common-within, common-long, begins-first, begins-long, no-first, first-parts}
+use Rattle.rart_versioned.specs.Trees.{behind, BeginsWith, found, IsTree, IsPut, cut_at, path_bound}
+use Rattle.rart_versioned.proofs.Behind.{behind-own, behind-whole, split-common, split-whole, common-within, common-long, begins-first, begins-long, no-first, first-parts}
 use Rattle.rart_versioned.proofs.Counting.{path-step}
 use Rattle.rart_versioned.proofs.Cuts.{cut-found, cut-absent, put-cut}
 use Rattle.rart_versioned.proofs.Finds.{found-below, found-child, found-end, found-short, ordered, IsBranch}
 use Rattle.rart_versioned.proofs.Puts.{put-below}
+use Rattle.rart_versioned.proofs.Ways.{step-child}
 
 -- What is found behind the whole prefix of a node: its value at the end, nothing where no child is.
 module _ {V : Type 0} where
@@ -48,7 +50,7 @@ module _ {V : Type 0} (s : Shape V) (w : List ℕ) (depth end : ℕ) (within : d
   whole-is : length (prefix_of s) ≤ end - depth → length (prefix_of s) ≤ common_length (prefix_of s) (drop depth w)
   whole-is le = subst (λ n. length (prefix_of s) ≤ n) matched-is le
 
-  next-is : drop end w ≡ drop (common_length (prefix_of s) (drop depth w)) (drop depth w)
+  pub next-is : drop end w ≡ drop (common_length (prefix_of s) (drop depth w)) (drop depth w)
   next-is = rest-is ∙ ap (λ n. drop n (drop depth w)) matched-is
 
   pub whole-key : length (prefix_of s) ≤ end - depth → drop depth w ≡ prefix_of s ++ drop end w
@@ -87,3 +89,12 @@ module _ {V : Type 0} (s : Shape V) (w : List ℕ) (depth end : ℕ) (within : d
   -- Below the root a node's prefix begins with a byte of the key, so that it takes one at least.
   pub matched-some : (byte : ℕ) → BeginsWith byte (prefix_of s) → BeginsWith byte (drop depth w) → 1 ≤ end - depth
   matched-some byte begins also = let some = common-long (prefix_of s) (drop depth w) byte begins also in omega (arith, some, matched-is)
+
+  -- the key ends at the node
+  pub behind-here : length (prefix_of s) ≤ end - depth → slice_get (drop end w) 0 ≡ None → behind (prefix_of s) (drop depth w) ≡ Some []
+  behind-here le next = behind-whole (prefix_of s) (drop depth w) (whole-is le) ∙ ap Some (sym next-is ∙ no-first (drop end w) next)
+
+  -- the key goes on at a child
+  pub step-here : (child : Shape V) (byte : ℕ) → length (prefix_of s) ≤ end - depth → slice_get (drop end w) 0 ≡ Some byte → child_at byte (children_of s) ≡ Some child → step (drop depth w) s ≡ Some (child, drop end w)
+  step-here child byte le next here =
+      step-child s (drop depth w) byte (whole-is le) (ap (λ z. slice_get z 0) (sym next-is) ∙ next) ∙ ap (λ z. option_map (λ c. (c, z)) (child_at byte (children_of s))) (sym next-is) ∙ ap (option_map (λ c. (c, drop end w))) here

@@ -2,6 +2,7 @@ pub mod Bounds
 pub mod Changes
 pub mod Given
 pub mod Pairs
+pub mod Paths
 pub mod Removals
 pub mod Settled
 pub mod Trees

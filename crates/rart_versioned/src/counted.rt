@@ -1,6 +1,7 @@
 //! Whatever counts into a `Work` that it is handed, or counts nothing.
 
 mod change;
+mod descent;
 mod insert;
 mod lookup;
 mod put;

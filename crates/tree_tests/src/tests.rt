@@ -1,5 +1,8 @@
+mod dense;
+mod heap;
 mod removal;
 mod replacing;
+mod snapshots;
 mod updates;
 
 ghost use Rattle.std.specs.Prelude.{◌<◌, ◌≤◌, length};

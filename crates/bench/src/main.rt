@@ -1,0 +1,128 @@
+//! Times of the versioned tree beside those of std's `BTreeMap`, over the same loops, in nanoseconds
+//! an operation. With the word `run` as argument it measures; else it says how to.
+#![tactic(auto)]
+
+ghost use Rattle.std.specs.Prelude.{◌<◌};
+
+mod keys;
+mod stores;
+
+use keys::{Kind, keys_of};
+use rart_versioned::{ArrayKey, VersionedAdaptiveRadixTree};
+use std::alloc::{AllocError, Global};
+use std::collections::BTreeMap;
+use std::env;
+use std::time::Instant;
+use stores::Store;
+
+type Tree = VersionedAdaptiveRadixTree<ArrayKey<16>, u64>;
+
+type Sorted = BTreeMap<[u8; 16], u64>;
+
+fn build<S: Store>(alloc: Global, keys: &[S::Key]) -> Result<S, AllocError> {
+    let mut store = S::empty(alloc);
+    for key in keys {
+        store.put(key, 1)?;
+    }
+    Ok(store)
+}
+
+// How many of the keys are there.
+fn hits<S: Store>(store: &S, keys: &[S::Key]) -> u64 {
+    let mut count: u64 = 0;
+    for key in keys {
+        count = count.wrapping_add(store.value(key).unwrap_or(0));
+    }
+    count
+}
+
+// A snapshot for each so many keys, which are put into it.
+fn change_snapshots<S: Store>(store: &S, keys: &[S::Key], each: usize) -> Result<(), AllocError>
+    requires { 0 < each }
+{
+    for some in keys.chunks(each) {
+        let mut snapshot = store.copy()?;
+        for key in some {
+            snapshot.put(key, 2)?;
+        }
+    }
+    Ok(())
+}
+
+fn all_keys<S: Store>(
+    alloc: Global,
+    kind: Kind,
+    count: usize,
+    seed: u64,
+) -> Result<Vec<S::Key>, AllocError> {
+    let mut keys = Vec::new(alloc);
+    for bytes in &keys_of(alloc, kind, count, seed)? {
+        keys.push(S::key(alloc, bytes)?)?;
+    }
+    Ok(keys)
+}
+
+// The five times of a store: building, lookups that hit and that miss, a snapshot with one
+// insertion, a hundred insertions a snapshot.
+fn times<S: Store>(rt: &HostRuntime, kind: Kind, count: usize) -> anyhow::Result<[u128; 5]> {
+    let alloc = rt.alloc();
+    let keys = all_keys::<S>(alloc, kind, count, 1)?;
+    let others = all_keys::<S>(alloc, kind, count, 2)?;
+    let some = all_keys::<S>(alloc, kind, 200, 3)?;
+
+    let start = Instant::now(rt)?;
+    let store = build::<S>(alloc, &keys)?;
+    let built = start.elapsed(rt)?.as_nanos();
+
+    let start = Instant::now(rt)?;
+    let hit = hits(&store, &keys);
+    let hit_time = start.elapsed(rt)?.as_nanos();
+
+    let start = Instant::now(rt)?;
+    let missed = hits(&store, &others);
+    let miss_time = start.elapsed(rt)?.as_nanos();
+
+    let start = Instant::now(rt)?;
+    change_snapshots(&store, &some, 1)?;
+    let one_time = start.elapsed(rt)?.as_nanos();
+
+    let start = Instant::now(rt)?;
+    change_snapshots(&store, &some, 100)?;
+    let hundred_time = start.elapsed(rt)?.as_nanos();
+
+    println!(rt; "  {hit} found, {missed} of the others")?;
+    let all = (count as u128).max(1);
+    Ok([
+        built / all,
+        hit_time / all,
+        miss_time / all,
+        one_time / 200,
+        hundred_time / 200,
+    ])
+}
+
+fn measure(rt: &HostRuntime, kind: Kind, count: usize) -> anyhow::Result<()> {
+    println!(rt; "{} keys, {count}", kind.name())?;
+    let [a, b, c, d, e] = times::<Tree>(rt, kind, count)?;
+    println!(rt;
+        "  tree:     build {a}, hit {b}, miss {c}, snapshot and one {d}, a hundred a snapshot {e}"
+    )?;
+    let [a, b, c, d, e] = times::<Sorted>(rt, kind, count)?;
+    println!(rt;
+        "  BTreeMap: build {a}, hit {b}, miss {c}, snapshot and one {d}, a hundred a snapshot {e}"
+    )?;
+    Ok(())
+}
+
+fn main(rt: HostRuntime) -> anyhow::Result<()> {
+    if env::args(&rt)?.skip(1).next().is_none() {
+        println!(rt; "rt run -- run: nanoseconds an operation, the tree's and those of BTreeMap")?;
+        return Ok(());
+    }
+    for kind in [Kind::Random, Kind::Shared] {
+        for count in [1_000, 10_000, 100_000] {
+            measure(&rt, kind, count)?;
+        }
+    }
+    Ok(())
+}

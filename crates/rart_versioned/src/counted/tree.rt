@@ -94,9 +94,9 @@ impl<K: KeyTrait, V: Clone + Drop> VersionedAdaptiveRadixTree<K, V> {
     }
 
     /// The same map once more with a number that is not below this one's.
-    fn with_version(&self, number: u64) -> Result<VersionedAdaptiveRadixTree<K, V>, AllocError>
-        requires { self.now.number ≤ number }
-        ensures { IfOk result (λ copy. copy ≡ record { content = self.now.content; number = number }) }
+    fn with_version(&self, version: u64) -> Result<VersionedAdaptiveRadixTree<K, V>, AllocError>
+        requires { self.now.number ≤ version }
+        ensures { IfOk result (λ copy. copy ≡ record { content = self.now.content; number = version }) }
     {
         let root = match &self.root {
             None => None,
@@ -105,7 +105,7 @@ impl<K: KeyTrait, V: Clone + Drop> VersionedAdaptiveRadixTree<K, V> {
         Ok(VersionedAdaptiveRadixTree {
             alloc: self.alloc,
             root,
-            version: number,
+            version,
         })
     }
 }

@@ -1,8 +1,8 @@
 -- What a callback's answer makes of a version, arm by arm.
-use Rattle.std.proofs.Common.{◌≡◌, ℕ, ◌<◌, ◌≤◌, List, Option, Some, None, Result, Ok, Err, inr, IsSome, is_some, cond, Bool, true, false, refl, arith, sym, ap, subst, ◌∙◌}
-use Rattle.std.specs.Prelude.{◌+◌, ◌^◌}
+use Rattle.std.proofs.Common.{◌≡◌, ℕ, List, Option, Some, None, Result, Ok, Err, inr, is_some, cond, Bool, true, false, refl, sym, ap, subst, ◌∙◌}
+use Rattle.std.specs.Prelude.{◌+◌}
 use Rattle.std.specs.Borrow.{MutBor}
-use Rattle.std.specs.Fn.{Once, FnOnceReturnsAtMut}
+use Rattle.std.specs.Fn.{Once}
 use Rattle.std.specs.Ordering.{is_eq, eq_by_cmp}
 use Rattle.std.specs.declared.cmp.Ordering.{Ordering}
 use Rattle.std.specs.declared.cmp.Ordering.TheVariants.{Less, Equal, Greater}
@@ -16,7 +16,7 @@ use Rattle.rart_below.specs.declared.slot.SlotUpdate.{SlotUpdate}
 use Rattle.rart_below.specs.declared.slot.SlotUpdate.TheVariants.{Keep, Insert, Remove}
 use Rattle.rart_below.specs.declared.slot.Refusal.{Refusal}
 use Rattle.rart_below.specs.declared.slot.Refusal.TheVariants.{Callback, Memory}
-use Rattle.rart_versioned.specs.Changes.{slot_of, updated, tried}
+use Rattle.rart_versioned.specs.Changes.{slot_of, updated}
 use Rattle.rart_versioned.specs.Settled.{change_of, settled, settled_absent, is_occupied, rise_of, AsksMemory, IsTried, TriesToInsert}
 use Rattle.rart_versioned.specs.Updates.{Tells, Updates, UpdateTakesMemory, TellsOrFails, TriesUpdate, TryTakesMemory, IfCallback, OnMemory}
 use Rattle.rart_versioned.specs.Versions.{Map, Version, value_at, has_key, raised}

@@ -59,6 +59,7 @@ impl<K: KeyTrait, V: Clone + Drop> VersionedAdaptiveRadixTree<K, V> {
     {
         let version = self.version + more;
         let Some(root) = &mut self.root else {
+            // No case: the key is there.
             return Ok(None);
         };
         let taken = take(root, key.as_ref(), work)?;

@@ -63,6 +63,7 @@ pub(crate) fn take<P: Partial, V: Clone + Drop>(
         });
     };
     let Some(child) = node.seek_child_mut(*byte) else {
+        // No case: a key that is there has a child to go on in.
         return Ok(Taken {
             value: None,
             left_unused: false,

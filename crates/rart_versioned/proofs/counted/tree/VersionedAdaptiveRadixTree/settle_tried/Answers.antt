@@ -1,4 +1,4 @@
-use Rattle.std.proofs.Common.{◌≡◌, Ok, true, sym, subst, ◌∙◌}
+use Rattle.std.proofs.Common.{Ok, true, sym, subst, ◌∙◌}
 use Rattle.rart_versioned.specs.Settled.{settled, IsTried}
 use Rattle.rart_versioned.proofs.Settles.{there-tried}
 use Rattle.rart_versioned.proofs.counted.tree.VersionedAdaptiveRadixTree.settle_tried.Goals as goal

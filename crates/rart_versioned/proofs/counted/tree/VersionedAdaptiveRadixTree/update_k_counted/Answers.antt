@@ -1,4 +1,4 @@
-use Rattle.std.proofs.Common.{◌≡◌, true, false, sym, ap, ◌∙◌}
+use Rattle.std.proofs.Common.{sym, ap, ◌∙◌}
 use Rattle.std.proofs.lemmas.Result.{IfOk-weaker, on_err_weaker}
 use Rattle.rart_versioned.specs.Settled.{settled}
 use Rattle.rart_versioned.proofs.Settles.{there-by-slot, absent-by-slot, tells, updates-there, updates-absent, memory-absent}

@@ -5,7 +5,7 @@
 #![tactic(auto)]
 
 mod counted;
-mod laws;
+pub mod laws;
 
 pub use counted::VersionedAdaptiveRadixTree;
 pub use rart_below::{

@@ -5,8 +5,8 @@
 #![tactic(auto)]
 
 mod counted;
-mod plain;
 pub mod laws;
+mod plain;
 
 pub use counted::VersionedAdaptiveRadixTree;
 pub use rart_below::{

@@ -16,6 +16,11 @@ pub enum LineError {
 }
 
 impl From<AllocError> for LineError {
+    ghost use Rattle.std.specs.Prelude.{◌≡◌};
+    ghost use Rattle.vtree.specs.declared.line.LineError.TheVariants.{Memory};
+
+    ghost from_gives = { λ _ error. error ≡ Memory };
+
     fn from(_refused: AllocError) -> LineError {
         LineError::Memory
     }

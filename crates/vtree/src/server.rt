@@ -29,6 +29,11 @@ pub enum ServeError {
 }
 
 impl From<AllocError> for ServeError {
+    ghost use Rattle.std.specs.Prelude.{◌≡◌};
+    ghost use Rattle.vtree.specs.declared.server.ServeError.TheVariants.{Memory};
+
+    ghost from_gives = { λ _ error. error ≡ Memory };
+
     fn from(_refused: AllocError) -> ServeError {
         ServeError::Memory
     }

@@ -1,5 +1,5 @@
 -- The way that a key takes down a tree: its steps, and the tree with another node at its end.
-use Rattle.std.proofs.Common.{inl, inr, ◌≡◌, ℕ, zero, suc, ◌+◌, ◌<◌, ◌≤◌, List, [], ◌∷◌, ◌++◌, Option, Some, None, IsSome, is_some, slice_get, length, drop, cond, Bool, true, false, refl, arith, sym, ap, subst, ◌∙◌}
+use Rattle.std.proofs.Common.{inl, inr, ◌≡◌, ℕ, zero, suc, ◌+◌, ◌<◌, ◌≤◌, List, [], ◌∷◌, ◌++◌, Option, Some, None, IsSome, slice_get, length, drop, refl, arith, sym, ap, subst, ◌∙◌}
 use Rattle.std.specs.Option.{option_and_then, option_map}
 use Rattle.std.proofs.lemmas.Bool.{false≢true, cases_lt}
 use Rattle.std.proofs.lemmas.Option.{same_Some, none-some}
@@ -8,7 +8,7 @@ use Rattle.rart_below.specs.Children.{child_at}
 use Rattle.rart_node.specs.Shape.{Shape, Forest, node, prefix_of, value_of, children_of, entries_of, with_replaced, with_value}
 use Rattle.rart_versioned.specs.Paths.{first_byte, child_along, step, descent, graft, graft_at}
 use Rattle.rart_versioned.specs.Trees.{behind, found, IsTree, IsPut}
-use Rattle.rart_versioned.proofs.Behind.{behind-short, behind-whole, behind-is, no-first, first-parts}
+use Rattle.rart_versioned.proofs.Behind.{behind-short, behind-whole, behind-is, first-parts}
 use Rattle.rart_versioned.proofs.Finds.{found-child, branch, ordered}
 use Rattle.rart_versioned.proofs.Puts.{put-below, put-end, replaced-same}
 use Rattle.rart_versioned.proofs.Behind.{split-whole}

@@ -1,5 +1,5 @@
 -- The way that a key takes down a tree, a node at a time.
-use Rattle.std.specs.Prelude.{◌≡◌, ℕ, zero, suc, List, [], ◌∷◌, Option, Some, None, IsSome, Result, ⊤}
+use Rattle.std.specs.Prelude.{◌≡◌, ℕ, zero, suc, List, [], ◌∷◌, Option, Some, None, IsSome, Result}
 use Rattle.std.specs.Option.{option_and_then, option_map}
 use Rattle.std.specs.Borrow.{RattleType, MutBor, Fml, LendsSoOk}
 use Rattle.std.specs.declared.alloc.AllocError.{AllocError}

@@ -111,7 +111,9 @@ fn next_byte<K: KeyTrait, V: Drop>(
 
 // 64 times: 2^64 - 1 nodes down, more than a key has bytes.
 type Four<L> = Twice<Twice<Twice<Twice<L>>>>;
+
 type Sixteen<L> = Four<Four<Four<Four<L>>>>;
+
 type Whole = Sixteen<Sixteen<Sixteen<Sixteen<Here>>>>;
 
 /// Lends the value of a key that ends so many nodes down, for writing. Refused for memory, the

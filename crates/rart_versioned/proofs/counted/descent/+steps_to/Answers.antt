@@ -2,7 +2,7 @@ use Rattle.std.proofs.Common.{◌≡◌, ◌≤◌, ◌<◌, ◌-◌, ◌+◌, s
 use Rattle.std.specs.Option.{option_and_then}
 use Rattle.rart_below.specs.Bytes.{common_length}
 use Rattle.rart_below.specs.Children.{child_at}
-use Rattle.rart_node.specs.Seen.{seen, shown}
+use Rattle.rart_node.specs.Seen.{shown}
 use Rattle.rart_node.specs.Shape.{prefix_of, value_of, children_of}
 use Rattle.rart_versioned.specs.Paths.{descent, step}
 use Rattle.rart_versioned.specs.Trees.{found}

@@ -1,4 +1,4 @@
-use Rattle.std.proofs.Common.{◌≡◌, Some, drop, sym, ap, ◌∙◌}
+use Rattle.std.proofs.Common.{drop, sym}
 use Rattle.rart_node.specs.Seen.{seen}
 use Rattle.rart_versioned.proofs.Steps.{next-is}
 use Rattle.rart_versioned.proofs.Ways.{next-there, step-next, first-of}

@@ -143,21 +143,24 @@ returns g c =
     let Pointer : Type 0 = NodeRef g.row.K-PartialType.Denot g.row.V.Denot in
     let Node : Type 0 = VersionedNode g.row.K-PartialType.Denot g.row.V.Denot in
     let put-back : (pointer : Pointer) → seen bytes (c.seek_child_mut.follows.lender pointer) ≡ with_replaced byte (shown bytes pointer) middle = λ pointer. subst (λ r. OnSome r (seen bytes (c.seek_child_mut.follows.lender pointer) ≡ with_replaced byte (shown bytes pointer) middle)) c.in-Some.is (c.seek_child_mut.follows.holds pointer) in
-    let above : (node : Node) → shown bytes (c.down.follows.lender node) ≡ graft half (seen bytes node) key s = λ node. c.down.follows.holds node (ap is_ok c.in_ok-middle.was) in
-    ((refl,
-      (λ node ok.
-        let pointer = c.down-in-Some.follows.lender node in
-        let at-middle = c.seek_child_mut.follows.lender pointer in
-        let whole : graft steps (seen bytes node) key s ≡ graft half (graft (suc rest) (seen bytes node) left middle) key s = ap (λ n. graft n (seen bytes node) key s) parts ∙ graft-add half (suc rest) (seen bytes node) key s (middle, left) reached in
-        let one : graft (suc rest) (seen bytes node) left middle ≡ with_replaced byte (graft rest (seen bytes node) below child) middle = graft-below rest (seen bytes node) left middle (child, below) goes ∙ ap (λ b. with_replaced b (graft rest (seen bytes node) below child) middle) first in
-        above at-middle ∙ ap (λ z. graft half z key s) (put-back pointer ∙ ap (λ z. with_replaced byte z middle) (c.down-in-Some.follows.holds node ok) ∙ sym one) ∙ sym whole),
-      IfErr-weaker c.down-in-Some.result _ _ (λ _ kept.
-        let pointer = c.down-in-Some.follows.lender-at-none in
-        let at-middle = c.seek_child_mut.follows.lender pointer in
-        above at-middle ∙ ap (λ z. graft half z key s) (put-back pointer ∙ ap (λ z. with_replaced byte z middle) kept ∙ replaced-same middle byte child (ordered middle tree) here) ∙ graft-same half key s (middle, left) c.requires.tree reached) c.down-in-Some.follows.holds-at-none),
+    let above : (node : Node) → shown bytes (c.down.follows.lender node) ≡ graft half (seen bytes node) key s = λ node. c.down.follows.holds node (ap is_ok c.in_ok-middle.was) in (
+      (
+        refl,
+        (λ node ok.
+            let pointer = c.down-in-Some.follows.lender node in
+            let at-middle = c.seek_child_mut.follows.lender pointer in
+            let whole : graft steps (seen bytes node) key s ≡ graft half (graft (suc rest) (seen bytes node) left middle) key s = ap (λ n. graft n (seen bytes node) key s) parts ∙ graft-add half (suc rest) (seen bytes node) key s (middle, left) reached in
+            let one : graft (suc rest) (seen bytes node) left middle ≡ with_replaced byte (graft rest (seen bytes node) below child) middle = graft-below rest (seen bytes node) left middle (child, below) goes ∙ ap (λ b. with_replaced b (graft rest (seen bytes node) below child) middle) first in
+            above at-middle ∙ ap (λ z. graft half z key s) (put-back pointer ∙ ap (λ z. with_replaced byte z middle) (c.down-in-Some.follows.holds node ok) ∙ sym one) ∙ sym whole),
+        IfErr-weaker c.down-in-Some.result _ _ (λ _ kept.
+            let pointer = c.down-in-Some.follows.lender-at-none in
+            let at-middle = c.seek_child_mut.follows.lender pointer in
+            above at-middle ∙ ap (λ z. graft half z key s) (put-back pointer ∙ ap (λ z. with_replaced byte z middle) kept ∙ replaced-same middle byte child (ordered middle tree) here) ∙ graft-same half key s (middle, left) c.requires.tree reached) c.down-in-Some.follows.holds-at-none,
+      ),
       record {
         writes_back = tt;
         reached = IfOk-weaker c.down-in-Some.result _ _ (λ end there. back-is half (suc rest) steps key s (middle, left) parts reached ∙ below-is rest left middle (child, below) goes ∙ there) c.down-in-Some.ensures.reached;
         within = c.down-in-Some.ensures.within;
         counted = counts-then c.in_ok-middle.ensures.counted c.down-in-Some.ensures.counted (omega (arith, parts)) (omega (arith, parts));
-      })
+      },
+    )

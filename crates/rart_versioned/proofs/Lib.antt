@@ -3,6 +3,9 @@ pub mod Finds
 pub mod Keyed
 pub mod Maps
 pub mod Ways
+pub mod Lending
+pub mod Found
+pub mod Walks
 pub mod Puts
 pub mod Cuts
 pub mod Counting

@@ -14,7 +14,7 @@ use Rattle.rart_below.specs.Children as children
 use Rattle.rart_below.specs.Children.{child_at}
 use Rattle.rart_below.proofs.Ascending.{child_at-below, ascending_parts}
 use Rattle.rart_node.specs.Shape.{Shape, Forest, node, bare, grown, prefix_of, entries_of}
-use Rattle.rart_versioned.specs.Trees.{behind, BeginsWith, at_end, own_pair, found, found_in, found_below, pairs_of, pairs_below, map_of, IsTree, AreBranches}
+use Rattle.rart_versioned.specs.Trees.{behind, BeginsWith, at_end, own_pair, found, found_in, found_below, pairs_of, pairs_below, map_of, IsTree, IsTreeIn, AreBranches}
 use Rattle.rart_versioned.proofs.Behind.{is_left, bytes_eq-behind}
 use Rattle.rart_versioned.proofs.Finds.{found-below}
 
@@ -102,11 +102,6 @@ module _ {V : Type 0} where
         ∙ ap (λ o. option_or o (find byte_order (c ∷ q) (pairs_below forest))) (find-pairs child (c ∷ q) branches.1)
         ∙ ap (option_or (found child (c ∷ q))) rest
         ∙ both (c == b) refl
-
-  -- a root that is there is the root of a tree
-  abbrev pub IsTreeIn : Option (Shape V) → Type 0
-  IsTreeIn None = Unit {0}
-  IsTreeIn (Some root) = IsTree root
 
   pub get-found : (o : Option (Shape V)) (q : List ℕ) → IsTreeIn o → finite.get (map_of o) q ≡ found_in o q
   get-found None q tree = finite.get-empty byte_order q

@@ -1,5 +1,5 @@
 -- What a change below the root makes of the map, and that all stays in order.
-use Rattle.std.proofs.Common.{◌≡◌, ℕ, ◌+◌, ◌≤◌, List, [], Option, Some, None, IsSome, length, cond, Bool, true, false, refl, arith, sym, ap, subst, ◌∙◌}
+use Rattle.std.proofs.Common.{◌≡◌, ℕ, ◌+◌, ◌≤◌, List, [], Option, Some, None, IsSome, is_some, length, cond, Bool, true, false, refl, arith, sym, ap, subst, ◌∙◌}
 use Rattle.std.specs.Ordering.{eq_by_cmp}
 use Rattle.std.specs.Str.{bytes_eq}
 use Rattle.std.proofs.lemmas.Cmp.{nat_list_cmp_total}
@@ -9,9 +9,10 @@ use Rattle.std.proofs.lemmas.Bool.{false≢true}
 use Rattle.std.specs.FinMap as finite
 use Rattle.rart_below.specs.Bytes.{byte_order, IsAdmitted}
 use Rattle.rart_node.specs.Shape.{Shape, node_of}
-use Rattle.rart_versioned.specs.Trees.{found, found_in, map_of, IsTree, IsPut, IsSound}
+use Rattle.rart_versioned.specs.Paths.{IsPutBelow}
+use Rattle.rart_versioned.specs.Trees.{found, found_in, map_of, IsTree, IsTreeIn, IsPut, IsSound}
 use Rattle.rart_versioned.specs.Versions.{value_at, has_no_key}
-use Rattle.rart_versioned.proofs.Maps.{IsTreeIn, get-found}
+use Rattle.rart_versioned.proofs.Maps.{get-found}
 use Rattle.rart_versioned.proofs.Puts.{found-leaf}
 
 one-more : (t : Bool) (m n : ℕ) → m ≤ n → cond t m (m + 1) ≤ n + 1
@@ -48,11 +49,14 @@ module _ {V : Type 0} where
   pub same-map : (left right : finite.FinMap byte_order V) → ((q : List ℕ) → finite.get left q ≡ finite.get right q) → left ≡ right
   same-map left right = finite.same_map nat_list_cmp_total (finite.slice_cmp-IsAntisymmetric finite.nat_cmp-IsAntisymmetric) left right
 
+  pub map-below : (before after : Option (Shape V)) (key : List ℕ) (value : V) → IsTreeIn before → IsTreeIn after → IsPutBelow key value before after → map_of after ≡ finite.insert (map_of before) key value
+  map-below before after key value tree tree-after puts =
+      same-map (map_of after) (finite.insert (map_of before) key value) (λ q.
+      get-found after q tree-after ∙ puts q ∙ ap (λ t. cond t (Some value) (found_in before q)) (sym (is_eq-slice_cmp q key)) ∙ ap (cond (eq_by_cmp byte_order q key) (Some value)) (sym (get-found before q tree))
+      ∙ sym (finite.get-insert nat_list_cmp_total (map_of before) key value q))
+
   pub map-put : (o : Option (Shape V)) (after : Shape V) (key : List ℕ) (value : V) → IsTreeIn o → IsPutIn key value o after → map_of (Some after) ≡ finite.insert (map_of o) key value
-  map-put o after key value tree puts =
-      same-map (map_of (Some after)) (finite.insert (map_of o) key value) (λ q.
-      get-found (Some after) q puts.0 ∙ puts.1 q ∙ ap (λ t. cond t (Some value) (found_in o q)) (sym (is_eq-slice_cmp q key)) ∙ ap (cond (eq_by_cmp byte_order q key) (Some value)) (sym (get-found o q tree))
-      ∙ sym (finite.get-insert nat_list_cmp_total (map_of o) key value q))
+  map-put o after key value tree puts = map-below o (Some after) key value tree puts.0 puts.1
 
   -- A map that keeps within a count keeps within a greater one.
   pub sound-later : (most : Option ℕ) (count later : ℕ) (o : Option (Shape V)) → IsSound most count o → count ≤ later → IsSound most later o
@@ -69,6 +73,14 @@ module _ {V : Type 0} where
       ] in
       let length-now : finite.len (map_of (Some after)) ≤ count + 1 = rw (map-put o after key value (tree-in most count o sound) puts, finite.len-insert nat_list_cmp_total (map_of o) key value) (one-more (finite.contains_key (map_of o) key) _ count (few most count o sound)) in
       (puts.0, (λ q there. both q (bytes_eq q key) refl (subst IsSome (puts.1 q) there)), omega (arith, length-now, le))
+
+  -- A key that is there is set again: no key is added.
+  pub sound-again : (most : Option ℕ) (count : ℕ) (root after : Shape V) (key : List ℕ) (value : V) → IsSome (found root key) → IsPut key value root after → IsSound most count (Some root) → IsSound most count (Some after)
+  sound-again most count root after key value there put sound =
+      let puts = root-put key value root after put in
+      let more = sound-put most count (count + 1) (Some root) after key value sound (omega arith) (sound.1 key there) puts in
+      let has : finite.contains_key (map_of (Some root)) key ≡ true = ap is_some (get-found (Some root) key sound.0) ∙ there in
+      (more.0, more.1, rw (map-put (Some root) after key value sound.0 puts, finite.len-insert nat_list_cmp_total (map_of (Some root)) key value, has) sound.2)
 
   -- what a version shows, whose root this is
   pub value-in : (most : Option ℕ) (count : ℕ) (o : Option (Shape V)) (number : ℕ) (w : List ℕ) → IsSound most count o → value_at (record { content = map_of o; number = number }) w ≡ found_in o w

@@ -9,8 +9,8 @@ use Rattle.std.specs.FinMap as finite
 use Rattle.rart_below.specs.Bytes.{byte_order, IsAdmitted}
 use Rattle.rart_node.specs.Shape.{Shape}
 use Rattle.rart_versioned.specs.Removals.{is_unused}
-use Rattle.rart_versioned.specs.Trees.{found_in, map_of, IsTaken, IsSound}
-use Rattle.rart_versioned.proofs.Maps.{IsTreeIn, get-found}
+use Rattle.rart_versioned.specs.Trees.{found_in, IsTreeIn, map_of, IsTaken, IsSound}
+use Rattle.rart_versioned.proofs.Maps.{get-found}
 use Rattle.rart_versioned.proofs.Sound.{tree-in, few, admitted, same-map}
 use Rattle.rart_versioned.proofs.Takes.{found-unused, used-tree}
 

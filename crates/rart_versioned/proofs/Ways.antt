@@ -6,7 +6,7 @@ use Rattle.std.proofs.lemmas.Option.{same_Some, none-some}
 use Rattle.rart_below.specs.Bytes.{common_length}
 use Rattle.rart_below.specs.Children.{child_at}
 use Rattle.rart_node.specs.Shape.{Shape, Forest, node, prefix_of, value_of, children_of, entries_of, with_replaced, with_value}
-use Rattle.rart_versioned.specs.Paths.{first_byte, child_along, step, descent, graft, graft_at}
+use Rattle.rart_versioned.specs.Paths.{first_byte, child_along, step, descent, graft, graft_at, Arrives}
 use Rattle.rart_versioned.specs.Trees.{behind, found, IsTree, IsPut}
 use Rattle.rart_versioned.proofs.Behind.{behind-short, behind-whole, behind-is, first-parts}
 use Rattle.rart_versioned.proofs.Finds.{found-child, branch, ordered}
@@ -188,3 +188,6 @@ module _ {V : Type 0} where
 
   pub put-ended : (s : Shape V) (key : List ℕ) (value : V) → IsTree s → behind (prefix_of s) key ≡ Some [] → IsPut key value s (with_value (Some value) s)
   put-ended s key value tree ended = put-end s key [] value tree (behind-is (prefix_of s) key [] ended) refl
+
+  pub there-arrived : (steps : ℕ) (key : List ℕ) (s : Shape V) → Arrives steps key s → IsSome (found s key)
+  there-arrived steps key s arrives = subst IsSome (sym (found-along steps key s arrives.0 arrives.1 ∙ found-ended arrives.0.0 arrives.0.1 arrives.2)) arrives.3

@@ -1,6 +1,7 @@
 pub mod Bounds
 pub mod Changes
 pub mod Given
+pub mod Lent
 pub mod Pairs
 pub mod Paths
 pub mod Removals

@@ -1,7 +1,10 @@
 -- The way that a key takes down a tree, a node at a time.
-use Rattle.std.specs.Prelude.{◌≡◌, ℕ, zero, suc, List, [], ◌∷◌, Option, Some, None, IsSome, Result}
+use Rattle.std.specs.Prelude.{◌≡◌, ℕ, zero, suc, List, [], ◌∷◌, Option, Some, None, IsSome, Result, if◌then◌else◌}
 use Rattle.std.specs.Option.{option_and_then, option_map}
-use Rattle.std.specs.Borrow.{RattleType, MutBor, Fml, LendsSoOk}
+use Rattle.std.specs.Result.{IsOk, OnErr}
+use Rattle.std.specs.Str.{bytes_eq}
+use Rattle.std.specs.Borrow.{RattleType, MutBor, Fml, LendsSoOk, follows_so, name_if_ok}
+use Rattle.std.specs.contracts.option.Option as option
 use Rattle.std.specs.declared.alloc.AllocError.{AllocError}
 use Rattle.rart_below.specs.Children.{child_at}
 use Rattle.rart_node.specs.contracts.node_ref.NodeRef as pointer
@@ -10,7 +13,7 @@ use Rattle.rart_node.specs.declared.node.VersionedNode.{VersionedNode}
 use Rattle.rart_node.specs.declared.node_ref.NodeRef.{NodeRef}
 use Rattle.rart_node.specs.Seen.{seen, shown}
 use Rattle.rart_node.specs.Shape.{Shape, Forest, node, prefix_of, value_of, entries_of, with_replaced}
-use Rattle.rart_versioned.specs.Trees.{behind, IsPut}
+use Rattle.rart_versioned.specs.Trees.{behind, IsPut, found_in, IsSound}
 
 -- the first byte, and 0 where there is none
 abbrev pub first_byte : List ℕ → ℕ
@@ -45,6 +48,14 @@ module _ {V : Type 0} where
   abbrev pub Arrives : ℕ → List ℕ → Shape V → Type 0
   Arrives steps key s = (end : Shape V × List ℕ) × (descent steps key s ≡ Some end) × (behind (prefix_of end.0) end.1 ≡ Some []) × IsSome (value_of end.0)
 
+  -- After, the key has the value below the root, and every other string has what it had.
+  abbrev pub IsPutBelow : List ℕ → V → Option (Shape V) → Option (Shape V) → Type 0
+  IsPutBelow key value before after = (q : List ℕ) → found_in after q ≡ (if bytes_eq q key then Some value else found_in before q)
+
+  -- Sound as it was: for keys of that length, and for as many of them.
+  abbrev pub StaysSound : Option (Shape V) → Option (Shape V) → Type 0
+  StaysSound before after = (most : Option ℕ) (count : ℕ) → IsSound most count before → IsSound most count after
+
 module _ (P V : RattleType) (bytes : P.Denot → List ℕ) where
   -- The pointer shows the tree with the node so many nodes down as it was left behind the result, and refused, what it showed.
   abbrev pub LendsDescent : MutBor (NodeRef P.Denot V.Denot) → ℕ → List ℕ → Result (MutBor (VersionedNode P.Denot V.Denot)) AllocError → Fml
@@ -59,3 +70,14 @@ module _ (P V : RattleType) (bytes : P.Denot → List ℕ) where
       LendsSoOk (pointer.the_row P V) V lender result
       (λ after left. IsPut key left (shown bytes lender.now) (shown bytes after))
       (λ after. shown bytes after ≡ shown bytes lender.now)
+
+  -- what is below a root
+  abbrev pub below_root : Option (NodeRef P.Denot V.Denot) → Option (Shape V.Denot)
+  below_root = option_map (shown bytes)
+
+  -- The root has the key set to the value as it was left behind the result, and refused, what it had. It stays sound.
+  abbrev pub LendsBelow : {E : Type 0} → MutBor (Option (NodeRef P.Denot V.Denot)) → List ℕ → Result (MutBor V.Denot) E → Fml
+  LendsBelow lender key result =
+      follows_so (option.the_row (pointer.the_row P V)) V lender.ghost_name (name_if_ok (λ value. value.ghost_name) result)
+      (λ left after. (IsOk result → IsPutBelow key left (below_root lender.now) (below_root after)) × StaysSound (below_root lender.now) (below_root after))
+      (λ after. OnErr result (below_root after ≡ below_root lender.now) × StaysSound (below_root lender.now) (below_root after))

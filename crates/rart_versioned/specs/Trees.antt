@@ -108,6 +108,11 @@ module _ {V : Type 0} where
   found_in None q = None
   found_in (Some root) q = found root q
 
+  -- Below the root, if there is one, all is in order.
+  abbrev pub IsTreeIn : Option (Shape V) → Type 0
+  IsTreeIn None = ⊤
+  IsTreeIn (Some root) = IsTree root
+
   -- Below the root all is in order, each key's length is admitted, and there are at most so many keys.
   abbrev pub IsSound : Option ℕ → ℕ → Option (Shape V) → Type 0
   IsSound most count None = ⊤

@@ -2,8 +2,10 @@
 
 mod change;
 mod descent;
+mod get_mut;
 mod insert;
 mod lookup;
+pub(crate) mod missing;
 mod put;
 mod remove;
 mod take;

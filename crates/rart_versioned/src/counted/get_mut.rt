@@ -1,0 +1,81 @@
+//! A value lent for writing.
+ghost use Rattle.std.specs.Prelude.{◌≡◌, ◌+◌, ◌<◌, ◌≤◌, ◌^◌, Some, IsTrue, IfOk, IfErr, OnOk, OnErr};
+ghost use Rattle.std.specs.Borrow.{sem};
+ghost use Rattle.std.specs.Option.{option_map};
+ghost use Rattle.rart_below.specs.Clones.{ClonesEqual};
+ghost use Rattle.rart_node.specs.Seen.{shown};
+ghost use Rattle.rart_versioned.specs.Bounds.{CountsUpTo, lookup_bound, touch_bound, change_bound};
+ghost use Rattle.rart_versioned.specs.Lent.{Explains, LendsValue, LendsFound};
+ghost use Rattle.rart_versioned.specs.Paths.{LendsBelow};
+ghost use Rattle.rart_versioned.specs.Trees.{IsTreeIn, found_in};
+ghost use Rattle.rart_versioned.specs.Versions.{HasRoom, has_key, value_at};
+
+use crate::counted::descent::{lend, steps_to};
+use crate::counted::missing::{found_of, Missing};
+use crate::counted::tree::VersionedAdaptiveRadixTree;
+use rart_below::KeyTrait;
+use rart_node::{NodeRef, Work};
+use std::alloc::AllocError;
+
+/// Lends the value of a key below a root for writing, and then raises the number by one. Refused
+/// for memory, or where nothing is at the key, root and number are as before.
+fn lend_below<'a, K: KeyTrait, V: Clone + Drop>(
+    root: &'a mut Option<NodeRef<K::PartialType, V>>,
+    number: &mut u64,
+    key: &K,
+    work: &mut Work,
+) -> Result<&'a mut V, Missing>
+    requires clones { ClonesEqual V.is_clone }
+    requires room { number.old + 1 < 2 ^ 64 }
+    requires tree { IsTreeIn (option_map (shown K.PartialType.bytes) root.old) }
+    ensures* writes_back { sem 𝓛 (LendsBelow K.PartialType.row V.row K.PartialType.bytes root.entry (K.bytes key.now) result) }
+    ensures value { IfOk result (λ value. found_in (option_map (shown K.PartialType.bytes) root.old) (K.bytes key.now) ≡ Some value.now) }
+    ensures missing { IfErr result (λ missing. Explains missing (found_in (option_map (shown K.PartialType.bytes) root.old) (K.bytes key.now))) }
+    ensures raised { OnOk result (number.new ≡ number.old + 1) }
+    ensures kept { OnErr result (number.new ≡ number.old) }
+    ensures counted { CountsUpTo (touch_bound (K.bytes key.now)) (lookup_bound (K.bytes key.now)) work.old work.new }
+{
+    match root.as_mut() {
+        None => Err(Missing::Absent),
+        Some(at) => match steps_to(at, key, 0, work) {
+            None => Err(Missing::Absent),
+            Some(steps) => match lend(at, key, steps, work) {
+                Ok(value) => {
+                    *number += 1;
+                    Ok(value)
+                }
+                Err(error) => Err(Missing::Memory(error)),
+            },
+        },
+    }
+}
+
+impl<K: KeyTrait, V: Clone + Drop> VersionedAdaptiveRadixTree<K, V> {
+    /// As `get_mut_k`, with the nodes entered and made counted into `work`.
+    pub fn get_mut_k_counted(
+        &mut self,
+        key: &K,
+        work: &mut Work,
+    ) -> Result<Option<&mut V>, AllocError>
+        requires clones { ClonesEqual V.is_clone }
+        requires room { HasRoom self.old 1 }
+        ensures* writes_back { sem 𝓛 (LendsFound K.row V.row K.PartialType.row K.MAXIMUM_SIZE K.bytes K.eq K.cmp K.partial_cmp K.PartialType.Partial V.Clone self.entry (K.bytes key.now) result) }
+        ensures value { IfOk result (λ found. option_map (λ value. value.now) found ≡ value_at self.old (K.bytes key.now)) }
+        ensures present { OnErr result (IsTrue (has_key self.old (K.bytes key.now))) }
+        ensures counted { CountsUpTo (touch_bound (K.bytes key.now)) (change_bound (K.bytes key.now)) work.old work.new }
+    {
+        found_of(self.lent_k_counted(key, work))
+    }
+
+    /// As `get_mut_k_counted`, and tells an absent key from a refused copy in one answer.
+    pub(crate) fn lent_k_counted(&mut self, key: &K, work: &mut Work) -> Result<&mut V, Missing>
+        requires clones { ClonesEqual V.is_clone }
+        requires room { HasRoom self.old 1 }
+        ensures* writes_back { sem 𝓛 (LendsValue K.row V.row K.PartialType.row K.MAXIMUM_SIZE K.bytes K.eq K.cmp K.partial_cmp K.PartialType.Partial V.Clone self.entry (K.bytes key.now) result) }
+        ensures value { IfOk result (λ value. value_at self.old (K.bytes key.now) ≡ Some value.now) }
+        ensures missing { IfErr result (λ missing. Explains missing (value_at self.old (K.bytes key.now))) }
+        ensures counted { CountsUpTo (touch_bound (K.bytes key.now)) (change_bound (K.bytes key.now)) work.old work.new }
+    {
+        lend_below(&mut self.root, &mut self.version, key, work)
+    }
+}

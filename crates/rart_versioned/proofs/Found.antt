@@ -1,12 +1,7 @@
 -- What is told of a lent value, told of the same answer where an absent key is no failure.
 use Rattle.std.proofs.Common.{◌≡◌, Option, Some, IsSome, Result, Ok, Err, IfOk, IfErr, OnErr, refl, sym}
 use Rattle.std.specs.Option.{option_map}
-use Rattle.std.specs.Borrow.{MutBor, RattleType, name_if_ok}
-use denote.Param.Laws.{Laws, of_field, is_one, row_shared}
-use denote.Param.Shared.{mut_ref_shared}
-use denote.Ref.{NamedLft, MutRef}
-use denote.Struct.Field.{mut_ref_field}
-use denote.Struct.Laws.{mut_ref_laws}
+use Rattle.std.specs.Borrow.{MutBor, name_if_ok}
 use Rattle.rart_versioned.specs.Lent.{Explains, found_name, found_value}
 use Rattle.rart_versioned.specs.declared.counted.missing.Missing.{Missing}
 use Rattle.rart_versioned.specs.declared.counted.missing.Missing.TheVariants.{Absent, Memory}
@@ -26,7 +21,3 @@ module _ {A : Type 0} where
   refused-there was (Ok value) missing = tt
   refused-there was (Err Absent) missing = tt
   refused-there was (Err (Memory error)) missing = missing
-
--- the laws of a reference for writing, from those of what it leads to
-pub reference-laws : (at : NamedLft) (T : RattleType) → Laws T → Laws (MutRef at.mir at.lft T)
-reference-laws at T laws = let one = is_one T laws in of_field (mut_ref_field at T one) (mut_ref_laws at T one) refl (mut_ref_shared at T one (row_shared T laws))

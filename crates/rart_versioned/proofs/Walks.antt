@@ -1,4 +1,4 @@
--- The words of a proof by hand.
+-- The words of a proof by hand, and the laws of a reference.
 pub use Rattle.std.proofs.Common.{◌≡◌, ℕ, ◌+◌, ◌<◌, ◌^◌, Option, Some, None, List, [], ◌∷◌, refl, sym, ap, subst, ◌∙◌}
 pub use Rattle.std.proofs.raw_atomic.Walks.{proved, proved_at}
 pub use base.Fml.{GName, ftrue, flft}
@@ -27,3 +27,12 @@ pub use denote.Triple.Entry.{on_entry}
 pub use denote.Triple.Spec.{triple_of}
 pub use denote.Triple.Table.{framed}
 pub use denote.Triple.Walked.{Stays, says, stay_dropped, Goes-dropped, Goes-spent_ref, gave_ref, Goes-gave_ref, ends_at, walk_of}
+use denote.Param.Laws.{of_field, is_one, row_shared}
+use denote.Param.Shared.{mut_ref_shared}
+use denote.Ref.{NamedLft, MutRef}
+use denote.Struct.Field.{mut_ref_field}
+use denote.Struct.Laws.{mut_ref_laws}
+
+-- the laws of a reference for writing, from those of what it leads to
+pub reference-laws : (at : NamedLft) (T : RattleType) → Laws T → Laws (MutRef at.mir at.lft T)
+reference-laws at T laws = let one = is_one T laws in of_field (mut_ref_field at T one) (mut_ref_laws at T one) refl (mut_ref_shared at T one (row_shared T laws))

@@ -1,5 +1,7 @@
+mod bucket;
 mod dense;
 mod heap;
+mod lending;
 mod removal;
 mod replacing;
 mod snapshots;

@@ -4,7 +4,7 @@ use Rattle.std.proofs.lemmas.List.{length-append}
 use Rattle.std.specs.Prelude.{Option, Some, None, slice_get, slice_set}
 use Rattle.rart_versioned.specs.Versions.{Version, raised}
 use Rattle.vtree.specs.declared.family.command.Command.{Command}
-use Rattle.vtree.specs.declared.family.command.Command.TheVariants.{New, NewAt, Snapshot, Duplicate, Discard, Version as NumberOf, IsEmpty, Get, Insert, Replace, Remove, Delete, Update, TryUpdate}
+use Rattle.vtree.specs.declared.family.command.Command.TheVariants.{New, NewAt, Snapshot, Duplicate, Discard, Version as NumberOf, IsEmpty, Get, GetMut, Insert, Replace, Remove, Delete, Update, TryUpdate}
 use Rattle.vtree.specs.Replies.{Reply, NoRoom}
 use Rattle.vtree.specs.Families.{Family, Outcome, called, placed, changes, version_at, after}
 use Rattle.vtree.specs.Runs.{Step, Run}
@@ -53,6 +53,7 @@ module _ {K V : Type 0} (bytes : K → List ℕ) where
   kept_after f P same push (NumberOf place) set = kept_called f P same _ (λ v. same) (version_at f place)
   kept_after f P same push (IsEmpty place) set = kept_called f P same _ (λ v. same) (version_at f place)
   kept_after f P same push (Get place key) set = kept_called f P same _ (λ v. same) (version_at f place)
+  kept_after f P same push (GetMut place key value) set = kept_changes f P same place 1 _ (λ v. set place (Some v) refl)
   kept_after f P same push (Insert place key value) set = kept_changes f P same place 1 _ (λ v. set place (Some v) refl)
   kept_after f P same push (Replace place key value) set = kept_changes f P same place 1 _ (λ v. set place (Some v) refl)
   kept_after f P same push (Remove place key) set = kept_changes f P same place 1 _ (λ v. set place (Some v) refl)

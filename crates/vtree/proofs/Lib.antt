@@ -1,3 +1,4 @@
 pub mod LawLemmas
 pub mod RunLemmas
 pub mod WorkedRunLemmas
+pub mod SlotLemmas

@@ -5,7 +5,7 @@ use Rattle.std.specs.Prelude.{Option, Some, None, Result, Ok, Err}
 use Rattle.rart_versioned.specs.Versions.{Version}
 use Rattle.vtree.specs.declared.family.command.Failure.{Failure}
 use Rattle.vtree.specs.declared.family.command.Command.{Command}
-use Rattle.vtree.specs.declared.family.command.Command.TheVariants.{New, NewAt, Snapshot, Duplicate, Discard, Version as NumberOf, IsEmpty, Get, Insert, Replace, Remove, Delete, Update, TryUpdate}
+use Rattle.vtree.specs.declared.family.command.Command.TheVariants.{New, NewAt, Snapshot, Duplicate, Discard, Version as NumberOf, IsEmpty, Get, GetMut, Insert, Replace, Remove, Delete, Update, TryUpdate}
 use Rattle.vtree.specs.Replies.{Reply, NoMemory}
 use Rattle.vtree.specs.Families.{Family, Outcome, called, tried_reply, version_at, reply_to, after}
 use Rattle.vtree.specs.Runs.{Step, Run, next}
@@ -34,6 +34,7 @@ module _ {K V : Type 0} (bytes : K → List ℕ) where
   reply_is_no_want f (NumberOf place) = called_tells f _ (λ v. refl) (version_at f place)
   reply_is_no_want f (IsEmpty place) = called_tells f _ (λ v. refl) (version_at f place)
   reply_is_no_want f (Get place key) = called_tells f _ (λ v. refl) (version_at f place)
+  reply_is_no_want f (GetMut place key value) = called_tells f _ (λ v. grind rules) (version_at f place)
   reply_is_no_want f (Insert place key value) = called_tells f _ (λ v. grind rules) (version_at f place)
   reply_is_no_want f (Replace place key value) = called_tells f _ (λ v. grind rules) (version_at f place)
   reply_is_no_want f (Remove place key) = called_tells f _ (λ v. grind rules) (version_at f place)

@@ -4,7 +4,7 @@ use Rattle.rart_versioned.specs.Given.{Counts}
 use Rattle.rart_versioned.specs.Versions.{Version, has_no_key}
 use Rattle.rart_versioned.specs.Bounds.{lookup_bound, change_bound}
 use Rattle.vtree.specs.declared.family.command.Command.{Command}
-use Rattle.vtree.specs.declared.family.command.Command.TheVariants.{Get, Insert, Replace, Remove, Delete, Update, TryUpdate}
+use Rattle.vtree.specs.declared.family.command.Command.TheVariants.{Get, GetMut, Insert, Replace, Remove, Delete, Update, TryUpdate}
 use Rattle.vtree.specs.Replies.{Reply, NoVersion, NoRoom, NoMemory}
 use Rattle.vtree.specs.Families.{Family, version_at}
 use Rattle.vtree.specs.Runs.{next}
@@ -52,6 +52,7 @@ module _ {K V : Type 0} (bytes : K → List ℕ) where
 
   -- it makes at most so many nodes to change its version
   abbrev pub change_cost_of : Family V → Command K V → Reply V → ℕ
+  change_cost_of f (GetMut place key value) r = if_called r (change_bound (bytes key))
   change_cost_of f (Insert place key value) r = if_called r (change_bound (bytes key))
   change_cost_of f (Replace place key value) r = if_called r (change_bound (bytes key))
   change_cost_of f (Remove place key) r = if_called r (change_bound (bytes key))

@@ -2,10 +2,10 @@
 use Rattle.std.specs.Prelude.{ℕ, ◌+◌, ◌^◌, Bool, if◌then◌else◌, nat_lt, List, [], ◌∷◌, ◌++◌, length, Option, Some, None, slice_get, slice_set, Result, Ok, Err}
 use Rattle.std.specs.Option.{unwrap_or}
 use Rattle.rart_versioned.specs.Versions.{Version, empty_at, has_no_key, value_at, has_key, raised, with_key}
-use Rattle.rart_versioned.specs.Changes.{removed, slot_of, updated, tried}
+use Rattle.rart_versioned.specs.Changes.{removed, rewritten, slot_of, updated, tried}
 use Rattle.vtree.specs.declared.family.command.Failure.{Failure}
 use Rattle.vtree.specs.declared.family.command.Command.{Command}
-use Rattle.vtree.specs.declared.family.command.Command.TheVariants.{New, NewAt, Snapshot, Duplicate, Discard, Version as NumberOf, IsEmpty, Get, Insert, Replace, Remove, Delete, Update, TryUpdate}
+use Rattle.vtree.specs.declared.family.command.Command.TheVariants.{New, NewAt, Snapshot, Duplicate, Discard, Version as NumberOf, IsEmpty, Get, GetMut, Insert, Replace, Remove, Delete, Update, TryUpdate}
 use Rattle.vtree.specs.Replies.{Reply, Place, Discarded, Number, Flag, Value, Failed, NoVersion, NoRoom}
 
 -- places, each a version or discarded
@@ -73,6 +73,7 @@ module _ {K V : Type 0} (bytes : K → List ℕ) where
   outcome f (NumberOf place) = reads f place (λ v. Number v.number)
   outcome f (IsEmpty place) = reads f place (λ v. Flag (has_no_key v))
   outcome f (Get place key) = reads f place (λ v. Value (value_at v (bytes key)))
+  outcome f (GetMut place key value) = changes f place 1 (λ v. (Flag (has_key v (bytes key)), rewritten v (bytes key) value))
   outcome f (Insert place key value) = changes f place 1 (λ v. (Flag (has_key v (bytes key)), with_key v (bytes key) value 1))
   outcome f (Replace place key value) = changes f place 1 (λ v. (Value (value_at v (bytes key)), with_key v (bytes key) value 1))
   outcome f (Remove place key) = changes f place 1 (λ v. (Value (value_at v (bytes key)), removed v (bytes key)))

@@ -1,7 +1,7 @@
 -- Laws that show what the definitions of families and runs mean.
 use Rattle.std.specs.Prelude.{◌≡◌, ◌≢◌, ℕ, ◌<◌, ◌≤◌, List, length, Option, Some, None, slice_get}
 use Rattle.vtree.specs.declared.family.command.Command.{Command}
-use Rattle.vtree.specs.declared.family.command.Command.TheVariants.{Discard, Insert, Replace, Remove, Delete, Update, TryUpdate}
+use Rattle.vtree.specs.declared.family.command.Command.TheVariants.{Discard, GetMut, Insert, Replace, Remove, Delete, Update, TryUpdate}
 use Rattle.vtree.specs.Replies.{Reply, NoMemory}
 use Rattle.vtree.specs.Families.{Family, reply_to}
 use Rattle.vtree.specs.Runs.{Step, Run}
@@ -9,6 +9,7 @@ use Rattle.vtree.specs.Runs.{Step, Run}
 -- the one place, of those that are there, whose version a command may change
 abbrev pub place_changed : {K V : Type 0} → Command K V → Option ℕ
 place_changed (Discard place) = Some place
+place_changed (GetMut place key value) = Some place
 place_changed (Insert place key value) = Some place
 place_changed (Replace place key value) = Some place
 place_changed (Remove place key) = Some place

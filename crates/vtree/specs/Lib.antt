@@ -5,3 +5,4 @@ pub mod Laws
 pub mod Replies
 pub mod Runs
 pub mod WorkedRuns
+pub mod Slots

@@ -2,7 +2,7 @@
 use Rattle.std.specs.Prelude.{◌≡◌, ℕ, true, false, List, [], ◌∷◌, Some, None, codes}
 use Rattle.rart_versioned.specs.Given.{Keep, Insert as Put, Remove as TakeOut}
 use Rattle.vtree.specs.declared.family.command.Command.{Command}
-use Rattle.vtree.specs.declared.family.command.Command.TheVariants.{New, NewAt, Snapshot, Duplicate, Discard, Version as NumberOf, IsEmpty, Get, Insert, Replace, Remove, Delete, Update, TryUpdate}
+use Rattle.vtree.specs.declared.family.command.Command.TheVariants.{New, NewAt, Snapshot, Duplicate, Discard, Version as NumberOf, IsEmpty, Get, GetMut, Insert, Replace, Remove, Delete, Update, TryUpdate}
 use Rattle.vtree.specs.Replies.{Reply, Place, Discarded, Number, Flag, Value, Failed, NoVersion, NoRoom}
 use Rattle.vtree.specs.Families.{Family, reply_to, after}
 
@@ -60,8 +60,8 @@ FailedUpdateKeepsValue = AreReplied
 -- A discarded place has no version, and is not used again.
 abbrev pub DiscardedPlaceIsNotUsedAgain : Type 0
 DiscardedPlaceIsNotUsedAgain = AreReplied
-    (New ∷ Insert 0 (codes "a") 1 ∷ Replace 0 (codes "a") 7 ∷ IsEmpty 0 ∷ Discard 0 ∷ IsEmpty 0 ∷ New ∷ [])
-    (Place 0 ∷ Flag false ∷ Value (Some 1) ∷ Flag false ∷ Discarded ∷ NoVersion ∷ Place 1 ∷ [])
+    (New ∷ Insert 0 (codes "a") 1 ∷ GetMut 0 (codes "a") 5 ∷ GetMut 0 (codes "b") 6 ∷ NumberOf 0 ∷ Replace 0 (codes "a") 7 ∷ IsEmpty 0 ∷ Discard 0 ∷ IsEmpty 0 ∷ New ∷ [])
+    (Place 0 ∷ Flag false ∷ Flag true ∷ Flag false ∷ Number 2 ∷ Value (Some 5) ∷ Flag false ∷ Discarded ∷ NoVersion ∷ Place 1 ∷ [])
 
 -- Of an update that writes and inserts the inserted value stays.
 abbrev pub AnswerOutweighsWrite : Type 0

@@ -12,6 +12,7 @@ mod changes;
 mod command;
 mod reads;
 mod reply;
+mod slot;
 mod updates;
 mod versions;
 
@@ -157,6 +158,7 @@ impl<K: KeyTrait, V: Clone + Drop> Family<K, V> {
             Command::Version { place } => Ok(self.version(*place)),
             Command::IsEmpty { place } => Ok(self.is_empty(*place)),
             Command::Get { place, key } => self.get(*place, key, reads),
+            Command::GetMut { place, key, value } => self.get_mut(*place, key, value, changes),
             Command::Insert { place, key, value } => self.insert(*place, key, value, changes),
             Command::Replace { place, key, value } => self.replace(*place, key, value, changes),
             Command::Remove { place, key } => self.remove(*place, key, changes),

@@ -38,6 +38,7 @@ impl From<AllocError> for LineError {
 /// | `snapshot P`, `clone P`, `discard P` | `Snapshot`, `Duplicate`, `Discard` |
 /// | `version P`, `empty P` | `Version`, `IsEmpty` |
 /// | `get P K` | `Get` |
+/// | `get-mut P K V` | `GetMut` |
 /// | `insert P K V`, `replace P K V` | `Insert`, `Replace` |
 /// | `remove P K`, `delete P K` | `Remove`, `Delete` |
 /// | `update P K W A` | `Update` |
@@ -88,6 +89,11 @@ fn parse_key_command(
         (b"get", []) => Ok(Command::Get { place, key }),
         (b"remove", []) => Ok(Command::Remove { place, key }),
         (b"delete", []) => Ok(Command::Delete { place, key }),
+        (b"get-mut", [value]) => Ok(Command::GetMut {
+            place,
+            key,
+            value: parse_number(value)?,
+        }),
         (b"insert", [value]) => Ok(Command::Insert {
             place,
             key,

@@ -2,19 +2,43 @@
 ghost use Rattle.std.specs.Prelude.{◌≡◌, IfOk, OnErr, OnOk, IsSomeAnd, IfSome, IsTrue, slice_set, Some, ◌<◌};
 ghost use Rattle.rart_versioned.specs.Given.{ClonesEqual};
 ghost use Rattle.rart_versioned.specs.Versions.{HasRoom, value_at, has_key, with_key};
-ghost use Rattle.rart_versioned.specs.Changes.{removed};
+ghost use Rattle.rart_versioned.specs.Changes.{removed, rewritten};
 ghost use Rattle.rart_versioned.specs.Bounds.{CountsUpTo, touch_bound, change_bound};
 ghost use Rattle.vtree.specs.Attempts.{Tries, replied};
 ghost use Rattle.vtree.specs.Costs.{CountsChanges};
 ghost use Rattle.vtree.specs.Families.{version_at};
-ghost use Rattle.vtree.specs.declared.family.command.Command.TheVariants.{Insert, Replace, Remove, Delete};
+ghost use Rattle.vtree.specs.declared.family.command.Command.TheVariants.{GetMut, Insert, Replace, Remove, Delete};
 
+use super::slot::write_slot;
 use super::versions::has_room;
 use super::{Family, Reply};
 use rart_versioned::{KeyTrait, VersionedAdaptiveRadixTree, Work};
 use std::alloc::AllocError;
 
 impl<K: KeyTrait, V: Clone + Drop> Family<K, V> {
+    pub(super) fn get_mut(
+        &mut self,
+        place: usize,
+        key: &K,
+        value: &V,
+        changes: &mut Work,
+    ) -> Result<Reply<K, V>, AllocError>
+        requires clones { ClonesEqual V.is_clone }
+        ensures tries { Tries K.bytes self.old (GetMut place key.now value.now) result self.new }
+        ensures changes { CountsChanges K.bytes self.old (GetMut place key.now value.now)
+            (replied K.bytes result) changes.old changes.new }
+    {
+        let Some(version) = self.version_at(place) else {
+            return Ok(Reply::NoVersion);
+        };
+        if !has_room(version, 1) {
+            return Ok(Reply::NoRoom);
+        }
+        let value = value.clone()?;
+        let found = rewrite_at(&mut self.versions, place, key, value, changes)?;
+        Ok(Reply::Flag(found))
+    }
+
     pub(super) fn insert(
         &mut self,
         place: usize,
@@ -101,6 +125,31 @@ impl<K: KeyTrait, V: Clone + Drop> Family<K, V> {
         }
         let found = delete_at(&mut self.versions, place, key, changes)?;
         Ok(Reply::Flag(found))
+    }
+}
+
+fn rewrite_at<K: KeyTrait, V: Clone + Drop>(
+    versions: &mut [Option<VersionedAdaptiveRadixTree<K, V>>],
+    place: usize,
+    key: &K,
+    value: V,
+    changes: &mut Work,
+) -> Result<bool, AllocError>
+    requires clones { ClonesEqual V.is_clone }
+    requires there { IsSomeAnd (version_at versions.old place) (λ v. HasRoom v 1) }
+    ensures found { IfOk result (λ found. IfSome (version_at versions.old place) (λ v.
+        found ≡ has_key v (K.bytes key.now))) }
+    ensures ok { OnOk result (IfSome (version_at versions.old place) (λ v.
+        versions.new ≡ slice_set versions.old place (Some (rewritten v (K.bytes key.now) value)))) }
+    ensures refused { OnErr result (versions.new ≡ versions.old) }
+    ensures present { OnErr result (IfSome (version_at versions.old place) (λ v.
+        IsTrue (has_key v (K.bytes key.now)))) }
+    ensures counted { CountsUpTo (touch_bound (K.bytes key.now)) (change_bound (K.bytes key.now))
+        changes.old changes.new }
+{
+    match &mut versions[place] {
+        Some(version) => write_slot(version, key, value, changes),
+        None => Err(AllocError),
     }
 }
 

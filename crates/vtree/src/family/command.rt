@@ -40,6 +40,13 @@ pub enum Command<K, V> {
         place: usize,
         key: K,
     },
+    /// Writes the value through a reference to the one of the key: `Flag`, whether the key was
+    /// there. Asks room 1.
+    GetMut {
+        place: usize,
+        key: K,
+        value: V,
+    },
     /// Sets the value of the key: `Flag`, whether there was one. Asks room 1.
     Insert {
         place: usize,

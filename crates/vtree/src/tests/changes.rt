@@ -89,9 +89,23 @@ fn discarded_place_is_not_used_again(rt: HostRuntime) -> Result<(), Fail> {
     assert_served(
         &rt,
         rt.alloc(),
-        "new / insert 0 'a 1 / version 0 / replace 0 'a 7 / empty 0 / discard 0 / empty 0 / \
-         new",
-        "at 0 / false / version 1 / some 1 / false / discarded / no version / at 1",
+        "new / insert 0 'a 1 / get-mut 0 'a 5 / get-mut 0 'b 6 / version 0 / \
+         replace 0 'a 7 / empty 0 / discard 0 / empty 0 / new",
+        "at 0 / false / true / false / version 2 / some 5 / false / discarded / \
+         no version / at 1",
+        Served::Clean,
+    )
+}
+
+#[test]
+fn written_value_stays_in_its_version(rt: HostRuntime) -> Result<(), Fail> {
+    assert_served(
+        &rt,
+        rt.alloc(),
+        "new / insert 0 'a 1 / insert 0 'ab 2 / snapshot 0 / get-mut 0 'ab 5 / \
+         get-mut 1 'a 6 / get 0 'a / get 0 'ab / get 1 'a / get 1 'ab / version 0 / version 1",
+        "at 0 / false / false / at 1 / true / true / some 1 / some 5 / some 6 / some 2 / \
+         version 3 / version 4",
         Served::Clean,
     )
 }
@@ -112,10 +126,11 @@ fn empty_key_is_a_key(rt: HostRuntime) -> Result<(), Fail> {
     assert_served(
         &rt,
         rt.alloc(),
-        "new / get 0 ' / insert 0 ' 1 / get 0 ' / replace 0 ' 2 / update 0 ' 3 keep / \
-         try-update 0 ' 4 keep / remove 0 ' / delete 0 ' / empty 0 / version 0",
-        "at 0 / none / false / some 1 / some 1 / true / true / some 4 / false / true / \
-         version 5",
+        "new / get 0 ' / insert 0 ' 1 / get 0 ' / replace 0 ' 2 / get-mut 0 ' 9 / \
+         get 0 ' / update 0 ' 3 keep / try-update 0 ' 4 keep / remove 0 ' / delete 0 ' / \
+         empty 0 / version 0",
+        "at 0 / none / false / some 1 / some 1 / true / some 9 / true / true / some 4 / \
+         false / true / version 6",
         Served::Clean,
     )
 }

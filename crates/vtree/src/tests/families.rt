@@ -150,6 +150,20 @@ fn assert_versions_are_changed<K: KeyTrait>(
             reply_to(
                 alloc,
                 &mut family,
+                Command::GetMut {
+                    place: 0,
+                    key: key_of(alloc, 2)?,
+                    value: 21
+                }
+            )?,
+            Reply::Flag(true)
+        )
+    );
+    assert!(rt;
+        matches!(
+            reply_to(
+                alloc,
+                &mut family,
                 Command::Remove {
                     place: 0,
                     key: key_of(alloc, 1)?

@@ -33,12 +33,14 @@ fn each_form_has_its_count_of_words(rt: HostRuntime) -> Result<(), Fail> {
         &rt,
         rt.alloc(),
         "new 0 / new-at / snapshot / clone 0 'a / discard 0 0 / empty / get 0 / get 0 'a 1 / \
+         get-mut 0 'a / get-mut 0 'a 1 1 / get-mut 0 a 1 / get-mut 0 'a x / \
          insert 0 'a / insert 0 'a 1 1 / replace 0 'a / remove 0 'a 1 / delete 0 / \
          update 0 'a - / update 0 'a - insert / update 0 'a - keep 1 / update 0 'a - fail / \
          try-update 0 'a - / try-update 0 'a - fail 1 / iter",
         "bad line / bad line / bad line / bad line / bad line / bad line / bad line / \
          bad line / bad line / bad line / bad line / bad line / bad line / bad line / \
-         bad line / bad line / bad line / bad line / bad line / bad line",
+         bad line / bad line / bad line / bad line / bad line / bad line / bad line / \
+         bad line / bad line / bad line",
         Served::BadLine,
     )
 }

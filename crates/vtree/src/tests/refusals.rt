@@ -8,12 +8,13 @@ fn place_past_the_last_one_has_no_version(rt: HostRuntime) -> Result<(), Fail> {
     assert_served(
         &rt,
         rt.alloc(),
-        "snapshot 0 / clone 0 / discard 0 / version 0 / empty 0 / get 0 'a / insert 0 'a 1 / \
-         replace 0 'a 1 / remove 0 'a / delete 0 'a / update 0 'a - keep / \
-         try-update 0 'a - fail / new / version 1 / version 18446744073709551615",
+        "snapshot 0 / clone 0 / discard 0 / version 0 / empty 0 / get 0 'a / \
+         get-mut 0 'a 1 / insert 0 'a 1 / replace 0 'a 1 / remove 0 'a / delete 0 'a / \
+         update 0 'a - keep / try-update 0 'a - fail / new / version 1 / \
+         version 18446744073709551615",
         "no version / no version / no version / no version / no version / no version / \
          no version / no version / no version / no version / no version / no version / \
-         at 0 / no version / no version",
+         no version / at 0 / no version / no version",
         Served::Clean,
     )
 }
@@ -25,9 +26,9 @@ fn discarded_place_has_no_version(rt: HostRuntime) -> Result<(), Fail> {
         &rt,
         rt.alloc(),
         "new-at 18446744073709551615 / discard 0 / snapshot 0 / clone 0 / discard 0 / \
-         version 0 / empty 0 / get 0 'a / insert 0 'a 1 / replace 0 'a 1 / remove 0 'a / \
-         delete 0 'a / update 0 'a - keep / try-update 0 'a - fail",
-        "at 0 / discarded / no version / no version / no version / no version / no version / \
+         version 0 / empty 0 / get 0 'a / get-mut 0 'a 1 / insert 0 'a 1 / replace 0 'a 1 / \
+         remove 0 'a / delete 0 'a / update 0 'a - keep / try-update 0 'a - fail",
+        "at 0 / discarded / no version / no version / no version / no version / no version / no version / \
          no version / no version / no version / no version / no version / no version / \
          no version",
         Served::Clean,
@@ -39,10 +40,10 @@ fn greatest_number_has_no_room(rt: HostRuntime) -> Result<(), Fail> {
     assert_served(
         &rt,
         rt.alloc(),
-        "new-at 18446744073709551615 / snapshot 0 / insert 0 'a 1 / replace 0 'a 1 / \
-         remove 0 'a / delete 0 'a / update 0 'a - keep / try-update 0 'a - keep / clone 0 / \
-         version 1 / empty 1 / get 1 'a / discard 1",
-        "at 0 / no room / no room / no room / no room / no room / no room / no room / at 1 / \
+        "new-at 18446744073709551615 / snapshot 0 / get-mut 0 'a 1 / insert 0 'a 1 / \
+         replace 0 'a 1 / remove 0 'a / delete 0 'a / update 0 'a - keep / \
+         try-update 0 'a - keep / clone 0 / version 1 / empty 1 / get 1 'a / discard 1",
+        "at 0 / no room / no room / no room / no room / no room / no room / no room / no room / at 1 / \
          version 18446744073709551615 / true / none / discarded",
         Served::Clean,
     )
@@ -54,12 +55,25 @@ fn number_before_the_greatest_has_room_for_one(rt: HostRuntime) -> Result<(), Fa
         &rt,
         rt.alloc(),
         "new-at 18446744073709551614 / try-update 0 'a - keep / snapshot 0 / version 1 / \
-         update 0 'a - keep / remove 0 'a / delete 0 'a / version 0 / clone 0 / \
-         replace 2 'a 1 / version 2 / clone 0 / update 3 'a - insert 1 / version 3 / \
-         insert 0 'a 1 / version 0",
-        "at 0 / no room / at 1 / version 18446744073709551615 / false / none / false / \
-         version 18446744073709551614 / at 2 / none / version 18446744073709551615 / at 3 / \
+         update 0 'a - keep / get-mut 0 'a 1 / remove 0 'a / delete 0 'a / version 0 / \
+         clone 0 / replace 2 'a 1 / version 2 / clone 0 / update 3 'a - insert 1 / \
+         version 3 / insert 0 'a 1 / version 0",
+        "at 0 / no room / at 1 / version 18446744073709551615 / false / false / none / \
+         false / version 18446744073709551614 / at 2 / none / version 18446744073709551615 / at 3 / \
          true / version 18446744073709551615 / false / version 18446744073709551615",
+        Served::Clean,
+    )
+}
+
+#[test]
+fn writing_takes_the_last_room(rt: HostRuntime) -> Result<(), Fail> {
+    assert_served(
+        &rt,
+        rt.alloc(),
+        "new-at 18446744073709551613 / insert 0 'a 1 / get-mut 0 'b 2 / get-mut 0 'a 2 / \
+         version 0 / get 0 'a / get-mut 0 'a 3 / get 0 'a",
+        "at 0 / false / false / true / version 18446744073709551615 / some 2 / no room / \
+         some 2",
         Served::Clean,
     )
 }

@@ -6,7 +6,8 @@ use Rattle.std.proofs.result.Result.TheLaws as Result-laws
 use Rattle.std.proofs.option.Option.TheLaws as Option-laws
 use Rattle.std.proofs.alloc.AllocError.TheLaws as Err-laws
 use Rattle.rart_below.specs.Clones.{ClonesEqual}
-use Rattle.rart_versioned.proofs.Found.{same-name, found-was, refused-there, reference-laws}
+use Rattle.rart_versioned.proofs.Walks.{reference-laws}
+use Rattle.rart_versioned.proofs.Found.{same-name, found-was, refused-there}
 use Rattle.rart_versioned.proofs.counted.missing.Missing.TheLaws as Missing-laws
 use Rattle.rart_versioned.specs.Lent.{LendsValue, Explains, found_name, found_value}
 use Rattle.rart_versioned.specs.Versions.{with_key, value_at}

@@ -8,7 +8,8 @@ use Rattle.std.proofs.alloc.AllocError.TheLaws as Err-laws
 use Rattle.rart_below.specs.Clones.{ClonesEqual}
 use Rattle.rart_node.specs.contracts.work.Work.{the_row as work_row}
 use Rattle.rart_versioned.specs.Bounds.{CountsUpTo, touch_bound, change_bound}
-use Rattle.rart_versioned.proofs.Found.{same-name, found-was, refused-there, reference-laws}
+use Rattle.rart_versioned.proofs.Walks.{reference-laws}
+use Rattle.rart_versioned.proofs.Found.{same-name, found-was, refused-there}
 use Rattle.rart_versioned.proofs.counted.missing.Missing.TheLaws as Missing-laws
 use Rattle.rart_versioned.specs.Lent.{LendsValue, Explains, found_name, found_value}
 use Rattle.rart_versioned.specs.Versions.{with_key, value_at}

@@ -4,6 +4,7 @@ mod heap;
 mod lending;
 mod removal;
 mod replacing;
+mod sharing;
 mod snapshots;
 mod updates;
 

@@ -3,6 +3,7 @@
 mod changes;
 mod families;
 mod lines;
+mod models;
 mod refusals;
 mod streams;
 mod updates;

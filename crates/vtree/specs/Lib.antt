@@ -4,5 +4,5 @@ pub mod Families
 pub mod Laws
 pub mod Replies
 pub mod Runs
-pub mod WorkedRuns
 pub mod Slots
+pub mod WorkedRuns

@@ -11,7 +11,7 @@ ghost use Rattle.rart_versioned.specs.Trees.{IsTreeIn, found_in};
 ghost use Rattle.rart_versioned.specs.Versions.{HasRoom, has_key, value_at};
 
 use crate::counted::descent::{lend, steps_to};
-use crate::counted::missing::{found_of, Missing};
+use crate::counted::missing::{Missing, found_of};
 use crate::counted::tree::VersionedAdaptiveRadixTree;
 use rart_below::KeyTrait;
 use rart_node::{NodeRef, Work};

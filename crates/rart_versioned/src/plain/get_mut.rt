@@ -5,8 +5,8 @@ ghost use Rattle.rart_below.specs.Clones.{ClonesEqual};
 ghost use Rattle.rart_versioned.specs.Lent.{Explains, LendsValue, LendsFound};
 ghost use Rattle.rart_versioned.specs.Versions.{HasRoom, has_key, value_at};
 
-use crate::counted::missing::{found_of, Missing};
 use crate::counted::VersionedAdaptiveRadixTree;
+use crate::counted::missing::{Missing, found_of};
 use rart_below::KeyTrait;
 use rart_node::Work;
 use std::alloc::AllocError;

@@ -67,6 +67,7 @@ fn each_form_of_lending_writes(rt: HostRuntime) -> Result<(), Fail> {
     let alloc = rt.alloc();
     let mut tree = Tree::new(alloc);
     insert(&rt, alloc, &mut tree, b"a", 1)?;
+    assert_room(&rt, &tree);
     assert!(rt; write(tree.get_mut(key(alloc, b"a")?)?, 2));
     assert_room(&rt, &tree);
     assert_value(&rt, alloc, &tree, b"a", Some(2))?;

@@ -126,7 +126,12 @@ fn snapshots_keep_what_the_tree_changes(rt: HostRuntime) -> Result<(), Fail> {
 fn change_of_one_branch_leaves_the_others(rt: HostRuntime) -> Result<(), Fail> {
     let alloc = rt.alloc();
     let mut tree = Names::new(alloc);
-    let names: [&[u8]; 4] = [b"user_profile_", b"user_settings_", b"system_", b"system_config_"];
+    let names: [&[u8]; 4] = [
+        b"user_profile_",
+        b"user_settings_",
+        b"system_",
+        b"system_config_",
+    ];
     insert_ten(&rt, alloc, &mut tree, b"user_", 0)?;
     for name in names {
         insert_ten(&rt, alloc, &mut tree, name, 0)?;

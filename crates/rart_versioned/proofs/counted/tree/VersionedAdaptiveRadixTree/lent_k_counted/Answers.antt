@@ -32,12 +32,12 @@ returns g c =
     let before = option_map f c.self.inside.root in
     let here : value_at c.args.self.now w ≡ found_in before w = rw (← c.self.view_is) (value-in most n before n w c.self.invariant) in (
       same-ends _ c.lend_below.result _ _ _ _
-      (λ ok value.
+          (λ ok value.
           let after = option_map f (c.lend_below.follows.lender value) in
           let holds = c.lend_below.follows.holds value in
           let content : map_of after ≡ finite.insert (map_of before) w value = map-below before after w value (tree-in most n before c.self.invariant) (tree-in most n after (holds.1 most n c.self.invariant)) (holds.0 ok) in
           rw (← c.self.view_is, content, at-ok c.lend_below.result ok c.lend_below.ensures.raised) refl)
-      (both-at-err c.lend_below.result c.lend_below.follows.holds-at-none.0 c.lend_below.ensures.kept (λ same kept. rw (← c.self.view_is, same, kept) refl)),
+          (both-at-err c.lend_below.result c.lend_below.follows.holds-at-none.0 c.lend_below.ensures.kept (λ same kept. rw (← c.self.view_is, same, kept) refl)),
       record {
         writes_back = tt;
         value = IfOk-weaker c.lend_below.result _ _ (λ value is. here ∙ is) c.lend_below.ensures.value;

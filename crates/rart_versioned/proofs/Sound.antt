@@ -25,7 +25,7 @@ no-key V number = rw (finite.len-empty byte_order V) refl
 module _ {V : Type 0} where
   -- After, the root has the value at the key, and else what was below the root before, if there was one.
   abbrev pub IsPutIn : List ℕ → V → Option (Shape V) → Shape V → Type 0
-  IsPutIn key value before after = IsTree after × ((q : List ℕ) → found after q ≡ cond (bytes_eq q key) (Some value) (found_in before q))
+  IsPutIn key value before after = IsTree after × IsPutBelow key value before (Some after)
 
   pub leaf-put : (key : List ℕ) (value : V) → IsPutIn key value None (node_of key (Some value) 0 [])
   leaf-put key value = ((refl, tt, refl), found-leaf key value)

@@ -2,7 +2,8 @@
 use Rattle.std.proofs.Common.{◌≡◌, Option, Some, IsSome, Result, Ok, Err, IfOk, IfErr, OnErr, refl, sym}
 use Rattle.std.specs.Option.{option_map}
 use Rattle.std.specs.Borrow.{MutBor, name_if_ok}
-use Rattle.rart_versioned.specs.Lent.{Explains, found_name, found_value}
+use Rattle.rart_versioned.specs.Lent.{found_name}
+use Rattle.rart_versioned.specs.Missing.{Explains, found_value}
 use Rattle.rart_versioned.specs.declared.counted.missing.Missing.{Missing}
 use Rattle.rart_versioned.specs.declared.counted.missing.Missing.TheVariants.{Absent, Memory}
 

@@ -1,33 +1,20 @@
--- References for writing: what a version becomes by what is left behind one, and why there is none.
+-- References for writing: what a version becomes by what is left behind one.
 use Rattle.std.specs.declared.cmp.Ordering.{Ordering}
-use Rattle.std.specs.Prelude.{◌≡◌, ℕ, Bool, List, Option, Some, None, IsSome, Result, Ok, Err}
+use Rattle.std.specs.Prelude.{ℕ, Bool, List, Option, Result, Ok, Err}
 use Rattle.std.specs.Option.{ghost_name_of}
 use Rattle.std.specs.Borrow.{Fml, GName, MutBor, RattleType, LendsIfOk, follows_if}
-use Rattle.std.specs.declared.alloc.AllocError.{AllocError}
 use Rattle.std.specs.declared.clone.Clone.{Ghosts as Clones}
 use mathlib.Core.Option as maybe
 use Rattle.rart_below.specs.declared.partial.Partial.{Ghosts as Prefixes}
-use Rattle.rart_versioned.specs.declared.counted.missing.Missing.{Missing}
-use Rattle.rart_versioned.specs.declared.counted.missing.Missing.TheVariants.{Absent, Memory}
 use Rattle.rart_versioned.specs.Versions.{Version, with_key}
 use Rattle.rart_versioned.specs.contracts.counted.tree.VersionedAdaptiveRadixTree.{the_row}
-
--- Why there is no reference: nothing is at the key, or something is and a copy was refused.
-abbrev pub Explains : {V : Type 0} → Missing → Option V → Type 0
-Explains Absent was = was ≡ None
-Explains (Memory error) was = IsSome was
-
--- the same answer, where an absent key is no failure
-abbrev pub found_value : {A : Type 0} → Result A Missing → Result (Option A) AllocError
-found_value (Ok x) = Ok (Some x)
-found_value (Err Absent) = Ok None
-found_value (Err (Memory error)) = Err error
 
 -- the name of the reference, if there is one
 abbrev pub found_name : {A E : Type 0} → Result (Option (MutBor A)) E → maybe.Option GName
 found_name (Ok found) = ghost_name_of found
 found_name (Err error) = maybe.none
 
+-- Over the rows of keys, values and prefixes, and the ghosts of their traits.
 module _ (K V P : RattleType) (most : Option ℕ) (bytes : K.Denot → List ℕ) (eq : K.Denot → K.Denot → Bool) (cmp : K.Denot → K.Denot → Ordering) (partial_cmp : K.Denot → K.Denot → Option Ordering) (prefixes : Prefixes P.Denot)
     (clones : Clones V.Denot) where
   -- the row of trees of such keys, values and prefixes

@@ -2,6 +2,8 @@ pub mod Bounds
 pub mod Changes
 pub mod Given
 pub mod Lent
+pub mod Missing
+pub mod PairLaws
 pub mod Pairs
 pub mod Paths
 pub mod Removals
@@ -9,4 +11,3 @@ pub mod Settled
 pub mod Trees
 pub mod Updates
 pub mod Versions
-pub mod PairLaws

@@ -1,5 +1,5 @@
 ghost use Rattle.std.specs.Prelude.{◌≡◌};
-ghost use Rattle.rart_versioned.specs.Lent.{found_value};
+ghost use Rattle.rart_versioned.specs.Missing.{found_value};
 
 use std::alloc::AllocError;
 

@@ -2,7 +2,8 @@ ghost use Rattle.std.specs.Prelude.{◌≡◌, IsTrue, IfOk, IfErr, OnErr, Some}
 ghost use Rattle.std.specs.Borrow.{sem};
 ghost use Rattle.std.specs.Option.{option_map};
 ghost use Rattle.rart_below.specs.Clones.{ClonesEqual};
-ghost use Rattle.rart_versioned.specs.Lent.{Explains, LendsValue, LendsFound};
+ghost use Rattle.rart_versioned.specs.Lent.{LendsValue, LendsFound};
+ghost use Rattle.rart_versioned.specs.Missing.{Explains};
 ghost use Rattle.rart_versioned.specs.Versions.{HasRoom, has_key, value_at};
 
 use crate::counted::VersionedAdaptiveRadixTree;

@@ -5,7 +5,7 @@ use Rattle.std.proofs.lemmas.Result.{IfOk-weaker, IfErr-weaker}
 use Rattle.rart_node.specs.Seen.{shown}
 use Rattle.rart_versioned.specs.Trees.{map_of, found_in}
 use Rattle.rart_versioned.specs.Versions.{value_at}
-use Rattle.rart_versioned.specs.Lent.{Explains}
+use Rattle.rart_versioned.specs.Missing.{Explains}
 use Rattle.rart_versioned.proofs.Counting.{counts-most}
 use Rattle.rart_versioned.proofs.Lending.{same-ends, at-ok, both-at-err, not-fallen}
 use Rattle.rart_versioned.proofs.Sound.{map-below, sound-later, tree-in, value-in}

@@ -1,12 +1,14 @@
 //! Families of versions: commands on them, and their replies.
-ghost use Rattle.std.specs.Prelude.{◌≡◌, ◌+◌, ◌*◌, ◌≤◌, [], map, length, IfOk, OnErr};
+ghost use Rattle.std.specs.Prelude.{◌≡◌, ◌+◌, ◌*◌, ◌≤◌, [], map, length, Some, IfOk, IfErr, OnErr, MatchOption};
 ghost use Rattle.std.specs.Option.{option_copied};
 ghost use Rattle.rart_versioned.specs.Given.{ClonesEqual};
+ghost use Rattle.rart_versioned.specs.Versions.{HasRoom};
 ghost use Rattle.vtree.specs.Attempts.{Tries, Gives, replied};
 ghost use Rattle.vtree.specs.Costs.{read_cost, read_least, change_cost, change_least, CountsReads, CountsChanges};
 ghost use Rattle.vtree.specs.Families.{version_at, placed};
 ghost use Rattle.vtree.specs.Replies.{seen};
 ghost use Rattle.vtree.specs.Runs.{Step, Run};
+ghost use Rattle.vtree.specs.declared.family.reply.Reply.TheVariants.{NoVersion, NoRoom};
 
 mod changes;
 mod command;
@@ -189,5 +191,25 @@ impl<K: KeyTrait, V: Clone + Drop> Family<K, V> {
         let place = self.len();
         self.versions.push(Some(version))?;
         Ok(Reply::Place(place))
+    }
+
+    // The version at a place, where its number can be raised by so much; else the reply that refuses.
+    fn version_with_room(
+        &self,
+        place: usize,
+        rise: u64,
+    ) -> Result<&VersionedAdaptiveRadixTree<K, V>, Reply<K, V>>
+        ensures ok { IfOk result (λ version. (version_at self.now place ≡ Some version.now) × HasRoom version.now rise) }
+        ensures refused { IfErr result (λ refusal. MatchOption (version_at self.now place)
+            (refusal ≡ NoVersion)
+            (λ version. (refusal ≡ NoRoom) × ¬ (HasRoom version rise))) }
+    {
+        let Some(version) = self.version_at(place) else {
+            return Err(Reply::NoVersion);
+        };
+        if version.version() > u64::MAX - rise {
+            return Err(Reply::NoRoom);
+        }
+        Ok(version)
     }
 }

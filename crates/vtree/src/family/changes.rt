@@ -10,7 +10,6 @@ ghost use Rattle.vtree.specs.Families.{version_at};
 ghost use Rattle.vtree.specs.declared.family.command.Command.TheVariants.{GetMut, Insert, Replace, Remove, Delete};
 
 use super::slot::write_slot;
-use super::versions::has_room;
 use super::{Family, Reply};
 use rart_versioned::{KeyTrait, VersionedAdaptiveRadixTree, Work};
 use std::alloc::AllocError;
@@ -28,11 +27,8 @@ impl<K: KeyTrait, V: Clone + Drop> Family<K, V> {
         ensures changes { CountsChanges K.bytes self.old (GetMut place key.now value.now)
             (replied K.bytes result) changes.old changes.new }
     {
-        let Some(version) = self.version_at(place) else {
-            return Ok(Reply::NoVersion);
-        };
-        if !has_room(version, 1) {
-            return Ok(Reply::NoRoom);
+        if let Err(refusal) = self.version_with_room(place, 1) {
+            return Ok(refusal);
         }
         let value = value.clone()?;
         let found = rewrite_at(&mut self.versions, place, key, value, changes)?;
@@ -51,11 +47,8 @@ impl<K: KeyTrait, V: Clone + Drop> Family<K, V> {
         ensures changes { CountsChanges K.bytes self.old (Insert place key.now value.now)
             (replied K.bytes result) changes.old changes.new }
     {
-        let Some(version) = self.version_at(place) else {
-            return Ok(Reply::NoVersion);
-        };
-        if !has_room(version, 1) {
-            return Ok(Reply::NoRoom);
+        if let Err(refusal) = self.version_with_room(place, 1) {
+            return Ok(refusal);
         }
         let value = value.clone()?;
         let replaced = insert_at(&mut self.versions, place, key, value, changes)?;
@@ -74,11 +67,8 @@ impl<K: KeyTrait, V: Clone + Drop> Family<K, V> {
         ensures changes { CountsChanges K.bytes self.old (Replace place key.now value.now)
             (replied K.bytes result) changes.old changes.new }
     {
-        let Some(version) = self.version_at(place) else {
-            return Ok(Reply::NoVersion);
-        };
-        if !has_room(version, 1) {
-            return Ok(Reply::NoRoom);
+        if let Err(refusal) = self.version_with_room(place, 1) {
+            return Ok(refusal);
         }
         let value = value.clone()?;
         let replaced = replace_at(&mut self.versions, place, key, value, changes)?;
@@ -96,11 +86,8 @@ impl<K: KeyTrait, V: Clone + Drop> Family<K, V> {
         ensures changes { CountsChanges K.bytes self.old (Remove place key.now)
             (replied K.bytes result) changes.old changes.new }
     {
-        let Some(version) = self.version_at(place) else {
-            return Ok(Reply::NoVersion);
-        };
-        if !has_room(version, 1) {
-            return Ok(Reply::NoRoom);
+        if let Err(refusal) = self.version_with_room(place, 1) {
+            return Ok(refusal);
         }
         let found = remove_at(&mut self.versions, place, key, changes)?;
         Ok(Reply::Value(found))
@@ -117,11 +104,8 @@ impl<K: KeyTrait, V: Clone + Drop> Family<K, V> {
         ensures changes { CountsChanges K.bytes self.old (Delete place key.now)
             (replied K.bytes result) changes.old changes.new }
     {
-        let Some(version) = self.version_at(place) else {
-            return Ok(Reply::NoVersion);
-        };
-        if !has_room(version, 1) {
-            return Ok(Reply::NoRoom);
+        if let Err(refusal) = self.version_with_room(place, 1) {
+            return Ok(refusal);
         }
         let found = delete_at(&mut self.versions, place, key, changes)?;
         Ok(Reply::Flag(found))

@@ -9,7 +9,6 @@ ghost use Rattle.vtree.specs.Costs.{CountsChanges};
 ghost use Rattle.vtree.specs.Families.{version_at, written, told};
 ghost use Rattle.vtree.specs.declared.family.command.Command.TheVariants.{Update, TryUpdate};
 
-use super::versions::has_room;
 use super::{Failure, Family, Reply};
 use rart_versioned::{KeyTrait, Refusal, Slot, SlotUpdate, VersionedAdaptiveRadixTree, Work};
 use std::alloc::AllocError;
@@ -28,11 +27,8 @@ impl<K: KeyTrait, V: Clone + Drop> Family<K, V> {
         ensures changes { CountsChanges K.bytes self.old (Update place key.now write.now answer.now)
             (replied K.bytes result) changes.old changes.new }
     {
-        let Some(version) = self.version_at(place) else {
-            return Ok(Reply::NoVersion);
-        };
-        if !has_room(version, 1) {
-            return Ok(Reply::NoRoom);
+        if let Err(refusal) = self.version_with_room(place, 1) {
+            return Ok(refusal);
         }
         let write = write_copy(write)?;
         let answer = answer_copy(answer)?;
@@ -53,11 +49,8 @@ impl<K: KeyTrait, V: Clone + Drop> Family<K, V> {
         ensures changes { CountsChanges K.bytes self.old (TryUpdate place key.now write.now answer.now)
             (replied K.bytes result) changes.old changes.new }
     {
-        let Some(version) = self.version_at(place) else {
-            return Ok(Reply::NoVersion);
-        };
-        if !has_room(version, 2) {
-            return Ok(Reply::NoRoom);
+        if let Err(refusal) = self.version_with_room(place, 2) {
+            return Ok(refusal);
         }
         let write = write_copy(write)?;
         let answer = match answer {

@@ -1,33 +1,21 @@
 // Commands that put a version at a new last place, or discard one.
-ghost use Rattle.std.specs.Prelude.{◌≡◌, ◌+◌, ◌^◌, nat_lt};
+ghost use Rattle.std.specs.Prelude.{◌≡◌};
 ghost use Rattle.vtree.specs.Attempts.{Tries, Gives};
 ghost use Rattle.vtree.specs.Families.{outcome};
 ghost use Rattle.vtree.specs.declared.family.command.Command.TheVariants.{Snapshot, Duplicate, Discard};
 
 use super::{Family, Reply};
-use rart_versioned::{KeyTrait, VersionedAdaptiveRadixTree};
+use rart_versioned::KeyTrait;
 use std::alloc::AllocError;
-
-// Whether the version's number can be raised by so much.
-pub(super) fn has_room<K: KeyTrait, V: Clone + Drop>(
-    version: &VersionedAdaptiveRadixTree<K, V>,
-    room: u64,
-) -> bool
-    ensures { result ≡ nat_lt (version.now.number + room) (2 ^ 64) }
-{
-    version.version() <= u64::MAX - room
-}
 
 impl<K: KeyTrait, V: Clone + Drop> Family<K, V> {
     pub(super) fn snapshot(&mut self, place: usize) -> Result<Reply<K, V>, AllocError>
         ensures { Tries K.bytes self.old (Snapshot place) result self.new }
     {
-        let Some(version) = self.version_at(place) else {
-            return Ok(Reply::NoVersion);
+        let version = match self.version_with_room(place, 1) {
+            Ok(version) => version,
+            Err(refusal) => return Ok(refusal),
         };
-        if !has_room(version, 1) {
-            return Ok(Reply::NoRoom);
-        }
         let copy = version.snapshot()?;
         self.place(copy)
     }

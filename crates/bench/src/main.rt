@@ -34,7 +34,7 @@ fn build<S: Store>(alloc: Global, keys: &[S::Key]) -> Result<S, AllocError> {
     Ok(store)
 }
 
-// How many of the keys are there.
+// The sum of the values found: how many of the keys are there, since each value is 1.
 fn hits<S: Store>(store: &S, keys: &[S::Key]) -> u64 {
     let mut count: u64 = 0;
     for key in keys {

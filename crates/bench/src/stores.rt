@@ -40,7 +40,11 @@ impl Store for VersionedAdaptiveRadixTree<ArrayKey<16>, u64> {
     }
 
     fn copy(&self) -> Result<VersionedAdaptiveRadixTree<ArrayKey<16>, u64>, AllocError> {
-        self.clone()
+        if self.version() < u64::MAX {
+            self.snapshot()
+        } else {
+            self.clone()
+        }
     }
 }
 

@@ -89,39 +89,33 @@ fn parse_key_command(
         (b"get", []) => Ok(Command::Get { place, key }),
         (b"remove", []) => Ok(Command::Remove { place, key }),
         (b"delete", []) => Ok(Command::Delete { place, key }),
-        (b"get-mut", [value]) => Ok(Command::GetMut {
-            place,
-            key,
-            value: parse_number(value)?,
-        }),
-        (b"insert", [value]) => Ok(Command::Insert {
-            place,
-            key,
-            value: parse_number(value)?,
-        }),
-        (b"replace", [value]) => Ok(Command::Replace {
-            place,
-            key,
-            value: parse_number(value)?,
-        }),
         (b"update", [write, answer @ ..]) => Ok(Command::Update {
             place,
             key,
             write: parse_write(write)?,
             answer: parse_answer(answer)?,
         }),
-        (b"try-update", [write, b"fail"]) => Ok(Command::TryUpdate {
-            place,
-            key,
-            write: parse_write(write)?,
-            answer: None,
-        }),
         (b"try-update", [write, answer @ ..]) => Ok(Command::TryUpdate {
             place,
             key,
             write: parse_write(write)?,
-            answer: Some(parse_answer(answer)?),
+            answer: parse_failing_answer(answer)?,
         }),
+        (_, [value]) => parse_value_command(name, place, key, parse_number(value)?),
+        _ => Err(LineError::Bad),
+    }
+}
+
+fn parse_value_command(
+    name: &[u8],
+    place: usize,
+    key: ArrayKey<16>,
+    value: u64,
+) -> Result<LineCommand, LineError> {
+    match name {
+        b"get-mut" => Ok(Command::GetMut { place, key, value }),
+        b"insert" => Ok(Command::Insert { place, key, value }),
+        b"replace" => Ok(Command::Replace { place, key, value }),
         _ => Err(LineError::Bad),
     }
 }
@@ -163,6 +157,14 @@ fn parse_write(word: &[u8]) -> Result<Option<u64>, LineError> {
     match word {
         b"-" => Ok(None),
         _ => Ok(Some(parse_number(word)?)),
+    }
+}
+
+// The answer of a callback that may fail, which is `None` where it does.
+fn parse_failing_answer(words: &[&[u8]]) -> Result<Option<SlotUpdate<u64>>, LineError> {
+    match words {
+        [b"fail"] => Ok(None),
+        _ => Ok(Some(parse_answer(words)?)),
     }
 }
 

@@ -1,5 +1,5 @@
 -- A node that is cut inside its prefix, and what is put into a node as far as its prefix is matched.
-use Rattle.std.proofs.Common.{◌≡◌, ℕ, ◌<◌, ◌≤◌, List, [], ◌∷◌, ◌++◌, Option, Some, None, slice_get, length, take, drop, cond, Bool, true, false, refl, sym, ap, subst, ◌∙◌}
+use Rattle.std.proofs.Common.{◌≡◌, ℕ, ◌<◌, List, [], ◌∷◌, ◌++◌, Option, Some, None, slice_get, length, take, drop, cond, Bool, true, false, refl, sym, ap, subst, ◌∙◌}
 use Rattle.std.specs.Prelude.{◌==◌, slice_index_or}
 use Rattle.std.specs.Option.{option_and_then}
 use Rattle.std.specs.Cmp.{unsigned_tied}
@@ -9,7 +9,7 @@ use Rattle.rart_below.specs.Bytes.{common_length}
 use Rattle.rart_below.specs.Children.{child_at}
 use Rattle.rart_node.specs.Shape.{Shape, Forest, node, bare, grown, prefix_of, children_of}
 use Rattle.rart_versioned.specs.Trees.{behind, BeginsWith, found, IsTree, IsPut, cut_at}
-use Rattle.rart_versioned.proofs.Behind.{behind-append, split-common, split-whole, differs-behind, begins-drop, begins-common}
+use Rattle.rart_versioned.proofs.Behind.{behind-append, split-common, differs-behind, begins-drop, begins-common}
 use Rattle.rart_versioned.proofs.Maps.{found-empty, found-other}
 use Rattle.rart_versioned.proofs.Puts.{inside}
 
@@ -51,8 +51,3 @@ module _ {V : Type 0} where
         (λ q. same.1 q ∙ ap (cond (bytes_eq q key) (Some value)) (cut-found s at q lt)),
         λ byte begins also. same.2 byte (subst (λ z. BeginsWith byte (take z prefix)) (sym is) (begins-common prefix key byte begins also)) also,
       )
-
-  -- what is put into the node behind its whole prefix
-  pub put-whole : (s after : Shape V) (at : ℕ) (key : List ℕ) (value : V) → at ≡ common_length (prefix_of s) key → length (prefix_of s) ≤ at → IsPut (prefix_of s ++ drop at key) value s after → IsPut key value s after
-  put-whole s after at key value is whole puts =
-      subst (λ z. IsPut z value s after) (sym (subst (λ z. key ≡ prefix_of s ++ drop z key) (sym is) (split-whole (prefix_of s) key (subst (λ z. length (prefix_of s) ≤ z) is whole)))) puts

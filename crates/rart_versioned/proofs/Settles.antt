@@ -1,5 +1,5 @@
 -- What a callback's answer makes of a version, arm by arm.
-use Rattle.std.proofs.Common.{◌≡◌, ℕ, List, Option, Some, None, Result, Ok, Err, inr, is_some, cond, Bool, true, false, refl, sym, ap, subst, ◌∙◌}
+use Rattle.std.proofs.Common.{◌≡◌, ℕ, List, Option, Some, None, Result, Ok, inr, is_some, cond, Bool, true, false, refl, sym, ap, subst, ◌∙◌}
 use Rattle.std.specs.Prelude.{◌+◌}
 use Rattle.std.specs.Borrow.{MutBor}
 use Rattle.std.specs.Fn.{Once}
@@ -91,29 +91,8 @@ module _ {V : Type 0} where
       tried-there value is Vacant Keep = rw is (ap (λ z. (Ok true, z)) (kept 1 value is))
       tried-there value is (Occupied x) Keep = rw is refl
 
-      failed-there : (value : V) → value_at v w ≡ Some value → (left : Slot V) (e : E) → IsTried v w left (Err e) (Err e) (raised v 2)
-      failed-there value is left e = rw is refl
-
-      tried-absent : value_at v w ≡ None → (left : Slot V) (told : SlotUpdate V) → IsTried {E = E} v w left (Ok told) (Ok (settled_absent v w told).0) (settled_absent v w told).1
-      tried-absent is left (Insert x) = rw is refl
-      tried-absent is left Remove = rw is refl
-      tried-absent is left Keep = rw is refl
-
-      failed-absent : value_at v w ≡ None → (left : Slot V) (e : E) → IsTried v w left (Err e) (Err e) v
-      failed-absent is left e = rw is refl
-
       pub there-tried : (left : Slot V) (told : SlotUpdate V) (after : Version V) → has_key v w ≡ true → after ≡ settled v w (change_of left told) (rise_of told) → IsTried {E = E} v w left (Ok told) (Ok true) after
       there-tried left told after there is = let value = some there (value_at v w) refl in subst (IsTried {E = E} v w left (Ok told) (Ok true)) (sym is) (tried-there value.0 value.1 left told)
-
-      pub there-failed : (left : Slot V) (e : E) (after : Version V) → has_key v w ≡ true → after ≡ raised v 2 → IsTried v w left (Err e) (Err e) after
-      there-failed left e after there is = let value = some there (value_at v w) refl in subst (IsTried v w left (Err e) (Err e)) (sym is) (failed-there value.0 value.1 left e)
-
-      pub absent-tried : (left : Slot V) (told : SlotUpdate V) (answer : Bool) (after : Version V) → has_key v w ≡ false → (answer, after) ≡ settled_absent v w told → IsTried {E = E} v w left (Ok told) (Ok answer) after
-      absent-tried left told answer after absent is =
-          subst (λ z. IsTried {E = E} v w left (Ok told) (Ok z.0) z.1) (sym is) (tried-absent (none absent (value_at v w) refl) left told)
-
-      pub absent-failed : (left : Slot V) (e : E) → has_key v w ≡ false → IsTried v w left (Err e) (Err e) v
-      absent-failed left e absent = failed-absent (none absent (value_at v w) refl) left e
 
 -- ---- what a call of the callback allows
 module _ {F V : Type 0} (callback : Once F (MutBor (Slot V) × Unit {0}) (SlotUpdate V × (MutBor (Slot V) × Unit {0}))) (f : F) (v : Version V) (w : List ℕ) where

@@ -1,5 +1,5 @@
 -- A value that is taken from the end of a node's prefix, or from below the node.
-use Rattle.std.proofs.Common.{◌≡◌, ◌≤◌, ℕ, suc, List, [], ◌∷◌, ◌++◌, Option, Some, None, IsSome, is_none, slice_get, length, drop, cond, Bool, true, false, not, ◌&&◌, refl, arith, sym, ap, subst, ◌∙◌}
+use Rattle.std.proofs.Common.{◌≡◌, ◌≤◌, ℕ, suc, List, [], ◌∷◌, ◌++◌, Option, Some, None, IsSome, slice_get, length, drop, cond, Bool, true, false, not, ◌&&◌, refl, arith, sym, ap, subst, ◌∙◌}
 use Rattle.std.specs.Prelude.{◌==◌, IsTrue, T}
 use Rattle.std.specs.Option.{option_and_then}
 use Rattle.std.specs.Ordering.{nat_cmp}
@@ -7,7 +7,7 @@ use Rattle.std.specs.Cmp.{unsigned_tied}
 use Rattle.std.specs.Str.{bytes_eq}
 use Rattle.std.specs.FinMap.{nat_cmp-IsAntisymmetric}
 use Rattle.std.specs.FinMap.Entries.{is_sorted, find-where_key, find-put, same_entries}
-use Rattle.std.proofs.lemmas.Bool.{eqb-true, ne_eqb, false≢true}
+use Rattle.std.proofs.lemmas.Bool.{eqb-true, false≢true}
 use Rattle.std.proofs.lemmas.Cmp.{nat_cmp_total}
 use Rattle.std.proofs.lemmas.Option.{same_Some, none-some}
 use Rattle.rart_below.specs.Children as children
@@ -166,11 +166,3 @@ module _ {V : Type 0} where
 
   pub ascending-replaced : (s : Shape V) (byte : ℕ) (child : Shape V) → IsOrdered s → IsAscending (with_replaced byte child s)
   ascending-replaced (node prefix value width forest) byte child order = ascending-with forest byte child order.0
-
-  -- whether there is no value, and then whether there is no child
-  pub unused-parts : (s : Shape V) (o : Option V) → o ≡ value_of s → (is_none o && (length (children_of s) == 0)) ≡ is_unused s
-  unused-parts (node prefix (Some value) width forest) o is = ap (λ v. is_none v && (length (entries_of forest) == 0)) is
-  unused-parts (node prefix None width bare) o is = ap (λ v. is_none v && true) is
-  unused-parts (node prefix None width (grown byte child forest)) o is =
-      let some : (suc (length (entries_of forest)) == 0) ≡ false = ne_eqb _ 0 (λ none. omega (arith, none)) in
-      rw some (ap (λ v. is_none v && false) is)

@@ -1,5 +1,5 @@
 -- The words of a proof by hand, and the laws of a reference.
-pub use Rattle.std.proofs.Common.{◌≡◌, ℕ, ◌+◌, ◌<◌, ◌^◌, Option, Some, None, List, [], ◌∷◌, refl, sym, ap, subst, ◌∙◌}
+pub use Rattle.std.proofs.Common.{◌≡◌, ◌+◌, ◌<◌, ◌^◌, Some, List, [], ◌∷◌, refl, sym, ap, subst, ◌∙◌}
 pub use Rattle.std.proofs.raw_atomic.Walks.{proved, proved_at}
 pub use base.Fml.{GName, ftrue, flft}
 pub use base.Logic.{id⊢, ent, sep, emp, via, fst∗, snd∗}
@@ -26,7 +26,7 @@ pub use denote.Triple.Clauses.{lasts, Lasts}
 pub use denote.Triple.Entry.{on_entry}
 pub use denote.Triple.Spec.{triple_of}
 pub use denote.Triple.Table.{framed}
-pub use denote.Triple.Walked.{Stays, says, stay_dropped, Goes-dropped, Goes-spent_ref, gave_ref, Goes-gave_ref, ends_at, walk_of}
+pub use denote.Triple.Walked.{Stays, stay_dropped, Goes-dropped, Goes-spent_ref, gave_ref, Goes-gave_ref, ends_at, walk_of}
 use denote.Param.Laws.{of_field, is_one, row_shared}
 use denote.Param.Shared.{mut_ref_shared}
 use denote.Ref.{NamedLft, MutRef}

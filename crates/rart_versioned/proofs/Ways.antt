@@ -27,9 +27,6 @@ module _ {V : Type 0} where
   pub step-short : (s : Shape V) (key : List ℕ) → common_length (prefix_of s) key < length (prefix_of s) → step key s ≡ None
   step-short (node prefix value width forest) key short = rw (behind-short prefix key short) refl
 
-  pub step-end : (s : Shape V) (key : List ℕ) → length (prefix_of s) ≤ common_length (prefix_of s) key → drop (common_length (prefix_of s) key) key ≡ [] → step key s ≡ None
-  step-end (node prefix value width forest) key whole end = rw (behind-whole prefix key whole, end) refl
-
   pub step-child : (s : Shape V) (key : List ℕ) (byte : ℕ) → length (prefix_of s) ≤ common_length (prefix_of s) key → slice_get (drop (common_length (prefix_of s) key) key) 0 ≡ Some byte
       → step key s ≡ option_map (λ child. (child, drop (common_length (prefix_of s) key) key)) (child_at byte (children_of s))
   step-child (node prefix value width forest) key byte whole next =

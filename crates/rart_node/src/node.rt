@@ -1,15 +1,15 @@
-ghost use Rattle.std.specs.Prelude.{◌≡◌, ◌≢◌, ◌==◌, ℕ, ◌+◌, ◌↔◌, ◌<◌, ◌≤◌, if◌then◌else◌, is_ok, IsErrOf, IsSome, IsTrue, IfOk, OnOk, OnErr, Some, None, [], length, not};
+ghost use Rattle.std.specs.Prelude.{◌≡◌, ◌==◌, ◌+◌, ◌↔◌, IsErrOf, IsSome, IsTrue, IfOk, OnOk, OnErr, Some, None, [], length, not};
 ghost use Rattle.std.specs.Option.{option_map, option_copied};
 ghost use Rattle.rart_below.specs.Children.{child_at, children_from, first_of};
 ghost use Rattle.rart_below.specs.Clones.{ClonesEqual};
-ghost use Rattle.rart_node.specs.Shape.{node_of, prefix_of, value_of, width_of, children_of, is_full_at, with_value, with_prefix, with_replaced, with_deleted, with_added, with_width, widenings, wider, IsAscending, IsFull};
+ghost use Rattle.rart_node.specs.Shape.{node_of, prefix_of, value_of, width_of, children_of, with_value, with_prefix, with_replaced, with_deleted, with_added, with_width, widenings, wider, IsAscending, IsFull};
 
 use crate::content::{Content, Layout};
 use crate::grow_error::GrowError;
 use crate::node_iter::VersionedNodeIter;
 use crate::node_ref::NodeRef;
 use crate::work::Work;
-use rart_below::{NodeMapping, Partial, SortedKeyedMapping};
+use rart_below::{Partial, SortedKeyedMapping};
 use std::alloc::{AllocError, Global};
 
 /// A node: a prefix, an optional value, a width and a finite map from bytes to pointers.

@@ -55,9 +55,6 @@ module _ {A B : Type 0} (f : A → B) (g : Option A → Option B) (none : g None
       ap (λ (slot : Option B). slot_children byte (slot ∷ map g slots)) (some child)
       ∙ ap (λ (rest : List (ℕ × B)). (byte, f child) ∷ rest) (slot_children-map (suc byte) slots)
 
-  pub length-slot_children-map : (byte : ℕ) (slots : List (Option A)) → length (slot_children byte (map g slots)) ≡ length (slot_children byte slots)
-  length-slot_children-map byte slots = ap length (slot_children-map byte slots) ∙ length-at_children (slot_children byte slots)
-
   -- ---- slots that an index names
   one_if_held-map : (slot : Option A) → one_if_held (g slot) ≡ one_if_held slot
   one_if_held-map None = ap one_if_held none

@@ -42,6 +42,7 @@ pub trait NodeMapping<C: Drop> {
         ensures* writes_back { sem 𝓛 (LendsChild Self.row C.row in_order children self.entry byte result) }
         ensures value { option_copied_mut result ≡ child_at byte (children self.old) };
 
+    /// The number of children.
     fn num_children(&self) -> usize
         requires { IsTrue (in_order self.now) }
         ensures { result ≡ length (children self.now) };
@@ -54,7 +55,9 @@ pub trait NodeMapping<C: Drop> {
         ensures order { IsTrue (in_order self.new) }
         ensures children { children self.new ≡ with_child byte child (children self.old) };
 
-    /// Puts the child under the byte in place of the one that is there, which is returned.
+    /// Puts the child under the byte in place of the one that is there, which is returned. rart has
+    /// no such call: there the one is taken out by `delete_child`, and the other put in by
+    /// `add_child`.
     fn replace_child(&mut self, byte: u8, child: C) -> C
         requires order { IsTrue (in_order self.old) }
         requires present { IsSome (child_at byte (children self.old)) }
@@ -69,7 +72,8 @@ pub trait NodeMapping<C: Drop> {
         ensures value { result ≡ child_at byte (children self.old) }
         ensures children { children self.new ≡ without_child byte (children self.old) };
 
-    /// The child of the least byte that is not below the number, with that byte.
+    /// The child of the least byte that is not below the number, with that byte. rart has no such
+    /// call: there the children are visited by `iter`.
     fn next_from(&self, from: usize) -> Option<(u8, &C)>
         requires { IsTrue (in_order self.now) }
         ensures { entry_copied result ≡ first_of (children_from from (children self.now)) };

@@ -9,7 +9,7 @@ use Rattle.rart_below.specs.Layouts.{entry_copied}
 use Rattle.rart_node.specs.declared.node.VersionedNode.{VersionedNode, out-VersionedNode, roll-VersionedNode}
 use Rattle.rart_node.specs.declared.node_ref.NodeRef.{NodeRef}
 use Rattle.rart_node.specs.Contents.{Content, held, Holds}
-use Rattle.rart_node.specs.Shape.{Shape, node, bare, Forest, grown, forest_of, entries_of, node_of, prefix_of, value_of, width_of, children_of, with_children, with_replaced, with_deleted, with_added, with_width, widened, widenings, is_full_at, entries_of-forest_of, IsAscending, IsFull, IsFullAt}
+use Rattle.rart_node.specs.Shape.{Shape, node, node_of, prefix_of, value_of, width_of, children_of, with_children, with_replaced, with_deleted, with_added, widened, widenings, is_full_at, entries_of-forest_of, IsAscending, IsFull, IsFullAt}
 use Rattle.rart_node.specs.Seen.{seen, shown, shown_children, shown_entry, shown_held, seen_of, seen_roll, seen_out, if_in_order}
 use Rattle.rart_node.proofs.Entries.{length-each, child_at-each, with_child-each, without_child-each, children_from-each, first_of-each}
 
@@ -34,13 +34,6 @@ of_lent (Some reference) given says = says given
 module _ {V : Type 0} where
   with_children-parts : (children : List (ℕ × Shape V)) (s : Shape V) → with_children children s ≡ node_of (prefix_of s) (value_of s) (width_of s) children
   with_children-parts children (node prefix value width forest) = refl
-
-  forest_of-entries_of : (forest : Forest V) → forest_of (entries_of forest) ≡ forest
-  forest_of-entries_of bare = refl
-  forest_of-entries_of (grown byte child forest) = ap (grown byte child) (forest_of-entries_of forest)
-
-  with_width-parts : (width : ℕ) (s : Shape V) → with_width width s ≡ node_of (prefix_of s) (value_of s) width (children_of s)
-  with_width-parts width (node prefix value old forest) = ap (node prefix value width) (sym (forest_of-entries_of forest))
 
   with_added-parts : (byte : ℕ) (child s : Shape V) → with_added byte child s ≡ node_of (prefix_of s) (value_of s) (widened (width_of s) (length (children_of s))) (with_child byte child (children_of s))
   with_added-parts byte child (node prefix value width forest) = refl
@@ -108,13 +101,6 @@ module _ {P V : Type 0} (bytes : P → List ℕ) where
           ∙ ap (λ w. node_of (prefix_of (seen bytes n)) (value_of (seen bytes n)) w (shown_children bytes entries)) (same ∙ sym width-seen)
           ∙ ap (node_of (prefix_of (seen bytes n)) (value_of (seen bytes n)) (width_of (seen bytes n))) is
           ∙ sym (with_children-parts children (seen bytes n))
-
-      -- another width
-      pub seen-width : IsAscending (seen bytes n) → entries ≡ children_in → seen bytes (with_content n content) ≡ with_width width (seen bytes n)
-      seen-width order same =
-          seen-with_content
-          ∙ ap (node_of (prefix_of (seen bytes n)) (value_of (seen bytes n)) width) (ap (shown_children bytes) same ∙ sym (children-shown order))
-          ∙ sym (with_width-parts width (seen bytes n))
 
       -- one more child
       pub seen-added : (byte : ℕ) (child : NodeRef P V) → IsAscending (seen bytes n) → width ≡ widened (held content_of).width (length children_in) → entries ≡ with_child byte child children_in

@@ -1,9 +1,9 @@
 -- Entries, each under its byte, and the same with each thing by a function.
 use Rattle.std.proofs.Common.{◌≡◌, ℕ, suc, List, [], ◌∷◌, true, false, not, Some, cond, length, map, refl, ap}
-use Rattle.std.specs.Prelude.{◌==◌, ◌&&◌, nat_le}
+use Rattle.std.specs.Prelude.{◌==◌, nat_le}
 use Rattle.std.specs.Option.{option_map}
-use Rattle.std.specs.Ordering.{nat_cmp, eq_by_cmp, is_lt}
-use Rattle.std.specs.FinMap.Entries.{find, put, is_sorted, below_all, by_order}
+use Rattle.std.specs.Ordering.{nat_cmp, eq_by_cmp}
+use Rattle.std.specs.FinMap.Entries.{find, put, by_order}
 use Rattle.std.specs.declared.cmp.Ordering.TheVariants.{Less, Equal, Greater}
 use Rattle.rart_below.specs.Children.{child_at, with_child, without_child, children_from, first_of}
 
@@ -19,14 +19,6 @@ module _ {X Y : Type 0} (f : X → Y) where
   child_at-each b [] = refl
   child_at-each b (e ∷ es) = elim (eq_by_cmp nat_cmp b e.0) as (λ t. cond t (Some (f e.1)) (find nat_cmp b (each es)) ≡ option_map f (cond t (Some e.1) (find nat_cmp b es)))
       [ true ↦ refl | false ↦ child_at-each b es ]
-
-  below_all-each : (b : ℕ) (es : List (ℕ × X)) → below_all nat_cmp b (each es) ≡ below_all nat_cmp b es
-  below_all-each b [] = refl
-  below_all-each b (e ∷ es) = ap (λ t. is_lt (nat_cmp b e.0) && t) (below_all-each b es)
-
-  pub is_sorted-each : (es : List (ℕ × X)) → is_sorted nat_cmp (each es) ≡ is_sorted nat_cmp es
-  is_sorted-each [] = refl
-  is_sorted-each (e ∷ es) = λ i. below_all-each e.0 es i && is_sorted-each es i
 
   pub with_child-each : (b : ℕ) (x : X) (es : List (ℕ × X)) → each (with_child b x es) ≡ with_child b (f x) (each es)
   with_child-each b x [] = refl

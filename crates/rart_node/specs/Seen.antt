@@ -1,4 +1,4 @@
--- How a node of the program is seen, where `bytes` gives a prefix's bytes. Only this file and Contents know what a node keeps its children in.
+-- How a node of the program is seen, where `bytes` gives a prefix's bytes. Among the specs only this file, Contents and Lent know what a node keeps its children in.
 use Rattle.std.specs.Prelude.{◌≡◌, ℕ, List, [], ◌∷◌, Option, None, Some, Bool, map, cond, refl}
 use Rattle.std.specs.Borrow.{Bor}
 use Rattle.std.proofs.Common.{ap, sym, ◌∙◌}

@@ -1,15 +1,15 @@
-ghost use Rattle.std.specs.Prelude.{◌≡◌, ◌≢◌, ◌==◌, ℕ, ◌+◌, ◌↔◌, ◌<◌, ◌≤◌, if◌then◌else◌, is_ok, IsErrOf, IsSome, IsTrue, IfOk, OnOk, OnErr, Some, None, [], length, not};
+ghost use Rattle.std.specs.Prelude.{◌≡◌, ◌==◌, ◌+◌, ◌↔◌, IsErrOf, IsSome, IsTrue, IfOk, OnOk, OnErr, Some, None, [], length, not};
 ghost use Rattle.std.specs.Option.{option_map, option_copied};
 ghost use Rattle.rart_below.specs.Children.{child_at, children_from, first_of};
 ghost use Rattle.rart_below.specs.Clones.{ClonesEqual};
-ghost use Rattle.rart_node.specs.Shape.{node_of, prefix_of, value_of, width_of, children_of, is_full_at, with_value, with_prefix, with_replaced, with_deleted, with_added, with_width, widenings, wider, IsAscending, IsFull};
+ghost use Rattle.rart_node.specs.Shape.{node_of, prefix_of, value_of, width_of, children_of, with_value, with_prefix, with_replaced, with_deleted, with_added, with_width, widenings, wider, IsAscending, IsFull};
 
 use crate::content::{Content, Layout};
 use crate::grow_error::GrowError;
 use crate::node_iter::VersionedNodeIter;
 use crate::node_ref::NodeRef;
 use crate::work::Work;
-use rart_below::{NodeMapping, Partial, SortedKeyedMapping};
+use rart_below::{Partial, SortedKeyedMapping};
 use std::alloc::{AllocError, Global};
 
 /// A node: a prefix, an optional value, a width and a finite map from bytes to pointers.
@@ -33,8 +33,9 @@ impl<P: Partial, V: Drop> VersionedNode<P, V> {
     ghost use Rattle.rart_node.specs.Lent.{LendsChild, LendsValue};
     ghost use Rattle.std.specs.Borrow.{sem};
 
-    /// A leaf with this value. The allocator is kept for its copies and its growth, and `version` is
-    /// stored and read by no call.
+    /// A leaf with this value. The allocator is kept for `Clone`, which takes none and by which
+    /// `NodeRef::open_mut` copies a node; growth takes its own. `version` is stored and read by no
+    /// call.
     pub fn new_leaf(alloc: Global, prefix: P, value: V, version: u64) -> VersionedNode<P, V>
         ensures { seen P.bytes result ≡ node_of (P.bytes prefix) (Some value) 0 [] }
     {
@@ -47,7 +48,8 @@ impl<P: Partial, V: Drop> VersionedNode<P, V> {
         }
     }
 
-    /// A node of width 4 with no value and no child.
+    /// A node of width 4 with no value and no child. Refused for memory, no node is made and the
+    /// prefix is given up.
     pub fn new_inner(
         alloc: Global,
         prefix: P,
@@ -78,12 +80,14 @@ impl<P: Partial, V: Drop> VersionedNode<P, V> {
         self.content.width() != 0
     }
 
+    /// The prefix. rart has no such call: there the field is read.
     pub fn prefix(&self) -> &P
         ensures { P.bytes result.now ≡ prefix_of (seen P.bytes self.now) }
     {
         &self.prefix
     }
 
+    /// The value, where there is one.
     pub fn value(&self) -> Option<&V>
         ensures { option_copied result ≡ value_of (seen P.bytes self.now) }
     {
@@ -124,7 +128,8 @@ impl<P: Partial, V: Drop> VersionedNode<P, V> {
         self.iter_from(0)
     }
 
-    /// The children from a byte on, each with its byte, ascending.
+    /// The children from a byte on, each with its byte, ascending. rart has no such call: there
+    /// `iter` starts at the least byte.
     pub fn iter_from(&self, least: u8) -> VersionedNodeIter<'_, P, V>
         requires { IsAscending (seen P.bytes self.now) }
         ensures order { IsAscending (seen P.bytes result.node.now) }
@@ -175,7 +180,8 @@ impl<P: Partial, V: Drop> VersionedNode<P, V> {
         Ok(())
     }
 
-    /// Puts a child in place of the one under the byte, and gives that one.
+    /// Puts a child in place of the one under the byte, and gives that one. rart has no such call:
+    /// there the one is taken out by `delete_child`, and the other put in by `add_child`.
     pub fn replace_child(&mut self, byte: u8, child: NodeRef<P, V>) -> NodeRef<P, V>
         requires order { IsAscending (seen P.bytes self.old) }
         requires present { IsSome (child_at byte (children_of (seen P.bytes self.old))) }
@@ -194,7 +200,8 @@ impl<P: Partial, V: Drop> VersionedNode<P, V> {
         self.content.delete_child(byte)
     }
 
-    /// The value, for writing. The node then has it as it was left.
+    /// The value, for writing. The node then has it as it was left. rart has no such call: there
+    /// the field is lent.
     pub fn value_mut(&mut self) -> Option<&mut V>
         ensures* writes_back { sem 𝓛 (LendsValue P.row V.row P.bytes self.entry result) }
         ensures value { option_map (λ value. value.now) result ≡ value_of (seen P.bytes self.old) }
@@ -202,7 +209,8 @@ impl<P: Partial, V: Drop> VersionedNode<P, V> {
         self.value.as_mut()
     }
 
-    /// Puts the value in, and gives the one that was there.
+    /// Puts the value in, and gives the one that was there. rart has no such call: there the field
+    /// is replaced.
     pub fn set_value(&mut self, value: V) -> Option<V>
         ensures old { result ≡ value_of (seen P.bytes self.old) }
         ensures new { seen P.bytes self.new ≡ with_value (Some value) (seen P.bytes self.old) }
@@ -210,7 +218,7 @@ impl<P: Partial, V: Drop> VersionedNode<P, V> {
         self.value.replace(value)
     }
 
-    /// Takes the value out.
+    /// Takes the value out, and gives it. rart has no such call: there the field is emptied.
     pub fn take_value(&mut self) -> Option<V>
         ensures old { result ≡ value_of (seen P.bytes self.old) }
         ensures new { seen P.bytes self.new ≡ with_value None (seen P.bytes self.old) }
@@ -218,7 +226,7 @@ impl<P: Partial, V: Drop> VersionedNode<P, V> {
         self.value.take()
     }
 
-    /// The same node with this prefix.
+    /// The same node with this prefix. rart has no such call: there the field is assigned.
     pub fn with_prefix(self, prefix: P) -> VersionedNode<P, V>
         ensures { seen P.bytes result ≡ with_prefix (P.bytes prefix) (seen P.bytes self) }
     {
@@ -238,6 +246,9 @@ impl<P: Partial, V: Clone + Drop> VersionedNode<P, V> {
     ghost use Rattle.rart_node.specs.Contents.{held};
 
     /// A node with the same prefix, value, width and children, where clones of values equal them.
+    ///
+    /// It is refused where memory is, where the value's clone is, and where the count of pointers
+    /// to a child is at its greatest. Then no node is made.
     pub fn cow_clone_inner(
         &self,
         alloc: Global,

@@ -46,7 +46,8 @@ impl<P: Partial, V: Drop> NodeRef<P, V> {
         &self.shared
     }
 
-    /// Another pointer to the same node. In Rust this is `Arc::clone`.
+    /// Another pointer to the same node. Refused where the count of pointers to it is at its
+    /// greatest, and nothing has changed then. In Rust this is `Arc::clone`.
     pub fn copy(&self) -> Result<NodeRef<P, V>, AllocError>
         ensures { IfOk result (λ copy. shown P.bytes copy ≡ shown P.bytes self.now) }
     {

@@ -23,7 +23,7 @@ type Sorted = BTreeMap<[u8; 16], u64>;
 /// How often each thing is timed. The least time is printed.
 const PASSES: usize = 5;
 
-/// How many insertions are made into snapshots.
+/// How many insertions into snapshots a pass makes, each way.
 const CHANGES: usize = 200;
 
 fn build<S: Store>(alloc: Global, keys: &[S::Key]) -> Result<S, AllocError> {
@@ -92,6 +92,7 @@ struct Taken {
     missed: u64,
 }
 
+// Builds a store, looks keys up in it and changes snapshots of it, once each.
 fn pass<S: Store>(rt: &HostRuntime, keys: &KeySet<S::Key>) -> anyhow::Result<Taken> {
     let start = Instant::now(rt)?;
     let store = build::<S>(rt.alloc(), &keys.built)?;

@@ -199,7 +199,8 @@ impl<K: KeyTrait, V: Clone + Drop> Family<K, V> {
         place: usize,
         rise: u64,
     ) -> Result<&VersionedAdaptiveRadixTree<K, V>, Reply<K, V>>
-        ensures ok { IfOk result (λ version. (version_at self.now place ≡ Some version.now) × HasRoom version.now rise) }
+        ensures found { IfOk result (λ version. version_at self.now place ≡ Some version.now) }
+        ensures room { IfOk result (λ version. HasRoom version.now rise) }
         ensures refused { IfErr result (λ refusal. MatchOption (version_at self.now place)
             (refusal ≡ NoVersion)
             (λ version. (refusal ≡ NoRoom) × ¬ (HasRoom version rise))) }

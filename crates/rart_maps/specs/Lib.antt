@@ -1,0 +1,5 @@
+pub mod Bounds
+pub mod Changes
+pub mod PairLaws
+pub mod Pairs
+pub mod Versions

@@ -1,0 +1,34 @@
+//! Which strings begin the keys of maps, and how many a string begins.
+ghost use Rattle.rart_maps.specs.PairLaws.{StartsShorten, SharedShorten, SharedIsEmpty};
+ghost use Rattle.rart_maps.specs.StartLaws.{StartsBeginKeys, SharedAreInBoth, StringsUnderPart, StringsUnderAreApart, StringsUnderAddUp, StartsAddUp, SharedAddUp};
+
+/// A beginning of a string that begins a key begins that key too. No string begins a key of both
+/// maps exactly where either has no key.
+#[tactic(auto, using(crate::proofs::PairLawLemmas::starts_shorten, crate::proofs::PairLawLemmas::shared_shorten, crate::proofs::PairLawLemmas::shared_is_empty))]
+pub fn beginnings_shorten<V>()
+    ensures starts { StartsShorten V }
+    ensures shared { SharedShorten V }
+    ensures empty { SharedIsEmpty V }
+{}
+
+/// A string is one of the starts exactly where it begins a key, and is shared exactly where it is
+/// one of the starts of both maps.
+pub fn starts_begin_keys<V>()
+    ensures starts { StartsBeginKeys V }
+    ensures shared { SharedAreInBoth V }
+{}
+
+/// The strings of a set that a string begins are that string, where it is one, and for each byte
+/// those that the string and the byte begin. No two of these parts have a string in common.
+pub fn strings_under_part()
+    ensures part { StringsUnderPart }
+    ensures apart { StringsUnderAreApart }
+{}
+
+/// So their numbers add up, over any list in which each byte that follows stands once. For starts
+/// of maps whose keys are bytes, the list of all bytes is one.
+pub fn strings_under_add_up<V>()
+    ensures any { StringsUnderAddUp }
+    ensures starts { StartsAddUp V }
+    ensures shared { SharedAddUp V }
+{}

@@ -6,3 +6,5 @@ pub mod PairLaws
 pub mod Pairs
 pub mod StartLaws
 pub mod Versions
+pub mod WorkedBounds
+pub mod WorkedPairs

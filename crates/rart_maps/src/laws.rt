@@ -4,3 +4,4 @@
 pub mod pairs;
 pub mod starts;
 pub mod strings;
+pub mod worked;

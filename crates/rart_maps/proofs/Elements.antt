@@ -1,5 +1,5 @@
 -- What stands in a filter, in what a partial function gives, and in the entries of a map.
-use Rattle.std.proofs.Common.{◌≡◌, ◌<◌, ◌↔◌, ◌⊎◌, ℕ, zero, suc, Bool, true, false, cond, List, [], ◌∷◌, length, refl, sym, ap, subst, ◌∙◌, ⊎_elim, inl, inr, arith}
+use Rattle.std.proofs.Common.{◌≡◌, ◌↔◌, ◌⊎◌, zero, suc, Bool, true, false, cond, List, [], ◌∷◌, refl, sym, ap, subst, ◌∙◌, ⊎_elim, inl, inr, arith}
 use Rattle.std.specs.Prelude.{Option, Some, None, T, Contains, All, AllPairs, filter}
 use Rattle.std.specs.List.{filter_map, cons_option, list_any}
 use Rattle.std.specs.Option.{unwrap_or, is_some}
@@ -106,7 +106,7 @@ module _ {A B : Type 0} where
   pub Contains-filter_map : (h : A → Option B) (xs : List A) (y : B) → Contains (filter_map h xs) y ↔ ((x : A) × Contains xs x × (h x ≡ Some y))
   Contains-filter_map h xs y = (filter_map-contains h xs y, λ found. contains-filter_map h xs found.0 y found.1 found.2)
 
-T-true : (b : Bool) → T b → b ≡ true
+pub T-true : (b : Bool) → T b → b ≡ true
 T-true true holds = refl
 T-true false holds = absurd holds
 

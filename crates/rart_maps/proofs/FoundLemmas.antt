@@ -1,7 +1,6 @@
 -- Which pairs stand in what is read off maps.
-use Rattle.std.proofs.Common.{◌≡◌, ◌↔◌, ℕ, Bool, true, false, List, [], ◌∷◌, refl, sym, ap, subst, ◌∙◌, ⊎_elim, arith}
-use Rattle.std.specs.Prelude.{Option, Some, None, T, Contains, AllPairs, filter}
-use Rattle.std.specs.declared.ops.Bound.{Bound}
+use Rattle.std.proofs.Common.{◌≡◌, ◌↔◌, ℕ, Bool, true, List, [], ◌∷◌, refl, sym, ap, subst, ◌∙◌, ⊎_elim, arith}
+use Rattle.std.specs.Prelude.{Option, Some, None, Contains, filter}
 use Rattle.std.specs.List.{filter_map, cons_option}
 use Rattle.std.specs.Option.{option_map, unwrap_or, is_some}
 use Rattle.std.specs.Ordering.{as_partial_cmp}
@@ -13,18 +12,16 @@ use Rattle.std.proofs.lemmas.Bool.{and_parts, false≢true}
 use Rattle.std.proofs.lemmas.List.Kept.{AllPairs-cons}
 use Rattle.rart_below.specs.Bytes.{byte_order, begins}
 use Rattle.rart_maps.specs.Versions.{Map}
-use Rattle.rart_maps.specs.Pairs.{pairs, within, under, beginnings, common}
-use Rattle.rart_maps.specs.Order.{IsBefore, MeetsLow, MeetsHigh}
+use Rattle.rart_maps.specs.Pairs.{pairs, common}
+use Rattle.rart_maps.specs.Order.{IsBefore}
 use Rattle.rart_maps.specs.FoundLaws.{PairsAreFound, WithinIsFound, UnderIsFound, BeginningsAreFound, CommonIsFound, CommonAscends, KeysAscend, AscendingListsAreFixed}
 use Rattle.rart_maps.proofs.Elements.{Contains-nil, Contains-here, Contains-later, Contains-cases, All-from_contains, AllPairs-first, AllPairs-rest, Contains-filter, Contains-filter_map, Contains-entries, below-contains}
-use Rattle.rart_maps.proofs.OrderLemmas.{bounds_contain-is, lt-before, IsBefore-itself, IsBefore-back}
-
-same_key : finite.IsAntisymmetric byte_order
-same_key = finite.slice_cmp-IsAntisymmetric finite.nat_cmp-IsAntisymmetric
+use Rattle.rart_maps.proofs.PairLawLemmas.{pairs_ascend}
+use Rattle.rart_maps.proofs.OrderLemmas.{byte_order-IsAntisymmetric, bounds_contain-is, lt-before, IsBefore-itself, IsBefore-back}
 
 module _ {V : Type 0} where
   pub Contains-pairs : (m : Map V) (key : List ℕ) (x : V) → Contains (pairs m) (key, x) ↔ (finite.get m key ≡ Some x)
-  Contains-pairs m key x = Contains-entries nat_list_cmp_total same_key m key x
+  Contains-pairs m key x = Contains-entries nat_list_cmp_total byte_order-IsAntisymmetric m key x
 
   -- A filter of the pairs by a test of keys contains a pair exactly where the key passes and the map has the value there.
   pub Contains-filter_pairs : (p : List ℕ → Bool) (m : Map V) (key : List ℕ) (x : V) → Contains (filter (λ pair. p pair.0) (pairs m)) (key, x) ↔ ((p key ≡ true) × (finite.get m key ≡ Some x))
@@ -68,13 +65,9 @@ module _ {V : Type 0} where
             (All-from_contains (λ e. IsBefore pair.0 e.0) (filter_map (joined other) rest) (λ entry there.
             let found = (Contains-filter_map (joined other) rest entry).0 there in
             subst (IsBefore pair.0) (joined-is other found.0 entry found.2).0
-            (lt-before pair.0 found.0.0 (below-contains nat_list_cmp_total same_key pair.0 rest parts.0 found.0 found.1))))
+            (lt-before pair.0 found.0.0 (below-contains nat_list_cmp_total byte_order-IsAntisymmetric pair.0 rest parts.0 found.0 found.1))))
             more
       ]
-
-T-true : (b : Bool) → T b → b ≡ true
-T-true true holds = refl
-T-true false holds = absurd holds
 
 module _ (V : Type 0) where
   pub pairs_are_found : PairsAreFound V
@@ -96,7 +89,7 @@ module _ (V : Type 0) where
   common_is_found left right key x y = (common-from left right key x y, λ both. common-to left right key x y both.0 both.1)
 
   pub common_ascends : CommonAscends V
-  common_ascends left right = joined-ascends (finite.get right) (pairs left) (T-true _ (finite.entries_sorted left))
+  common_ascends left right = joined-ascends (finite.get right) (pairs left) (pairs_ascend V left)
 
 module _ (A : Type 0) where
   -- the first of two lists with the same elements

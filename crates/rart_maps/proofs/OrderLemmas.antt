@@ -1,11 +1,11 @@
 -- The order of byte strings, the bounds on it, and beginnings.
-use Rattle.std.proofs.Common.{◌≡◌, ◌<◌, ◌↔◌, ◌⊎◌, ℕ, Bool, true, false, ◌&&◌, List, [], ◌∷◌, ◌++◌, refl, sym, ap, subst, ◌∙◌, ⊎_elim, inl, inr, arith}
+use Rattle.std.proofs.Common.{◌≡◌, ◌<◌, ◌↔◌, ◌⊎◌, ℕ, true, List, [], ◌∷◌, ◌++◌, refl, sym, ap, ◌∙◌, ⊎_elim, inl, inr, arith}
 use Rattle.std.specs.Prelude.{◌==◌}
 use Rattle.std.specs.declared.cmp.Ordering.{Ordering}
 use Rattle.std.specs.declared.cmp.Ordering.TheVariants.{Less, Equal, Greater}
 use Rattle.std.specs.declared.ops.Bound.{Bound}
 use Rattle.std.specs.declared.ops.Bound.TheVariants.{Included, Excluded, Unbounded}
-use Rattle.std.specs.Ordering.{nat_cmp, ordering_then, is_lt, is_le, is_eq, as_partial_cmp}
+use Rattle.std.specs.Ordering.{nat_cmp, ordering_then, is_lt, is_le, as_partial_cmp}
 use Rattle.std.specs.Cmp.{ranked, nat_cmp_is, tied_itself}
 use Rattle.std.specs.Cmp.Lexicographic.{nat_list_cmp_total}
 use Rattle.std.specs.Range.Bound.{is_from_start, is_up_to_end, bounds_contain}
@@ -13,6 +13,10 @@ use Rattle.std.specs.FinMap as finite
 use Rattle.std.proofs.lemmas.Bool.{and_parts, and_from, eqb-true, eq-eqb, false≢true}
 use Rattle.rart_below.specs.Bytes.{byte_order, begins}
 use Rattle.rart_maps.specs.Order.{IsBefore, IsAtMost, MeetsLow, MeetsHigh, OrderIsOfFirstDifference, BeginsIsOfRest}
+
+-- Only equal strings tie.
+pub byte_order-IsAntisymmetric : finite.IsAntisymmetric byte_order
+byte_order-IsAntisymmetric = finite.slice_cmp-IsAntisymmetric finite.nat_cmp-IsAntisymmetric
 
 less-before : (u w : List ℕ) → byte_order u w ≡ Less → IsBefore u w
 less-before [] [] is = absurd (false≢true (ap is_lt is))
@@ -67,7 +71,7 @@ le-at_most : (u w : List ℕ) → is_le (byte_order u w) ≡ true → IsAtMost u
 le-at_most u w is =
     elim (byte_order u w) as (λ r. byte_order u w ≡ r → is_le r ≡ true → IsAtMost u w) [
       | Less ↦ λ less _. inr (less-before u w less)
-      | Equal ↦ λ equal _. inl (finite.slice_cmp-IsAntisymmetric finite.nat_cmp-IsAntisymmetric u w equal)
+      | Equal ↦ λ equal _. inl (byte_order-IsAntisymmetric u w equal)
       | Greater ↦ λ _ no. absurd (false≢true no)
     ] refl is
 

@@ -1,9 +1,7 @@
 -- Finite sets: what a test keeps of one, and how many that is.
-use Rattle.std.proofs.Common.{◌≡◌, ◌+◌, ◌⊎◌, ℕ, Bool, true, false, cond, ◌&&◌, ◌||◌, List, [], ◌∷◌, refl, sym, ap, subst, ◌∙◌, ⊎_elim, arith}
+use Rattle.std.proofs.Common.{◌≡◌, ◌+◌, Bool, true, false, cond, ◌&&◌, ◌||◌, List, [], ◌∷◌, refl, sym, ap, ◌∙◌, ⊎_elim, arith}
 use Rattle.std.specs.Prelude.{Contains, count_by}
-use Rattle.std.specs.List.{list_any}
 use Rattle.std.specs.declared.cmp.Ordering.{Ordering}
-use Rattle.std.specs.declared.cmp.Ordering.TheVariants.{Equal}
 use Rattle.std.specs.Ordering.{eq_by_cmp, is_eq}
 use Rattle.std.specs.Cmp.{IsTotalOrder, Equal-is, tied_itself}
 use Rattle.std.specs.FinSet as set
@@ -17,10 +15,6 @@ kept_more true true keeps false same = refl
 kept_more true false keeps false same = same refl
 kept_more false there keeps true same = refl
 kept_more false there keeps false same = refl
-
-and-false : (b : Bool) → (b && false) ≡ false
-and-false true = refl
-and-false false = refl
 
 module _ {K : Type 0} {R : K → K → Ordering} (o : IsTotalOrder R) (same : set.IsAntisymmetric R) where
   -- A test keeps of a set what is there and passes.
@@ -43,6 +37,18 @@ module _ {K : Type 0} {R : K → K → Ordering} (o : IsTotalOrder R) (same : se
       ∙ (λ i. cond (p k) (eq_by_cmp R q k || sym (contains-kept s p q) i) (sym (contains-kept s p q) i))
       ∙ ap (λ b. cond (p k) b (set.contains (set.retain s p) q)) (sym (set.contains-insert o (set.retain s p) k q))
       ∙ sym (contains-cond (p k) (set.insert (set.retain s p) k) (set.retain s p) q))
+
+  met_kept : (s t : set.FinSet R) → set.intersection s t ≡ set.retain s (set.contains t)
+  met_kept s t = set.same_set o same _ _ (λ q. set.contains-intersection o s t q ∙ sym (contains-kept s (set.contains t) q))
+
+  pub intersection-empty : (t : set.FinSet R) → set.intersection set.empty t ≡ set.empty
+  intersection-empty t = met_kept set.empty t ∙ retain-empty (set.contains t)
+
+  pub intersection-insert : (s t : set.FinSet R) (k : K) → set.intersection (set.insert s k) t ≡ cond (set.contains t k) (set.insert (set.intersection s t) k) (set.intersection s t)
+  intersection-insert s t k =
+      met_kept (set.insert s k) t
+      ∙ retain-insert s k (set.contains t)
+      ∙ (λ i. cond (set.contains t k) (set.insert (sym (met_kept s t) i) k) (sym (met_kept s t) i))
 
   -- to insert what is there changes nothing
   pub insert_again : (s : set.FinSet R) (k : K) → set.contains s k ≡ true → set.insert s k ≡ s

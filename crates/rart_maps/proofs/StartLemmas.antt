@@ -1,10 +1,11 @@
 -- Which strings begin the keys of maps, and how many of them a string begins.
-use Rattle.std.proofs.Common.{◌≡◌, ◌≢◌, ◌<◌, ◌≤◌, ◌+◌, ◌↔◌, ◌⊎◌, ℕ, zero, suc, Bool, true, false, cond, ◌&&◌, ◌||◌, List, [], ◌∷◌, ◌++◌, length, map, append_assoc, append-nil, refl, sym, ap, subst, ◌∙◌, ⊎_elim, inl, inr, arith, Option, Some, None}
-use Rattle.std.specs.Prelude.{◌==◌, Contains, All, count_by, sum_by}
-use Rattle.std.specs.List.{list_any, range_with_len}
-use Rattle.std.specs.Option.{is_some, unwrap_or}
-use Rattle.std.specs.Ordering.{nat_cmp, eq_by_cmp, is_lt, is_eq}
-use Rattle.std.specs.Cmp.{ranked, Equal-is, eq_by_cmp_equiv, unsigned_tied}
+use Rattle.std.proofs.Common.{◌≡◌, ◌<◌, ◌≤◌, ◌+◌, ◌⊎◌, ℕ, zero, suc, Bool, true, false, cond, ◌&&◌, ◌||◌, List, [], ◌∷◌, ◌++◌, map, append-nil, refl, sym, ap, subst, ◌∙◌, ⊎_elim, inl, inr, arith, Option, Some, None}
+use mathlib.Core.Bool.{and-true, and-false, or-false}
+use Rattle.std.specs.Prelude.{◌==◌, Contains, count_by, sum_by}
+use Rattle.std.specs.List.{range_with_len}
+use Rattle.std.specs.Option.{is_some}
+use Rattle.std.specs.Ordering.{nat_cmp, eq_by_cmp, is_lt}
+use Rattle.std.specs.Cmp.{ranked, eq_by_cmp_equiv, unsigned_tied}
 use Rattle.std.specs.declared.cmp.Ordering.{Ordering}
 use Rattle.std.specs.declared.cmp.Ordering.TheVariants.{Less, Equal, Greater}
 use Rattle.std.specs.Cmp.Lexicographic.{nat_list_cmp_total, bytes_decides}
@@ -12,34 +13,19 @@ use Rattle.std.specs.Str.{bytes_eq}
 use Rattle.std.specs.FinMap as finite
 use Rattle.std.specs.FinMap.Entries.{find, is_sorted, below_all}
 use Rattle.std.specs.FinSet as set
-use Rattle.std.proofs.lemmas.Bool.{and_parts, and_from, and_left, eqb-true, eq-eqb, ne_eqb, false≢true, cases_eq}
+use Rattle.std.proofs.lemmas.Bool.{and_parts, and_from, eqb-true, eq-eqb, ne_eqb, false≢true, cases_eq}
 use Rattle.std.proofs.lemmas.List.Elements.{All-contains, Contains-append_left, Contains-append_right}
-use Rattle.std.proofs.lemmas.List.Sums.{sum_by-cons}
+use Rattle.std.proofs.lemmas.List.Sums.{sum_by-cons, sum_by-le-sum_by}
 use Rattle.std.proofs.lemmas.Map.Text.{is_eq-slice_cmp}
 use Rattle.rart_below.specs.Bytes.{byte_order, begins}
 use Rattle.rart_maps.specs.Versions.{Map}
 use Rattle.rart_maps.specs.Pairs.{Strings, pairs, starts, shared}
-use Rattle.rart_maps.specs.StartLaws.{strings_under, with_byte, all_bytes, HasByteKeys, StringsUnderPart, StringsUnderAreApart, StringsUnderAddUp, StartsBeginKeys, SharedAreInBoth, StartsAddUp, SharedAddUp}
+use Rattle.rart_maps.specs.StartLaws.{strings_under, with_byte, all_bytes, HasByteKeys, StringsUnderSplit, StringsUnderAreApart, StringsUnderAddUp, StartsBeginKeys, SharedAreInBoth, StartsAddUp, SharedAddUp}
 use Rattle.rart_maps.proofs.Elements.{Contains-here, Contains-later, list_any-is}
 use Rattle.rart_maps.proofs.FoundLemmas.{Contains-pairs}
-use Rattle.rart_maps.proofs.OrderLemmas.{begins-append, begins-rest}
-use Rattle.rart_maps.proofs.PairLawLemmas.{contains-starts, contains-shared}
+use Rattle.rart_maps.proofs.OrderLemmas.{byte_order-IsAntisymmetric, begins-append, begins-rest}
+use Rattle.rart_maps.proofs.PairLawLemmas.{begins-shorter, contains-starts, contains-shared}
 use Rattle.rart_maps.proofs.SetLemmas.{contains-kept, elements, len-retain, Contains-elements}
-
-same_key : finite.IsAntisymmetric byte_order
-same_key = finite.slice_cmp-IsAntisymmetric finite.nat_cmp-IsAntisymmetric
-
-and-true : (b : Bool) → (b && true) ≡ b
-and-true true = refl
-and-true false = refl
-
-and-false : (b : Bool) → (b && false) ≡ false
-and-false true = refl
-and-false false = refl
-
-or-false : (b : Bool) → (b || false) ≡ b
-or-false true = refl
-or-false false = refl
 
 -- ---- starts and shared
 
@@ -67,7 +53,7 @@ module _ (V : Type 0) where
 
 -- A string is under s exactly where it is in the set and s begins it.
 pub contains-strings_under : (strings : Strings) (s u : List ℕ) → set.contains (strings_under strings s) u ≡ (set.contains strings u && begins s u)
-contains-strings_under strings s u = contains-kept nat_list_cmp_total same_key strings (begins s) u
+contains-strings_under strings s u = contains-kept nat_list_cmp_total byte_order-IsAntisymmetric strings (begins s) u
 
 under-parts : (strings : Strings) (s u : List ℕ) → set.contains (strings_under strings s) u ≡ true → (set.contains strings u ≡ true) × (begins s u ≡ true)
 under-parts strings s u is = and_parts (set.contains strings u) (begins s u) (sym (contains-strings_under strings s u) ∙ is)
@@ -78,13 +64,6 @@ under-from strings s u there is = contains-strings_under strings s u ∙ and_fro
 begins-with_byte : (s : List ℕ) (b : ℕ) (rest : List ℕ) → begins (with_byte s b) (s ++ b ∷ rest) ≡ true
 begins-with_byte [] b rest = and_from (b == b) true (eq-eqb b b refl) refl
 begins-with_byte (a ∷ s) b rest = and_from (a == a) (begins (with_byte s b) (s ++ b ∷ rest)) (eq-eqb a a refl) (begins-with_byte s b rest)
-
-begins-shorter : (s : List ℕ) (b : ℕ) (u : List ℕ) → begins (with_byte s b) u ≡ true → begins s u ≡ true
-begins-shorter [] b u is = refl
-begins-shorter (a ∷ s) b [] is = is
-begins-shorter (a ∷ s) b (c ∷ u) is =
-    let parts = and_parts (a == c) (begins (with_byte s b) u) is in
-    and_from (a == c) (begins s u) parts.0 (begins-shorter s b u parts.1)
 
 not_itself : (s : List ℕ) (b : ℕ) → begins (with_byte s b) s ≡ true → ⊥
 not_itself [] b is = false≢true is
@@ -100,12 +79,12 @@ part_of : (strings : Strings) (s u rest : List ℕ) → u ≡ s ++ rest → set.
 part_of strings s u [] is there = let whole = is ∙ append-nil s in inl (whole, ap (set.contains strings) (sym whole) ∙ there)
 part_of strings s u (b ∷ rest) is there = inr (b, under-from strings (with_byte s b) u there (ap (begins (with_byte s b)) is ∙ begins-with_byte s b rest))
 
-pub strings_under_part : StringsUnderPart
-strings_under_part strings s u = (
+pub strings_under_split : StringsUnderSplit
+strings_under_split strings s u = (
   λ is. let parts = under-parts strings s u is in let found = begins-rest s u parts.1 in part_of strings s u found.0 found.1 parts.0,
   λ either. ⊎_elim
       (λ here. under-from strings s u (ap (set.contains strings) here.0 ∙ here.1) (ap (begins s) (here.0 ∙ sym (append-nil s)) ∙ begins-append s []))
-      (λ further. let parts = under-parts strings (with_byte s further.0) u further.1 in under-from strings s u parts.0 (begins-shorter s further.0 u parts.1))
+      (λ further. let parts = under-parts strings (with_byte s further.0) u further.1 in under-from strings s u parts.0 (begins-shorter s (further.0 ∷ []) u parts.1))
       either,
 )
 
@@ -178,8 +157,8 @@ len-one_or_none false s = set.len-empty byte_order
 
 len-itself : (strings : Strings) (s : List ℕ) → set.len (set.retain strings (bytes_eq s)) ≡ cond (set.contains strings s) 1 0
 len-itself strings s =
-    ap set.len (set.same_set nat_list_cmp_total same_key (set.retain strings (bytes_eq s)) (cond (set.contains strings s) (set.insert set.empty s) set.empty) (λ q.
-    contains-kept nat_list_cmp_total same_key strings (bytes_eq s) q
+    ap set.len (set.same_set nat_list_cmp_total byte_order-IsAntisymmetric (set.retain strings (bytes_eq s)) (cond (set.contains strings s) (set.insert set.empty s) set.empty) (λ q.
+    contains-kept nat_list_cmp_total byte_order-IsAntisymmetric strings (bytes_eq s) q
     ∙ elim (bytes_eq s q) as (λ e. bytes_eq s q ≡ e → (set.contains strings q && e) ≡ (set.contains strings s && e)) [
       | true ↦ λ is. ap (λ k. set.contains strings k && true) (sym ((bytes_decides s q).0 is))
       | false ↦ λ _. and-false (set.contains strings q) ∙ sym (and-false (set.contains strings s))
@@ -189,10 +168,10 @@ len-itself strings s =
 
 pub strings_under_add_up : StringsUnderAddUp
 strings_under_add_up strings s bytes once =
-    len-retain nat_list_cmp_total same_key strings (begins s)
-    ∙ count_part s bytes (elements nat_list_cmp_total same_key strings) (λ k there b rest is. once b rest (ap (set.contains strings) (sym is) ∙ Contains-elements nat_list_cmp_total same_key strings k there))
-    ∙ (λ i. (sym (len-retain nat_list_cmp_total same_key strings (bytes_eq s)) ∙ len-itself strings s) i
-    + sum_by (λ b. sym (len-retain nat_list_cmp_total same_key strings (begins (with_byte s b))) i) bytes)
+    len-retain nat_list_cmp_total byte_order-IsAntisymmetric strings (begins s)
+    ∙ count_part s bytes (elements nat_list_cmp_total byte_order-IsAntisymmetric strings) (λ k there b rest is. once b rest (ap (set.contains strings) (sym is) ∙ Contains-elements nat_list_cmp_total byte_order-IsAntisymmetric strings k there))
+    ∙ (λ i. (sym (len-retain nat_list_cmp_total byte_order-IsAntisymmetric strings (bytes_eq s)) ∙ len-itself strings s) i
+    + sum_by (λ b. sym (len-retain nat_list_cmp_total byte_order-IsAntisymmetric strings (begins (with_byte s b))) i) bytes)
 
 -- ---- the lists of bytes
 
@@ -270,3 +249,15 @@ module _ (V : Type 0) where
       strings_under_add_up (shared left right) s all_bytes (λ b rest is.
       let both = (shared_are_in_both V left right (s ++ b ∷ rest)).0 is in
       once-all_bytes b (⊎_elim (λ bytes. byte_after left bytes s b rest both.0) (λ bytes. byte_after right bytes s b rest both.1) either))
+
+-- A longer string begins no more.
+pub len-strings_under-append : (strings : Strings) (s rest : List ℕ) → set.len (strings_under strings (s ++ rest)) ≤ set.len (strings_under strings s)
+len-strings_under-append strings s rest =
+    let longer = len-retain nat_list_cmp_total byte_order-IsAntisymmetric strings (begins (s ++ rest)) in
+    let shorter = len-retain nat_list_cmp_total byte_order-IsAntisymmetric strings (begins s) in
+    let fewer = sum_by-le-sum_by (λ k. cond (begins (s ++ rest) k) 1 0) (λ k. cond (begins s k) 1 0) (elements nat_list_cmp_total byte_order-IsAntisymmetric strings) (λ k.
+    elim (begins (s ++ rest) k) as (λ b. begins (s ++ rest) k ≡ b → cond b 1 0 ≤ cond (begins s k) 1 0) [
+      | true ↦ λ is. subst (λ b. 1 ≤ cond b 1 0) (sym (begins-shorter s rest k is)) (omega arith)
+      | false ↦ λ _. omega arith
+    ] refl) in
+    omega (arith, longer, shorter, fewer)

@@ -1,5 +1,5 @@
 -- The worked values of the bounds, by computation.
-use Rattle.std.proofs.Common.{◌≡◌, ◌*◌, ℕ, refl, ap, inl, inr}
+use Rattle.std.proofs.Common.{◌*◌, refl, ap, inl, inr}
 use Rattle.rart_maps.specs.WorkedBounds.{LookupOfThreeBytes, ChangeOfThreeBytes, TouchOfThreeBytes, MeetOfTwo, MeetBelowOne, MeetWithItself, MeetOfEmpty, ReachOfTwo}
 use Rattle.rart_maps.proofs.MapRules.{maps, sets}
 use Rattle.rart_maps.proofs.PairLawLemmas.{shared_is_empty}

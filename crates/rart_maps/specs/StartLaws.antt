@@ -20,8 +20,8 @@ unfoldable pub all_bytes : List ℕ
 all_bytes = range_with_len 0 256
 
 -- The strings that s begins are s itself, where it is one, and those that s with a byte more begins.
-abbrev pub StringsUnderPart : Type 0
-StringsUnderPart = (strings : Strings) (s u : List ℕ) →
+abbrev pub StringsUnderSplit : Type 0
+StringsUnderSplit = (strings : Strings) (s u : List ℕ) →
     IsTrue (set.contains (strings_under strings s) u)
     ↔ (((u ≡ s) × IsTrue (set.contains strings s))
     ⊎ ((b : ℕ) × IsTrue (set.contains (strings_under strings (with_byte s b)) u)))

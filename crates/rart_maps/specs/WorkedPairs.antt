@@ -1,5 +1,5 @@
 -- Worked values of what is read off maps, found by hand.
-use Rattle.std.specs.Prelude.{◌≡◌, ℕ, List, [], ◌∷◌, codes}
+use Rattle.std.specs.Prelude.{◌≡◌, ℕ, [], ◌∷◌, codes}
 use Rattle.std.specs.declared.ops.Bound.TheVariants.{Included, Excluded, Unbounded}
 use Rattle.std.specs.FinMap as finite
 use Rattle.rart_maps.specs.Versions.{Map}
@@ -70,31 +70,31 @@ UnderNone = under words (codes "abdx") ≡ []
 
 -- ---- keys that begin a string
 
-abbrev pub nested : Map ℕ
-nested = finite.from_entries
+abbrev pub stems : Map ℕ
+stems = finite.from_entries
     ((codes "ab", 2) ∷ ([], 0) ∷ (codes "abc", 3) ∷ (codes "b", 4) ∷ (codes "a", 1) ∷ [])
 
 abbrev pub BeginningsShortestFirst : Type 0
-BeginningsShortestFirst = beginnings nested (codes "abd")
+BeginningsShortestFirst = beginnings stems (codes "abd")
     ≡ ([], 0) ∷ (codes "a", 1) ∷ (codes "ab", 2) ∷ []
 
 -- A key begins itself, and no shorter string.
 abbrev pub BeginningsOfKey : Type 0
-BeginningsOfKey = beginnings nested (codes "b") ≡ ([], 0) ∷ (codes "b", 4) ∷ []
+BeginningsOfKey = beginnings stems (codes "b") ≡ ([], 0) ∷ (codes "b", 4) ∷ []
 
 abbrev pub BeginningsNone : Type 0
 BeginningsNone = beginnings words (codes "abc") ≡ []
 
 -- ---- keys in common
 
-abbrev pub others : Map ℕ
-others = finite.from_entries
+abbrev pub more_letters : Map ℕ
+more_letters = finite.from_entries
     ((codes "cab", 50) ∷ (codes "c", 30) ∷ (codes "aa", 40) ∷ (codes "b", 20) ∷ [])
 
 -- The left map's value comes first.
 abbrev pub CommonLeftFirst : Type 0
-CommonLeftFirst = common letters others ≡ (codes "b", 2, 20) ∷ (codes "c", 3, 30) ∷ []
+CommonLeftFirst = common letters more_letters ≡ (codes "b", 2, 20) ∷ (codes "c", 3, 30) ∷ []
 
 -- A key of the one that only begins a key of the other is not in common.
 abbrev pub CommonNone : Type 0
-CommonNone = common words nested ≡ []
+CommonNone = common words stems ≡ []

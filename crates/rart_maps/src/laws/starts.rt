@@ -1,6 +1,6 @@
 //! Which strings begin the keys of maps, and how many a string begins.
 ghost use Rattle.rart_maps.specs.PairLaws.{StartsShorten, SharedShorten, SharedIsEmpty};
-ghost use Rattle.rart_maps.specs.StartLaws.{StartsBeginKeys, SharedAreInBoth, StringsUnderPart, StringsUnderAreApart, StringsUnderAddUp, StartsAddUp, SharedAddUp};
+ghost use Rattle.rart_maps.specs.StartLaws.{StartsBeginKeys, SharedAreInBoth, StringsUnderSplit, StringsUnderAreApart, StringsUnderAddUp, StartsAddUp, SharedAddUp};
 
 /// A beginning of a string that begins a key begins that key too. No string begins a key of both
 /// maps exactly where either has no key.
@@ -20,8 +20,8 @@ pub fn starts_begin_keys<V>()
 
 /// The strings of a set that a string begins are that string, where it is one, and for each byte
 /// those that the string and the byte begin. No two of these parts have a string in common.
-pub fn strings_under_part()
-    ensures part { StringsUnderPart }
+pub fn strings_under_split()
+    ensures split { StringsUnderSplit }
     ensures apart { StringsUnderAreApart }
 {}
 

@@ -9,12 +9,12 @@ use Rattle.std.specs.Range.Bound.{bounds_contain}
 use Rattle.std.specs.FinMap as finite
 use Rattle.std.specs.FinMap.Entries.{is_sorted, below_all}
 use Rattle.std.proofs.lemmas.Bool.{and_parts, false≢true}
-use Rattle.std.proofs.lemmas.List.Kept.{AllPairs-cons}
+use Rattle.std.proofs.lemmas.List.Kept.{AllPairs-cons, AllPairs-filter}
 use Rattle.rart_below.specs.Bytes.{byte_order, begins}
 use Rattle.rart_maps.specs.Versions.{Map}
 use Rattle.rart_maps.specs.Pairs.{pairs, common}
 use Rattle.rart_maps.specs.Order.{IsBefore}
-use Rattle.rart_maps.specs.FoundLaws.{PairsAreFound, WithinIsFound, UnderIsFound, BeginningsAreFound, CommonIsFound, CommonAscends, KeysAscend, AscendingListsAreFixed}
+use Rattle.rart_maps.specs.FoundLaws.{PairsAscendByKey, WithinAscends, UnderAscends, BeginningsAscend, PairsAreFound, WithinIsFound, UnderIsFound, BeginningsAreFound, CommonIsFound, CommonAscends, KeysAscend, AscendingListsAreFixed}
 use Rattle.rart_maps.proofs.Elements.{Contains-nil, Contains-here, Contains-later, Contains-cases, All-from_contains, AllPairs-first, AllPairs-rest, Contains-filter, Contains-filter_map, Contains-entries, below-contains}
 use Rattle.rart_maps.proofs.PairLawLemmas.{pairs_ascend}
 use Rattle.rart_maps.proofs.OrderLemmas.{byte_order-IsAntisymmetric, bounds_contain-is, lt-before, IsBefore-itself, IsBefore-back}
@@ -29,6 +29,19 @@ module _ {V : Type 0} where
       let kept = Contains-filter (λ pair. p pair.0) (pairs m) (key, x) in
       let there = Contains-pairs m key x in
       (λ found. ((kept.0 found).1, there.0 (kept.0 found).0), λ both. kept.1 (there.1 both.1, both.0))
+
+  -- Of entries in order the keys ascend strictly.
+  pub KeysAscend-sorted : (entries : List (List ℕ × V)) → is_sorted byte_order entries ≡ true → KeysAscend (λ entry. entry.0) entries
+  KeysAscend-sorted [] sorted = λ i j d less below. absurd (omega (arith, below))
+  KeysAscend-sorted (pair ∷ rest) sorted =
+      let parts = and_parts (below_all byte_order pair.0 rest) (is_sorted byte_order rest) sorted in
+      AllPairs-cons (λ a b. IsBefore a.0 b.0) pair rest
+      (All-from_contains (λ e. IsBefore pair.0 e.0) rest (λ entry there. lt-before pair.0 entry.0 (below-contains nat_list_cmp_total byte_order-IsAntisymmetric pair.0 rest parts.0 entry there)))
+      (KeysAscend-sorted rest parts.1)
+
+  -- A filter of the pairs ascends too.
+  pub KeysAscend-filter_pairs : (p : List ℕ → Bool) (m : Map V) → KeysAscend (λ pair. pair.0) (filter (λ pair. p pair.0) (pairs m))
+  KeysAscend-filter_pairs p m = AllPairs-filter (λ a b. IsBefore a.0 b.0) (λ pair. p pair.0) (pairs m) (KeysAscend-sorted (pairs m) (pairs_ascend V m))
 
   -- what `common` makes of a pair, by the other map's values
   abbrev joined : (List ℕ → Option V) → List ℕ × V → Option (List ℕ × V × V)
@@ -70,6 +83,18 @@ module _ {V : Type 0} where
       ]
 
 module _ (V : Type 0) where
+  pub pairs_ascend_by_key : PairsAscendByKey V
+  pairs_ascend_by_key m = KeysAscend-sorted (pairs m) (pairs_ascend V m)
+
+  pub within_ascends : WithinAscends V
+  within_ascends m low high = KeysAscend-filter_pairs (bounds_contain (as_partial_cmp byte_order) low high) m
+
+  pub under_ascends : UnderAscends V
+  under_ascends m p = KeysAscend-filter_pairs (begins p) m
+
+  pub beginnings_ascend : BeginningsAscend V
+  beginnings_ascend m w = KeysAscend-filter_pairs (λ key. begins key w) m
+
   pub pairs_are_found : PairsAreFound V
   pairs_are_found m key x = Contains-pairs m key x
 

@@ -12,6 +12,24 @@ abbrev pub KeysAscend : {A : Type 0} → (A → List ℕ) → List A → Type 0
 KeysAscend key xs = AllPairs (λ a b. IsBefore (key a) (key b)) xs
 
 module _ (V : Type 0) where
+  -- The keys of what is read off a map ascend strictly.
+  abbrev pub PairsAscendByKey : Type 0
+  PairsAscendByKey = (m : Map V) → KeysAscend (λ pair. pair.0) (pairs m)
+
+  abbrev pub WithinAscends : Type 0
+  WithinAscends = (m : Map V) (low high : Bound (List ℕ)) →
+      KeysAscend (λ pair. pair.0) (within m low high)
+
+  abbrev pub UnderAscends : Type 0
+  UnderAscends = (m : Map V) (p : List ℕ) → KeysAscend (λ pair. pair.0) (under m p)
+
+  abbrev pub BeginningsAscend : Type 0
+  BeginningsAscend = (m : Map V) (w : List ℕ) → KeysAscend (λ pair. pair.0) (beginnings m w)
+
+  -- So do those in common.
+  abbrev pub CommonAscends : Type 0
+  CommonAscends = (left right : Map V) → KeysAscend (λ entry. entry.0) (common left right)
+
   -- A pair stands among all exactly where the map has the value at the key.
   abbrev pub PairsAreFound : Type 0
   PairsAreFound = (m : Map V) (key : List ℕ) (x : V) →
@@ -38,10 +56,6 @@ module _ (V : Type 0) where
   CommonIsFound = (left right : Map V) (key : List ℕ) (x y : V) →
       Contains (common left right) (key, x, y)
       ↔ ((finite.get left key ≡ Some x) × (finite.get right key ≡ Some y))
-
-  -- The keys in common ascend strictly.
-  abbrev pub CommonAscends : Type 0
-  CommonAscends = (left right : Map V) → KeysAscend (λ entry. entry.0) (common left right)
 
 -- Two lists with the same elements, the keys of both strictly ascending, are equal.
 abbrev pub AscendingListsAreFixed : Type 0 → Type 0

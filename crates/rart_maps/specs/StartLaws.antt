@@ -19,7 +19,7 @@ with_byte s b = s ++ b ∷ []
 unfoldable pub all_bytes : List ℕ
 all_bytes = range_with_len 0 256
 
--- The strings that s begins are s itself, where it is one, and those that s with a byte more begins.
+-- The strings that s begins are s, where it is in the set, and those that s and one byte begin.
 abbrev pub StringsUnderSplit : Type 0
 StringsUnderSplit = (strings : Strings) (s u : List ℕ) →
     IsTrue (set.contains (strings_under strings s) u)
@@ -32,15 +32,20 @@ StringsUnderAreApart = (strings : Strings) (s u : List ℕ) (b : ℕ) →
     IsTrue (set.contains (strings_under strings (with_byte s b)) u) →
     (u ≢ s) × ((c : ℕ) → IsTrue (set.contains (strings_under strings (with_byte s c)) u) → c ≡ b)
 
--- So their numbers add up, over any list in which each byte with which a string goes on after s
--- stands once.
-abbrev pub StringsUnderAddUp : Type 0
-StringsUnderAddUp = (strings : Strings) (s bytes : List ℕ) →
-    ((b : ℕ) (rest : List ℕ) → IsTrue (set.contains strings (s ++ b ∷ rest)) →
-    count_by (λ c. c == b) bytes ≡ 1) →
-    set.len (strings_under strings s)
-    ≡ (if set.contains strings s then 1 else 0)
+-- one for s, where it is in the set, and for each of the bytes as many as s and the byte begin
+abbrev pub sum_of_parts : Strings → List ℕ → List ℕ → ℕ
+sum_of_parts strings s bytes = (if set.contains strings s then 1 else 0)
     + sum_by (λ b. set.len (strings_under strings (with_byte s b))) bytes
+
+-- Each byte with which a string of the set goes on after s stands once among the bytes.
+abbrev pub HasNextBytesOnce : Strings → List ℕ → List ℕ → Type 0
+HasNextBytesOnce strings s bytes = (b : ℕ) (rest : List ℕ) →
+    IsTrue (set.contains strings (s ++ b ∷ rest)) → count_by (λ c. c == b) bytes ≡ 1
+
+-- So the numbers of these parts add up, over any bytes that have each next one once.
+abbrev pub StringsUnderAddUp : Type 0
+StringsUnderAddUp = (strings : Strings) (s bytes : List ℕ) → HasNextBytesOnce strings s bytes →
+    set.len (strings_under strings s) ≡ sum_of_parts strings s bytes
 
 module _ {V : Type 0} where
   -- Each key is a string of bytes.
@@ -60,16 +65,12 @@ module _ (V : Type 0) where
       IsTrue (set.contains (shared left right) s)
       ↔ (IsTrue (set.contains (starts left) s) × IsTrue (set.contains (starts right) s))
 
-  -- The numbers of the starts that a string begins add up over the bytes.
+  -- The numbers of the starts that a string begins add up over all bytes.
   abbrev pub StartsAddUp : Type 0
   StartsAddUp = (m : Map V) (s : List ℕ) → HasByteKeys m →
-      set.len (strings_under (starts m) s)
-      ≡ (if set.contains (starts m) s then 1 else 0)
-      + sum_by (λ b. set.len (strings_under (starts m) (with_byte s b))) all_bytes
+      set.len (strings_under (starts m) s) ≡ sum_of_parts (starts m) s all_bytes
 
   -- So do those of the shared ones.
   abbrev pub SharedAddUp : Type 0
   SharedAddUp = (left right : Map V) (s : List ℕ) → HasByteKeys left ⊎ HasByteKeys right →
-      set.len (strings_under (shared left right) s)
-      ≡ (if set.contains (shared left right) s then 1 else 0)
-      + sum_by (λ b. set.len (strings_under (shared left right) (with_byte s b))) all_bytes
+      set.len (strings_under (shared left right) s) ≡ sum_of_parts (shared left right) s all_bytes

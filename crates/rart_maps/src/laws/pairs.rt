@@ -1,5 +1,5 @@
 //! What is read off maps: in what order, and which pairs.
-ghost use Rattle.rart_maps.specs.FoundLaws.{PairsAreFound, WithinIsFound, UnderIsFound, BeginningsAreFound, CommonIsFound, CommonAscends, AscendingListsAreFixed};
+ghost use Rattle.rart_maps.specs.FoundLaws.{PairsAscendByKey, WithinAscends, UnderAscends, BeginningsAscend, PairsAreFound, WithinIsFound, UnderIsFound, BeginningsAreFound, CommonIsFound, CommonAscends, AscendingListsAreFixed};
 ghost use Rattle.rart_maps.specs.PairLaws.{PairsAscend, WithinIsSublist, UnderIsSublist, BeginningsIsSublist, CommonSwaps};
 
 /// The pairs ascend strictly by key. Those within bounds, those under a prefix and those whose key
@@ -10,6 +10,16 @@ pub fn pairs_are_in_order<V>()
     ensures within { WithinIsSublist V }
     ensures under { UnderIsSublist V }
     ensures beginnings { BeginningsIsSublist V }
+{}
+
+/// The keys ascend strictly, each before each later one, also of the pairs within bounds, under a
+/// prefix and of those whose key begins a string.
+#[tactic(auto, using(crate::proofs::FoundLemmas::pairs_ascend_by_key, crate::proofs::FoundLemmas::within_ascends, crate::proofs::FoundLemmas::under_ascends, crate::proofs::FoundLemmas::beginnings_ascend))]
+pub fn keys_ascend<V>()
+    ensures pairs { PairsAscendByKey V }
+    ensures within { WithinAscends V }
+    ensures under { UnderAscends V }
+    ensures beginnings { BeginningsAscend V }
 {}
 
 /// A pair stands among all exactly where the map has the value at the key. It stands within two
@@ -26,8 +36,8 @@ pub fn pairs_are_found<V>()
 /// right map the other. The keys in common ascend strictly.
 #[tactic(auto, using(crate::proofs::FoundLemmas::common_ascends))]
 pub fn common_pairs_are_found<V>()
-    ensures found { CommonIsFound V }
     ensures ascending { CommonAscends V }
+    ensures found { CommonIsFound V }
 {}
 
 /// With the maps swapped, the same keys come in the same order with their values swapped.

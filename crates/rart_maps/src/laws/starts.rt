@@ -25,8 +25,9 @@ pub fn strings_under_split()
     ensures apart { StringsUnderAreApart }
 {}
 
-/// So their numbers add up, over any list in which each byte that follows stands once. For starts
-/// of maps whose keys are bytes, the list of all bytes is one.
+/// So the numbers of these parts add up, over any bytes among which each with which a string of the
+/// set goes on stands once. Such are all bytes, for the starts of a map whose keys have no other,
+/// and for what two maps share where the keys of either have no other.
 pub fn strings_under_add_up<V>()
     ensures any { StringsUnderAddUp }
     ensures starts { StartsAddUp V }

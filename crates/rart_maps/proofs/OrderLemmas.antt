@@ -56,7 +56,7 @@ IsBefore-back (b ∷ u) (c ∷ w) before back =
     (λ here. ⊎_elim (λ more. omega (arith, here.0, more)) (λ both. IsBefore-back u w here.1 both.1) back)
     before
 
-lt-less : (r : Ordering) → is_lt r ≡ true → r ≡ Less
+pub lt-less : (r : Ordering) → is_lt r ≡ true → r ≡ Less
 lt-less Less is = refl
 lt-less Equal is = absurd (false≢true is)
 lt-less Greater is = absurd (false≢true is)

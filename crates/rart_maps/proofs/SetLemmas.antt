@@ -1,11 +1,11 @@
 -- Finite sets: what a test keeps of one, and how many that is.
-use Rattle.std.proofs.Common.{◌≡◌, ◌+◌, Bool, true, false, cond, ◌&&◌, ◌||◌, List, [], ◌∷◌, refl, sym, ap, ◌∙◌, ⊎_elim, arith}
+use Rattle.std.proofs.Common.{◌≡◌, ◌≤◌, ◌+◌, Bool, true, false, cond, ◌&&◌, ◌||◌, List, [], ◌∷◌, refl, sym, ap, subst, ◌∙◌, ⊎_elim, arith}
 use Rattle.std.specs.Prelude.{Contains, count_by}
 use Rattle.std.specs.declared.cmp.Ordering.{Ordering}
 use Rattle.std.specs.Ordering.{eq_by_cmp, is_eq}
 use Rattle.std.specs.Cmp.{IsTotalOrder, Equal-is, tied_itself}
 use Rattle.std.specs.FinSet as set
-use Rattle.std.proofs.lemmas.List.Sums.{sum_by-cons}
+use Rattle.std.proofs.lemmas.List.Sums.{sum_by-cons, sum_by-le-sum_by}
 use Rattle.rart_maps.proofs.Elements.{Contains-nil, Contains-cases}
 
 -- what a test keeps of a set with one more element, as the set's own test says it
@@ -111,6 +111,19 @@ module _ {K : Type 0} {R : K → K → Ordering} (o : IsTotalOrder R) (same : se
   unfolding elements
   len-retain s p = ap (λ t. set.len (set.retain t p)) (listed s) ∙ count-each_once (set.items s) p
 
+  -- A weaker test keeps no fewer.
+  pub len-retain-weaker : (s : set.FinSet R) (p q : K → Bool) → ((k : K) → p k ≡ true → q k ≡ true) → set.len (set.retain s p) ≤ set.len (set.retain s q)
+  len-retain-weaker s p q weaker =
+      let few = len-retain s p in
+      let many = len-retain s q in
+      let fewer = sum_by-le-sum_by (λ k. cond (p k) 1 0) (λ k. cond (q k) 1 0) (elements s) (λ k.
+      elim (p k) as (λ b. p k ≡ b → cond b 1 0 ≤ cond (q k) 1 0) [
+        | true ↦ λ is. subst (λ b. 1 ≤ cond b 1 0) (sym (weaker k is)) (omega arith)
+        | false ↦ λ _. omega arith
+      ] refl) in
+      omega (arith, few, many, fewer)
+
+  -- Each of the elements is in the set.
   pub Contains-elements : (s : set.FinSet R) (k : K) → Contains (elements s) k → set.contains s k ≡ true
   unfolding elements
   Contains-elements s k there = ap (λ t. set.contains t k) (listed s) ∙ each_once-there (set.items s) k there

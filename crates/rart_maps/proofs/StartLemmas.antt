@@ -6,8 +6,7 @@ use Rattle.std.specs.List.{range_with_len}
 use Rattle.std.specs.Option.{is_some}
 use Rattle.std.specs.Ordering.{nat_cmp, eq_by_cmp, is_lt}
 use Rattle.std.specs.Cmp.{ranked, eq_by_cmp_equiv, unsigned_tied}
-use Rattle.std.specs.declared.cmp.Ordering.{Ordering}
-use Rattle.std.specs.declared.cmp.Ordering.TheVariants.{Less, Equal, Greater}
+use Rattle.std.specs.declared.cmp.Ordering.TheVariants.{Less}
 use Rattle.std.specs.Cmp.Lexicographic.{nat_list_cmp_total, bytes_decides}
 use Rattle.std.specs.Str.{bytes_eq}
 use Rattle.std.specs.FinMap as finite
@@ -15,7 +14,7 @@ use Rattle.std.specs.FinMap.Entries.{find, is_sorted, below_all}
 use Rattle.std.specs.FinSet as set
 use Rattle.std.proofs.lemmas.Bool.{and_parts, and_from, eqb-true, eq-eqb, ne_eqb, false≢true, cases_eq}
 use Rattle.std.proofs.lemmas.List.Elements.{All-contains, Contains-append_left, Contains-append_right}
-use Rattle.std.proofs.lemmas.List.Sums.{sum_by-cons, sum_by-le-sum_by}
+use Rattle.std.proofs.lemmas.List.Sums.{sum_by-cons}
 use Rattle.std.proofs.lemmas.Map.Text.{is_eq-slice_cmp}
 use Rattle.rart_below.specs.Bytes.{byte_order, begins}
 use Rattle.rart_maps.specs.Versions.{Map}
@@ -23,9 +22,9 @@ use Rattle.rart_maps.specs.Pairs.{Strings, pairs, starts, shared}
 use Rattle.rart_maps.specs.StartLaws.{strings_under, with_byte, all_bytes, HasByteKeys, StringsUnderSplit, StringsUnderAreApart, StringsUnderAddUp, StartsBeginKeys, SharedAreInBoth, StartsAddUp, SharedAddUp}
 use Rattle.rart_maps.proofs.Elements.{Contains-here, Contains-later, list_any-is}
 use Rattle.rart_maps.proofs.FoundLemmas.{Contains-pairs}
-use Rattle.rart_maps.proofs.OrderLemmas.{byte_order-IsAntisymmetric, begins-append, begins-rest}
+use Rattle.rart_maps.proofs.OrderLemmas.{byte_order-IsAntisymmetric, lt-less, begins-append, begins-rest}
 use Rattle.rart_maps.proofs.PairLawLemmas.{begins-shorter, contains-starts, contains-shared}
-use Rattle.rart_maps.proofs.SetLemmas.{contains-kept, elements, len-retain, Contains-elements}
+use Rattle.rart_maps.proofs.SetLemmas.{contains-kept, elements, len-retain, len-retain-weaker, Contains-elements}
 
 -- ---- starts and shared
 
@@ -177,11 +176,6 @@ strings_under_add_up strings s bytes once =
 
 lt-below : (b c : ℕ) → is_lt (nat_cmp b c) ≡ true → b < c
 lt-below b c is = ranked b c Less (sym (lt-less (nat_cmp b c) is))
-  where
-    lt-less : (r : Ordering) → is_lt r ≡ true → r ≡ Less
-    lt-less Less is = refl
-    lt-less Equal is = absurd (false≢true is)
-    lt-less Greater is = absurd (false≢true is)
 
 module _ {C : Type 0} where
   none_below : (b : ℕ) (children : List (ℕ × C)) → below_all nat_cmp b children ≡ true → count_by (λ c. c == b) (map (λ child. child.0) children) ≡ 0
@@ -252,12 +246,4 @@ module _ (V : Type 0) where
 
 -- A longer string begins no more.
 pub len-strings_under-append : (strings : Strings) (s rest : List ℕ) → set.len (strings_under strings (s ++ rest)) ≤ set.len (strings_under strings s)
-len-strings_under-append strings s rest =
-    let longer = len-retain nat_list_cmp_total byte_order-IsAntisymmetric strings (begins (s ++ rest)) in
-    let shorter = len-retain nat_list_cmp_total byte_order-IsAntisymmetric strings (begins s) in
-    let fewer = sum_by-le-sum_by (λ k. cond (begins (s ++ rest) k) 1 0) (λ k. cond (begins s k) 1 0) (elements nat_list_cmp_total byte_order-IsAntisymmetric strings) (λ k.
-    elim (begins (s ++ rest) k) as (λ b. begins (s ++ rest) k ≡ b → cond b 1 0 ≤ cond (begins s k) 1 0) [
-      | true ↦ λ is. subst (λ b. 1 ≤ cond b 1 0) (sym (begins-shorter s rest k is)) (omega arith)
-      | false ↦ λ _. omega arith
-    ] refl) in
-    omega (arith, longer, shorter, fewer)
+len-strings_under-append strings s rest = len-retain-weaker nat_list_cmp_total byte_order-IsAntisymmetric strings (begins (s ++ rest)) (begins s) (λ k is. begins-shorter s rest k is)

@@ -10,12 +10,13 @@ use Rattle.std.specs.Str.{bytes_eq}
 use Rattle.std.specs.FinMap as finite
 use Rattle.std.specs.FinMap.Entries.{find, is_sorted, below_all, same_entries}
 use Rattle.std.specs.FinSet as set
-use Rattle.std.proofs.lemmas.Bool.{and_parts, and_from, false≢true}
+use Rattle.std.proofs.lemmas.Bool.{and_parts, and_from, and_right, false≢true}
 use Rattle.std.proofs.lemmas.List.Folds.{list_any-append}
 use Rattle.std.proofs.lemmas.Map.Text.{is_eq-slice_cmp}
 use Rattle.rart_below.specs.Bytes.{byte_order, begins}
 use Rattle.rart_maps.specs.Versions.{Map}
 use Rattle.rart_maps.specs.Pairs.{pairs, beginnings_of, starts, shared}
+use Rattle.rart_maps.proofs.Elements.{T-true}
 use Rattle.rart_maps.specs.PairLaws.{IsSublist, PairsAscend, WithinIsSublist, UnderIsSublist, BeginningsIsSublist, CommonSwaps, StartsShorten, SharedShorten, SharedIsEmpty}
 
 -- ---- sub-lists
@@ -33,10 +34,6 @@ sublist-filter p (x ∷ xs) =
     ]
 
 -- ---- what two maps have in common
-
-T-true : (b : Bool) → T b → b ≡ true
-T-true true holds = refl
-T-true false holds = absurd holds
 
 true-T : (b : Bool) → b ≡ true → T b
 true-T b is = subst T (sym is) tt
@@ -162,10 +159,6 @@ no_length : {A : Type 0} (xs : List A) → length xs ≡ 0 → xs ≡ []
 no_length [] none = refl
 no_length (x ∷ xs) none = absurd (omega arith)
 
-and-false : (b : Bool) → (b && false) ≡ false
-and-false true = refl
-and-false false = refl
-
 list_any-map : {A B : Type 0} (p : B → Bool) (f : A → B) (xs : List A) → list_any p (map f xs) ≡ list_any (λ x. p (f x)) xs
 list_any-map p f [] = refl
 list_any-map p f (x ∷ xs) = ap (λ b. p (f x) || b) (list_any-map p f xs)
@@ -202,7 +195,8 @@ one-of_beginnings (b ∷ u) (c ∷ w) =
     ∙ list_any-and (nat_eq b c) (bytes_eq u) (beginnings_of w)
     ∙ ap (λ t. nat_eq b c && t) (one-of_beginnings u w)
 
-begins-shorter : (u v w : List ℕ) → begins (u ++ v) w ≡ true → begins u w ≡ true
+-- What begins a string as part of a longer beginning begins it.
+pub begins-shorter : (u v w : List ℕ) → begins (u ++ v) w ≡ true → begins u w ≡ true
 begins-shorter [] v w is = refl
 begins-shorter (b ∷ u) v [] is = is
 begins-shorter (b ∷ u) v (c ∷ w) is =
@@ -239,7 +233,8 @@ module _ {V : Type 0} where
       ∙ set.len-empty byte_order
 
 module _ (V : Type 0) where
-  pairs-empty : pairs {V = V} finite.empty ≡ []
+  -- No pair stands in the empty map.
+  pub pairs-empty : pairs {V = V} finite.empty ≡ []
   pairs-empty = no_length _ (sym (finite.len-entries _) ∙ finite.len-empty byte_order V)
 
   starts-none : (u : List ℕ) → set.contains (starts {V = V} finite.empty) u ≡ false
@@ -283,6 +278,6 @@ module _ (V : Type 0) where
     λ none. ⊎_elim (λ is. inl is) (λ begun_left. ⊎_elim (λ is. inr is) (λ begun_right. absurd (shared_of_both left right none begun_left begun_right)) (empty_or_begun right)) (empty_or_begun left),
     λ either. shared-none left right (λ u. contains-shared left right u ∙ ⊎_elim
         (λ is. ap (λ b. b && set.contains (starts right) u) (ap (λ m. set.contains (starts m) u) is ∙ starts-none u))
-        (λ is. ap (λ b. set.contains (starts left) u && b) (ap (λ m. set.contains (starts m) u) is ∙ starts-none u) ∙ and-false (set.contains (starts left) u))
+        (λ is. ap (λ b. set.contains (starts left) u && b) (ap (λ m. set.contains (starts m) u) is ∙ starts-none u) ∙ and_right (set.contains (starts left) u) false refl)
         either),
   )

@@ -6,3 +6,4 @@ pub mod Puts
 pub mod Counting
 pub mod Matches
 pub mod Searches
+pub mod PairOrders

@@ -1,5 +1,5 @@
 -- What a root stands for, or the lack of one: a finite map. When it is sound, and what a value lent from below it leaves.
-use Rattle.std.specs.Prelude.{◌≡◌, ℕ, ◌≤◌, List, Option, Some, None, IsSome, Result, ⊤, length, if◌then◌else◌}
+use Rattle.std.specs.Prelude.{◌≡◌, ℕ, ◌≤◌, List, [], Option, Some, None, IsSome, Result, ⊤, length, if◌then◌else◌}
 use Rattle.std.specs.Option.{option_map}
 use Rattle.std.specs.Result.{IsOk, OnErr}
 use Rattle.std.specs.Str.{bytes_eq}
@@ -19,6 +19,11 @@ module _ {V : Type 0} where
   abbrev pub map_of : Option (Shape V) → Map V
   map_of None = finite.empty
   map_of (Some root) = finite.from_entries (pairs_of root)
+
+  -- the pairs below a root, or the lack of one, in the order of the tree
+  abbrev pub pairs_in : Option (Shape V) → List (List ℕ × V)
+  pairs_in None = []
+  pairs_in (Some root) = pairs_of root
 
   -- the value of a string below a root, or the lack of one
   abbrev pub found_in : Option (Shape V) → List ℕ → Option V

@@ -1,5 +1,6 @@
 pub mod Contents
 pub mod Counts
+pub mod Laws
 pub mod Lent
 pub mod Seen
 pub mod Shape

@@ -1,4 +1,4 @@
-ghost use Rattle.std.specs.Iterator.{YieldsFirstBy, item_count};
+ghost use Rattle.std.specs.Iterator.{item_count};
 ghost use Rattle.rart_node.specs.Shape.{IsAscending};
 
 use crate::node::VersionedNode;
@@ -6,6 +6,8 @@ use crate::node_ref::NodeRef;
 use rart_below::Partial;
 
 /// The children of a node, each pointer with its byte, ascending.
+///
+/// After its end it may be asked again, and gives `None` from then on.
 #[derive(Drop)]
 pub struct VersionedNodeIter<'a, P, V> {
     pub(crate) node: &'a VersionedNode<P, V>,
@@ -15,9 +17,9 @@ pub struct VersionedNodeIter<'a, P, V> {
 impl<'a, P: Partial, V: Drop> Iterator for VersionedNodeIter<'a, P, V> {
     type Item = (u8, &'a NodeRef<P, V>);
 
-    ghost use Rattle.rart_node.specs.Seen.{seen, shown_entry, children_left};
+    ghost use Rattle.rart_node.specs.Seen.{seen, children_left, GivesChild};
 
-    ghost next_gives = { YieldsFirstBy (shown_entry P.bytes) (children_left P.bytes) };
+    ghost next_gives = { GivesChild P.bytes };
 
     ghost remaining = { item_count (children_left P.bytes) };
 

@@ -3,9 +3,11 @@
 //
 // The children are leaves whose values tell them apart.
 
+mod ends;
 mod growth;
 mod node;
 mod pointer;
+mod rooms;
 mod sizes;
 mod widths;
 

@@ -1,6 +1,5 @@
 -- Widths, and what they leave room for.
-use Rattle.std.proofs.Common.{◌≡◌, ◌<◌, ◌≤◌, ℕ, List, Bool, true, false, cond, inl, inr, length, lit≤, refl, ap, sym, subst, ◌∙◌, arith}
-use Rattle.std.specs.Prelude.{nat_lt, nat_le}
+use Rattle.std.proofs.Common.{◌≡◌, ◌<◌, ◌≤◌, ℕ, List, Bool, true, false, cond, inl, inr, length, lit≤, refl, sym, subst, ◌∙◌, arith}
 use Rattle.std.proofs.lemmas.Bool.{cases_lt}
 use Rattle.std.proofs.lemmas.Bool.Decides.{nat_tests}
 use Rattle.rart_node.specs.declared.content.Layout.TheVariants.{Leaf, Node4, Node16, Node48, Node256}
@@ -8,7 +7,7 @@ use Rattle.rart_node.specs.declared.node.VersionedNode.{VersionedNode}
 use Rattle.rart_node.specs.declared.node_ref.NodeRef.{NodeRef}
 use Rattle.rart_node.specs.Contents.{Content, held}
 use Rattle.rart_node.specs.Seen.{seen, shown, shown_children, if_in_order}
-use Rattle.rart_node.specs.Shape.{Shape, node, IsWidth, IsAscending, IsFull, FitsWidth, is_full_at, width_of, children_of, entries_of, widenings}
+use Rattle.rart_node.specs.Shape.{Shape, IsWidth, IsAscending, IsFull, FitsWidth, is_full_at, width_of, children_of, widenings}
 use Rattle.rart_node.proofs.Contents.{content_of, children_in, width-seen, length-seen, children-seen, widenings-parts}
 use Rattle.rart_node.proofs.Entries.{length-each}
 use Rattle.rart_node.proofs.Rooms.{fits}

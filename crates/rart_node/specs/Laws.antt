@@ -1,5 +1,5 @@
 -- Where one more child makes no node: laws on what nodes are seen as.
-use Rattle.std.specs.Prelude.{◌≡◌, ◌<◌, ℕ, length}
+use Rattle.std.specs.Prelude.{◌≡◌, ◌<◌, length}
 use Rattle.rart_node.specs.Shape.{Shape, FitsWidth, IsFull, width_of, children_of, widenings}
 
 -- An inner node that is not full has room for one more child.

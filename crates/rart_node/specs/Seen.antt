@@ -1,7 +1,6 @@
 -- How a node of the program is seen, where `bytes` gives a prefix's bytes. Among the specs only this file, Contents and Lent know what a node keeps its children in.
 use Rattle.std.specs.Prelude.{◌≡◌, ℕ, List, [], ◌∷◌, Option, None, Some, Bool, map, cond, refl}
 use Rattle.std.specs.Borrow.{Bor}
-use Rattle.std.specs.Iterator.{YieldsFirstBy}
 use Rattle.std.proofs.Common.{ap, sym, ◌∙◌}
 use Rattle.rart_below.specs.Children.{children_from}
 use Rattle.rart_node.specs.declared.node_iter.VersionedNodeIter.{VersionedNodeIter}
@@ -127,8 +126,3 @@ module _ {P V : Type 0} (bytes : P → List ℕ) where
   -- what an iterator has left
   abbrev pub children_left : VersionedNodeIter P V → List (ℕ × Shape V)
   children_left it = children_from it.from (children_of (seen it.node.now))
-
-  -- A call of an iterator gave the first child that was left and left the others, or gave `None` where none was left, and left none. The node stays.
-  pub record GivesChild (before : VersionedNodeIter P V) (given : Option (ℕ × Bor (NodeRef P V))) (after : VersionedNodeIter P V) : Type 0 where
-    pub first : YieldsFirstBy shown_entry children_left before given after
-    pub same_node : after.node ≡ before.node

@@ -177,7 +177,8 @@ impl<P: Partial, V: Drop> Content<P, V> {
         requires { IsTrue (held self.old).in_order }
         ensures ok { OnOk result (Holds self.new (widened (held self.old).width (length (held self.old).children)) (held self.old).children) }
         ensures refused { OnErr result (self.new ≡ self.old) }
-        ensures succeeds { is_full_at (held self.old).width (length (held self.old).children) ≡ false → IsOk result }
+        ensures succeeds { is_full_at (held self.old).width (length (held self.old).children) ≡ false
+            → IsOk result }
         ensures work { work.new ≡ record work.old { made = work.old.made + (if is_full_at (held self.old).width (length (held self.old).children) then 1 else 0) } }
     {
         let must_widen = self.must_widen();

@@ -23,7 +23,8 @@ fn add_to_few<P: Partial>(
     requires absent { child_at byte (children_of (seen P.bytes node.old)) ≡ None }
     requires inner { 0 < width_of (seen P.bytes node.old) }
     requires few { length (children_of (seen P.bytes node.old)) < 4 }
-    ensures added { seen P.bytes node.new ≡ with_added byte (shown P.bytes child) (seen P.bytes node.old) }
+    ensures added { seen P.bytes node.new
+        ≡ with_added byte (shown P.bytes child) (seen P.bytes node.old) }
     ensures made { work.new.made ≡ work.old.made }
 {
     let _ = node.is_inner();

@@ -1,4 +1,4 @@
-use Rattle.std.proofs.Common.{length, refl, ap, sym, arith}
+use Rattle.std.proofs.Common.{length, ap, sym, arith}
 use Rattle.rart_node.specs.Seen.{seen, shown}
 use Rattle.rart_node.specs.Shape.{children_of}
 use Rattle.rart_node.proofs.Froms.{from-next}
@@ -6,8 +6,7 @@ use Rattle.rart_node.proofs.node_iter.VersionedNodeIterIterator.next.Goals as go
 
 pub returns-clause-steps : goal.returns-clause-steps
 returns-clause-steps g c =
-    let first = from-next c.args.self.now.from (children_of (seen g.P.Partial.bytes c.args.self.now.node.now)) (c.in_ok-byte.byte, shown g.P.Partial.bytes c.in_ok-byte.child.now) c.requires (sym (c.in_ok-byte.ensures {u = tt})) in
-    record { first = first; same_node = refl }
+    from-next c.args.self.now.from (children_of (seen g.P.Partial.bytes c.args.self.now.node.now)) (c.in_ok-byte.byte, shown g.P.Partial.bytes c.in_ok-byte.child.now) c.requires (sym (c.in_ok-byte.ensures {u = tt}))
 
 pub returns-clause-goes : goal.returns-clause-goes
 returns-clause-goes g c =

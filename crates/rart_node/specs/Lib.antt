@@ -4,3 +4,4 @@ pub mod Laws
 pub mod Lent
 pub mod Seen
 pub mod Shape
+pub mod VersionedNodeIter

@@ -29,7 +29,8 @@ pub struct VersionedNode<P, V> {
 
 #[tactic(auto, using(crate::proofs::Rules::seeing))]
 impl<P: Partial, V: Drop> VersionedNode<P, V> {
-    ghost use Rattle.rart_node.specs.Seen.{seen, shown, shown_entry, children_left};
+    ghost use Rattle.rart_node.specs.Seen.{seen, shown, shown_entry};
+    ghost use Rattle.rart_node.specs.VersionedNodeIter.{children_left};
     ghost use Rattle.rart_node.specs.Lent.{LendsChild, LendsValue};
     ghost use Rattle.std.specs.Borrow.{sem};
 

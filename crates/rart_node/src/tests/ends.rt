@@ -1,6 +1,5 @@
 ghost use Rattle.std.specs.Prelude.{◌≡◌, []};
-ghost use Rattle.rart_node.specs.Seen.{seen, children_left};
-ghost use Rattle.rart_node.specs.Shape.{IsAscending};
+ghost use Rattle.rart_node.specs.VersionedNodeIter.{children_left};
 
 use crate::tests::{add_leaf, prefix};
 use crate::{VersionedNode, VersionedNodeIter};
@@ -9,10 +8,8 @@ use std::test::Fail;
 
 // Asks an iterator that has nothing left: it gives `None`, and can be asked again.
 fn ask_at_the_end<P: Partial>(children: &mut VersionedNodeIter<'_, P, u64>)
-    requires order { IsAscending (seen P.bytes children.old.node.now) }
-    requires ended { children_left P.bytes children.old ≡ [] }
-    ensures order { IsAscending (seen P.bytes children.new.node.now) }
-    ensures ended { children_left P.bytes children.new ≡ [] }
+    requires { children_left P.bytes children.old ≡ [] }
+    ensures { children_left P.bytes children.new ≡ [] }
 {
     match children.next() {
         None => {}

@@ -23,11 +23,28 @@ before-above byte [] u begins above = absurd begins
 before-above byte (b ∷ w) [] begins above = absurd above
 before-above byte (b ∷ w) (c ∷ u) begins above =
     let lt : b < c = omega (arith, begins, above) in
-    ap (λ r. is_lt (ordering_then r (byte_order w u))) (nat_cmp_is b c Less lt)
+    ap (λ r. is_lt (ordering_then r (byte_order w u))) (sym (nat_cmp_is b c Less lt))
 
 order-behind : (p u w : List ℕ) → byte_order (p ++ u) (p ++ w) ≡ byte_order u w
 order-behind [] u w = refl
-order-behind (b ∷ p) u w = ap (λ r. ordering_then r (byte_order (p ++ u) (p ++ w))) (nat_cmp_is b b Equal refl) ∙ order-behind p u w
+order-behind (b ∷ p) u w = ap (λ r. ordering_then r (byte_order (p ++ u) (p ++ w))) (sym (nat_cmp_is b b Equal refl)) ∙ order-behind p u w
+
+begins-above : (least byte : ℕ) → least < byte → (w : List ℕ) → BeginsWith byte w → BeginsAbove least w
+begins-above least byte lt [] begins = absurd begins
+begins-above least byte lt (b ∷ w) begins = omega (arith, lt, begins)
+
+-- The string has a byte.
+abbrev IsSomeString : List ℕ → Type 0
+IsSomeString [] = ⊥
+IsSomeString (b ∷ w) = ⊤
+
+some-string : (byte : ℕ) (w : List ℕ) → BeginsWith byte w → IsSomeString w
+some-string byte [] begins = begins
+some-string byte (b ∷ w) begins = tt
+
+before-some : (w : List ℕ) → IsSomeString w → is_lt (byte_order [] w) ≡ true
+before-some [] some = absurd some
+before-some (b ∷ w) some = refl
 
 module _ {V : Type 0} where
   -- Each key of the list is such a string.
@@ -76,10 +93,6 @@ module _ {V : Type 0} where
   keys-begin (node [] value width forest) byte begins = absurd begins
   keys-begin (node (b ∷ prefix) value width forest) byte begins = each-behind (BeginsWith byte) (b ∷ prefix) (own_pair value ++ pairs_below forest) (λ w. begins)
 
-  begins-above : (least byte : ℕ) → least < byte → (w : List ℕ) → BeginsWith byte w → BeginsAbove least w
-  begins-above least byte lt [] begins = absurd begins
-  begins-above least byte lt (b ∷ w) begins = omega (arith, lt, begins)
-
   keys-above : (forest : Forest V) (least : ℕ) → IsBelow least (entries_of forest) → AreBranches forest → EachKey (BeginsAbove least) (pairs_below forest)
   keys-above bare least below branches = tt
   keys-above (grown byte child forest) least below branches =
@@ -88,25 +101,12 @@ module _ {V : Type 0} where
       (each-weaker (BeginsWith byte) (BeginsAbove least) (begins-above least byte parts.0) (pairs_of child) (keys-begin child byte branches.0))
       (keys-above forest least parts.1 branches.2)
 
-  -- The string has a byte.
-  abbrev IsSomeString : List ℕ → Type 0
-  IsSomeString [] = ⊥
-  IsSomeString (b ∷ w) = ⊤
-
-  some-string : (byte : ℕ) (w : List ℕ) → BeginsWith byte w → IsSomeString w
-  some-string byte [] begins = begins
-  some-string byte (b ∷ w) begins = tt
-
   keys-some : (forest : Forest V) → AreBranches forest → EachKey IsSomeString (pairs_below forest)
   keys-some bare branches = tt
   keys-some (grown byte child forest) branches =
       each-append IsSomeString (pairs_of child) (pairs_below forest)
       (each-weaker (BeginsWith byte) IsSomeString (some-string byte) (pairs_of child) (keys-begin child byte branches.0))
       (keys-some forest branches.2)
-
-  before-some : (w : List ℕ) → IsSomeString w → is_lt (byte_order [] w) ≡ true
-  before-some [] some = absurd some
-  before-some (b ∷ w) some = refl
 
   sorted-own : (value : Option V) (pairs : List (List ℕ × V)) → EachKey IsSomeString pairs → is_sorted byte_order pairs ≡ true → is_sorted byte_order (own_pair value ++ pairs) ≡ true
   sorted-own None pairs some sorted = sorted

@@ -1,4 +1,7 @@
 pub mod LawLemmas
+pub mod PlaceLemmas
 pub mod RunLemmas
-pub mod WorkedRunLemmas
 pub mod SlotLemmas
+pub mod WantLemmas
+pub mod WorkedCostLemmas
+pub mod WorkedRunLemmas

@@ -1,9 +1,10 @@
 -- Laws that show what the definitions of families and runs mean.
-use Rattle.std.specs.Prelude.{◌≡◌, ◌≢◌, ℕ, ◌<◌, ◌≤◌, List, length, Option, Some, None, slice_get}
+use Rattle.std.specs.Prelude.{◌≡◌, ◌≢◌, ℕ, ◌<◌, ◌≤◌, false, List, length, Option, Some, None, slice_get, IfSome, ◌⊎◌, ⊤}
 use Rattle.rart_family.specs.declared.family.command.Command.{Command}
-use Rattle.rart_family.specs.declared.family.command.Command.TheVariants.{Discard, GetMut, Insert, Replace, Remove, Delete, Update, TryUpdate}
-use Rattle.rart_family.specs.Replies.{Reply, NoMemory}
-use Rattle.rart_family.specs.Families.{Family, reply_to}
+use Rattle.rart_family.specs.declared.family.command.Command.TheVariants.{Discard, Version as NumberOf, IsEmpty, Get, GetMut, Insert, Replace, Remove, Delete, Update, TryUpdate}
+use Rattle.rart_versioned.specs.Versions.{has_key}
+use Rattle.rart_family.specs.Replies.{Reply, NoVersion, NoRoom, NoMemory}
+use Rattle.rart_family.specs.Families.{Family, version_at, reply_to}
 use Rattle.rart_family.specs.Runs.{Step, Run}
 
 -- the one place, of those that are there, whose version a command may change
@@ -40,3 +41,28 @@ module _ (K V : Type 0) (bytes : K → List ℕ) where
   -- Want of memory is no command's own reply.
   abbrev pub NoReplyIsWant : Type 0
   NoReplyIsWant = (f : Family V) (c : Command K V) → reply_to bytes f c ≢ NoMemory
+
+  -- The place has no version, or one that lacks the key.
+  abbrev pub LacksKey : Family V → ℕ → K → Type 0
+  LacksKey f place key = IfSome (version_at f place) (λ v. has_key v (bytes key) ≡ false)
+
+  -- The command takes no memory: it looks at a version as a whole, drops it, or looks up or takes out
+  -- a key that the version lacks.
+  abbrev pub TakesNoMemory : Family V → Command K V → Type 0
+  TakesNoMemory f (Discard place) = ⊤
+  TakesNoMemory f (NumberOf place) = ⊤
+  TakesNoMemory f (IsEmpty place) = ⊤
+  TakesNoMemory f (Get place key) = LacksKey f place key
+  TakesNoMemory f (Remove place key) = LacksKey f place key
+  TakesNoMemory f (Delete place key) = LacksKey f place key
+  TakesNoMemory f c = ⊥
+
+  -- No step replies want of memory to a command that takes none.
+  abbrev pub NoWantWithoutMemory : Type 0
+  NoWantWithoutMemory = (old new : Family V) (c : Command K V) → TakesNoMemory old c → ¬ Step bytes old c NoMemory new
+
+  -- No step replies want of memory where a version or room is lacking.
+  abbrev pub NoWantBeforeLack : Type 0
+  NoWantBeforeLack =
+      (old new : Family V) (c : Command K V)
+      → (reply_to bytes old c ≡ NoVersion) ⊎ (reply_to bytes old c ≡ NoRoom) → ¬ Step bytes old c NoMemory new

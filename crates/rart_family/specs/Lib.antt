@@ -6,4 +6,5 @@ pub mod Laws
 pub mod Replies
 pub mod Runs
 pub mod Slots
+pub mod WorkedCosts
 pub mod WorkedRuns

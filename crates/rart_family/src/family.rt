@@ -1,10 +1,10 @@
 //! Families of versions: commands on them, and their replies.
-ghost use Rattle.std.specs.Prelude.{◌≡◌, ◌+◌, ◌*◌, ◌≤◌, [], map, length, Some, IfOk, IfErr, OnErr, MatchOption};
+ghost use Rattle.std.specs.Prelude.{◌≡◌, ◌+◌, ◌*◌, ◌≤◌, [], map, length, Some, IfOk, IfErr, OnOk, OnErr, MatchOption};
 ghost use Rattle.std.specs.Option.{option_copied};
 ghost use Rattle.rart_versioned.specs.Given.{ClonesEqual};
 ghost use Rattle.rart_versioned.specs.Versions.{HasRoom};
 ghost use Rattle.rart_family.specs.Attempts.{Tries, Gives, replied};
-ghost use Rattle.rart_family.specs.Costs.{read_cost, read_least, change_cost, change_least, CountsReads, CountsChanges};
+ghost use Rattle.rart_family.specs.Costs.{read_cost, read_least, change_cost, change_least, touch_least, CountsReads, CountsChanges};
 ghost use Rattle.rart_family.specs.Families.{version_at, placed};
 ghost use Rattle.rart_family.specs.Replies.{seen};
 ghost use Rattle.rart_family.specs.Runs.{Step, Run};
@@ -97,6 +97,7 @@ impl<K: KeyTrait, V: Clone + Drop> Family<K, V> {
             reads.new.entered
             ≤ reads.old.entered
             + read_cost K.bytes self.old commands.now (map (seen K.bytes) replies.items)) }
+        ensures nothing_made_to_read { OnOk result (reads.new.made ≡ reads.old.made) }
         ensures made_at_least { IfOk result (λ replies.
             changes.old.made
             + change_least K.bytes self.old commands.now (map (seen K.bytes) replies.items)
@@ -105,6 +106,10 @@ impl<K: KeyTrait, V: Clone + Drop> Family<K, V> {
             changes.new.made
             ≤ changes.old.made
             + change_cost K.bytes self.old commands.now (map (seen K.bytes) replies.items)) }
+        ensures entered_to_change_at_least { IfOk result (λ replies.
+            changes.old.entered
+            + touch_least K.bytes self.old commands.now (map (seen K.bytes) replies.items)
+            ≤ changes.new.entered) }
         ensures entered_to_change_at_most { IfOk result (λ replies.
             changes.new.entered
             ≤ changes.old.entered

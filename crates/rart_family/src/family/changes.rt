@@ -1,11 +1,11 @@
 // Commands that change the version at their place by one key.
-ghost use Rattle.std.specs.Prelude.{◌≡◌, IfOk, OnErr, OnOk, IsSomeAnd, IfSome, IsTrue, slice_set, Some, ◌<◌};
+ghost use Rattle.std.specs.Prelude.{◌≡◌, IfOk, OnErr, OnOk, IsSomeAnd, IfSome, IsTrue, slice_set, Some, ◌+◌, ◌<◌, ◌≤◌};
 ghost use Rattle.rart_versioned.specs.Given.{ClonesEqual};
 ghost use Rattle.rart_versioned.specs.Versions.{HasRoom, value_at, has_key, with_key};
 ghost use Rattle.rart_versioned.specs.Changes.{removed, rewritten};
 ghost use Rattle.rart_versioned.specs.Bounds.{CountsUpTo, touch_bound, change_bound};
 ghost use Rattle.rart_family.specs.Attempts.{Tries, replied};
-ghost use Rattle.rart_family.specs.Costs.{CountsChanges};
+ghost use Rattle.rart_family.specs.Costs.{CountsChanges, one_with_key};
 ghost use Rattle.rart_family.specs.Families.{version_at};
 ghost use Rattle.rart_family.specs.declared.family.command.Command.TheVariants.{GetMut, Insert, Replace, Remove, Delete};
 
@@ -130,6 +130,8 @@ fn rewrite_at<K: KeyTrait, V: Clone + Drop>(
         IsTrue (has_key v (K.bytes key.now)))) }
     ensures counted { CountsUpTo (touch_bound (K.bytes key.now)) (change_bound (K.bytes key.now))
         changes.old changes.new }
+    ensures entered_least { changes.old.entered + one_with_key (version_at versions.old place)
+        ≤ changes.new.entered }
 {
     match &mut versions[place] {
         Some(version) => write_slot(version, key, value, changes),
@@ -153,6 +155,8 @@ fn insert_at<K: KeyTrait, V: Clone + Drop>(
     ensures refused { OnErr result (versions.new ≡ versions.old) }
     ensures counted { CountsUpTo (touch_bound (K.bytes key.now)) (change_bound (K.bytes key.now))
         changes.old changes.new }
+    ensures entered_least { changes.old.entered + one_with_key (version_at versions.old place)
+        ≤ changes.new.entered }
     ensures made { OnOk result (changes.old.made < changes.new.made) }
 {
     match &mut versions[place] {
@@ -177,6 +181,8 @@ fn replace_at<K: KeyTrait, V: Clone + Drop>(
     ensures refused { OnErr result (versions.new ≡ versions.old) }
     ensures counted { CountsUpTo (touch_bound (K.bytes key.now)) (change_bound (K.bytes key.now))
         changes.old changes.new }
+    ensures entered_least { changes.old.entered + one_with_key (version_at versions.old place)
+        ≤ changes.new.entered }
     ensures made { OnOk result (changes.old.made < changes.new.made) }
 {
     match &mut versions[place] {
@@ -202,6 +208,8 @@ fn remove_at<K: KeyTrait, V: Clone + Drop>(
         IsTrue (has_key v (K.bytes key.now)))) }
     ensures counted { CountsUpTo (touch_bound (K.bytes key.now)) (change_bound (K.bytes key.now))
         changes.old changes.new }
+    ensures entered_least { changes.old.entered + one_with_key (version_at versions.old place)
+        ≤ changes.new.entered }
 {
     match &mut versions[place] {
         Some(version) => version.remove_k_counted(key, changes),
@@ -226,6 +234,8 @@ fn delete_at<K: KeyTrait, V: Clone + Drop>(
         IsTrue (has_key v (K.bytes key.now)))) }
     ensures counted { CountsUpTo (touch_bound (K.bytes key.now)) (change_bound (K.bytes key.now))
         changes.old changes.new }
+    ensures entered_least { changes.old.entered + one_with_key (version_at versions.old place)
+        ≤ changes.new.entered }
 {
     match &mut versions[place] {
         Some(version) => version.delete_k_counted(key, changes),

@@ -1,8 +1,8 @@
 // A value written through the reference that a version lends.
-ghost use Rattle.std.specs.Prelude.{◌≡◌, IfOk, IfErr, OnOk, OnErr, IsTrue, true};
+ghost use Rattle.std.specs.Prelude.{◌≡◌, IfOk, IfErr, OnOk, OnErr, IsTrue, true, false, ◌<◌};
 ghost use Rattle.std.specs.Borrow.{sem};
 ghost use Rattle.rart_versioned.specs.Given.{ClonesEqual};
-ghost use Rattle.rart_versioned.specs.Versions.{HasRoom, value_at, has_key};
+ghost use Rattle.rart_versioned.specs.Versions.{HasRoom, has_no_key, value_at, has_key};
 ghost use Rattle.rart_versioned.specs.Changes.{rewritten};
 ghost use Rattle.rart_versioned.specs.Bounds.{CountsUpTo, touch_bound, change_bound};
 ghost use Rattle.rart_versioned.specs.Lent.{LendsValue};
@@ -35,6 +35,7 @@ pub(super) fn write_slot<K: KeyTrait, V: Clone + Drop>(
     ensures present { OnErr result (IsTrue (has_key version.old (K.bytes key.now))) }
     ensures counted { CountsUpTo (touch_bound (K.bytes key.now)) (change_bound (K.bytes key.now))
         changes.old changes.new }
+    ensures entered_least { has_no_key version.old ≡ false → changes.old.entered < changes.new.entered }
 {
     match slot(version, key, changes) {
         Ok(slot) => {
@@ -59,6 +60,7 @@ fn slot<'a, K: KeyTrait, V: Clone + Drop>(
     ensures missing { IfErr result (λ why. Explains why (value_at version.old (K.bytes key.now))) }
     ensures counted { CountsUpTo (touch_bound (K.bytes key.now)) (change_bound (K.bytes key.now))
         changes.old changes.new }
+    ensures entered_least { has_no_key version.old ≡ false → changes.old.entered < changes.new.entered }
 {
     slot_of(version.get_mut_k_counted(key, changes))
 }

@@ -1,11 +1,11 @@
 // Commands that update the slot of a key by a callback.
-ghost use Rattle.std.specs.Prelude.{◌≡◌, IfOk, OnErr, IsSomeAnd, IfSome, slice_set, Some, option_map};
+ghost use Rattle.std.specs.Prelude.{◌≡◌, IfOk, OnErr, IsSomeAnd, IfSome, slice_set, Some, option_map, ◌+◌, ◌≤◌};
 ghost use Rattle.rart_versioned.specs.Given.{ClonesEqual};
 ghost use Rattle.rart_versioned.specs.Versions.{HasRoom, value_at};
 ghost use Rattle.rart_versioned.specs.Changes.{slot_of, updated, tried};
 ghost use Rattle.rart_versioned.specs.Bounds.{CountsUpTo, touch_bound, change_bound};
 ghost use Rattle.rart_family.specs.Attempts.{Tries, replied};
-ghost use Rattle.rart_family.specs.Costs.{CountsChanges};
+ghost use Rattle.rart_family.specs.Costs.{CountsChanges, one_with_key};
 ghost use Rattle.rart_family.specs.Families.{version_at, written, told};
 ghost use Rattle.rart_family.specs.declared.family.command.Command.TheVariants.{Update, TryUpdate};
 
@@ -111,6 +111,8 @@ fn update_at<K: KeyTrait, V: Clone + Drop>(
     ensures refused { OnErr result (versions.new ≡ versions.old) }
     ensures counted { CountsUpTo (touch_bound (K.bytes key.now)) (change_bound (K.bytes key.now))
         changes.old changes.new }
+    ensures entered_least { changes.old.entered + one_with_key (version_at versions.old place)
+        ≤ changes.new.entered }
 {
     match &mut versions[place] {
         Some(version) => version.update_k_counted(
@@ -141,6 +143,8 @@ fn try_update_at<K: KeyTrait, V: Clone + Drop>(
     ensures refused { OnErr result (versions.new ≡ versions.old) }
     ensures counted { CountsUpTo (touch_bound (K.bytes key.now)) (change_bound (K.bytes key.now))
         changes.old changes.new }
+    ensures entered_least { changes.old.entered + one_with_key (version_at versions.old place)
+        ≤ changes.new.entered }
 {
     match &mut versions[place] {
         Some(version) => {

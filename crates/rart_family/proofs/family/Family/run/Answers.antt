@@ -1,7 +1,7 @@
 use Rattle.std.proofs.Common.{◌≡◌, ◌+◌, take, map, ◌∷◌, [], ◌++◌, arith, sym, ap, ◌∙◌, rules}
 use Rattle.std.proofs.lemmas.List.{take_more, map-append}
 use Rattle.rart_family.specs.Replies.{seen}
-use Rattle.rart_family.specs.Costs.{read_cost_of, read_least_of, change_cost_of, change_least_of}
+use Rattle.rart_family.specs.Costs.{read_cost_of, read_least_of, change_cost_of, change_least_of, touch_least_of}
 use Rattle.rart_family.proofs.RunLemmas.{run_more, along_more}
 use Rattle.rart_family.proofs.family.Family.run.Goals as goal
 
@@ -25,15 +25,18 @@ loop-command-preserved g c =
     let read_few = more (read_least_of bytes) in
     let change_most = more (change_cost_of bytes) in
     let change_few = more (change_least_of bytes) in
+    let touch_few = more (touch_least_of bytes) in
     record {
       run = rw (commands, replies) (run_more bytes old mid _ done so_far item reply before.run c.step-reply.ensures.step);
       reads = rw (commands, replies) (record {
         entered_at_least = rw read_few (omega (arith, before.reads.entered_at_least, c.step-reply.ensures.reads.entered_at_least));
         entered_at_most = rw read_most (omega (arith, before.reads.entered_at_most, c.step-reply.ensures.reads.entered_at_most));
+        made_as_before = c.step-reply.ensures.reads.made_as_before ∙ before.reads.made_as_before;
       });
       changes = rw (commands, replies) (record {
         made_at_least = rw change_few (omega (arith, before.changes.made_at_least, c.step-reply.ensures.changes.made_at_least));
         made_at_most = rw change_most (omega (arith, before.changes.made_at_most, c.step-reply.ensures.changes.made_at_most));
+        entered_at_least = rw touch_few (omega (arith, before.changes.entered_at_least, c.step-reply.ensures.changes.entered_at_least));
         entered_at_most = rw change_most (omega (arith, before.changes.entered_at_most, c.step-reply.ensures.changes.entered_at_most));
       });
       count = search rules;

@@ -38,7 +38,7 @@ module _ {V : Type 0} where
   with_added-parts : (byte : ℕ) (child s : Shape V) → with_added byte child s ≡ node_of (prefix_of s) (value_of s) (widened (width_of s) (length (children_of s))) (with_child byte child (children_of s))
   with_added-parts byte child (node prefix value width forest) = refl
 
-  widenings-parts : (s : Shape V) → widenings s ≡ cond (is_full_at (width_of s) (length (children_of s))) 1 0
+  pub widenings-parts : (s : Shape V) → widenings s ≡ cond (is_full_at (width_of s) (length (children_of s))) 1 0
   widenings-parts (node prefix value width forest) = refl
 
 module _ {P V : Type 0} (bytes : P → List ℕ) where
@@ -56,7 +56,7 @@ module _ {P V : Type 0} (bytes : P → List ℕ) where
     pub width-seen : width_of (seen bytes n) ≡ (held content_of).width
     width-seen = ap width_of (seen_out bytes n)
 
-    children-seen : children_of (seen bytes n) ≡ if_in_order (held content_of).in_order (shown_children bytes children_in)
+    pub children-seen : children_of (seen bytes n) ≡ if_in_order (held content_of).in_order (shown_children bytes children_in)
     children-seen = ap children_of (seen_out bytes n) ∙ entries_of-forest_of _
 
     -- what asks for an ascending node asks for a content whose lists are in step

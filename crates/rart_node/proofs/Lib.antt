@@ -5,3 +5,4 @@ pub mod Froms
 pub mod Orders
 pub mod Rooms
 pub mod Rules
+pub mod Widths

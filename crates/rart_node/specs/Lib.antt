@@ -1,5 +1,7 @@
 pub mod Contents
 pub mod Counts
+pub mod Laws
 pub mod Lent
 pub mod Seen
 pub mod Shape
+pub mod VersionedNodeIter

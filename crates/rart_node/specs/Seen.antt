@@ -2,13 +2,11 @@
 use Rattle.std.specs.Prelude.{◌≡◌, ℕ, List, [], ◌∷◌, Option, None, Some, Bool, map, cond, refl}
 use Rattle.std.specs.Borrow.{Bor}
 use Rattle.std.proofs.Common.{ap, sym, ◌∙◌}
-use Rattle.rart_below.specs.Children.{children_from}
-use Rattle.rart_node.specs.declared.node_iter.VersionedNodeIter.{VersionedNodeIter}
 use Rattle.rart_node.specs.declared.node.VersionedNode.{VersionedNode, out-VersionedNode, roll-VersionedNode}
 use Rattle.rart_node.specs.declared.node_ref.NodeRef.{NodeRef, out-NodeRef, roll-NodeRef}
 use Rattle.rart_node.specs.declared.node.VersionedNode.TheOpen.{NodeRef-F, VersionedNode-F}
 use Rattle.rart_node.specs.declared.node.VersionedNode.TheFolds.{fold-VersionedNode, fold-NodeRef, fold-roll-VersionedNode, fold_out-VersionedNode, fold-roll-NodeRef, fold_out-NodeRef}
-use Rattle.rart_node.specs.Shape.{Shape, node_of, children_of, bare, node}
+use Rattle.rart_node.specs.Shape.{Shape, node_of, bare, node}
 use Rattle.rart_node.specs.Contents.{Content, Held, held}
 use Rattle.rart_below.specs.declared.mapping.sorted.SortedKeyedMapping.{SortedKeyedMapping}
 use Rattle.rart_below.specs.declared.mapping.indexed.IndexedMapping.{IndexedMapping}
@@ -122,7 +120,3 @@ module _ {P V : Type 0} (bytes : P → List ℕ) where
   -- an item of an iterator, as it is shown
   abbrev pub shown_entry : ℕ × Bor (NodeRef P V) → ℕ × Shape V
   shown_entry entry = (entry.0, shown entry.1.now)
-
-  -- what an iterator has left
-  abbrev pub children_left : VersionedNodeIter P V → List (ℕ × Shape V)
-  children_left it = children_from it.from (children_of (seen it.node.now))

@@ -1,5 +1,5 @@
 -- What a node is, whatever it keeps its children in: a prefix, an optional value, a width, and children, each under its byte.
-use Rattle.std.specs.Prelude.{◌≡◌, ◌<◌, ℕ, suc, max, List, [], ◌∷◌, Option, Bool, length, if◌then◌else◌, ◌==◌, nat_lt, nat_le, ◌&&◌, refl}
+use Rattle.std.specs.Prelude.{◌≡◌, ◌<◌, ◌≤◌, ◌⊎◌, ℕ, suc, max, List, [], ◌∷◌, Option, Bool, length, if◌then◌else◌, ◌==◌, nat_lt, nat_le, ◌&&◌, refl}
 use Rattle.std.proofs.Common.{ap}
 use Rattle.rart_below.specs.Children as children
 use Rattle.rart_below.specs.Children.{with_child, without_child}
@@ -11,6 +11,10 @@ mutual
   pub data Forest (V : Type 0) : Type 0 where
     bare : Forest V
     grown : ℕ → Shape V → Forest V → Forest V
+
+-- The number is a width: there is room for no child, as in a leaf, or for 4, 16, 48 or 256.
+abbrev pub IsWidth : ℕ → Type 0
+IsWidth width = (width ≡ 0) ⊎ (width ≡ 4) ⊎ (width ≡ 16) ⊎ (width ≡ 48) ⊎ (width ≡ 256)
 
 -- the next of the widths none (0), 4, 16, 48, 256
 abbrev pub wider : ℕ → ℕ
@@ -64,6 +68,11 @@ module _ {V : Type 0} where
 
   abbrev pub IsFull : Shape V → Type 0
   IsFull shape = IsFullAt (width_of shape) (length (children_of shape))
+
+  -- The node has one of the widths, and no more children than it has room for.
+  pub record FitsWidth (shape : Shape V) : Type 0 where
+    pub is_width : IsWidth (width_of shape)
+    pub has_room : length (children_of shape) ≤ width_of shape
 
   -- The node's own children stand in strictly ascending order of their bytes.
   abbrev pub IsAscending : Shape V → Type 0

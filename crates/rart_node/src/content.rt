@@ -1,4 +1,4 @@
-ghost use Rattle.std.specs.Prelude.{◌≡◌, ◌<◌, ◌+◌, ◌↔◌, None, Some, length, if◌then◌else◌, IfOk, IsSome, IsTrue, OnOk, OnErr, option_copied};
+ghost use Rattle.std.specs.Prelude.{◌≡◌, ◌<◌, ◌+◌, ◌↔◌, None, Some, false, length, if◌then◌else◌, IfOk, IsOk, IsSome, IsTrue, OnOk, OnErr, option_copied};
 ghost use Rattle.std.specs.Borrow.{sem};
 ghost use Rattle.std.specs.Option.{option_copied_mut};
 ghost use Rattle.rart_below.specs.Children.{child_at, children_from, first_of, with_child, without_child};
@@ -172,11 +172,13 @@ impl<P: Partial, V: Drop> Content<P, V> {
     }
 
     /// Sees that one more child fits: a change of width is one node made. Refused for memory,
-    /// nothing has changed.
+    /// nothing has changed. Where the width stays, the call succeeds.
     pub(crate) fn make_room(&mut self, alloc: Global, work: &mut Work) -> Result<(), AllocError>
         requires { IsTrue (held self.old).in_order }
         ensures ok { OnOk result (Holds self.new (widened (held self.old).width (length (held self.old).children)) (held self.old).children) }
         ensures refused { OnErr result (self.new ≡ self.old) }
+        ensures succeeds { is_full_at (held self.old).width (length (held self.old).children) ≡ false
+            → IsOk result }
         ensures work { work.new ≡ record work.old { made = work.old.made + (if is_full_at (held self.old).width (length (held self.old).children) then 1 else 0) } }
     {
         let must_widen = self.must_widen();

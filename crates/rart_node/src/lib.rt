@@ -7,6 +7,7 @@
 
 mod content;
 mod grow_error;
+pub mod laws;
 mod node;
 mod node_iter;
 mod node_ref;

@@ -1,8 +1,8 @@
-ghost use Rattle.std.specs.Prelude.{◌≡◌, ◌==◌, ◌+◌, ◌↔◌, IsErrOf, IsSome, IsTrue, IfOk, OnOk, OnErr, Some, None, [], length, not};
+ghost use Rattle.std.specs.Prelude.{◌≡◌, ◌==◌, ◌+◌, ◌↔◌, IsErrOf, IsOk, IsSome, IsTrue, IfOk, OnOk, OnErr, Some, None, [], length, not};
 ghost use Rattle.std.specs.Option.{option_map, option_copied};
 ghost use Rattle.rart_below.specs.Children.{child_at, children_from, first_of};
 ghost use Rattle.rart_below.specs.Clones.{ClonesEqual};
-ghost use Rattle.rart_node.specs.Shape.{node_of, prefix_of, value_of, width_of, children_of, with_value, with_prefix, with_replaced, with_deleted, with_added, with_width, widenings, wider, IsAscending, IsFull};
+ghost use Rattle.rart_node.specs.Shape.{node_of, prefix_of, value_of, width_of, children_of, with_value, with_prefix, with_replaced, with_deleted, with_added, with_width, widenings, wider, FitsWidth, IsAscending, IsFull};
 
 use crate::content::{Content, Layout};
 use crate::grow_error::GrowError;
@@ -29,7 +29,8 @@ pub struct VersionedNode<P, V> {
 
 #[tactic(auto, using(crate::proofs::Rules::seeing))]
 impl<P: Partial, V: Drop> VersionedNode<P, V> {
-    ghost use Rattle.rart_node.specs.Seen.{seen, shown, shown_entry, children_left};
+    ghost use Rattle.rart_node.specs.Seen.{seen, shown, shown_entry};
+    ghost use Rattle.rart_node.specs.VersionedNodeIter.{children_left};
     ghost use Rattle.rart_node.specs.Lent.{LendsChild, LendsValue};
     ghost use Rattle.std.specs.Borrow.{sem};
 
@@ -68,14 +69,16 @@ impl<P: Partial, V: Drop> VersionedNode<P, V> {
 
     /// Whether the width is none.
     pub fn is_leaf(&self) -> bool
-        ensures { result ≡ (width_of (seen P.bytes self.now) == 0) }
+        ensures leaf { result ≡ (width_of (seen P.bytes self.now) == 0) }
+        ensures width { FitsWidth (seen P.bytes self.now) }
     {
         self.content.width() == 0
     }
 
     /// Whether the width is not none, also without children.
     pub fn is_inner(&self) -> bool
-        ensures { result ≡ not (width_of (seen P.bytes self.now) == 0) }
+        ensures inner { result ≡ not (width_of (seen P.bytes self.now) == 0) }
+        ensures width { FitsWidth (seen P.bytes self.now) }
     {
         self.content.width() != 0
     }
@@ -97,7 +100,8 @@ impl<P: Partial, V: Drop> VersionedNode<P, V> {
     /// The number of children.
     pub fn num_children(&self) -> usize
         requires { IsAscending (seen P.bytes self.now) }
-        ensures { result ≡ length (children_of (seen P.bytes self.now)) }
+        ensures count { result ≡ length (children_of (seen P.bytes self.now)) }
+        ensures width { FitsWidth (seen P.bytes self.now) }
     {
         self.content.num_children()
     }
@@ -106,7 +110,8 @@ impl<P: Partial, V: Drop> VersionedNode<P, V> {
     /// leaf is never full, nor is a node of width 256.
     pub fn is_full(&self) -> bool
         requires { IsAscending (seen P.bytes self.now) }
-        ensures { IsTrue result ↔ IsFull (seen P.bytes self.now) }
+        ensures full { IsTrue result ↔ IsFull (seen P.bytes self.now) }
+        ensures width { FitsWidth (seen P.bytes self.now) }
     {
         self.content.is_full()
     }
@@ -159,7 +164,8 @@ impl<P: Partial, V: Drop> VersionedNode<P, V> {
     }
 
     /// Adds a child under a byte that has none. A leaf becomes width 4 and a full node the next
-    /// width, which is one node made. Refused for memory, the node is as before.
+    /// width, which is one node made. Refused for memory, the node is as before. Where the node is
+    /// neither a leaf nor full, no memory is asked for and the call succeeds.
     pub fn add_child(
         &mut self,
         alloc: Global,
@@ -171,6 +177,7 @@ impl<P: Partial, V: Drop> VersionedNode<P, V> {
         requires absent { child_at byte (children_of (seen P.bytes self.old)) ≡ None }
         ensures ok { OnOk result (seen P.bytes self.new ≡ with_added byte (shown P.bytes child) (seen P.bytes self.old)) }
         ensures refused { OnErr result (seen P.bytes self.new ≡ seen P.bytes self.old) }
+        ensures succeeds { widenings (seen P.bytes self.old) ≡ 0 → IsOk result }
         ensures entered { work.new.entered ≡ work.old.entered }
         ensures made { work.new.made ≡ work.old.made + widenings (seen P.bytes self.old) }
     {

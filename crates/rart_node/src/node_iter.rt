@@ -1,4 +1,4 @@
-ghost use Rattle.std.specs.Iterator.{YieldsFirstBy, item_count};
+ghost use Rattle.rart_node.specs.Seen.{seen};
 ghost use Rattle.rart_node.specs.Shape.{IsAscending};
 
 use crate::node::VersionedNode;
@@ -6,22 +6,25 @@ use crate::node_ref::NodeRef;
 use rart_below::Partial;
 
 /// The children of a node, each pointer with its byte, ascending.
+///
+/// After its end `next` may be called again, and gives `None` from then on.
 #[derive(Drop)]
-pub struct VersionedNodeIter<'a, P, V> {
+pub struct VersionedNodeIter<'a, P: Partial, V> {
     pub(crate) node: &'a VersionedNode<P, V>,
     pub(crate) from: usize,
+    pub ghost order: { IsAscending (seen P.bytes node.now) },
 }
 
 impl<'a, P: Partial, V: Drop> Iterator for VersionedNodeIter<'a, P, V> {
     type Item = (u8, &'a NodeRef<P, V>);
 
-    ghost use Rattle.rart_node.specs.Seen.{seen, shown_entry, children_left};
+    ghost use Rattle.std.specs.Iterator.{YieldsFirstBy, item_count};
+    ghost use Rattle.rart_node.specs.Seen.{shown_entry};
+    ghost use Rattle.rart_node.specs.VersionedNodeIter.{children_left};
 
     ghost next_gives = { YieldsFirstBy (shown_entry P.bytes) (children_left P.bytes) };
 
     ghost remaining = { item_count (children_left P.bytes) };
-
-    ghost can_next = { λ children. IsAscending (seen P.bytes children.node.now) };
 
     fn next(&mut self) -> Option<(u8, &'a NodeRef<P, V>)> {
         let (byte, child) = self.node.next_from(self.from)?;

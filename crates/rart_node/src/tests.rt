@@ -3,9 +3,11 @@
 //
 // The children are leaves whose values tell them apart.
 
+mod ends;
 mod growth;
 mod node;
 mod pointer;
+mod rooms;
 mod sizes;
 mod widths;
 
@@ -80,9 +82,7 @@ fn assert_children<P: Partial>(
     rt: &impl Abort,
     children: VersionedNodeIter<'_, P, u64>,
     wanted: &[(u8, u64)],
-)
-    requires { IsAscending (seen P.bytes children.node.now) }
-{
+) {
     let mut count = 0;
     for (byte, child) in children {
         assert!(rt; count < wanted.len(), "one more, under {byte}");

@@ -16,10 +16,10 @@ use Rattle.rart_below.specs.declared.slot.SlotUpdate.{SlotUpdate}
 use Rattle.rart_below.specs.declared.slot.SlotUpdate.TheVariants.{Keep, Insert, Remove}
 use Rattle.rart_below.specs.declared.slot.Refusal.{Refusal}
 use Rattle.rart_below.specs.declared.slot.Refusal.TheVariants.{Callback, Memory}
-use Rattle.rart_versioned.specs.Changes.{slot_of, updated}
+use Rattle.rart_maps.specs.Changes.{slot_of, updated}
 use Rattle.rart_versioned.specs.Settled.{change_of, settled, settled_absent, is_occupied, rise_of, AsksMemory, IsTried, TriesToInsert}
 use Rattle.rart_versioned.specs.Updates.{Tells, Updates, UpdateTakesMemory, TellsOrFails, TriesUpdate, TryTakesMemory, IfCallback, OnMemory}
-use Rattle.rart_versioned.specs.Versions.{Map, Version, value_at, has_key, raised}
+use Rattle.rart_maps.specs.Versions.{Map, Version, value_at, has_key, raised}
 use Rattle.rart_versioned.proofs.Sound.{same-map}
 
 tied : (o : Ordering) → is_eq o ≡ true → o ≡ Equal

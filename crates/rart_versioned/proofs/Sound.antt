@@ -1,19 +1,23 @@
 -- What a change below the root makes of the map, and that all stays in order.
 use Rattle.std.proofs.Common.{◌≡◌, ℕ, ◌+◌, ◌≤◌, List, [], Option, Some, None, IsSome, is_some, length, cond, Bool, true, false, refl, arith, sym, ap, subst, ◌∙◌}
+use Rattle.std.specs.Prelude.{IsTrue}
+use Rattle.std.specs.Option.{option_map}
 use Rattle.std.specs.Ordering.{eq_by_cmp}
 use Rattle.std.specs.Str.{bytes_eq}
 use Rattle.std.proofs.lemmas.Cmp.{nat_list_cmp_total}
 use Rattle.std.proofs.lemmas.Map.Text.{is_eq-slice_cmp}
 use Rattle.std.proofs.lemmas.Slice.Eq.{bytes_eq-Decides}
-use Rattle.std.proofs.lemmas.Bool.{false≢true}
+use Rattle.std.proofs.lemmas.Bool.{false≢true, true≢false}
 use Rattle.std.specs.FinMap as finite
-use Rattle.rart_below.specs.Bytes.{byte_order, IsAdmitted}
+use Rattle.rart_below.specs.Bytes.{byte_order}
+use Rattle.rart_versioned.specs.Keys.{IsKeyLength}
 use Rattle.rart_node.specs.Shape.{Shape, node_of}
-use Rattle.rart_versioned.specs.Paths.{IsPutBelow}
-use Rattle.rart_versioned.specs.Trees.{found, found_in, map_of, IsTree, IsTreeIn, IsPut, IsSound}
-use Rattle.rart_versioned.specs.Versions.{value_at, has_no_key}
+use Rattle.rart_versioned.specs.Roots.{IsPutBelow}
+use Rattle.rart_shape.specs.Trees.{found, IsTree, IsPut}
+use Rattle.rart_versioned.specs.Roots.{found_in, map_of, IsTreeIn, IsSound}
+use Rattle.rart_maps.specs.Versions.{Version, value_at, has_key, has_no_key}
 use Rattle.rart_versioned.proofs.Maps.{get-found}
-use Rattle.rart_versioned.proofs.Puts.{found-leaf}
+use Rattle.rart_shape.proofs.Puts.{found-leaf}
 
 one-more : (t : Bool) (m n : ℕ) → m ≤ n → cond t m (m + 1) ≤ n + 1
 one-more true m n le = omega (arith, le)
@@ -41,7 +45,7 @@ module _ {V : Type 0} where
   few most count None sound = rw (finite.len-empty byte_order V) (omega arith)
   few most count (Some root) sound = sound.2
 
-  pub admitted : (most : Option ℕ) (count : ℕ) (o : Option (Shape V)) → IsSound most count o → (q : List ℕ) → IsSome (found_in o q) → IsAdmitted most (length q)
+  pub admitted : (most : Option ℕ) (count : ℕ) (o : Option (Shape V)) → IsSound most count o → (q : List ℕ) → IsSome (found_in o q) → IsKeyLength most (length q)
   admitted most count None sound q there = absurd (false≢true there)
   admitted most count (Some root) sound q there = sound.1 q there
 
@@ -63,12 +67,12 @@ module _ {V : Type 0} where
   sound-later most count later None sound le = tt
   sound-later most count later (Some root) sound le = (sound.0, sound.1, let few = sound.2 in omega (arith, few, le))
 
-  pub sound-put : (most : Option ℕ) (count later : ℕ) (o : Option (Shape V)) (after : Shape V) (key : List ℕ) (value : V) → IsSound most count o → count + 1 ≤ later → IsAdmitted most (length key) → IsPutIn key value o after
+  pub sound-put : (most : Option ℕ) (count later : ℕ) (o : Option (Shape V)) (after : Shape V) (key : List ℕ) (value : V) → IsSound most count o → count + 1 ≤ later → IsKeyLength most (length key) → IsPutIn key value o after
       → IsSound most later (Some after)
   sound-put most count later o after key value sound le fits puts =
-      let Keys : Bool → List ℕ → Type 0 = λ t q. bytes_eq q key ≡ t → IsSome (cond t (Some value) (found_in o q)) → IsAdmitted most (length q) in
+      let Keys : Bool → List ℕ → Type 0 = λ t q. bytes_eq q key ≡ t → IsSome (cond t (Some value) (found_in o q)) → IsKeyLength most (length q) in
       let both : (q : List ℕ) (t : Bool) → Keys t q = λ q. elim [
-        | true ↦ (λ same there. subst (λ z. IsAdmitted most (length z)) (sym ((bytes_eq-Decides q key).0 same)) fits)
+        | true ↦ (λ same there. subst (λ z. IsKeyLength most (length z)) (sym ((bytes_eq-Decides q key).0 same)) fits)
         | false ↦ (λ differs there. admitted most count o sound q there)
       ] in
       let length-now : finite.len (map_of (Some after)) ≤ count + 1 = rw (map-put o after key value (tree-in most count o sound) puts, finite.len-insert nat_list_cmp_total (map_of o) key value) (one-more (finite.contains_key (map_of o) key) _ count (few most count o sound)) in
@@ -85,3 +89,17 @@ module _ {V : Type 0} where
   -- what a version shows, whose root this is
   pub value-in : (most : Option ℕ) (count : ℕ) (o : Option (Shape V)) (number : ℕ) (w : List ℕ) → IsSound most count o → value_at (record { content = map_of o; number = number }) w ≡ found_in o w
   value-in most count o number w sound = get-found o w (tree-in most count o sound)
+
+  -- ---- in the words of the version that is shown
+  module _ (most : Option ℕ) (count : ℕ) (o : Option (Shape V)) (v : Version V) (sound : IsSound most count o) (shows : record { content = map_of o; number = count } ≡ v) where
+    pub few-in : finite.len v.content ≤ count
+    few-in = subst (λ (z : Version V). finite.len z.content ≤ count) shows (few most count o sound)
+
+    pub lengths-in : (key : List ℕ) → IsTrue (has_key v key) → IsKeyLength most (length key)
+    lengths-in key there =
+        admitted most count o sound key (subst IsSome (get-found o key (tree-in most count o sound)) (subst (λ (z : Version V). IsTrue (has_key z key)) (sym shows) there))
+
+  -- Where a version has a key there is a root.
+  pub has-root : {A : Type 0} (shape : A → Shape V) (root : Option A) (number : ℕ) (v : Version V) → record { content = map_of (option_map shape root); number = number } ≡ v → has_no_key v ≡ false → IsSome root
+  has-root shape None number v shows keyed = absurd (true≢false (sym (no-key V number) ∙ ap has_no_key shows ∙ keyed))
+  has-root shape (Some root) number v shows keyed = refl

@@ -6,13 +6,15 @@ use Rattle.std.proofs.lemmas.Bool.{false≢true}
 use Rattle.std.proofs.lemmas.Cmp.{nat_list_cmp_total}
 use Rattle.std.proofs.lemmas.Map.Text.{is_eq-slice_cmp}
 use Rattle.std.specs.FinMap as finite
-use Rattle.rart_below.specs.Bytes.{byte_order, IsAdmitted}
+use Rattle.rart_below.specs.Bytes.{byte_order}
+use Rattle.rart_versioned.specs.Keys.{IsKeyLength}
 use Rattle.rart_node.specs.Shape.{Shape}
-use Rattle.rart_versioned.specs.Removals.{is_unused}
-use Rattle.rart_versioned.specs.Trees.{found_in, IsTreeIn, map_of, IsTaken, IsSound}
+use Rattle.rart_removal.specs.Removals.{is_unused}
+use Rattle.rart_versioned.specs.Roots.{found_in, IsTreeIn, map_of, IsSound}
+use Rattle.rart_shape.specs.Trees.{IsTaken}
 use Rattle.rart_versioned.proofs.Maps.{get-found}
 use Rattle.rart_versioned.proofs.Sound.{tree-in, few, admitted, same-map}
-use Rattle.rart_versioned.proofs.Takes.{found-unused, used-tree}
+use Rattle.rart_removal.proofs.Takes.{found-unused, used-tree}
 
 one-less : (t : Bool) (m n : ℕ) → m ≤ n → cond t (m - 1) m ≤ n
 one-less true m n le = omega (arith, le)
@@ -44,7 +46,7 @@ module _ {V : Type 0} where
   pub sound-taken : (most : Option ℕ) (count later : ℕ) (before after : Option (Shape V)) (key : List ℕ) → IsSound most count before → count ≤ later → IsTakenIn key before after → IsSound most later after
   sound-taken most count later before None key sound le taken = tt
   sound-taken most count later before (Some root) key sound le taken =
-      let Keys : Bool → List ℕ → Type 0 = λ t q. IsSome (cond t None (found_in before q)) → IsAdmitted most (length q) in
+      let Keys : Bool → List ℕ → Type 0 = λ t q. IsSome (cond t None (found_in before q)) → IsKeyLength most (length q) in
       let both : (q : List ℕ) (t : Bool) → Keys t q = λ q. elim [ true ↦ (λ there. absurd (false≢true there)) | false ↦ (λ there. admitted most count before sound q there) ] in
       let fewer : finite.len (map_of (Some root)) ≤ count =
       rw (map-taken before (Some root) key (tree-in most count before sound) taken, finite.len-remove nat_list_cmp_total (map_of before) key) (one-less (finite.contains_key (map_of before) key) _ count (few most count before sound)) in

@@ -6,7 +6,7 @@ use Rattle.std.specs.Borrow.{Fml, GName, MutBor, RattleType, LendsIfOk, follows_
 use Rattle.std.specs.declared.clone.Clone.{Ghosts as Clones}
 use mathlib.Core.Option as maybe
 use Rattle.rart_below.specs.declared.partial.Partial.{Ghosts as Prefixes}
-use Rattle.rart_versioned.specs.Versions.{Version, with_key}
+use Rattle.rart_maps.specs.Versions.{Version, with_key}
 use Rattle.rart_versioned.specs.contracts.counted.tree.VersionedAdaptiveRadixTree.{the_row}
 
 -- the name of the reference, if there is one

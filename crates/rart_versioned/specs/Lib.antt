@@ -1,13 +1,7 @@
-pub mod Bounds
-pub mod Changes
 pub mod Given
+pub mod Keys
 pub mod Lent
 pub mod Missing
-pub mod PairLaws
-pub mod Pairs
-pub mod Paths
-pub mod Removals
+pub mod Roots
 pub mod Settled
-pub mod Trees
 pub mod Updates
-pub mod Versions

@@ -4,10 +4,10 @@ use Rattle.rart_below.specs.declared.slot.Slot.{Slot}
 use Rattle.rart_below.specs.declared.slot.Slot.TheVariants.{Vacant, Occupied}
 use Rattle.rart_below.specs.declared.slot.SlotUpdate.{SlotUpdate}
 use Rattle.rart_below.specs.declared.slot.SlotUpdate.TheVariants.{Keep, Insert, Remove}
-use Rattle.rart_versioned.specs.Changes.{tried}
+use Rattle.rart_maps.specs.Changes.{tried}
 use Rattle.rart_versioned.specs.declared.counted.change.Change.{Change}
 use Rattle.rart_versioned.specs.declared.counted.change.Change.TheVariants.{Stay, Put, Take}
-use Rattle.rart_versioned.specs.Versions.{Version, raised, with_key, without_key}
+use Rattle.rart_maps.specs.Versions.{Version, raised, with_key, without_key}
 
 module _ {V : Type 0} where
   -- by what was left in the slot, and by the answer

@@ -7,8 +7,8 @@ use Rattle.rart_below.specs.declared.slot.SlotUpdate.{SlotUpdate}
 use Rattle.rart_below.specs.declared.slot.SlotUpdate.TheVariants.{Insert}
 use Rattle.rart_below.specs.declared.slot.Refusal.{Refusal}
 use Rattle.rart_below.specs.declared.slot.Refusal.TheVariants.{Callback, Memory}
-use Rattle.rart_versioned.specs.Versions.{Version, value_at}
-use Rattle.rart_versioned.specs.Changes.{slot_of, updated, tried}
+use Rattle.rart_maps.specs.Versions.{Version, value_at}
+use Rattle.rart_maps.specs.Changes.{slot_of, updated, tried}
 
 module _ {F V : Type 0} (callback : Once F (MutBor (Slot V) × Unit {0}) (SlotUpdate V × (MutBor (Slot V) × Unit {0}))) where
   -- The callback, called on the slot of the key, may leave the slot so and answer so.

@@ -1,14 +1,11 @@
 //! Whatever counts into a `Work` that it is handed, or counts nothing.
 
 mod change;
-mod descent;
 mod get_mut;
 mod insert;
 mod lookup;
 pub(crate) mod missing;
-mod put;
 mod remove;
-mod take;
 mod tree;
 mod try_update;
 mod update;

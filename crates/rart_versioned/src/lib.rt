@@ -5,7 +5,6 @@
 #![tactic(auto)]
 
 mod counted;
-pub mod laws;
 mod plain;
 
 pub use counted::VersionedAdaptiveRadixTree;

@@ -1,9 +1,10 @@
 //! What becomes of a key that is there, once a callback has answered.
 ghost use Rattle.std.specs.Prelude.{◌≡◌, ◌+◌, ◌≤◌, IsTrue, OnOk, OnErr};
 ghost use Rattle.rart_below.specs.Clones.{ClonesEqual};
-ghost use Rattle.rart_versioned.specs.Bounds.{CountsUpTo, lookup_bound, change_bound};
+ghost use Rattle.rart_node.specs.Counts.{CountsUpTo};
+ghost use Rattle.rart_maps.specs.Bounds.{lookup_bound, change_bound};
 ghost use Rattle.rart_versioned.specs.Settled.{change_of, settled};
-ghost use Rattle.rart_versioned.specs.Versions.{HasRoom, has_key, raised};
+ghost use Rattle.rart_maps.specs.Versions.{HasRoom, has_key, raised};
 
 use crate::counted::tree::VersionedAdaptiveRadixTree;
 use rart_below::{KeyTrait, Slot, SlotUpdate};

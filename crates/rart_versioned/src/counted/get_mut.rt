@@ -1,46 +1,49 @@
 //! A value lent for writing.
-ghost use Rattle.std.specs.Prelude.{◌≡◌, ◌+◌, ◌<◌, ◌≤◌, ◌^◌, Some, IsTrue, IfOk, IfErr, OnOk, OnErr};
+ghost use Rattle.std.specs.Prelude.{◌≡◌, ◌+◌, ◌*◌, ◌<◌, ◌≤◌, ◌^◌, Some, None, IsSome, IsTrue, IfOk, IfErr, OnOk, OnErr, false};
 ghost use Rattle.std.specs.Borrow.{sem};
 ghost use Rattle.std.specs.Option.{option_map};
 ghost use Rattle.rart_below.specs.Clones.{ClonesEqual};
 ghost use Rattle.rart_node.specs.Seen.{shown};
-ghost use Rattle.rart_versioned.specs.Bounds.{CountsUpTo, lookup_bound, touch_bound, change_bound};
+ghost use Rattle.rart_node.specs.Counts.{CountsUpTo};
+ghost use Rattle.rart_maps.specs.Bounds.{lookup_bound, touch_bound, change_bound};
 ghost use Rattle.rart_versioned.specs.Lent.{LendsValue, LendsFound};
 ghost use Rattle.rart_versioned.specs.Missing.{Explains};
-ghost use Rattle.rart_versioned.specs.Paths.{LendsBelow};
-ghost use Rattle.rart_versioned.specs.Trees.{IsTreeIn, found_in};
-ghost use Rattle.rart_versioned.specs.Versions.{HasRoom, has_key, value_at};
+ghost use Rattle.rart_versioned.specs.Roots.{LendsBelow};
+ghost use Rattle.rart_versioned.specs.Roots.{IsTreeIn, found_in};
+ghost use Rattle.rart_maps.specs.Versions.{HasRoom, has_key, value_at, has_no_key};
 
-use crate::counted::descent::{lend, steps_to};
 use crate::counted::missing::{Missing, found_of};
 use crate::counted::tree::VersionedAdaptiveRadixTree;
-use rart_below::KeyTrait;
+use rart_below::{KeyTrait, Partial};
+use rart_lending::{lend_below, steps_to};
 use rart_node::{NodeRef, Work};
 use std::alloc::AllocError;
 
 /// Lends the value of a key below a root for writing, and then raises the number by one. Refused
 /// for memory, or where nothing is at the key, root and number are as before.
-fn lend_below<'a, K: KeyTrait, V: Clone + Drop>(
-    root: &'a mut Option<NodeRef<K::PartialType, V>>,
+fn lend_in<'a, P: Partial, V: Clone + Drop>(
+    root: &'a mut Option<NodeRef<P, V>>,
     number: &mut u64,
-    key: &K,
+    key: &[u8],
     work: &mut Work,
 ) -> Result<&'a mut V, Missing>
     requires clones { ClonesEqual V.is_clone }
     requires room { number.old + 1 < 2 ^ 64 }
-    requires tree { IsTreeIn (option_map (shown K.PartialType.bytes) root.old) }
-    ensures* writes_back { sem 𝓛 (LendsBelow K.PartialType.row V.row K.PartialType.bytes root.entry (K.bytes key.now) result) }
-    ensures value { IfOk result (λ value. found_in (option_map (shown K.PartialType.bytes) root.old) (K.bytes key.now) ≡ Some value.now) }
-    ensures missing { IfErr result (λ missing. Explains missing (found_in (option_map (shown K.PartialType.bytes) root.old) (K.bytes key.now))) }
+    requires tree { IsTreeIn (option_map (shown P.bytes) root.old) }
+    ensures* writes_back { sem 𝓛 (LendsBelow P.row V.row P.bytes root.entry key.now result) }
+    ensures value { IfOk result (λ value. found_in (option_map (shown P.bytes) root.old) key.now ≡ Some value.now) }
+    ensures missing { IfErr result (λ missing. Explains missing (found_in (option_map (shown P.bytes) root.old) key.now)) }
     ensures raised { OnOk result (number.new ≡ number.old + 1) }
     ensures kept { OnErr result (number.new ≡ number.old) }
-    ensures counted { CountsUpTo (touch_bound (K.bytes key.now)) (lookup_bound (K.bytes key.now)) work.old work.new }
+    ensures counted { CountsUpTo (2 * lookup_bound key.now) (lookup_bound key.now) work.old work.new }
+    ensures entered_least { IsSome root.old → work.old.entered < work.new.entered }
+    ensures absent_makes_none { found_in (option_map (shown P.bytes) root.old) key.now ≡ None → work.new.made ≡ work.old.made }
 {
     match root.as_mut() {
         None => Err(Missing::Absent),
-        Some(at) => match steps_to(at, key, 0, work) {
+        Some(at) => match steps_to(at, key, work) {
             None => Err(Missing::Absent),
-            Some(steps) => match lend(at, key, steps, work) {
+            Some(steps) => match lend_below(at, key, steps, work) {
                 Ok(value) => {
                     *number += 1;
                     Ok(value)
@@ -64,6 +67,11 @@ impl<K: KeyTrait, V: Clone + Drop> VersionedAdaptiveRadixTree<K, V> {
         ensures value { IfOk result (λ found. option_map (λ value. value.now) found ≡ value_at self.old (K.bytes key.now)) }
         ensures present { OnErr result (IsTrue (has_key self.old (K.bytes key.now))) }
         ensures counted { CountsUpTo (touch_bound (K.bytes key.now)) (change_bound (K.bytes key.now)) work.old work.new }
+        ensures entered_at_most { work.new.entered
+            ≤ work.old.entered + 2 * lookup_bound (K.bytes key.now) }
+        ensures entered_least { has_no_key self.old ≡ false → work.old.entered < work.new.entered }
+        ensures absent_makes_none { value_at self.old (K.bytes key.now) ≡ None
+            → work.new.made ≡ work.old.made }
     {
         found_of(self.lent_k_counted(key, work))
     }
@@ -76,7 +84,12 @@ impl<K: KeyTrait, V: Clone + Drop> VersionedAdaptiveRadixTree<K, V> {
         ensures value { IfOk result (λ value. value_at self.old (K.bytes key.now) ≡ Some value.now) }
         ensures missing { IfErr result (λ missing. Explains missing (value_at self.old (K.bytes key.now))) }
         ensures counted { CountsUpTo (touch_bound (K.bytes key.now)) (change_bound (K.bytes key.now)) work.old work.new }
+        ensures entered_at_most { work.new.entered
+            ≤ work.old.entered + 2 * lookup_bound (K.bytes key.now) }
+        ensures entered_least { has_no_key self.old ≡ false → work.old.entered < work.new.entered }
+        ensures absent_makes_none { value_at self.old (K.bytes key.now) ≡ None
+            → work.new.made ≡ work.old.made }
     {
-        lend_below(&mut self.root, &mut self.version, key, work)
+        lend_in(&mut self.root, &mut self.version, key.as_ref(), work)
     }
 }

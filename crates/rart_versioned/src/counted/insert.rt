@@ -1,11 +1,12 @@
-ghost use Rattle.std.specs.Prelude.{◌≡◌, ◌+◌, ◌<◌, ◌≤◌, IfOk, OnOk, OnErr, length};
+ghost use Rattle.std.specs.Prelude.{◌≡◌, ◌+◌, ◌<◌, ◌≤◌, IfOk, OnOk, OnErr, length, false, None, ◌*◌};
 ghost use Rattle.rart_below.specs.Clones.{ClonesEqual};
-ghost use Rattle.rart_versioned.specs.Bounds.{CountsUpTo, touch_bound, lookup_bound, change_bound};
-ghost use Rattle.rart_versioned.specs.Versions.{HasRoom, has_key, value_at, with_key};
+ghost use Rattle.rart_node.specs.Counts.{CountsUpTo};
+ghost use Rattle.rart_maps.specs.Bounds.{touch_bound, lookup_bound, change_bound};
+ghost use Rattle.rart_maps.specs.Versions.{HasRoom, has_key, value_at, with_key, has_no_key};
 
-use crate::counted::put::{leaf_of, put};
 use crate::counted::tree::VersionedAdaptiveRadixTree;
 use rart_below::{KeyTrait, Partial};
+use rart_insertion::{insert_below, leaf_of};
 use rart_node::{NodeRef, Work};
 use std::alloc::AllocError;
 
@@ -24,6 +25,9 @@ impl<K: KeyTrait, V: Clone + Drop> VersionedAdaptiveRadixTree<K, V> {
         ensures refused { OnErr result (self.new ≡ self.old) }
         ensures counted { CountsUpTo (touch_bound (K.bytes key.now)) (change_bound (K.bytes key.now)) work.old work.new }
         ensures made { OnOk result (work.old.made < work.new.made) }
+        ensures entered_at_most { work.new.entered
+            ≤ work.old.entered + lookup_bound (K.bytes key.now) }
+        ensures entered_least { has_no_key self.old ≡ false → work.old.entered < work.new.entered }
     {
         Ok(self.put_in(key, value, 1, work)?.is_some())
     }
@@ -42,6 +46,9 @@ impl<K: KeyTrait, V: Clone + Drop> VersionedAdaptiveRadixTree<K, V> {
         ensures refused { OnErr result (self.new ≡ self.old) }
         ensures counted { CountsUpTo (touch_bound (K.bytes key.now)) (change_bound (K.bytes key.now)) work.old work.new }
         ensures made { OnOk result (work.old.made < work.new.made) }
+        ensures entered_at_most { work.new.entered
+            ≤ work.old.entered + lookup_bound (K.bytes key.now) }
+        ensures entered_least { has_no_key self.old ≡ false → work.old.entered < work.new.entered }
     {
         self.put_in(key, value, 1, work)
     }
@@ -63,7 +70,10 @@ impl<K: KeyTrait, V: Clone + Drop> VersionedAdaptiveRadixTree<K, V> {
         ensures refused { OnErr result (self.new ≡ self.old) }
         ensures counted { CountsUpTo (lookup_bound (K.bytes key.now)) (change_bound (K.bytes key.now)) work.old work.new }
         ensures made { OnOk result (work.old.made < work.new.made) }
+        ensures entered_least { has_no_key self.old ≡ false → work.old.entered < work.new.entered }
     {
+        // Read for the invariant alone: a length is a number of 64 bits.
+        let _length = key.length_at(0);
         let version = self.version + more;
         match &mut self.root {
             None => {
@@ -73,7 +83,7 @@ impl<K: KeyTrait, V: Clone + Drop> VersionedAdaptiveRadixTree<K, V> {
                 Ok(None)
             }
             Some(root) => {
-                let old = put(self.alloc, root, key, 0, value, version, work)?;
+                let old = insert_below(self.alloc, root, key, 0, value, version, work)?;
                 self.version = version;
                 Ok(old)
             }

@@ -1,14 +1,15 @@
 //! Removal of a key.
-ghost use Rattle.std.specs.Prelude.{◌≡◌, ◌+◌, ◌*◌, ◌<◌, ◌≤◌, IsTrue, IfOk, OnOk, OnErr};
+ghost use Rattle.std.specs.Prelude.{◌≡◌, ◌+◌, ◌*◌, ◌<◌, ◌≤◌, IsTrue, IfOk, OnOk, OnErr, false, None};
 ghost use Rattle.rart_below.specs.Clones.{ClonesEqual};
-ghost use Rattle.rart_versioned.specs.Bounds.{CountsUpTo, lookup_bound, touch_bound, change_bound};
-ghost use Rattle.rart_versioned.specs.Changes.{removed};
-ghost use Rattle.rart_versioned.specs.Versions.{HasRoom, has_key, value_at, without_key};
+ghost use Rattle.rart_node.specs.Counts.{CountsUpTo};
+ghost use Rattle.rart_maps.specs.Bounds.{lookup_bound, touch_bound, change_bound};
+ghost use Rattle.rart_maps.specs.Changes.{removed};
+ghost use Rattle.rart_maps.specs.Versions.{HasRoom, has_key, value_at, without_key, has_no_key};
 
-use crate::counted::take::take;
 use crate::counted::tree::VersionedAdaptiveRadixTree;
 use rart_below::{KeyTrait, Partial};
 use rart_node::{NodeRef, Work};
+use rart_removal::remove_below;
 use std::alloc::AllocError;
 
 impl<K: KeyTrait, V: Clone + Drop> VersionedAdaptiveRadixTree<K, V> {
@@ -21,6 +22,11 @@ impl<K: KeyTrait, V: Clone + Drop> VersionedAdaptiveRadixTree<K, V> {
         ensures refused { OnErr result (self.new ≡ self.old) }
         ensures present { OnErr result (IsTrue (has_key self.old (K.bytes key.now))) }
         ensures counted { CountsUpTo (touch_bound (K.bytes key.now)) (change_bound (K.bytes key.now)) work.old work.new }
+        ensures entered_at_most { work.new.entered
+            ≤ work.old.entered + 2 * lookup_bound (K.bytes key.now) }
+        ensures entered_least { has_no_key self.old ≡ false → work.old.entered < work.new.entered }
+        ensures absent_makes_none { value_at self.old (K.bytes key.now) ≡ None
+            → work.new.made ≡ work.old.made }
     {
         if self.get_k_counted(key, work).is_none() {
             return Ok(None);
@@ -37,6 +43,11 @@ impl<K: KeyTrait, V: Clone + Drop> VersionedAdaptiveRadixTree<K, V> {
         ensures refused { OnErr result (self.new ≡ self.old) }
         ensures present { OnErr result (IsTrue (has_key self.old (K.bytes key.now))) }
         ensures counted { CountsUpTo (touch_bound (K.bytes key.now)) (change_bound (K.bytes key.now)) work.old work.new }
+        ensures entered_at_most { work.new.entered
+            ≤ work.old.entered + 2 * lookup_bound (K.bytes key.now) }
+        ensures entered_least { has_no_key self.old ≡ false → work.old.entered < work.new.entered }
+        ensures absent_makes_none { value_at self.old (K.bytes key.now) ≡ None
+            → work.new.made ≡ work.old.made }
     {
         Ok(self.remove_k_counted(key, work)?.is_some())
     }
@@ -59,14 +70,13 @@ impl<K: KeyTrait, V: Clone + Drop> VersionedAdaptiveRadixTree<K, V> {
     {
         let version = self.version + more;
         let Some(root) = &mut self.root else {
-            // No case: the key is there.
-            return Ok(None);
+            unreachable!();
         };
-        let taken = take(root, key.as_ref(), work)?;
-        if taken.left_unused {
+        let removed = remove_below(root, key.as_ref(), work)?;
+        if removed.left_unused {
             self.root = None;
         }
         self.version = version;
-        Ok(taken.value)
+        Ok(removed.value)
     }
 }

@@ -1,4 +1,5 @@
-ghost use Rattle.std.specs.Prelude.{◌≡◌, ◌≤◌, IfOk};
+ghost use Rattle.std.specs.Prelude.{◌≡◌, ◌≤◌, ℕ, List, length, IfOk, IsTrue};
+ghost use Rattle.std.specs.FinMap as finite;
 
 use rart_below::{KeyTrait, Partial};
 use rart_node::NodeRef;
@@ -19,8 +20,8 @@ pub struct VersionedAdaptiveRadixTree<K: KeyTrait, V: Clone> {
 impl<K: KeyTrait, V: Clone> Model for VersionedAdaptiveRadixTree<K, V> {
     ghost use Rattle.std.specs.Option.{option_map};
     ghost use Rattle.rart_node.specs.Seen.{shown};
-    ghost use Rattle.rart_versioned.specs.Trees.{map_of, IsSound};
-    ghost use Rattle.rart_versioned.specs.Versions.{Version, version_code};
+    ghost use Rattle.rart_versioned.specs.Roots.{map_of, IsSound};
+    ghost use Rattle.rart_maps.specs.Versions.{Version, version_code};
 
     ghost Value = { Version V };
 
@@ -32,7 +33,8 @@ impl<K: KeyTrait, V: Clone> Model for VersionedAdaptiveRadixTree<K, V> {
 }
 
 impl<K: KeyTrait, V: Clone + Drop> VersionedAdaptiveRadixTree<K, V> {
-    ghost use Rattle.rart_versioned.specs.Versions.{empty_at, raised, has_no_key, HasRoom};
+    ghost use Rattle.rart_maps.specs.Versions.{empty_at, raised, has_no_key, has_key, HasRoom};
+    ghost use Rattle.rart_versioned.specs.Keys.{IsKeyLength};
 
     /// A map without a key, its number 0.
     pub fn new(alloc: Global) -> VersionedAdaptiveRadixTree<K, V>
@@ -70,9 +72,13 @@ impl<K: KeyTrait, V: Clone + Drop> VersionedAdaptiveRadixTree<K, V> {
         }
     }
 
-    /// The number: how often the map was changed, or a snapshot taken, since `new`.
+    /// The number. The map has at most as many keys, and each is as long as the key type admits and
+    /// shorter than 2^64 bytes.
     pub fn version(&self) -> u64
-        ensures { result ≡ self.now.number }
+        ensures number { result ≡ self.now.number }
+        ensures keys { finite.len self.now.content ≤ result }
+        ensures lengths { (key : List ℕ) → IsTrue (has_key self.now key)
+            → IsKeyLength K.MAXIMUM_SIZE (length key) }
     {
         self.version
     }

@@ -1,12 +1,13 @@
 //! Updates of a key's slot by a callback that may fail.
-ghost use Rattle.std.specs.Prelude.{◌≡◌, IsTrue, IfOk, IfErr, Ok, Err, false};
+ghost use Rattle.std.specs.Prelude.{◌≡◌, IsTrue, IfOk, IfErr, Ok, Err, false, None, ◌*◌, ◌<◌, ◌≤◌, ◌+◌};
 ghost use Rattle.std.specs.Fn.{FnOnceTakesAtMut};
 ghost use Rattle.rart_below.specs.Clones.{ClonesEqual};
-ghost use Rattle.rart_versioned.specs.Bounds.{CountsUpTo, lookup_bound, touch_bound, change_bound};
-ghost use Rattle.rart_versioned.specs.Changes.{slot_of};
+ghost use Rattle.rart_node.specs.Counts.{CountsUpTo};
+ghost use Rattle.rart_maps.specs.Bounds.{lookup_bound, touch_bound, change_bound};
+ghost use Rattle.rart_maps.specs.Changes.{slot_of};
 ghost use Rattle.rart_versioned.specs.Settled.{rise_of, IsTried, TriesToInsert};
 ghost use Rattle.rart_versioned.specs.Updates.{TriesUpdate, TryTakesMemory, IfCallback, OnMemory};
-ghost use Rattle.rart_versioned.specs.Versions.{HasRoom, has_key, value_at};
+ghost use Rattle.rart_maps.specs.Versions.{HasRoom, has_key, value_at, has_no_key};
 
 use crate::counted::change::Change;
 use crate::counted::tree::VersionedAdaptiveRadixTree;
@@ -30,6 +31,11 @@ impl<K: KeyTrait, V: Clone + Drop> VersionedAdaptiveRadixTree<K, V> {
         ensures refused { IfErr result (λ refusal. OnMemory refusal (self.new ≡ self.old)) }
         ensures memory { IfErr result (λ refusal. OnMemory refusal (TryTakesMemory F.FnOnce f self.old (K.bytes key.now))) }
         ensures counted { CountsUpTo (touch_bound (K.bytes key.now)) (change_bound (K.bytes key.now)) work.old work.new }
+        ensures entered_least { has_no_key self.old ≡ false → work.old.entered < work.new.entered }
+        ensures absent_makes_none { has_key self.old (K.bytes key.now) ≡ false
+            → IfOk result (λ answer. answer ≡ false → work.new.made ≡ work.old.made) }
+        ensures absent_fails_for_none { has_key self.old (K.bytes key.now) ≡ false
+            → IfErr result (λ refusal. IfCallback refusal (λ _. work.new.made ≡ work.old.made)) }
     {
         let mut slot = match self.slot_at(key, work) {
             Ok(slot) => slot,
@@ -89,6 +95,10 @@ impl<K: KeyTrait, V: Clone + Drop> VersionedAdaptiveRadixTree<K, V> {
         ensures refused { IfErr result (λ refusal. OnMemory refusal (self.new ≡ self.old)) }
         ensures memory { IfErr result (λ refusal. OnMemory refusal (TriesToInsert told)) }
         ensures counted { CountsUpTo (lookup_bound (K.bytes key.now)) (change_bound (K.bytes key.now)) work.old work.new }
+        ensures made_to_insert { IfOk result (λ answer. answer ≡ false
+            → work.new.made ≡ work.old.made) }
+        ensures failed_makes_none { IfErr result (λ refusal. IfCallback refusal (λ _.
+            work.new.made ≡ work.old.made)) }
     {
         match told {
             Err(error) => Err(Refusal::Callback(error)),

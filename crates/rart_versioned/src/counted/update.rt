@@ -1,12 +1,13 @@
 //! Updates of a key's slot by a callback.
-ghost use Rattle.std.specs.Prelude.{◌≡◌, IsTrue, IfOk, OnErr, false};
+ghost use Rattle.std.specs.Prelude.{◌≡◌, IsTrue, IfOk, OnErr, false, None, ◌*◌, ◌<◌, ◌≤◌, ◌+◌};
 ghost use Rattle.std.specs.Fn.{FnOnceTakesAtMut};
 ghost use Rattle.rart_below.specs.Clones.{ClonesEqual};
-ghost use Rattle.rart_versioned.specs.Bounds.{CountsUpTo, lookup_bound, touch_bound, change_bound};
-ghost use Rattle.rart_versioned.specs.Changes.{slot_of};
+ghost use Rattle.rart_node.specs.Counts.{CountsUpTo};
+ghost use Rattle.rart_maps.specs.Bounds.{lookup_bound, touch_bound, change_bound};
+ghost use Rattle.rart_maps.specs.Changes.{slot_of};
 ghost use Rattle.rart_versioned.specs.Settled.{settled_absent, AsksMemory, is_occupied};
 ghost use Rattle.rart_versioned.specs.Updates.{Updates, UpdateTakesMemory};
-ghost use Rattle.rart_versioned.specs.Versions.{HasRoom, has_key, value_at};
+ghost use Rattle.rart_maps.specs.Versions.{HasRoom, has_key, value_at, has_no_key};
 
 use crate::counted::change::Change;
 use crate::counted::tree::VersionedAdaptiveRadixTree;
@@ -29,6 +30,9 @@ impl<K: KeyTrait, V: Clone + Drop> VersionedAdaptiveRadixTree<K, V> {
         ensures refused { OnErr result (self.new ≡ self.old) }
         ensures memory { OnErr result (UpdateTakesMemory F.FnOnce f self.old (K.bytes key.now)) }
         ensures counted { CountsUpTo (touch_bound (K.bytes key.now)) (change_bound (K.bytes key.now)) work.old work.new }
+        ensures entered_least { has_no_key self.old ≡ false → work.old.entered < work.new.entered }
+        ensures absent_makes_none { has_key self.old (K.bytes key.now) ≡ false
+            → IfOk result (λ answer. answer ≡ false → work.new.made ≡ work.old.made) }
     {
         let mut slot = self.slot_at(key, work)?;
         let was_there = is_occupied(&slot);
@@ -46,6 +50,7 @@ impl<K: KeyTrait, V: Clone + Drop> VersionedAdaptiveRadixTree<K, V> {
         ensures slot { IfOk result (λ slot. slot ≡ slot_of (value_at self.now (K.bytes key.now))) }
         ensures present { OnErr result (IsTrue (has_key self.now (K.bytes key.now))) }
         ensures counted { CountsUpTo (lookup_bound (K.bytes key.now)) 0 work.old work.new }
+        ensures entered_least { has_no_key self.now ≡ false → work.old.entered < work.new.entered }
     {
         match self.get_k_counted(key, work) {
             None => Ok(Slot::Vacant),
@@ -67,6 +72,8 @@ impl<K: KeyTrait, V: Clone + Drop> VersionedAdaptiveRadixTree<K, V> {
         ensures refused { OnErr result (self.new ≡ self.old) }
         ensures memory { OnErr result (AsksMemory told) }
         ensures counted { CountsUpTo (lookup_bound (K.bytes key.now)) (change_bound (K.bytes key.now)) work.old work.new }
+        ensures made_to_insert { IfOk result (λ answer. answer ≡ false
+            → work.new.made ≡ work.old.made) }
     {
         match told {
             SlotUpdate::Insert(value) => {

@@ -4,7 +4,7 @@ ghost use Rattle.std.specs.Option.{option_map};
 ghost use Rattle.rart_below.specs.Clones.{ClonesEqual};
 ghost use Rattle.rart_versioned.specs.Lent.{LendsValue, LendsFound};
 ghost use Rattle.rart_versioned.specs.Missing.{Explains};
-ghost use Rattle.rart_versioned.specs.Versions.{HasRoom, has_key, value_at};
+ghost use Rattle.rart_maps.specs.Versions.{HasRoom, has_key, value_at};
 
 use crate::counted::VersionedAdaptiveRadixTree;
 use crate::counted::missing::{Missing, found_of};

@@ -1,6 +1,6 @@
 ghost use Rattle.std.specs.Prelude.{◌≡◌, IfOk, OnOk, OnErr};
 ghost use Rattle.rart_below.specs.Clones.{ClonesEqual};
-ghost use Rattle.rart_versioned.specs.Versions.{HasRoom, has_key, value_at, with_key};
+ghost use Rattle.rart_maps.specs.Versions.{HasRoom, has_key, value_at, with_key};
 
 use crate::counted::VersionedAdaptiveRadixTree;
 use rart_below::KeyTrait;

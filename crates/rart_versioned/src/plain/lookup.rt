@@ -1,6 +1,6 @@
 ghost use Rattle.std.specs.Prelude.{◌≡◌};
 ghost use Rattle.std.specs.Option.{option_copied};
-ghost use Rattle.rart_versioned.specs.Versions.{value_at};
+ghost use Rattle.rart_maps.specs.Versions.{value_at};
 
 use crate::counted::VersionedAdaptiveRadixTree;
 use rart_below::KeyTrait;

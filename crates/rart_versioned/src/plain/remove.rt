@@ -1,7 +1,7 @@
 ghost use Rattle.std.specs.Prelude.{◌≡◌, IsTrue, IfOk, OnOk, OnErr};
 ghost use Rattle.rart_below.specs.Clones.{ClonesEqual};
-ghost use Rattle.rart_versioned.specs.Changes.{removed};
-ghost use Rattle.rart_versioned.specs.Versions.{HasRoom, has_key, value_at};
+ghost use Rattle.rart_maps.specs.Changes.{removed};
+ghost use Rattle.rart_maps.specs.Versions.{HasRoom, has_key, value_at};
 
 use crate::counted::VersionedAdaptiveRadixTree;
 use rart_below::KeyTrait;

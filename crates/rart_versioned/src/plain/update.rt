@@ -1,9 +1,9 @@
 ghost use Rattle.std.specs.Prelude.{◌≡◌, IfOk, IfErr, OnErr, Ok, Err};
 ghost use Rattle.std.specs.Fn.{FnOnceTakesAtMut};
 ghost use Rattle.rart_below.specs.Clones.{ClonesEqual};
-ghost use Rattle.rart_versioned.specs.Changes.{slot_of};
+ghost use Rattle.rart_maps.specs.Changes.{slot_of};
 ghost use Rattle.rart_versioned.specs.Updates.{Updates, UpdateTakesMemory, TriesUpdate, TryTakesMemory, IfCallback, OnMemory};
-ghost use Rattle.rart_versioned.specs.Versions.{HasRoom, value_at};
+ghost use Rattle.rart_maps.specs.Versions.{HasRoom, value_at};
 
 use crate::counted::VersionedAdaptiveRadixTree;
 use rart_below::{KeyTrait, Refusal, Slot, SlotUpdate};

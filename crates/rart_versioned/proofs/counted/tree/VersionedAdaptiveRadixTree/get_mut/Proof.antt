@@ -19,7 +19,7 @@ use Rattle.rart_versioned.proofs.Found.{same-name, found-was, refused-there}
 use Rattle.rart_versioned.proofs.counted.missing.Missing.TheLaws as Missing-laws
 use Rattle.rart_versioned.specs.Lent.{LendsValue, found_name}
 use Rattle.rart_versioned.specs.Missing.{Explains, found_value}
-use Rattle.rart_versioned.specs.Versions.{with_key, value_at}
+use Rattle.rart_maps.specs.Versions.{with_key, value_at}
 use Rattle.rart_versioned.specs.contracts.counted.tree.VersionedAdaptiveRadixTree.{the_row}
 use Rattle.rart_versioned.specs.contracts.counted.tree.VersionedAdaptiveRadixTree.get_mut as f
 use Rattle.rart_versioned.proofs.counted.tree.VersionedAdaptiveRadixTree.get_mut.Statement.{statement}

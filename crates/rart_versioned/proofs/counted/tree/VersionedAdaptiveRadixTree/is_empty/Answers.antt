@@ -1,7 +1,7 @@
 use Rattle.std.proofs.Common.{Some, sym, subst}
 use Rattle.std.specs.Option.{option_map}
 use Rattle.rart_node.specs.Seen.{shown}
-use Rattle.rart_versioned.specs.Trees.{IsSound}
+use Rattle.rart_versioned.specs.Roots.{IsSound}
 use Rattle.rart_versioned.proofs.Keyed.{some-key}
 use Rattle.rart_versioned.proofs.Sound.{no-key}
 use Rattle.rart_versioned.proofs.counted.tree.VersionedAdaptiveRadixTree.is_empty.Goals as goal

@@ -1,9 +1,11 @@
-use Rattle.std.proofs.Common.{◌+◌, None, Some, sym, ap, subst, ◌∙◌, arith}
+use Rattle.std.proofs.lemmas.Bool.{true≢false}
+use Rattle.rart_maps.specs.Versions.{has_no_key}
+use Rattle.std.proofs.Common.{◌≡◌, ◌+◌, None, Some, true, sym, ap, subst, ◌∙◌, arith}
 use Rattle.std.specs.Option.{option_map}
 use Rattle.rart_node.specs.Seen.{shown}
-use Rattle.rart_versioned.specs.Trees.{IsSound, found_in}
+use Rattle.rart_versioned.specs.Roots.{IsSound, found_in}
 use Rattle.rart_versioned.proofs.Maps.{get-found}
-use Rattle.rart_versioned.proofs.Sound.{IsPutIn, leaf-put, root-put, sound-put, map-put, value-in}
+use Rattle.rart_versioned.proofs.Sound.{IsPutIn, leaf-put, root-put, sound-put, map-put, value-in, no-key}
 use Rattle.rart_versioned.proofs.counted.tree.VersionedAdaptiveRadixTree.put_in.Goals as goal
 
 pub invariant_of-self-in-None : goal.invariant_of-self-in-None
@@ -12,7 +14,7 @@ invariant_of-self-in-None g c =
     let w = g.K.KeyTrait.bytes c.args.key.now in
     let n = c.self.inside.version in
     let raised = c.requires.raised in
-    sound-put g.K.KeyTrait.MAXIMUM_SIZE n (n + c.args.more) None (f c.in_ok-leaf-in-None.leaf) w c.args.value tt (omega (arith, raised)) (g.met.K.KeyTrait.admitted c.args.key.now)
+    sound-put g.K.KeyTrait.MAXIMUM_SIZE n (n + c.args.more) None (f c.in_ok-leaf-in-None.leaf) w c.args.value tt (omega (arith, raised)) (g.met.K.KeyTrait.admitted c.args.key.now, omega (arith, c.length_at-length.ensures, c.length_at-length.type_inv))
     (subst (IsPutIn w c.args.value None) (sym c.in_ok-leaf-in-None.ensures.leaf) (leaf-put w c.args.value))
 
 pub invariant_of-self-in-Some : goal.invariant_of-self-in-Some
@@ -22,8 +24,8 @@ invariant_of-self-in-Some g c =
     let n = c.self.inside.version in
     let raised = c.requires.raised in
     let sound : IsSound g.K.KeyTrait.MAXIMUM_SIZE n (Some (f c.in-Some.root)) = subst (λ z. IsSound g.K.KeyTrait.MAXIMUM_SIZE n (option_map f z)) c.in-Some.is c.self.invariant in
-    sound-put g.K.KeyTrait.MAXIMUM_SIZE n (n + c.args.more) (Some (f c.in-Some.root)) (f c.put.new.at) w c.args.value sound (omega (arith, raised)) (g.met.K.KeyTrait.admitted c.args.key.now)
-    (root-put w c.args.value (f c.in-Some.root) (f c.put.new.at) c.in_ok-old-in-Some.ensures.put)
+    sound-put g.K.KeyTrait.MAXIMUM_SIZE n (n + c.args.more) (Some (f c.in-Some.root)) (f c.insert_below.new.at) w c.args.value sound (omega (arith, raised)) (g.met.K.KeyTrait.admitted c.args.key.now, omega (arith, c.length_at-length.ensures, c.length_at-length.type_inv))
+    (root-put w c.args.value (f c.in-Some.root) (f c.insert_below.new.at) c.in_ok-old-in-Some.ensures.put)
 
 pub returns-in_ok-leaf-in-None-clause-replaced : goal.returns-in_ok-leaf-in-None-clause-replaced
 returns-in_ok-leaf-in-None-clause-replaced g c = rw (← c.self.view_is, c.in-None.is) (sym (get-found None (g.K.KeyTrait.bytes c.args.key.now) tt))
@@ -42,4 +44,14 @@ returns-in_ok-old-in-Some-clause-ok g c =
     let n = c.self.inside.version in
     let sound : IsSound g.K.KeyTrait.MAXIMUM_SIZE n (Some (f c.in-Some.root)) = subst (λ z. IsSound g.K.KeyTrait.MAXIMUM_SIZE n (option_map f z)) c.in-Some.is c.self.invariant in
     rw (← c.self.view_is, c.in-Some.is)
-    (ap (λ m. record { content = m; number = n + c.args.more }) (map-put (Some (f c.in-Some.root)) (f c.put.new.at) w c.args.value sound.0 (root-put w c.args.value (f c.in-Some.root) (f c.put.new.at) c.in_ok-old-in-Some.ensures.put)))
+    (ap (λ m. record { content = m; number = n + c.args.more }) (map-put (Some (f c.in-Some.root)) (f c.insert_below.new.at) w c.args.value sound.0 (root-put w c.args.value (f c.in-Some.root) (f c.insert_below.new.at) c.in_ok-old-in-Some.ensures.put)))
+
+pub returns-in_err-leaf-in-None-clause-entered_least : goal.returns-in_err-leaf-in-None-clause-entered_least
+returns-in_err-leaf-in-None-clause-entered_least g c keyed =
+    let none : has_no_key c.args.self.now ≡ true = rw (← c.self.view_is, c.in-None.is) (no-key g.row.V.Denot c.self.inside.version) in
+    absurd (true≢false (sym none ∙ keyed))
+
+pub returns-in_ok-leaf-in-None-clause-entered_least : goal.returns-in_ok-leaf-in-None-clause-entered_least
+returns-in_ok-leaf-in-None-clause-entered_least g c keyed =
+    let none : has_no_key c.args.self.now ≡ true = rw (← c.self.view_is, c.in-None.is) (no-key g.row.V.Denot c.self.inside.version) in
+    absurd (true≢false (sym none ∙ keyed))

@@ -1,0 +1,6 @@
+use Rattle.rart_node.specs.Seen.{shown}
+use Rattle.rart_node.specs.Shape.{height}
+use Rattle.rart_insertion.proofs.+insert_below.Given as goal
+
+abbrev pub decreases-insert_below : goal.decreases-insert_below
+decreases-insert_below g l = height (shown g.K.PartialType.Partial.bytes l.at.now)

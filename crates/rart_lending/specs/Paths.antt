@@ -1,0 +1,64 @@
+-- The way that a key takes down a tree, a node at a time.
+use Rattle.std.specs.Prelude.{◌≡◌, ℕ, zero, suc, List, [], ◌∷◌, Option, Some, None, IsSome, Result, if◌then◌else◌}
+use Rattle.std.specs.Option.{option_and_then, option_map}
+use Rattle.std.specs.Result.{IsOk, OnErr}
+use Rattle.std.specs.Str.{bytes_eq}
+use Rattle.std.specs.Borrow.{RattleType, MutBor, Fml, LendsSoOk, follows_so, name_if_ok}
+use Rattle.std.specs.contracts.option.Option as option
+use Rattle.std.specs.declared.alloc.AllocError.{AllocError}
+use Rattle.rart_below.specs.Children.{child_at}
+use Rattle.rart_node.specs.contracts.node_ref.NodeRef as pointer
+use Rattle.rart_node.specs.contracts.node.VersionedNode as pointed
+use Rattle.rart_node.specs.declared.node.VersionedNode.{VersionedNode}
+use Rattle.rart_node.specs.declared.node_ref.NodeRef.{NodeRef}
+use Rattle.rart_node.specs.Seen.{seen, shown}
+use Rattle.rart_node.specs.Shape.{Shape, Forest, node, prefix_of, value_of, entries_of, with_replaced}
+use Rattle.rart_shape.specs.Trees.{behind, IsPut}
+
+-- the first byte, and 0 where there is none
+abbrev pub first_byte : List ℕ → ℕ
+first_byte [] = 0
+first_byte (b ∷ w) = b
+
+module _ {V : Type 0} where
+  -- the child under the first byte of what is left, and what is left
+  abbrev pub child_along : Forest V → List ℕ → Option (Shape V × List ℕ)
+  child_along forest [] = None
+  child_along forest (byte ∷ rest) = option_map (λ child. (child, byte ∷ rest)) (child_at byte (entries_of forest))
+
+  -- one node down: the child that the key goes on to, and what is left of the key from there
+  abbrev pub step : List ℕ → Shape V → Option (Shape V × List ℕ)
+  step key (node prefix value width forest) = option_and_then (child_along forest) (behind prefix key)
+
+  -- so many nodes down
+  abbrev pub descent : ℕ → List ℕ → Shape V → Option (Shape V × List ℕ)
+  descent zero key s = Some (s, key)
+  descent (suc steps) key s = option_and_then (λ below. descent steps below.1 below.0) (step key s)
+
+  abbrev pub graft_at : (List ℕ → Shape V → Shape V) → Shape V → Option (Shape V × List ℕ) → Shape V
+  graft_at graft s None = s
+  graft_at graft s (Some below) = with_replaced (first_byte below.1) (graft below.1 below.0) s
+
+  -- the tree with another one in place of the node so many nodes down
+  abbrev pub graft : ℕ → Shape V → List ℕ → Shape V → Shape V
+  graft zero new key s = new
+  graft (suc steps) new key s = graft_at (graft steps new) s (step key s)
+
+  -- So many nodes down a key ends, at a node with a value.
+  abbrev pub Arrives : ℕ → List ℕ → Shape V → Type 0
+  Arrives steps key s = (end : Shape V × List ℕ) × (descent steps key s ≡ Some end) × (behind (prefix_of end.0) end.1 ≡ Some []) × IsSome (value_of end.0)
+
+module _ (P V : RattleType) (bytes : P.Denot → List ℕ) where
+  -- The pointer shows the tree with the node so many nodes down as it was left behind the result, and refused, what it showed.
+  abbrev pub LendsDescent : MutBor (NodeRef P.Denot V.Denot) → ℕ → List ℕ → Result (MutBor (VersionedNode P.Denot V.Denot)) AllocError → Fml
+  LendsDescent lender steps key result =
+      LendsSoOk (pointer.the_row P V) (pointed.the_row P V) lender result
+      (λ after left. shown bytes after ≡ graft steps (seen bytes left) key (shown bytes lender.now))
+      (λ after. shown bytes after ≡ shown bytes lender.now)
+
+  -- The pointer shows the tree with the key set to the value as it was left behind the result, and refused, what it showed.
+  abbrev pub LendsAlong : MutBor (NodeRef P.Denot V.Denot) → List ℕ → Result (MutBor V.Denot) AllocError → Fml
+  LendsAlong lender key result =
+      LendsSoOk (pointer.the_row P V) V lender result
+      (λ after left. IsPut key left (shown bytes lender.now) (shown bytes after))
+      (λ after. shown bytes after ≡ shown bytes lender.now)

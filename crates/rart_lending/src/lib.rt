@@ -1,0 +1,44 @@
+//! The way down a tree to a value that is lent for writing.
+#![tactic(auto)]
+
+ghost use Rattle.std.specs.Prelude.{◌≡◌, ◌+◌, Some, IfOk};
+ghost use Rattle.std.specs.Borrow.{sem};
+ghost use Rattle.rart_below.specs.Clones.{ClonesEqual};
+ghost use Rattle.rart_lending.specs.Paths.{Arrives, LendsAlong};
+ghost use Rattle.rart_node.specs.Counts.{CountsUpTo};
+ghost use Rattle.rart_node.specs.Seen.{shown};
+ghost use Rattle.rart_shape.specs.Trees.{IsTree, found};
+
+mod descent;
+mod search;
+
+use descent::{Descent, Whole};
+use rart_below::Partial;
+use rart_node::{NodeRef, Work};
+pub use search::steps_to;
+use std::alloc::AllocError;
+
+/// Lends the value of a key that ends so many nodes below a pointer, for writing.
+///
+/// Each node on the way is opened for writing once. Refused for memory, the pointer shows what it
+/// showed.
+pub fn lend_below<'a, P: Partial, V: Clone + Drop>(
+    at: &'a mut NodeRef<P, V>,
+    key: &[u8],
+    steps: usize,
+    work: &mut Work,
+) -> Result<&'a mut V, AllocError>
+    requires clones { ClonesEqual V.is_clone }
+    requires tree { IsTree (shown P.bytes at.old) }
+    requires arrives { Arrives steps key.now (shown P.bytes at.old) }
+    ensures* writes_back { sem 𝓛 (LendsAlong P.row V.row P.bytes at.entry key.now result) }
+    ensures value { IfOk result (λ value. found (shown P.bytes at.old) key.now ≡ Some value.now) }
+    ensures counted { CountsUpTo (steps + 1) (steps + 1) work.old work.new }
+{
+    let mut depth = 0;
+    let node = Whole::down(at, key, &mut depth, steps, work)?;
+    match node.value_mut() {
+        Some(value) => Ok(value),
+        None => unreachable!(),
+    }
+}

@@ -1,0 +1,51 @@
+//! How far down a tree the value of a key stands.
+ghost use Rattle.std.specs.Prelude.{◌≡◌, ◌+◌, ◌<◌, ◌≤◌, IfSome, None};
+ghost use Rattle.rart_lending.specs.Paths.{Arrives};
+ghost use Rattle.rart_node.specs.Counts.{CountsUpTo};
+ghost use Rattle.rart_node.specs.Seen.{shown};
+ghost use Rattle.rart_shape.specs.Trees.{IsTree, found, path_bound};
+
+use rart_below::Partial;
+use rart_node::{NodeRef, Work};
+use rart_shape::strip_prefix;
+
+/// How many nodes below a pointer a key ends, or `None` where it has no value there. It takes no
+/// memory.
+pub fn steps_to<P: Partial, V: Drop>(
+    root: &NodeRef<P, V>,
+    key: &[u8],
+    work: &mut Work,
+) -> Option<usize>
+    requires tree { IsTree (shown P.bytes root.now) }
+    ensures arrives { IfSome result (λ steps. Arrives steps key.now (shown P.bytes root.now)) }
+    ensures absent { result ≡ None → found (shown P.bytes root.now) key.now ≡ None }
+    ensures few { IfSome result (λ steps. steps + 1 ≤ path_bound (shown P.bytes root.now) key.now) }
+    ensures counted { CountsUpTo (path_bound (shown P.bytes root.now) key.now) 0
+        work.old work.new }
+    ensures entered { work.old.entered < work.new.entered }
+{
+    let mut at = root;
+    let mut rest = key;
+    let mut steps = 0;
+    'down: loop {
+        let node = at.open(work);
+        rest = match strip_prefix(rest, node.prefix()) {
+            Some(rest) => rest,
+            None => return None,
+        };
+        at = match rest.first() {
+            None => match node.value() {
+                Some(_value) => return Some(steps),
+                None => return None,
+            },
+            Some(byte) => match node.seek_child(*byte) {
+                Some(child) => child,
+                None => return None,
+            },
+        };
+        // Below the root each node takes a byte of the key at least.
+        let length = key.len();
+        prove!(steps < length);
+        steps += 1;
+    }
+}

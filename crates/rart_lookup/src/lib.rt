@@ -1,0 +1,45 @@
+//! The way down a tree to the value of a key.
+#![tactic(auto)]
+
+ghost use Rattle.std.specs.Prelude.{◌≡◌, ◌+◌, ◌<◌};
+ghost use Rattle.std.specs.Option.{option_copied};
+ghost use Rattle.rart_node.specs.Counts.{CountsUpTo};
+ghost use Rattle.rart_node.specs.Seen.{shown};
+ghost use Rattle.rart_shape.specs.Trees.{IsTree, found, path_bound};
+
+use rart_below::Partial;
+use rart_node::{NodeRef, Work};
+use rart_shape::strip_prefix;
+
+/// The value of a key below a pointer, if the key is there.
+///
+/// Each node on the way is entered once: at least the first, and no more than one for each byte of
+/// the key beside it. It takes no memory.
+pub fn get_below<'a, P: Partial, V: Drop>(
+    root: &'a NodeRef<P, V>,
+    key: &[u8],
+    work: &mut Work,
+) -> Option<&'a V>
+    requires tree { IsTree (shown P.bytes root.now) }
+    ensures value { option_copied result ≡ found (shown P.bytes root.now) key.now }
+    ensures counted { CountsUpTo (path_bound (shown P.bytes root.now) key.now) 0
+        work.old work.new }
+    ensures entered { work.old.entered < work.new.entered }
+{
+    let mut at = root;
+    let mut rest = key;
+    'down: loop {
+        let node = at.open(work);
+        rest = match strip_prefix(rest, node.prefix()) {
+            Some(rest) => rest,
+            None => return None,
+        };
+        at = match rest.first() {
+            None => return node.value(),
+            Some(byte) => match node.seek_child(*byte) {
+                Some(child) => child,
+                None => return None,
+            },
+        };
+    }
+}

@@ -1,0 +1,9 @@
+pub mod Elements
+pub mod FoundLemmas
+pub mod MapRules
+pub mod OrderLemmas
+pub mod PairLawLemmas
+pub mod SetLemmas
+pub mod StartLemmas
+pub mod WorkedBoundLemmas
+pub mod WorkedPairLemmas

@@ -1,0 +1,45 @@
+-- The worked values of the bounds, by computation.
+use Rattle.std.proofs.Common.{◌*◌, refl, ap, inl, inr}
+use Rattle.rart_maps.specs.WorkedBounds.{LookupOfNoByte, LookupOfThreeBytes, ChangeOfNoByte, ChangeOfThreeBytes, TouchOfNoByte, TouchOfThreeBytes, MeetOfTwo, MeetBelowOne, MeetWithItself, MeetOfEmpty, ReachOfTwo, ReachOfAll, ReachOfNone}
+use Rattle.rart_maps.proofs.MapRules.{maps, sets}
+use Rattle.rart_maps.proofs.PairLawLemmas.{shared_is_empty}
+use Rattle.std.specs.FinMap as finite
+
+pub lookup_of_no_byte : LookupOfNoByte
+lookup_of_no_byte = refl
+
+pub lookup_of_three_bytes : LookupOfThreeBytes
+lookup_of_three_bytes = refl
+
+pub change_of_no_byte : ChangeOfNoByte
+change_of_no_byte = refl
+
+pub change_of_three_bytes : ChangeOfThreeBytes
+change_of_three_bytes = refl
+
+pub touch_of_no_byte : TouchOfNoByte
+touch_of_no_byte = refl
+
+pub touch_of_three_bytes : TouchOfThreeBytes
+touch_of_three_bytes = refl
+
+pub meet_of_two : MeetOfTwo
+meet_of_two = simp (maps, sets) refl
+
+pub meet_below_one : MeetBelowOne
+meet_below_one = simp (maps, sets) refl
+
+pub meet_with_itself : MeetWithItself
+meet_with_itself = simp (maps, sets) refl
+
+pub reach_of_two : ReachOfTwo
+reach_of_two = simp (maps, sets) refl
+
+pub reach_of_all : ReachOfAll
+reach_of_all = simp (maps, sets) refl
+
+pub reach_of_none : ReachOfNone
+reach_of_none = simp (maps, sets) refl
+
+pub meet_of_empty : (V : Type 0) → MeetOfEmpty V
+meet_of_empty V m = (ap (λ n. 2 * n) ((shared_is_empty V finite.empty m).1 (inl refl)), ap (λ n. 2 * n) ((shared_is_empty V m finite.empty).1 (inr refl)))

@@ -1,0 +1,27 @@
+-- How many nodes a call may enter or make, from the keys alone.
+use Rattle.std.specs.Prelude.{ℕ, ◌+◌, ◌*◌, List, length}
+use Rattle.std.specs.FinSet as set
+use Rattle.rart_below.specs.Bytes.{begins}
+use Rattle.rart_maps.specs.Versions.{Map}
+use Rattle.rart_maps.specs.Pairs.{starts, shared}
+
+-- a lookup of w enters at most so many nodes
+abbrev pub lookup_bound : List ℕ → ℕ
+lookup_bound w = length w + 1
+
+-- a change at w makes at most so many
+abbrev pub change_bound : List ℕ → ℕ
+change_bound w = length w + 2
+
+-- and enters at most so many
+abbrev pub touch_bound : List ℕ → ℕ
+touch_bound w = 3 * length w + 3
+
+module _ {V : Type 0} where
+  -- an intersection enters at most so many
+  abbrev pub meet_bound : Map V → Map V → ℕ
+  meet_bound left right = 2 * set.len (shared left right)
+
+  -- a walk under p enters at most so many
+  abbrev pub reach_bound : Map V → List ℕ → ℕ
+  reach_bound m p = length p + 1 + set.len (set.retain (starts m) (begins p))

@@ -1,0 +1,54 @@
+-- What a changing call answers and leaves, from the map and the number.
+use Rattle.std.specs.Prelude.{ℕ, Bool, true, false, List, Option, Some, None, Result, Ok, Err, if◌then◌else◌}
+use Rattle.rart_below.specs.declared.slot.Slot.{Slot}
+use Rattle.rart_below.specs.declared.slot.Slot.TheVariants.{Vacant, Occupied}
+use Rattle.rart_below.specs.declared.slot.SlotUpdate.{SlotUpdate}
+use Rattle.rart_below.specs.declared.slot.SlotUpdate.TheVariants.{Keep, Insert, Remove}
+use Rattle.rart_maps.specs.Versions.{Version, value_at, has_key, raised, with_key, without_key}
+
+module _ {V : Type 0} where
+  -- without the key where it was there, and the number then one greater
+  abbrev pub removed : Version V → List ℕ → Version V
+  removed v w = if has_key v w then without_key v w 1 else v
+
+  -- with the key set to what was left behind a reference to its value, where it was there
+  abbrev pub rewritten : Version V → List ℕ → V → Version V
+  rewritten v w x = if has_key v w then with_key v w x 1 else v
+
+  -- the slot that a callback is lent
+  abbrev pub slot_of : Option V → Slot V
+  slot_of None = Vacant
+  slot_of (Some x) = Occupied x
+
+  -- what a callback left behind: the value at entry where it left the slot vacant
+  abbrev pub left_behind : V → Slot V → V
+  left_behind old Vacant = old
+  left_behind old (Occupied x) = x
+
+  -- An update, by the value at entry, what the callback left in the slot and what it answered: whether
+  -- the key was there or is now, and the version after.
+  abbrev pub updated_by : Version V → List ℕ → Option V → Slot V → SlotUpdate V → Bool × Version V
+  updated_by v w None left Keep = (false, v)
+  updated_by v w None left (Insert x) = (true, with_key v w x 1)
+  updated_by v w None left Remove = (false, v)
+  updated_by v w (Some old) left Keep = (true, with_key v w (left_behind old left) 1)
+  updated_by v w (Some old) left (Insert x) = (true, with_key v w x 1)
+  updated_by v w (Some old) left Remove = (true, without_key v w 1)
+
+  abbrev pub updated : Version V → List ℕ → Slot V → SlotUpdate V → Bool × Version V
+  updated v w left told = updated_by v w (value_at v w) left told
+
+  -- The same for a callback that may answer an error. Where the key was there, the number is two greater
+  -- for whatever else than `Keep` it answers.
+  abbrev pub tried_by : {E : Type 0} → Version V → List ℕ → Option V → Slot V → Result (SlotUpdate V) E → Result Bool E × Version V
+  tried_by v w None left (Ok Keep) = (Ok false, v)
+  tried_by v w None left (Ok (Insert x)) = (Ok true, with_key v w x 1)
+  tried_by v w None left (Ok Remove) = (Ok false, v)
+  tried_by v w None left (Err e) = (Err e, v)
+  tried_by v w (Some old) left (Ok Keep) = (Ok true, with_key v w (left_behind old left) 1)
+  tried_by v w (Some old) left (Ok (Insert x)) = (Ok true, with_key v w x 2)
+  tried_by v w (Some old) left (Ok Remove) = (Ok true, without_key v w 2)
+  tried_by v w (Some old) left (Err e) = (Err e, raised v 2)
+
+  abbrev pub tried : {E : Type 0} → Version V → List ℕ → Slot V → Result (SlotUpdate V) E → Result Bool E × Version V
+  tried v w left told = tried_by v w (value_at v w) left told

@@ -1,0 +1,58 @@
+-- Worked values of the bounds, found by hand.
+use Rattle.std.specs.Prelude.{◌≡◌, ℕ, List, [], ◌∷◌, map, codes}
+use Rattle.std.specs.FinMap as finite
+use Rattle.rart_maps.specs.Versions.{Map}
+use Rattle.rart_maps.specs.Bounds.{lookup_bound, change_bound, touch_bound, meet_bound, reach_bound}
+
+-- a map of these keys: on values no bound depends
+abbrev pub map_of : List (List ℕ) → Map ℕ
+map_of keys = finite.from_entries (map (λ key. (key, 0)) keys)
+
+abbrev pub LookupOfNoByte : Type 0
+LookupOfNoByte = lookup_bound [] ≡ 1
+
+abbrev pub LookupOfThreeBytes : Type 0
+LookupOfThreeBytes = lookup_bound (codes "abc") ≡ 4
+
+abbrev pub ChangeOfNoByte : Type 0
+ChangeOfNoByte = change_bound [] ≡ 2
+
+abbrev pub ChangeOfThreeBytes : Type 0
+ChangeOfThreeBytes = change_bound (codes "abc") ≡ 5
+
+abbrev pub TouchOfNoByte : Type 0
+TouchOfNoByte = touch_bound [] ≡ 3
+
+abbrev pub TouchOfThreeBytes : Type 0
+TouchOfThreeBytes = touch_bound (codes "abc") ≡ 12
+
+-- Shared are "", a, ab and b.
+abbrev pub MeetOfTwo : Type 0
+MeetOfTwo = meet_bound
+    (map_of (codes "a" ∷ codes "ab" ∷ codes "b" ∷ []))
+    (map_of (codes "ab" ∷ codes "b" ∷ codes "c" ∷ []))
+    ≡ 8
+
+-- Shared are "", a, ab and abc.
+abbrev pub MeetBelowOne : Type 0
+MeetBelowOne = meet_bound (map_of (codes "abc" ∷ [])) (map_of (codes "abc" ∷ codes "abd" ∷ [])) ≡ 8
+
+-- Shared are "" and a.
+abbrev pub MeetWithItself : Type 0
+MeetWithItself = meet_bound (map_of ([] ∷ codes "a" ∷ [])) (map_of ([] ∷ codes "a" ∷ [])) ≡ 4
+
+-- With a map of no key none is shared.
+abbrev pub MeetOfEmpty : Type 0 → Type 0
+MeetOfEmpty V = (m : Map V) → (meet_bound finite.empty m ≡ 0) × (meet_bound m finite.empty ≡ 0)
+
+-- Under a are a and ab. Beside these count the byte of the prefix, and one.
+abbrev pub ReachOfTwo : Type 0
+ReachOfTwo = reach_bound (map_of ([] ∷ codes "a" ∷ codes "ab" ∷ [])) (codes "a") ≡ 4
+
+-- Under the empty string are "", a and ab.
+abbrev pub ReachOfAll : Type 0
+ReachOfAll = reach_bound (map_of ([] ∷ codes "a" ∷ codes "ab" ∷ [])) [] ≡ 4
+
+-- Under abc is no start.
+abbrev pub ReachOfNone : Type 0
+ReachOfNone = reach_bound (map_of ([] ∷ codes "a" ∷ codes "ab" ∷ [])) (codes "abc") ≡ 4

@@ -1,0 +1,56 @@
+//! Worked values of what is read off maps and of the bounds, found by hand.
+ghost use Rattle.rart_maps.specs.WorkedBounds.{LookupOfNoByte, LookupOfThreeBytes, ChangeOfNoByte, ChangeOfThreeBytes, TouchOfNoByte, TouchOfThreeBytes, MeetOfTwo, MeetBelowOne, MeetWithItself, MeetOfEmpty, ReachOfTwo, ReachOfAll, ReachOfNone};
+ghost use Rattle.rart_maps.specs.WorkedPairs.{WithinIncluded, WithinExcluded, WithinOtherKeys, WithinLowAlone, WithinHighAlone, WithinReversed, WithinOneKey, WithinNoKey, UnderTwo, UnderOne, UnderItself, UnderEmpty, UnderNone, BeginningsShortestFirst, BeginningsOfKey, BeginningsNone, CommonLeftFirst, CommonNone};
+
+/// Worked values: the pairs within two bounds, that include or exclude their key, one bound alone,
+/// the other way round, and of one key twice.
+pub fn worked_within()
+    ensures included { WithinIncluded }
+    ensures excluded { WithinExcluded }
+    ensures other_keys { WithinOtherKeys }
+    ensures low_alone { WithinLowAlone }
+    ensures high_alone { WithinHighAlone }
+    ensures reversed { WithinReversed }
+    ensures one_key { WithinOneKey }
+    ensures no_key { WithinNoKey }
+{}
+
+/// Worked values: the pairs under a prefix, which may end inside a key, be a key, or begin none.
+pub fn worked_under()
+    ensures two { UnderTwo }
+    ensures one { UnderOne }
+    ensures itself { UnderItself }
+    ensures empty { UnderEmpty }
+    ensures none { UnderNone }
+{}
+
+/// Worked values: the pairs whose key begins a string, the shortest first.
+pub fn worked_beginnings()
+    ensures shortest_first { BeginningsShortestFirst }
+    ensures of_key { BeginningsOfKey }
+    ensures none { BeginningsNone }
+{}
+
+/// Worked values: the keys in common, the left map's value first.
+pub fn worked_common()
+    ensures left_first { CommonLeftFirst }
+    ensures none { CommonNone }
+{}
+
+/// Worked values of the bounds: of a key of no byte and of three, of two maps, of a map without a
+/// key and any other, and of a map under a prefix.
+pub fn worked_bounds<V>()
+    ensures lookup_of_no_byte { LookupOfNoByte }
+    ensures lookup_of_three_bytes { LookupOfThreeBytes }
+    ensures change_of_no_byte { ChangeOfNoByte }
+    ensures change_of_three_bytes { ChangeOfThreeBytes }
+    ensures touch_of_no_byte { TouchOfNoByte }
+    ensures touch_of_three_bytes { TouchOfThreeBytes }
+    ensures meet_of_two { MeetOfTwo }
+    ensures meet_below_one { MeetBelowOne }
+    ensures meet_with_itself { MeetWithItself }
+    ensures meet_of_empty { MeetOfEmpty V }
+    ensures reach_of_two { ReachOfTwo }
+    ensures reach_of_all { ReachOfAll }
+    ensures reach_of_none { ReachOfNone }
+{}

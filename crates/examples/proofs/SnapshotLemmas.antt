@@ -1,6 +1,6 @@
 -- What the commands of `snapshots` are replied, and how many replies there are.
-use Rattle.std.proofs.Common.{◌≡◌, ◌≢◌, ℕ, zero, suc, ◌<◌, List, [], ◌∷◌, length, refl, sym, ap, ◌∙◌, subst, ⊎_elim, cond, arith}
-use Rattle.std.specs.Prelude.{Option, Some, None, slice_get, All}
+use Rattle.std.proofs.Common.{◌≡◌, ◌≢◌, ℕ, suc, List, [], ◌∷◌, length, refl, ap, ◌∙◌, subst, ⊎_elim, cond, arith}
+use Rattle.std.specs.Prelude.{Some, slice_get, All}
 use Rattle.std.specs.FinMap as finite
 use Rattle.std.specs.Ordering.{is_eq}
 use Rattle.std.specs.Cmp.{tied_itself}

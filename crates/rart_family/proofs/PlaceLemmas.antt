@@ -1,7 +1,7 @@
 -- What is told of the version at a place, once the place was read.
-use Rattle.std.proofs.Common.{◌≡◌, ℕ, zero, suc, ◌+◌, ◌≤◌, ◌<◌, Bool, true, false, cond, [], ◌∷◌, refl, sym, ap, ◌∙◌, add-zero, get_or, arith}
+use Rattle.std.proofs.Common.{◌≡◌, ℕ, zero, suc, ◌+◌, ◌≤◌, ◌<◌, Bool, true, false, cond, [], ◌∷◌, refl, get_or, arith}
 use Rattle.std.specs.Prelude.{Option, Some, None, IfSome}
-use Rattle.rart_versioned.specs.Versions.{Version, has_no_key}
+use Rattle.rart_maps.specs.Versions.{Version, has_no_key}
 use Rattle.rart_family.specs.Families.{Family, version_at}
 use Rattle.rart_family.specs.Costs.{one_with_key}
 

@@ -2,7 +2,7 @@
 -- it, and a run goes on by one step at its end.
 use Rattle.std.proofs.Common.{◌≡◌, ℕ, ◌+◌, Bool, true, false, List, [], ◌∷◌, ◌++◌, refl, sym, ap, ◌∙◌, subst, add_assoc, ⊎_elim, zero-add, add-zero, rules}
 use Rattle.std.specs.Prelude.{Option, Some, None, Result, Ok, Err}
-use Rattle.rart_versioned.specs.Versions.{Version}
+use Rattle.rart_maps.specs.Versions.{Version}
 use Rattle.rart_family.specs.declared.family.command.Failure.{Failure}
 use Rattle.rart_family.specs.declared.family.command.Command.{Command}
 use Rattle.rart_family.specs.declared.family.command.Command.TheVariants.{New, NewAt, Snapshot, Duplicate, Discard, Version as NumberOf, IsEmpty, Get, GetMut, Insert, Replace, Remove, Delete, Update, TryUpdate}

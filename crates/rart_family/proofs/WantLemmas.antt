@@ -1,11 +1,11 @@
 -- Where want of memory is no reply.
-use Rattle.std.proofs.Common.{◌≡◌, ℕ, ◌+◌, ◌^◌, Bool, true, false, nat_lt, cond, List, sym, ap, ◌∙◌, refl, subst, ⊎_elim, IsTrue}
-use Rattle.std.specs.Prelude.{Option, Some, None, IfSome, is_some, slice_set, ◌⊎◌}
-use Rattle.rart_versioned.specs.Versions.{Version, value_at, has_key}
-use Rattle.rart_versioned.specs.Changes.{removed}
+use Rattle.std.proofs.Common.{◌≡◌, ℕ, ◌+◌, ◌^◌, Bool, true, false, nat_lt, cond, List, sym, ap, refl, subst, ⊎_elim, IsTrue}
+use Rattle.std.specs.Prelude.{Option, Some, None, IfSome, is_some, slice_set}
+use Rattle.rart_maps.specs.Versions.{Version, value_at, has_key}
+use Rattle.rart_maps.specs.Changes.{removed}
 use Rattle.rart_family.specs.declared.family.command.Command.{Command}
 use Rattle.rart_family.specs.declared.family.command.Command.TheVariants.{Discard, Version as NumberOf, IsEmpty, Get, Remove, Delete}
-use Rattle.rart_family.specs.Replies.{Reply, Value, Flag, NoVersion, NoRoom, NoMemory}
+use Rattle.rart_family.specs.Replies.{Reply, Value, Flag, NoRoom, NoMemory}
 use Rattle.rart_family.specs.Families.{Family, Outcome, called, version_at, reply_to}
 use Rattle.rart_family.specs.Runs.{Step, may_want_memory}
 use Rattle.rart_family.specs.Laws.{TakesNoMemory, NoWantWithoutMemory, NoWantBeforeLack}

@@ -2,7 +2,7 @@
 use Rattle.std.proofs.Common.{refl, inl, inr}
 use Rattle.std.specs.Prelude.{ℕ, Some, [], ◌∷◌, codes}
 use Rattle.std.specs.FinMap.{gets}
-use Rattle.rart_versioned.specs.Versions.{empty_at, with_key}
+use Rattle.rart_maps.specs.Versions.{empty_at, with_key}
 use Rattle.rart_family.specs.Families.{Family}
 use Rattle.rart_family.specs.WorkedCosts.{RefusedMemoryIsARun, SnapshotCosts, ChangesApartCost, CloneCosts, ReplacementsCost, AbsentRemovalCosts, DeletionCosts, FailedUpdateCosts, DiscardedPlaceCosts, WrittenAndInsertedCosts, RoomForOneCosts, RoomForTwoCosts, InsertionByUpdateCosts, WrittenAndRemovedCosts, RefusedMemoryCosts}
 
@@ -51,14 +51,35 @@ refused_memory_costs = simp gets refl
 pub refused_memory_is_a_run : RefusedMemoryIsARun
 refused_memory_is_a_run =
     let no_key : Family ℕ = Some (empty_at 0) ∷ [] in
-    let with_ab : Family ℕ = Some (with_key (empty_at 0) (codes "ab") 2 1) ∷ [] in
-    (
+    let with_ab : Family ℕ = Some (with_key (empty_at 0) (codes "ab") 2 1) ∷ [] in (
       with_ab,
-      (no_key, inl (refl, refl),
-      (no_key, inr (refl, refl, refl),
-      (no_key, inl (simp gets refl, refl),
-      (with_ab, inl (simp gets refl, refl),
-      (with_ab, inr (refl, refl, simp gets refl),
-      (with_ab, inr (refl, refl, simp gets refl),
-      (with_ab, inr (refl, refl, refl),
-      (with_ab, inl (refl, refl), (with_ab, inl (refl, refl), refl))))))))))
+      (
+        no_key,
+        inl (refl, refl),
+        (
+          no_key,
+          inr (refl, refl, refl),
+          (
+            no_key,
+            inl (simp gets refl, refl),
+            (
+              with_ab,
+              inl (simp gets refl, refl),
+              (
+                with_ab,
+                inr (refl, refl, simp gets refl),
+                (
+                  with_ab,
+                  inr (refl, refl, simp gets refl),
+                  (
+                    with_ab,
+                    inr (refl, refl, refl),
+                    (with_ab, inl (refl, refl), (with_ab, inl (refl, refl), refl)),
+                  ),
+                ),
+              ),
+            ),
+          ),
+        ),
+      ),
+    )

@@ -1,8 +1,8 @@
 -- How many nodes a run enters and makes: at most, and at least.
 use Rattle.std.specs.Prelude.{◌≡◌, ℕ, ◌+◌, ◌*◌, ◌≤◌, List, ◌∷◌, Option, Some, None, if◌then◌else◌}
 use Rattle.rart_versioned.specs.Given.{Counts}
-use Rattle.rart_versioned.specs.Versions.{Version, has_no_key}
-use Rattle.rart_versioned.specs.Bounds.{lookup_bound, change_bound}
+use Rattle.rart_maps.specs.Versions.{Version, has_no_key}
+use Rattle.rart_maps.specs.Bounds.{lookup_bound, change_bound}
 use Rattle.rart_family.specs.declared.family.command.Command.{Command}
 use Rattle.rart_family.specs.declared.family.command.Command.TheVariants.{Get, GetMut, Insert, Replace, Remove, Delete, Update, TryUpdate}
 use Rattle.rart_family.specs.Replies.{Reply, NoVersion, NoRoom, NoMemory}

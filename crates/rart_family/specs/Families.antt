@@ -1,8 +1,8 @@
 -- A family of versions: what each command is replied, and what it leaves.
 use Rattle.std.specs.Prelude.{ℕ, ◌+◌, ◌^◌, Bool, if◌then◌else◌, nat_lt, List, [], ◌∷◌, ◌++◌, length, Option, Some, None, slice_get, slice_set, Result, Ok, Err}
 use Rattle.std.specs.Option.{unwrap_or}
-use Rattle.rart_versioned.specs.Versions.{Version, empty_at, has_no_key, value_at, has_key, raised, with_key}
-use Rattle.rart_versioned.specs.Changes.{removed, rewritten, slot_of, updated, tried}
+use Rattle.rart_maps.specs.Versions.{Version, empty_at, has_no_key, value_at, has_key, raised, with_key}
+use Rattle.rart_maps.specs.Changes.{removed, rewritten, slot_of, updated, tried}
 use Rattle.rart_family.specs.declared.family.command.Failure.{Failure}
 use Rattle.rart_family.specs.declared.family.command.Command.{Command}
 use Rattle.rart_family.specs.declared.family.command.Command.TheVariants.{New, NewAt, Snapshot, Duplicate, Discard, Version as NumberOf, IsEmpty, Get, GetMut, Insert, Replace, Remove, Delete, Update, TryUpdate}

@@ -2,7 +2,7 @@
 use Rattle.std.specs.Prelude.{◌≡◌, ◌≢◌, ℕ, ◌<◌, ◌≤◌, false, List, length, Option, Some, None, slice_get, IfSome, ◌⊎◌, ⊤}
 use Rattle.rart_family.specs.declared.family.command.Command.{Command}
 use Rattle.rart_family.specs.declared.family.command.Command.TheVariants.{Discard, Version as NumberOf, IsEmpty, Get, GetMut, Insert, Replace, Remove, Delete, Update, TryUpdate}
-use Rattle.rart_versioned.specs.Versions.{has_key}
+use Rattle.rart_maps.specs.Versions.{has_key}
 use Rattle.rart_family.specs.Replies.{Reply, NoVersion, NoRoom, NoMemory}
 use Rattle.rart_family.specs.Families.{Family, version_at, reply_to}
 use Rattle.rart_family.specs.Runs.{Step, Run}

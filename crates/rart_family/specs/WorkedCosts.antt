@@ -92,11 +92,12 @@ WrittenAndRemovedCosts = Costs written_and_removed 0 0 2 15 4
 -- What is refused for memory leaves the family; and then there is no version at place 1.
 abbrev pub refused_memory : WorkedRun
 refused_memory = (
-      New ∷ Insert 0 (codes "a") 1 ∷ Get 0 (codes "a") ∷ Insert 0 (codes "ab") 2 ∷
+  New ∷ Insert 0 (codes "a") 1 ∷ Get 0 (codes "a") ∷ Insert 0 (codes "ab") 2 ∷
       Get 0 (codes "ab") ∷ Remove 0 (codes "ab") ∷ GetMut 0 (codes "ab") 3 ∷ Get 1 (codes "a") ∷
       Delete 1 (codes "a") ∷ [],
-      Place 0 ∷ NoMemory ∷ Value None ∷ Flag false ∷ NoMemory ∷ NoMemory ∷ NoMemory ∷ NoVersion ∷
-      NoVersion ∷ [])
+  Place 0 ∷ NoMemory ∷ Value None ∷ Flag false ∷ NoMemory ∷ NoMemory ∷ NoMemory ∷ NoVersion ∷
+      NoVersion ∷ [],
+)
 
 -- This too is a run.
 abbrev pub RefusedMemoryIsARun : Type 0

@@ -2,7 +2,7 @@
 ghost use Rattle.std.specs.Prelude.{◌≡◌, ◌+◌, ◌*◌, ◌≤◌, [], map, length, Some, IfOk, IfErr, OnOk, OnErr, MatchOption};
 ghost use Rattle.std.specs.Option.{option_copied};
 ghost use Rattle.rart_versioned.specs.Given.{ClonesEqual};
-ghost use Rattle.rart_versioned.specs.Versions.{HasRoom};
+ghost use Rattle.rart_maps.specs.Versions.{HasRoom};
 ghost use Rattle.rart_family.specs.Attempts.{Tries, Gives, replied};
 ghost use Rattle.rart_family.specs.Costs.{read_cost, read_least, change_cost, change_least, touch_least, CountsReads, CountsChanges};
 ghost use Rattle.rart_family.specs.Families.{version_at, placed};
@@ -36,7 +36,7 @@ pub struct Family<K: KeyTrait, V: Clone> {
 impl<K: KeyTrait, V: Clone> Model for Family<K, V> {
     ghost use Rattle.std.specs.Prelude.{List, Option};
     ghost use Rattle.std.specs.Coded.{coded_list, coded_option};
-    ghost use Rattle.rart_versioned.specs.Versions.{Version, version_code};
+    ghost use Rattle.rart_maps.specs.Versions.{Version, version_code};
 
     ghost Value = { List (Option (Version V)) };
 

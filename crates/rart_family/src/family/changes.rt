@@ -1,9 +1,9 @@
 // Commands that change the version at their place by one key.
 ghost use Rattle.std.specs.Prelude.{◌≡◌, IfOk, OnErr, OnOk, IsSomeAnd, IfSome, IsTrue, slice_set, Some, ◌+◌, ◌<◌, ◌≤◌};
-ghost use Rattle.rart_versioned.specs.Given.{ClonesEqual};
-ghost use Rattle.rart_versioned.specs.Versions.{HasRoom, value_at, has_key, with_key};
-ghost use Rattle.rart_versioned.specs.Changes.{removed, rewritten};
-ghost use Rattle.rart_versioned.specs.Bounds.{CountsUpTo, touch_bound, change_bound};
+ghost use Rattle.rart_versioned.specs.Given.{ClonesEqual, CountsUpTo};
+ghost use Rattle.rart_maps.specs.Versions.{HasRoom, value_at, has_key, with_key};
+ghost use Rattle.rart_maps.specs.Changes.{removed, rewritten};
+ghost use Rattle.rart_maps.specs.Bounds.{touch_bound, change_bound};
 ghost use Rattle.rart_family.specs.Attempts.{Tries, replied};
 ghost use Rattle.rart_family.specs.Costs.{CountsChanges, one_with_key};
 ghost use Rattle.rart_family.specs.Families.{version_at};

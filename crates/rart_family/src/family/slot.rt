@@ -1,10 +1,10 @@
 // A value written through the reference that a version lends.
 ghost use Rattle.std.specs.Prelude.{◌≡◌, IfOk, IfErr, OnOk, OnErr, IsTrue, true, false, ◌<◌};
 ghost use Rattle.std.specs.Borrow.{sem};
-ghost use Rattle.rart_versioned.specs.Given.{ClonesEqual};
-ghost use Rattle.rart_versioned.specs.Versions.{HasRoom, has_no_key, value_at, has_key};
-ghost use Rattle.rart_versioned.specs.Changes.{rewritten};
-ghost use Rattle.rart_versioned.specs.Bounds.{CountsUpTo, touch_bound, change_bound};
+ghost use Rattle.rart_versioned.specs.Given.{ClonesEqual, CountsUpTo};
+ghost use Rattle.rart_maps.specs.Versions.{HasRoom, has_no_key, value_at, has_key};
+ghost use Rattle.rart_maps.specs.Changes.{rewritten};
+ghost use Rattle.rart_maps.specs.Bounds.{touch_bound, change_bound};
 ghost use Rattle.rart_versioned.specs.Lent.{LendsValue};
 ghost use Rattle.rart_family.specs.Slots.{slot_value, Explains};
 

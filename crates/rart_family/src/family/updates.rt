@@ -1,9 +1,9 @@
 // Commands that update the slot of a key by a callback.
 ghost use Rattle.std.specs.Prelude.{◌≡◌, IfOk, OnErr, IsSomeAnd, IfSome, slice_set, Some, option_map, ◌+◌, ◌≤◌};
-ghost use Rattle.rart_versioned.specs.Given.{ClonesEqual};
-ghost use Rattle.rart_versioned.specs.Versions.{HasRoom, value_at};
-ghost use Rattle.rart_versioned.specs.Changes.{slot_of, updated, tried};
-ghost use Rattle.rart_versioned.specs.Bounds.{CountsUpTo, touch_bound, change_bound};
+ghost use Rattle.rart_versioned.specs.Given.{ClonesEqual, CountsUpTo};
+ghost use Rattle.rart_maps.specs.Versions.{HasRoom, value_at};
+ghost use Rattle.rart_maps.specs.Changes.{slot_of, updated, tried};
+ghost use Rattle.rart_maps.specs.Bounds.{touch_bound, change_bound};
 ghost use Rattle.rart_family.specs.Attempts.{Tries, replied};
 ghost use Rattle.rart_family.specs.Costs.{CountsChanges, one_with_key};
 ghost use Rattle.rart_family.specs.Families.{version_at, written, told};

@@ -1,6 +1,5 @@
 //! Lines of commands, as the program reads them.
-use crate::family::Command;
-use rart_versioned::{ArrayKey, KeyTrait, SlotUpdate};
+use rart_family::{ArrayKey, Command, KeyTrait, SlotUpdate};
 use std::alloc::{AllocError, Global};
 
 /// A command as the program has it: keys of at most 16 bytes, and numbers for values.

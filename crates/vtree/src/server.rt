@@ -1,7 +1,6 @@
 //! The program's engine: a line is read, its command is run, and its reply is written.
-use crate::family::{Family, Reply};
 use crate::line::{LineCommand, LineError, parse};
-use rart_versioned::{ArrayKey, KeyTrait, Work};
+use rart_family::{ArrayKey, Family, KeyTrait, Reply, Work};
 use std::alloc::{AllocError, Global};
 use std::io::{Read, Write};
 
@@ -130,9 +129,10 @@ impl Session {
     }
 }
 
-fn write_reply<W: Write>(
+/// Writes the line of a reply: a word or two, and what the reply has, each behind a space.
+pub(crate) fn write_reply<K: KeyTrait, W: Write>(
     alloc: Global,
-    reply: &LineReply,
+    reply: &Reply<K, u64>,
     writer: &mut W,
 ) -> Result<(), ServeError> {
     match reply {
@@ -157,7 +157,7 @@ fn write_reply<W: Write>(
     }
 }
 
-fn entries_text(alloc: Global, entries: &[(ArrayKey<16>, u64)]) -> Result<String, AllocError> {
+fn entries_text<K: KeyTrait>(alloc: Global, entries: &[(K, u64)]) -> Result<String, AllocError> {
     let mut text = String::from_str(alloc, "entries")?;
     for (key, value) in entries {
         text.push_str(" '")?;

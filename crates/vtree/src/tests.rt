@@ -5,6 +5,7 @@ mod families;
 mod lines;
 mod models;
 mod refusals;
+mod replies;
 mod streams;
 mod updates;
 

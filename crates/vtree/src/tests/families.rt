@@ -1,79 +1,12 @@
 // Each command with ample memory, on both types of keys.
 ghost use Rattle.std.specs.Prelude.{ℕ, ◌≤◌};
-ghost use Rattle.rart_versioned.specs.Given.{IsAdmitted};
+ghost use Rattle.rart_family.specs.Given.{IsAdmitted};
 
-use crate::family::{Command, Family, Reply};
-use rart_versioned::{ArrayKey, KeyTrait, SlotUpdate, VectorKey, Work};
+use crate::server::write_reply;
+use rart_family::{ArrayKey, Command, Family, KeyTrait, SlotUpdate, VectorKey, Work};
 use std::alloc::{AllocError, Global};
 use std::process::Abort;
 use std::test::Fail;
-
-// The reply to one command.
-fn reply_to<K: KeyTrait>(
-    alloc: Global,
-    family: &mut Family<K, u64>,
-    command: Command<K, u64>,
-) -> Result<Reply<K, u64>, AllocError> {
-    let mut commands = Vec::new(alloc);
-    commands.push(command)?;
-    let mut reads = Work::new();
-    let mut changes = Work::new();
-    let mut replies = family.run(&commands, &mut reads, &mut changes)?;
-    Ok(replies.pop().unwrap_or(Reply::NoMemory))
-}
-
-fn assert_versions_are_made<K: KeyTrait>(rt: &impl Abort, alloc: Global) -> Result<(), AllocError> {
-    let mut family: Family<K, u64> = Family::new(alloc);
-    assert_eq!(rt; family.len(), 0);
-    assert!(rt; family.version_at(0).is_none());
-    assert!(rt; matches!(reply_to(alloc, &mut family, Command::New)?, Reply::Place(0)));
-    assert!(rt;
-        matches!(
-            reply_to(alloc, &mut family, Command::NewAt { number: 7 })?,
-            Reply::Place(1)
-        )
-    );
-    assert!(rt;
-        matches!(
-            reply_to(alloc, &mut family, Command::Snapshot { place: 1 })?,
-            Reply::Place(2)
-        )
-    );
-    assert!(rt;
-        matches!(
-            reply_to(alloc, &mut family, Command::Duplicate { place: 1 })?,
-            Reply::Place(3)
-        )
-    );
-    assert!(rt;
-        matches!(
-            reply_to(alloc, &mut family, Command::Version { place: 2 })?,
-            Reply::Number(8)
-        )
-    );
-    assert!(rt;
-        matches!(
-            reply_to(alloc, &mut family, Command::Version { place: 3 })?,
-            Reply::Number(7)
-        )
-    );
-    assert!(rt;
-        matches!(
-            reply_to(alloc, &mut family, Command::IsEmpty { place: 3 })?,
-            Reply::Flag(true)
-        )
-    );
-    assert!(rt;
-        matches!(
-            reply_to(alloc, &mut family, Command::Discard { place: 1 })?,
-            Reply::Discarded
-        )
-    );
-    assert!(rt; family.version_at(1).is_none());
-    assert!(rt; family.version_at(2).is_some());
-    assert_eq!(rt; family.len(), 4);
-    Ok(())
-}
 
 // A key of one byte.
 fn key_of<K: KeyTrait>(alloc: Global, byte: u8) -> Result<K, AllocError>
@@ -82,202 +15,204 @@ fn key_of<K: KeyTrait>(alloc: Global, byte: u8) -> Result<K, AllocError>
     K::new_from_slice(alloc, &[byte])
 }
 
-fn assert_versions_are_changed<K: KeyTrait>(
+fn answer_of(answer: &SlotUpdate<u64>) -> SlotUpdate<u64> {
+    match answer {
+        SlotUpdate::Keep => SlotUpdate::Keep,
+        SlotUpdate::Insert(value) => SlotUpdate::Insert(*value),
+        SlotUpdate::Remove => SlotUpdate::Remove,
+    }
+}
+
+// The same command, its key as the one byte that stands for it.
+fn keyed<K: KeyTrait>(
+    alloc: Global,
+    command: &Command<u8, u64>,
+) -> Result<Command<K, u64>, AllocError>
+    requires { (length : ℕ) → length ≤ 1 → IsAdmitted K.MAXIMUM_SIZE length }
+{
+    Ok(match command {
+        Command::New => Command::New,
+        Command::NewAt { number } => Command::NewAt { number: *number },
+        Command::Snapshot { place } => Command::Snapshot { place: *place },
+        Command::Duplicate { place } => Command::Duplicate { place: *place },
+        Command::Discard { place } => Command::Discard { place: *place },
+        Command::Version { place } => Command::Version { place: *place },
+        Command::IsEmpty { place } => Command::IsEmpty { place: *place },
+        Command::Get { place, key } => Command::Get {
+            place: *place,
+            key: key_of(alloc, *key)?,
+        },
+        Command::GetMut { place, key, value } => Command::GetMut {
+            place: *place,
+            key: key_of(alloc, *key)?,
+            value: *value,
+        },
+        Command::Insert { place, key, value } => Command::Insert {
+            place: *place,
+            key: key_of(alloc, *key)?,
+            value: *value,
+        },
+        Command::Replace { place, key, value } => Command::Replace {
+            place: *place,
+            key: key_of(alloc, *key)?,
+            value: *value,
+        },
+        Command::Remove { place, key } => Command::Remove {
+            place: *place,
+            key: key_of(alloc, *key)?,
+        },
+        Command::Delete { place, key } => Command::Delete {
+            place: *place,
+            key: key_of(alloc, *key)?,
+        },
+        Command::Update {
+            place,
+            key,
+            write,
+            answer,
+        } => Command::Update {
+            place: *place,
+            key: key_of(alloc, *key)?,
+            write: *write,
+            answer: answer_of(answer),
+        },
+        Command::TryUpdate {
+            place,
+            key,
+            write,
+            answer,
+        } => Command::TryUpdate {
+            place: *place,
+            key: key_of(alloc, *key)?,
+            write: *write,
+            answer: answer.as_ref().map(answer_of),
+        },
+    })
+}
+
+// Does the commands in one run on a family with such keys, and compares the lines of the replies.
+fn assert_run<K: KeyTrait>(
     rt: &impl Abort,
     alloc: Global,
-) -> Result<(), AllocError>
+    commands: &[Command<u8, u64>],
+    lines: &str,
+) -> Result<Family<K, u64>, Fail>
     requires { (length : ℕ) → length ≤ 1 → IsAdmitted K.MAXIMUM_SIZE length }
 {
     let mut family: Family<K, u64> = Family::new(alloc);
-    assert!(rt; matches!(reply_to(alloc, &mut family, Command::New)?, Reply::Place(0)));
-    assert!(rt;
-        matches!(
-            reply_to(
-                alloc,
-                &mut family,
-                Command::Insert {
-                    place: 0,
-                    key: key_of(alloc, 1)?,
-                    value: 10
-                }
-            )?,
-            Reply::Flag(false)
-        )
-    );
-    assert!(rt;
-        matches!(
-            reply_to(
-                alloc,
-                &mut family,
-                Command::Insert {
-                    place: 0,
-                    key: key_of(alloc, 2)?,
-                    value: 20
-                }
-            )?,
-            Reply::Flag(false)
-        )
-    );
-    assert!(rt;
-        matches!(
-            reply_to(
-                alloc,
-                &mut family,
-                Command::Replace {
-                    place: 0,
-                    key: key_of(alloc, 1)?,
-                    value: 11
-                }
-            )?,
-            Reply::Value(Some(10))
-        )
-    );
-    assert!(rt;
-        matches!(
-            reply_to(
-                alloc,
-                &mut family,
-                Command::Get {
-                    place: 0,
-                    key: key_of(alloc, 1)?
-                }
-            )?,
-            Reply::Value(Some(11))
-        )
-    );
-    assert!(rt;
-        matches!(
-            reply_to(
-                alloc,
-                &mut family,
-                Command::GetMut {
-                    place: 0,
-                    key: key_of(alloc, 2)?,
-                    value: 21
-                }
-            )?,
-            Reply::Flag(true)
-        )
-    );
-    assert!(rt;
-        matches!(
-            reply_to(
-                alloc,
-                &mut family,
-                Command::Remove {
-                    place: 0,
-                    key: key_of(alloc, 1)?
-                }
-            )?,
-            Reply::Value(Some(11))
-        )
-    );
-    assert!(rt;
-        matches!(
-            reply_to(
-                alloc,
-                &mut family,
-                Command::Delete {
-                    place: 0,
-                    key: key_of(alloc, 2)?
-                }
-            )?,
-            Reply::Flag(true)
-        )
-    );
-    assert!(rt;
-        matches!(
-            reply_to(alloc, &mut family, Command::IsEmpty { place: 0 })?,
-            Reply::Flag(true)
-        )
-    );
+    let mut keyed_commands = Vec::new(alloc);
+    for command in commands {
+        keyed_commands.push(keyed(alloc, command)?)?;
+    }
+    let mut text = Vec::new(alloc);
+    for reply in &family.run(&keyed_commands, &mut Work::new(), &mut Work::new())? {
+        write_reply(alloc, reply, &mut text)?;
+    }
+    assert_eq!(rt; str::from_utf8(&text)?, lines);
+    Ok(family)
+}
+
+fn assert_versions_are_made<K: KeyTrait>(rt: &impl Abort, alloc: Global) -> Result<(), Fail>
+    requires { (length : ℕ) → length ≤ 1 → IsAdmitted K.MAXIMUM_SIZE length }
+{
+    let family = assert_run::<K>(
+        rt,
+        alloc,
+        &[
+            Command::New,
+            Command::NewAt { number: 7 },
+            Command::Snapshot { place: 1 },
+            Command::Duplicate { place: 1 },
+            Command::Version { place: 2 },
+            Command::Version { place: 3 },
+            Command::IsEmpty { place: 3 },
+            Command::Discard { place: 1 },
+            Command::Version { place: 4 },
+        ],
+        "at 0\nat 1\nat 2\nat 3\nversion 8\nversion 7\ntrue\ndiscarded\nno version\n",
+    )?;
+    assert_eq!(rt; family.len(), 4);
+    assert!(rt; family.version_at(1).is_none());
+    assert!(rt; family.version_at(2).is_some());
+    assert!(rt; family.version_at(4).is_none());
     Ok(())
 }
 
-fn assert_slots_are_updated<K: KeyTrait>(rt: &impl Abort, alloc: Global) -> Result<(), AllocError>
+fn assert_versions_are_changed<K: KeyTrait>(rt: &impl Abort, alloc: Global) -> Result<(), Fail>
     requires { (length : ℕ) → length ≤ 1 → IsAdmitted K.MAXIMUM_SIZE length }
 {
-    let mut family: Family<K, u64> = Family::new(alloc);
-    assert!(rt; matches!(reply_to(alloc, &mut family, Command::New)?, Reply::Place(0)));
-    assert!(rt;
-        matches!(
-            reply_to(
-                alloc,
-                &mut family,
-                Command::Update {
-                    place: 0,
-                    key: key_of(alloc, 1)?,
-                    write: None,
-                    answer: SlotUpdate::Insert(5)
-                }
-            )?,
-            Reply::Flag(true)
-        )
-    );
-    assert!(rt;
-        matches!(
-            reply_to(
-                alloc,
-                &mut family,
-                Command::Update {
-                    place: 0,
-                    key: key_of(alloc, 1)?,
-                    write: Some(6),
-                    answer: SlotUpdate::Keep
-                }
-            )?,
-            Reply::Flag(true)
-        )
-    );
-    assert!(rt;
-        matches!(
-            reply_to(
-                alloc,
-                &mut family,
-                Command::TryUpdate {
-                    place: 0,
-                    key: key_of(alloc, 1)?,
-                    write: Some(7),
-                    answer: None
-                }
-            )?,
-            Reply::Failed
-        )
-    );
-    assert!(rt;
-        matches!(
-            reply_to(
-                alloc,
-                &mut family,
-                Command::Get {
-                    place: 0,
-                    key: key_of(alloc, 1)?
-                }
-            )?,
-            Reply::Value(Some(6))
-        )
-    );
-    assert!(rt;
-        matches!(
-            reply_to(
-                alloc,
-                &mut family,
-                Command::TryUpdate {
-                    place: 0,
-                    key: key_of(alloc, 1)?,
-                    write: None,
-                    answer: Some(SlotUpdate::Remove)
-                }
-            )?,
-            Reply::Flag(true)
-        )
-    );
-    assert!(rt;
-        matches!(
-            reply_to(alloc, &mut family, Command::Version { place: 0 })?,
-            Reply::Number(6)
-        )
-    );
+    assert_run::<K>(
+        rt,
+        alloc,
+        &[
+            Command::New,
+            Command::Insert {
+                place: 0,
+                key: 1,
+                value: 10,
+            },
+            Command::Insert {
+                place: 0,
+                key: 2,
+                value: 20,
+            },
+            Command::Replace {
+                place: 0,
+                key: 1,
+                value: 11,
+            },
+            Command::Get { place: 0, key: 1 },
+            Command::GetMut {
+                place: 0,
+                key: 2,
+                value: 21,
+            },
+            Command::Remove { place: 0, key: 1 },
+            Command::Delete { place: 0, key: 2 },
+            Command::IsEmpty { place: 0 },
+        ],
+        "at 0\nfalse\nfalse\nsome 10\nsome 11\ntrue\nsome 11\ntrue\ntrue\n",
+    )?;
+    Ok(())
+}
+
+fn assert_slots_are_updated<K: KeyTrait>(rt: &impl Abort, alloc: Global) -> Result<(), Fail>
+    requires { (length : ℕ) → length ≤ 1 → IsAdmitted K.MAXIMUM_SIZE length }
+{
+    assert_run::<K>(
+        rt,
+        alloc,
+        &[
+            Command::New,
+            Command::Update {
+                place: 0,
+                key: 1,
+                write: None,
+                answer: SlotUpdate::Insert(5),
+            },
+            Command::Update {
+                place: 0,
+                key: 1,
+                write: Some(6),
+                answer: SlotUpdate::Keep,
+            },
+            Command::TryUpdate {
+                place: 0,
+                key: 1,
+                write: Some(7),
+                answer: None,
+            },
+            Command::Get { place: 0, key: 1 },
+            Command::TryUpdate {
+                place: 0,
+                key: 1,
+                write: None,
+                answer: Some(SlotUpdate::Remove),
+            },
+            Command::Version { place: 0 },
+        ],
+        "at 0\ntrue\ntrue\nfailed\nsome 6\ntrue\nversion 6\n",
+    )?;
     Ok(())
 }
 
@@ -285,42 +220,18 @@ fn assert_slots_are_updated<K: KeyTrait>(rt: &impl Abort, alloc: Global) -> Resu
 fn inline_keys_are_commanded(rt: HostRuntime) -> Result<(), Fail> {
     assert_versions_are_made::<ArrayKey<16>>(&rt, rt.alloc())?;
     assert_versions_are_changed::<ArrayKey<16>>(&rt, rt.alloc())?;
-    assert_slots_are_updated::<ArrayKey<16>>(&rt, rt.alloc())?;
-    Ok(())
+    assert_slots_are_updated::<ArrayKey<16>>(&rt, rt.alloc())
 }
 
 #[test]
 fn heap_keys_are_commanded(rt: HostRuntime) -> Result<(), Fail> {
     assert_versions_are_made::<VectorKey>(&rt, rt.alloc())?;
     assert_versions_are_changed::<VectorKey>(&rt, rt.alloc())?;
-    assert_slots_are_updated::<VectorKey>(&rt, rt.alloc())?;
-    Ok(())
+    assert_slots_are_updated::<VectorKey>(&rt, rt.alloc())
 }
 
 #[test]
-fn run_gives_a_reply_for_each_command(rt: HostRuntime) -> Result<(), Fail> {
-    let mut family: Family<VectorKey, u64> = Family::new(rt.alloc());
-    let commands = [
-        Command::New,
-        Command::Insert {
-            place: 0,
-            key: VectorKey::new_from_slice(rt.alloc(), b"key")?,
-            value: 1,
-        },
-        Command::Snapshot { place: 0 },
-        Command::Version { place: 2 },
-        Command::Version { place: 1 },
-    ];
-    let mut reads = Work::new();
-    let mut changes = Work::new();
-    let replies = family.run(&commands, &mut reads, &mut changes)?;
-    assert_eq!(rt; replies.len(), 5);
-    assert!(rt; matches!(replies[0], Reply::Place(0)));
-    assert!(rt; matches!(replies[1], Reply::Flag(false)));
-    assert!(rt; matches!(replies[2], Reply::Place(1)));
-    assert!(rt; matches!(replies[3], Reply::NoVersion));
-    assert!(rt; matches!(replies[4], Reply::Number(2)));
-    let no_replies = family.run(&[], &mut reads, &mut changes)?;
-    assert!(rt; no_replies.is_empty());
+fn no_command_has_no_reply(rt: HostRuntime) -> Result<(), Fail> {
+    assert_run::<VectorKey>(&rt, rt.alloc(), &[], "")?;
     Ok(())
 }

@@ -75,6 +75,48 @@ fn keys_have_0_to_16_bytes(rt: HostRuntime) -> Result<(), Fail> {
 }
 
 #[test]
+fn keys_have_visible_bytes(rt: HostRuntime) -> Result<(), Fail> {
+    let alloc = rt.alloc();
+    for byte in 0..=255u8 {
+        // A line feed would end the line.
+        if byte == b'\n' {
+            continue;
+        }
+        let mut line = b"get 0 '".to_vec(alloc)?;
+        line.push(byte)?;
+        let mut output = Vec::new(alloc);
+        let served = serve(alloc, line.as_slice(), &mut output)?;
+        let is_visible = (0x21..=0x7e).contains(&byte);
+        let wanted = if is_visible {
+            "no version\n"
+        } else {
+            "bad line\n"
+        };
+        assert_eq!(rt; str::from_utf8(&output)?, wanted, "at {byte}");
+        assert_eq!(rt; served == Served::Clean, is_visible, "at {byte}");
+    }
+    Ok(())
+}
+
+// Of the good lines none has more than these 98 bytes.
+#[test]
+fn longest_line_is_a_good_one(rt: HostRuntime) -> Result<(), Fail> {
+    let line = "try-update 00000000000000000000 'abcdefghijklmnop 18446744073709551615 \
+                insert 18446744073709551614";
+    assert_eq!(rt; line.len(), 98);
+    let mut lines = "new / ".to_string(rt.alloc())?;
+    lines.push_str(line)?;
+    lines.push_str(" / get 0 'abcdefghijklmnop")?;
+    assert_served(
+        &rt,
+        rt.alloc(),
+        lines.as_str(),
+        "at 0 / true / some 18446744073709551614",
+        Served::Clean,
+    )
+}
+
+#[test]
 fn long_line_is_skipped_to_its_end(rt: HostRuntime) -> Result<(), Fail> {
     let alloc = rt.alloc();
     for length in [200, 201, 1000] {

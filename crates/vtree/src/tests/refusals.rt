@@ -4,6 +4,19 @@ use crate::server::Served;
 use std::test::Fail;
 
 #[test]
+fn great_place_has_no_version(rt: HostRuntime) -> Result<(), Fail> {
+    assert_served(
+        &rt,
+        rt.alloc(),
+        "new / version 0 / version 256 / version 65536 / version 4294967296 / \
+         version 9223372036854775808 / insert 4294967296 'a 1 / empty 0",
+        "at 0 / version 0 / no version / no version / no version / no version / \
+         no version / true",
+        Served::Clean,
+    )
+}
+
+#[test]
 fn place_past_the_last_one_has_no_version(rt: HostRuntime) -> Result<(), Fail> {
     assert_served(
         &rt,

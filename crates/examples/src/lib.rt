@@ -1,0 +1,6 @@
+//! Examples of what a caller proves from the contract of `Family::run` alone, a module each.
+#![tactic(auto)]
+
+pub mod snapshots;
+#[cfg(test)]
+mod tests;

@@ -1,0 +1,47 @@
+use Rattle.rart_family.proofs.WorkedCostLemmas.{snapshot_costs, changes_apart_cost, clone_costs, replacements_cost, absent_removal_costs, deletion_costs, failed_update_costs, discarded_place_costs, written_and_inserted_costs, room_for_one_costs, room_for_two_costs, insertion_by_update_costs, written_and_removed_costs, refused_memory_costs, refused_memory_is_a_run}
+use Rattle.rart_family.proofs.laws.worked_costs.Goals as goal
+
+pub returns-clause-snapshot_costs : goal.returns-clause-snapshot_costs
+returns-clause-snapshot_costs c = snapshot_costs
+
+pub returns-clause-changes_apart_cost : goal.returns-clause-changes_apart_cost
+returns-clause-changes_apart_cost c = changes_apart_cost
+
+pub returns-clause-clone_costs : goal.returns-clause-clone_costs
+returns-clause-clone_costs c = clone_costs
+
+pub returns-clause-replacements_cost : goal.returns-clause-replacements_cost
+returns-clause-replacements_cost c = replacements_cost
+
+pub returns-clause-absent_removal_costs : goal.returns-clause-absent_removal_costs
+returns-clause-absent_removal_costs c = absent_removal_costs
+
+pub returns-clause-deletion_costs : goal.returns-clause-deletion_costs
+returns-clause-deletion_costs c = deletion_costs
+
+pub returns-clause-failed_update_costs : goal.returns-clause-failed_update_costs
+returns-clause-failed_update_costs c = failed_update_costs
+
+pub returns-clause-discarded_place_costs : goal.returns-clause-discarded_place_costs
+returns-clause-discarded_place_costs c = discarded_place_costs
+
+pub returns-clause-written_and_inserted_costs : goal.returns-clause-written_and_inserted_costs
+returns-clause-written_and_inserted_costs c = written_and_inserted_costs
+
+pub returns-clause-room_for_one_costs : goal.returns-clause-room_for_one_costs
+returns-clause-room_for_one_costs c = room_for_one_costs
+
+pub returns-clause-room_for_two_costs : goal.returns-clause-room_for_two_costs
+returns-clause-room_for_two_costs c = room_for_two_costs
+
+pub returns-clause-insertion_by_update_costs : goal.returns-clause-insertion_by_update_costs
+returns-clause-insertion_by_update_costs c = insertion_by_update_costs
+
+pub returns-clause-written_and_removed_costs : goal.returns-clause-written_and_removed_costs
+returns-clause-written_and_removed_costs c = written_and_removed_costs
+
+pub returns-clause-refused_memory_costs : goal.returns-clause-refused_memory_costs
+returns-clause-refused_memory_costs c = refused_memory_costs
+
+pub returns-clause-refused_memory_is_a_run : goal.returns-clause-refused_memory_is_a_run
+returns-clause-refused_memory_is_a_run c = refused_memory_is_a_run

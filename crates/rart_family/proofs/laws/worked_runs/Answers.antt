@@ -1,0 +1,41 @@
+use Rattle.rart_family.proofs.WorkedRunLemmas.{snapshot_keeps_its_value, changes_stay_apart, clone_keeps_number, replacement_gives_old_value, absent_key_stays_absent, deletion_is_not_seen_in_snapshot, failed_update_keeps_value, discarded_place_is_not_used_again, answer_outweighs_write, room_is_asked, room_two_is_asked, insertion_by_update_takes_one, removal_outweighs_write}
+use Rattle.rart_family.proofs.laws.worked_runs.Goals as goal
+
+pub returns-clause-snapshot_keeps_its_value : goal.returns-clause-snapshot_keeps_its_value
+returns-clause-snapshot_keeps_its_value c = snapshot_keeps_its_value
+
+pub returns-clause-changes_stay_apart : goal.returns-clause-changes_stay_apart
+returns-clause-changes_stay_apart c = changes_stay_apart
+
+pub returns-clause-clone_keeps_number : goal.returns-clause-clone_keeps_number
+returns-clause-clone_keeps_number c = clone_keeps_number
+
+pub returns-clause-replacement_gives_old_value : goal.returns-clause-replacement_gives_old_value
+returns-clause-replacement_gives_old_value c = replacement_gives_old_value
+
+pub returns-clause-absent_key_stays_absent : goal.returns-clause-absent_key_stays_absent
+returns-clause-absent_key_stays_absent c = absent_key_stays_absent
+
+pub returns-clause-deletion_is_not_seen_in_snapshot : goal.returns-clause-deletion_is_not_seen_in_snapshot
+returns-clause-deletion_is_not_seen_in_snapshot c = deletion_is_not_seen_in_snapshot
+
+pub returns-clause-failed_update_keeps_value : goal.returns-clause-failed_update_keeps_value
+returns-clause-failed_update_keeps_value c = failed_update_keeps_value
+
+pub returns-clause-discarded_place_is_not_used_again : goal.returns-clause-discarded_place_is_not_used_again
+returns-clause-discarded_place_is_not_used_again c = discarded_place_is_not_used_again
+
+pub returns-clause-answer_outweighs_write : goal.returns-clause-answer_outweighs_write
+returns-clause-answer_outweighs_write c = answer_outweighs_write
+
+pub returns-clause-room_is_asked : goal.returns-clause-room_is_asked
+returns-clause-room_is_asked c = room_is_asked
+
+pub returns-clause-room_two_is_asked : goal.returns-clause-room_two_is_asked
+returns-clause-room_two_is_asked c = room_two_is_asked
+
+pub returns-clause-insertion_by_update_takes_one : goal.returns-clause-insertion_by_update_takes_one
+returns-clause-insertion_by_update_takes_one c = insertion_by_update_takes_one
+
+pub returns-clause-removal_outweighs_write : goal.returns-clause-removal_outweighs_write
+returns-clause-removal_outweighs_write c = removal_outweighs_write

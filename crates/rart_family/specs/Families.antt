@@ -1,0 +1,90 @@
+-- A family of versions: what each command is replied, and what it leaves.
+use Rattle.std.specs.Prelude.{ℕ, ◌+◌, ◌^◌, Bool, if◌then◌else◌, nat_lt, List, [], ◌∷◌, ◌++◌, length, Option, Some, None, slice_get, slice_set, Result, Ok, Err}
+use Rattle.std.specs.Option.{unwrap_or}
+use Rattle.rart_maps.specs.Versions.{Version, empty_at, has_no_key, value_at, has_key, raised, with_key}
+use Rattle.rart_maps.specs.Changes.{removed, rewritten, slot_of, updated, tried}
+use Rattle.rart_family.specs.declared.family.command.Failure.{Failure}
+use Rattle.rart_family.specs.declared.family.command.Command.{Command}
+use Rattle.rart_family.specs.declared.family.command.Command.TheVariants.{New, NewAt, Snapshot, Duplicate, Discard, Version as NumberOf, IsEmpty, Get, GetMut, Insert, Replace, Remove, Delete, Update, TryUpdate}
+use Rattle.rart_family.specs.Replies.{Reply, Place, Discarded, Number, Flag, Value, Failed, NoVersion, NoRoom}
+
+-- places, each a version or discarded
+abbrev pub Family : Type 0 → Type 0
+Family V = List (Option (Version V))
+
+-- the version at a place, unless the place is past the list or discarded
+abbrev pub version_at : {V : Type 0} → Family V → ℕ → Option (Version V)
+version_at family place = unwrap_or (slice_get family place) None
+
+-- a reply, and the family after it
+abbrev pub Outcome : Type 0 → Type 0
+Outcome V = Reply V × Family V
+
+module _ {V : Type 0} (family : Family V) where
+  -- a call on a version; where there is none the family stays
+  abbrev pub called : (Version V → Outcome V) → Option (Version V) → Outcome V
+  called call None = (NoVersion, family)
+  called call (Some v) = call v
+
+  -- a call on the version at a place
+  abbrev pub at_place : ℕ → (Version V → Outcome V) → Outcome V
+  at_place place call = called call (version_at family place)
+
+  -- a call that asks for room; where the number lacks it the family stays
+  abbrev pub with_room : Version V → ℕ → Outcome V → Outcome V
+  with_room v room outcome = if nat_lt (v.number + room) (2 ^ 64) then outcome else (NoRoom, family)
+
+  -- a version at a new last place
+  abbrev pub placed : Version V → Outcome V
+  placed v = (Place (length family), family ++ Some v ∷ [])
+
+  -- a call that leaves the family
+  abbrev pub reads : ℕ → (Version V → Reply V) → Outcome V
+  reads place reply = at_place place (λ v. (reply v, family))
+
+  -- a call that replaces the version at its place
+  abbrev pub changes : ℕ → ℕ → (Version V → Reply V × Version V) → Outcome V
+  changes place room call = at_place place (λ v. with_room v room ((call v).0, slice_set family place (Some (call v).1)))
+
+module _ {V : Type 0} where
+  -- what a command's callback leaves of the value in its slot
+  abbrev pub written : Option V → Option V → Option V
+  written None write = None
+  written (Some old) None = Some old
+  written (Some old) (Some new) = Some new
+
+  -- the reply to an update whose callback may fail
+  abbrev pub tried_reply : Result Bool Failure → Reply V
+  tried_reply (Ok flag) = Flag flag
+  tried_reply (Err failure) = Failed
+
+-- what a command's callback answers where it may fail
+abbrev pub told : {A : Type 0} → Option A → Result A Failure
+told None = Err (record {})
+told (Some answer) = Ok answer
+
+module _ {K V : Type 0} (bytes : K → List ℕ) where
+  abbrev pub outcome : Family V → Command K V → Outcome V
+  outcome f New = placed f (empty_at 0)
+  outcome f (NewAt number) = placed f (empty_at number)
+  outcome f (Snapshot place) = at_place f place (λ v. with_room f v 1 (placed f (raised v 1)))
+  outcome f (Duplicate place) = at_place f place (placed f)
+  outcome f (Discard place) = at_place f place (λ v. (Discarded, slice_set f place None))
+  outcome f (NumberOf place) = reads f place (λ v. Number v.number)
+  outcome f (IsEmpty place) = reads f place (λ v. Flag (has_no_key v))
+  outcome f (Get place key) = reads f place (λ v. Value (value_at v (bytes key)))
+  outcome f (GetMut place key value) = changes f place 1 (λ v. (Flag (has_key v (bytes key)), rewritten v (bytes key) value))
+  outcome f (Insert place key value) = changes f place 1 (λ v. (Flag (has_key v (bytes key)), with_key v (bytes key) value 1))
+  outcome f (Replace place key value) = changes f place 1 (λ v. (Value (value_at v (bytes key)), with_key v (bytes key) value 1))
+  outcome f (Remove place key) = changes f place 1 (λ v. (Value (value_at v (bytes key)), removed v (bytes key)))
+  outcome f (Delete place key) = changes f place 1 (λ v. (Flag (has_key v (bytes key)), removed v (bytes key)))
+  outcome f (Update place key write answer) = changes f place 1 (λ v.
+      let after = updated v (bytes key) (slot_of (written (value_at v (bytes key)) write)) answer in (Flag after.0, after.1))
+  outcome f (TryUpdate place key write answer) = changes f place 2 (λ v.
+      let after = tried v (bytes key) (slot_of (written (value_at v (bytes key)) write)) (told answer) in (tried_reply after.0, after.1))
+
+  abbrev pub reply_to : Family V → Command K V → Reply V
+  reply_to f c = (outcome f c).0
+
+  abbrev pub after : Family V → Command K V → Family V
+  after f c = (outcome f c).1

@@ -1,0 +1,68 @@
+-- Laws that show what the definitions of families and runs mean.
+use Rattle.std.specs.Prelude.{◌≡◌, ◌≢◌, ℕ, ◌<◌, ◌≤◌, false, List, length, Option, Some, None, slice_get, IfSome, ◌⊎◌, ⊤}
+use Rattle.rart_family.specs.declared.family.command.Command.{Command}
+use Rattle.rart_family.specs.declared.family.command.Command.TheVariants.{Discard, Version as NumberOf, IsEmpty, Get, GetMut, Insert, Replace, Remove, Delete, Update, TryUpdate}
+use Rattle.rart_maps.specs.Versions.{has_key}
+use Rattle.rart_family.specs.Replies.{Reply, NoVersion, NoRoom, NoMemory}
+use Rattle.rart_family.specs.Families.{Family, version_at, reply_to}
+use Rattle.rart_family.specs.Runs.{Step, Run}
+
+-- the one place, of those that are there, whose version a command may change
+abbrev pub place_changed : {K V : Type 0} → Command K V → Option ℕ
+place_changed (Discard place) = Some place
+place_changed (GetMut place key value) = Some place
+place_changed (Insert place key value) = Some place
+place_changed (Replace place key value) = Some place
+place_changed (Remove place key) = Some place
+place_changed (Delete place key) = Some place
+place_changed (Update place key write answer) = Some place
+place_changed (TryUpdate place key write answer) = Some place
+place_changed c = None
+
+module _ (K V : Type 0) (bytes : K → List ℕ) where
+  -- A step leaves each place that is there but the one that its command may change.
+  abbrev pub StepsAreIsolated : Type 0
+  StepsAreIsolated =
+      (old new : Family V) (c : Command K V) (r : Reply V) (place : ℕ)
+      → Step bytes old c r new → place < length old → place_changed c ≢ Some place → slice_get new place ≡ slice_get old place
+
+  -- No step takes a place away.
+  abbrev pub PlacesStay : Type 0
+  PlacesStay = (old new : Family V) (c : Command K V) (r : Reply V) → Step bytes old c r new → length old ≤ length new
+
+  -- A reply fixes the family after it.
+  abbrev pub RepliesFixSteps : Type 0
+  RepliesFixSteps = (old new other : Family V) (c : Command K V) (r : Reply V) → Step bytes old c r new → Step bytes old c r other → new ≡ other
+
+  -- The replies fix the family after a run.
+  abbrev pub RepliesFixRuns : Type 0
+  RepliesFixRuns = (old new other : Family V) (cs : List (Command K V)) (rs : List (Reply V)) → Run bytes old cs rs new → Run bytes old cs rs other → new ≡ other
+
+  -- Want of memory is no command's own reply.
+  abbrev pub NoReplyIsWant : Type 0
+  NoReplyIsWant = (f : Family V) (c : Command K V) → reply_to bytes f c ≢ NoMemory
+
+  -- The place has no version, or one that lacks the key.
+  abbrev pub LacksKey : Family V → ℕ → K → Type 0
+  LacksKey f place key = IfSome (version_at f place) (λ v. has_key v (bytes key) ≡ false)
+
+  -- The command takes no memory: it looks at a version as a whole, drops it, or looks up or takes out
+  -- a key that the version lacks.
+  abbrev pub TakesNoMemory : Family V → Command K V → Type 0
+  TakesNoMemory f (Discard place) = ⊤
+  TakesNoMemory f (NumberOf place) = ⊤
+  TakesNoMemory f (IsEmpty place) = ⊤
+  TakesNoMemory f (Get place key) = LacksKey f place key
+  TakesNoMemory f (Remove place key) = LacksKey f place key
+  TakesNoMemory f (Delete place key) = LacksKey f place key
+  TakesNoMemory f c = ⊥
+
+  -- No step replies want of memory to a command that takes none.
+  abbrev pub NoWantWithoutMemory : Type 0
+  NoWantWithoutMemory = (old new : Family V) (c : Command K V) → TakesNoMemory old c → ¬ Step bytes old c NoMemory new
+
+  -- No step replies want of memory where a version or room is lacking.
+  abbrev pub NoWantBeforeLack : Type 0
+  NoWantBeforeLack =
+      (old new : Family V) (c : Command K V)
+      → (reply_to bytes old c ≡ NoVersion) ⊎ (reply_to bytes old c ≡ NoRoom) → ¬ Step bytes old c NoMemory new

@@ -1,0 +1,10 @@
+pub mod Attempts
+pub mod Costs
+pub mod Families
+pub mod Given
+pub mod Laws
+pub mod Replies
+pub mod Runs
+pub mod Slots
+pub mod WorkedCosts
+pub mod WorkedRuns

@@ -1,0 +1,109 @@
+-- What the worked runs cost: each sum found by hand, at the replies of the run.
+use Rattle.std.specs.Prelude.{◌≡◌, ℕ, false, [], ◌∷◌, None, codes}
+use Rattle.rart_family.specs.declared.family.command.Command.TheVariants.{New, Get, GetMut, Insert, Remove, Delete}
+use Rattle.rart_family.specs.Replies.{Place, Flag, Value, NoVersion, NoMemory}
+use Rattle.rart_family.specs.Families.{Family}
+use Rattle.rart_family.specs.Runs.{Run}
+use Rattle.rart_family.specs.Costs.{read_cost, read_least, change_cost, change_least, touch_least}
+use Rattle.rart_family.specs.WorkedRuns.{WorkedRun, snapshot_of_a_value, changes_apart, clone_and_snapshot, replacements, removal_of_an_absent_key, deletion_beside_a_snapshot, failed_update, discarded_place, written_and_inserted, room_for_one, room_for_two, insertion_by_update, written_and_removed}
+
+-- The sums of a run: nodes that are entered to read, made to change and entered to change.
+pub record Sums : Type 0 where
+  pub least_read : ℕ
+  pub most_read : ℕ
+  pub least_made : ℕ
+  pub most_made : ℕ
+  pub least_touched : ℕ
+
+abbrev pub sums : WorkedRun → Sums
+sums run = record {
+  least_read = read_least (λ key. key) [] run.0 run.1;
+  most_read = read_cost (λ key. key) [] run.0 run.1;
+  least_made = change_least (λ key. key) [] run.0 run.1;
+  most_made = change_cost (λ key. key) [] run.0 run.1;
+  least_touched = touch_least (λ key. key) [] run.0 run.1;
+}
+
+-- A lookup of w enters at most as many nodes as w has bytes and one more, a change at w makes at most
+-- as many as w has bytes and two more; a run costs so much.
+abbrev pub Costs : WorkedRun → ℕ → ℕ → ℕ → ℕ → ℕ → Type 0
+Costs run least_read most_read least_made most_made least_touched =
+    sums run
+    ≡ record {
+      least_read = least_read;
+      most_read = most_read;
+      least_made = least_made;
+      most_made = most_made;
+      least_touched = least_touched;
+    }
+
+-- One lookup and one insertion of a key of 4 bytes, the insertion into a version without a key.
+abbrev pub SnapshotCosts : Type 0
+SnapshotCosts = Costs snapshot_of_a_value 1 5 1 6 0
+
+-- Six lookups and three insertions, the first into a version without a key.
+abbrev pub ChangesApartCost : Type 0
+ChangesApartCost = Costs changes_apart 6 30 3 18 2
+
+-- Snapshots and clones cost nothing.
+abbrev pub CloneCosts : Type 0
+CloneCosts = Costs clone_and_snapshot 0 0 1 3 0
+
+-- Replacements cost as insertions.
+abbrev pub ReplacementsCost : Type 0
+ReplacementsCost = Costs replacements 1 5 3 18 2
+
+-- A removal enters a node, though its key is absent, and need not make one.
+abbrev pub AbsentRemovalCosts : Type 0
+AbsentRemovalCosts = Costs removal_of_an_absent_key 1 2 1 7 1
+
+-- A deletion, of a key of one byte, and lookups of keys of one byte and two.
+abbrev pub DeletionCosts : Type 0
+DeletionCosts = Costs deletion_beside_a_snapshot 3 7 2 10 2
+
+-- An update costs as much where its callback fails.
+abbrev pub FailedUpdateCosts : Type 0
+FailedUpdateCosts = Costs failed_update 2 8 1 10 1
+
+-- Writing to a key that is there, and to one that is absent.
+abbrev pub DiscardedPlaceCosts : Type 0
+DiscardedPlaceCosts = Costs discarded_place 0 0 2 12 3
+
+-- Updates of keys that are there, and of one that is absent.
+abbrev pub WrittenAndInsertedCosts : Type 0
+WrittenAndInsertedCosts = Costs written_and_inserted 2 4 1 15 4
+
+-- What lacks room costs nothing.
+abbrev pub RoomForOneCosts : Type 0
+RoomForOneCosts = Costs room_for_one 1 2 1 3 0
+
+-- The same where room for two is asked.
+abbrev pub RoomForTwoCosts : Type 0
+RoomForTwoCosts = Costs room_for_two 1 2 1 6 1
+
+-- An update that inserts may make nodes, and is not counted on to.
+abbrev pub InsertionByUpdateCosts : Type 0
+InsertionByUpdateCosts = Costs insertion_by_update 0 0 0 3 0
+
+-- Updates that remove, and one that fails.
+abbrev pub WrittenAndRemovedCosts : Type 0
+WrittenAndRemovedCosts = Costs written_and_removed 0 0 2 15 4
+
+-- What is refused for memory leaves the family; and then there is no version at place 1.
+abbrev pub refused_memory : WorkedRun
+refused_memory = (
+  New ∷ Insert 0 (codes "a") 1 ∷ Get 0 (codes "a") ∷ Insert 0 (codes "ab") 2 ∷
+      Get 0 (codes "ab") ∷ Remove 0 (codes "ab") ∷ GetMut 0 (codes "ab") 3 ∷ Get 1 (codes "a") ∷
+      Delete 1 (codes "a") ∷ [],
+  Place 0 ∷ NoMemory ∷ Value None ∷ Flag false ∷ NoMemory ∷ NoMemory ∷ NoMemory ∷ NoVersion ∷
+      NoVersion ∷ [],
+)
+
+-- This too is a run.
+abbrev pub RefusedMemoryIsARun : Type 0
+RefusedMemoryIsARun = (new : Family ℕ) × Run (λ key. key) [] refused_memory.0 refused_memory.1 new
+
+-- What is refused for memory counts in what a run costs at most, and not in what it costs at least, but
+-- for a removal, which enters a node before memory can be refused.
+abbrev pub RefusedMemoryCosts : Type 0
+RefusedMemoryCosts = Costs refused_memory 0 5 1 15 1

@@ -1,0 +1,177 @@
+-- Worked runs: commands on a family without a place, and their replies where no memory is refused.
+use Rattle.std.specs.Prelude.{◌≡◌, ℕ, true, false, List, [], ◌∷◌, Some, None, codes}
+use Rattle.rart_versioned.specs.Given.{Keep, Insert as Put, Remove as TakeOut}
+use Rattle.rart_family.specs.declared.family.command.Command.{Command}
+use Rattle.rart_family.specs.declared.family.command.Command.TheVariants.{New, NewAt, Snapshot, Duplicate, Discard, Version as NumberOf, IsEmpty, Get, GetMut, Insert, Replace, Remove, Delete, Update, TryUpdate}
+use Rattle.rart_family.specs.Replies.{Reply, Place, Discarded, Number, Flag, Value, Failed, NoVersion, NoRoom}
+use Rattle.rart_family.specs.Families.{Family, reply_to, after}
+
+-- the commands' own replies, one after the other; a key is its bytes
+abbrev pub replies : Family ℕ → List (Command (List ℕ) ℕ) → List (Reply ℕ)
+replies f [] = []
+replies f (c ∷ cs) = reply_to (λ key. key) f c ∷ replies (after (λ key. key) f c) cs
+
+-- commands on a family without a place, and what they are replied
+abbrev pub WorkedRun : Type 0
+WorkedRun = List (Command (List ℕ) ℕ) × List (Reply ℕ)
+
+-- The commands are replied so.
+abbrev pub IsReplied : WorkedRun → Type 0
+IsReplied run = replies [] run.0 ≡ run.1
+
+abbrev pub snapshot_of_a_value : WorkedRun
+snapshot_of_a_value = (
+  New ∷ Insert 0 (codes "key1") 1 ∷ Snapshot 0 ∷ Get 1 (codes "key1") ∷ NumberOf 0 ∷
+      NumberOf 1 ∷ [],
+  Place 0 ∷ Flag false ∷ Place 1 ∷ Value (Some 1) ∷ Number 1 ∷ Number 2 ∷ [],
+)
+
+-- A snapshot has the value, and a number one greater.
+abbrev pub SnapshotKeepsItsValue : Type 0
+SnapshotKeepsItsValue = IsReplied snapshot_of_a_value
+
+abbrev pub changes_apart : WorkedRun
+changes_apart = (
+  New ∷ Insert 0 (codes "key1") 1 ∷ Snapshot 0 ∷ Insert 0 (codes "key2") 2 ∷
+      Insert 1 (codes "key3") 3 ∷ Get 0 (codes "key2") ∷ Get 0 (codes "key3") ∷
+      Get 1 (codes "key2") ∷ Get 1 (codes "key3") ∷ Get 0 (codes "key1") ∷ Get 1 (codes "key1") ∷
+      [],
+  Place 0 ∷ Flag false ∷ Place 1 ∷ Flag false ∷ Flag false ∷ Value (Some 2) ∷ Value None ∷
+      Value None ∷ Value (Some 3) ∷ Value (Some 1) ∷ Value (Some 1) ∷ [],
+)
+
+-- What is changed in one version is not seen in the other.
+abbrev pub ChangesStayApart : Type 0
+ChangesStayApart = IsReplied changes_apart
+
+abbrev pub clone_and_snapshot : WorkedRun
+clone_and_snapshot = (
+  New ∷ Insert 0 (codes "a") 1 ∷ Duplicate 0 ∷ Snapshot 0 ∷ NumberOf 0 ∷ NumberOf 1 ∷
+      NumberOf 2 ∷ [],
+  Place 0 ∷ Flag false ∷ Place 1 ∷ Place 2 ∷ Number 1 ∷ Number 1 ∷ Number 2 ∷ [],
+)
+
+-- A clone keeps the number, a snapshot raises it.
+abbrev pub CloneKeepsNumber : Type 0
+CloneKeepsNumber = IsReplied clone_and_snapshot
+
+abbrev pub replacements : WorkedRun
+replacements = (
+  New ∷ Replace 0 (codes "key1") 100 ∷ Replace 0 (codes "key1") 200 ∷ Snapshot 0 ∷
+      Replace 0 (codes "key1") 300 ∷ Get 1 (codes "key1") ∷ [],
+  Place 0 ∷ Value None ∷ Value (Some 100) ∷ Place 1 ∷ Value (Some 200) ∷ Value (Some 200) ∷ [],
+)
+
+-- A replacement gives the value before.
+abbrev pub ReplacementGivesOldValue : Type 0
+ReplacementGivesOldValue = IsReplied replacements
+
+abbrev pub removal_of_an_absent_key : WorkedRun
+removal_of_an_absent_key = (
+  New ∷ Insert 0 (codes "d") 1 ∷ Remove 0 (codes "da") ∷ Get 0 (codes "d") ∷ NumberOf 0 ∷ [],
+  Place 0 ∷ Flag false ∷ Value None ∷ Value (Some 1) ∷ Number 1 ∷ [],
+)
+
+-- To remove a key that is not there changes nothing, not even the number.
+abbrev pub AbsentKeyStaysAbsent : Type 0
+AbsentKeyStaysAbsent = IsReplied removal_of_an_absent_key
+
+abbrev pub deletion_beside_a_snapshot : WorkedRun
+deletion_beside_a_snapshot = (
+  New ∷ Insert 0 (codes "a") 1 ∷ Insert 0 (codes "ab") 2 ∷ Snapshot 0 ∷ Delete 0 (codes "a") ∷
+      Get 0 (codes "a") ∷ Get 0 (codes "ab") ∷ Get 1 (codes "a") ∷ [],
+  Place 0 ∷ Flag false ∷ Flag false ∷ Place 1 ∷ Flag true ∷ Value None ∷ Value (Some 2) ∷
+      Value (Some 1) ∷ [],
+)
+
+-- A deletion is not seen in an earlier snapshot, nor at a longer key.
+abbrev pub DeletionIsNotSeenInSnapshot : Type 0
+DeletionIsNotSeenInSnapshot = IsReplied deletion_beside_a_snapshot
+
+abbrev pub failed_update : WorkedRun
+failed_update = (
+  New ∷ Insert 0 (codes "err") 1 ∷ Snapshot 0 ∷ TryUpdate 0 (codes "err") (Some 99) None ∷
+      Get 0 (codes "err") ∷ Get 1 (codes "err") ∷ NumberOf 0 ∷ [],
+  Place 0 ∷ Flag false ∷ Place 1 ∷ Failed ∷ Value (Some 1) ∷ Value (Some 1) ∷ Number 3 ∷ [],
+)
+
+-- An update that fails keeps the value, and raises the number by two.
+abbrev pub FailedUpdateKeepsValue : Type 0
+FailedUpdateKeepsValue = IsReplied failed_update
+
+abbrev pub discarded_place : WorkedRun
+discarded_place = (
+  New ∷ Insert 0 (codes "a") 1 ∷ GetMut 0 (codes "a") 5 ∷ GetMut 0 (codes "b") 6 ∷
+      NumberOf 0 ∷ Replace 0 (codes "a") 7 ∷ IsEmpty 0 ∷ Discard 0 ∷ IsEmpty 0 ∷ New ∷ [],
+  Place 0 ∷ Flag false ∷ Flag true ∷ Flag false ∷ Number 2 ∷ Value (Some 5) ∷ Flag false ∷
+      Discarded ∷ NoVersion ∷ Place 1 ∷ [],
+)
+
+-- A discarded place has no version, and is not used again.
+abbrev pub DiscardedPlaceIsNotUsedAgain : Type 0
+DiscardedPlaceIsNotUsedAgain = IsReplied discarded_place
+
+abbrev pub written_and_inserted : WorkedRun
+written_and_inserted = (
+  New ∷ Insert 0 (codes "a") 1 ∷ Update 0 (codes "a") (Some 5) (Put 6) ∷ Get 0 (codes "a") ∷
+      TryUpdate 0 (codes "a") (Some 7) (Some (Put 8)) ∷ Get 0 (codes "a") ∷ NumberOf 0 ∷
+      Update 0 (codes "b") None TakeOut ∷ NumberOf 0 ∷ Update 0 (codes "a") None TakeOut ∷
+      IsEmpty 0 ∷ NumberOf 0 ∷ [],
+  Place 0 ∷ Flag false ∷ Flag true ∷ Value (Some 6) ∷ Flag true ∷ Value (Some 8) ∷ Number 4 ∷
+      Flag false ∷ Number 4 ∷ Flag true ∷ Flag true ∷ Number 5 ∷ [],
+)
+
+-- Of an update that writes and inserts the inserted value stays.
+abbrev pub AnswerOutweighsWrite : Type 0
+AnswerOutweighsWrite = IsReplied written_and_inserted
+
+abbrev pub room_for_one : WorkedRun
+room_for_one = (
+  NewAt 18446744073709551615 ∷ Insert 0 (codes "a") 1 ∷ Snapshot 0 ∷ Duplicate 0 ∷
+      NewAt 18446744073709551614 ∷ TryUpdate 2 (codes "a") None (Some Keep) ∷
+      Insert 2 (codes "a") 1 ∷ NumberOf 2 ∷ Delete 2 (codes "a") ∷ Get 2 (codes "a") ∷ [],
+  Place 0 ∷ NoRoom ∷ NoRoom ∷ Place 1 ∷ Place 2 ∷ NoRoom ∷ Flag false ∷
+      Number 18446744073709551615 ∷ NoRoom ∷ Value (Some 1) ∷ [],
+)
+
+-- Where the number has no room left a change is refused, a clone is not.
+abbrev pub RoomIsAsked : Type 0
+RoomIsAsked = IsReplied room_for_one
+
+abbrev pub room_for_two : WorkedRun
+room_for_two = (
+  NewAt 18446744073709551613 ∷ Insert 0 (codes "a") 1 ∷
+      TryUpdate 0 (codes "a") (Some 2) (Some Keep) ∷ NumberOf 0 ∷
+      Update 0 (codes "a") (Some 2) Keep ∷ Update 0 (codes "a") (Some 3) Keep ∷
+      Delete 0 (codes "x") ∷ Duplicate 0 ∷ Get 1 (codes "a") ∷ [],
+  Place 0 ∷ Flag false ∷ NoRoom ∷ Number 18446744073709551614 ∷ Flag true ∷ NoRoom ∷ NoRoom ∷
+      Place 1 ∷ Value (Some 2) ∷ [],
+)
+
+-- An update that may fail asks for room 2, whatever it needs.
+abbrev pub RoomTwoIsAsked : Type 0
+RoomTwoIsAsked = IsReplied room_for_two
+
+abbrev pub insertion_by_update : WorkedRun
+insertion_by_update = (
+  NewAt 18446744073709551613 ∷ TryUpdate 0 (codes "a") None (Some (Put 1)) ∷ NumberOf 0 ∷
+      TryUpdate 0 (codes "a") None (Some Keep) ∷ [],
+  Place 0 ∷ Flag true ∷ Number 18446744073709551614 ∷ NoRoom ∷ [],
+)
+
+-- An update that may fail and inserts an absent key raises the number by one.
+abbrev pub InsertionByUpdateTakesOne : Type 0
+InsertionByUpdateTakesOne = IsReplied insertion_by_update
+
+abbrev pub written_and_removed : WorkedRun
+written_and_removed = (
+  New ∷ Insert 0 (codes "a") 1 ∷ Insert 0 (codes "b") 2 ∷
+      Update 0 (codes "a") (Some 9) TakeOut ∷ TryUpdate 0 (codes "b") (Some 9) None ∷
+      TryUpdate 0 (codes "b") (Some 9) (Some TakeOut) ∷ IsEmpty 0 ∷ NumberOf 0 ∷ [],
+  Place 0 ∷ Flag false ∷ Flag false ∷ Flag true ∷ Failed ∷ Flag true ∷ Flag true ∷ Number 7 ∷
+      [],
+)
+
+-- An update that removes a key it wrote to leaves no key.
+abbrev pub RemovalOutweighsWrite : Type 0
+RemovalOutweighsWrite = IsReplied written_and_removed

@@ -1,0 +1,221 @@
+//! Families of versions: commands on them, and their replies.
+ghost use Rattle.std.specs.Prelude.{◌≡◌, ◌+◌, ◌*◌, ◌≤◌, [], map, length, Some, IfOk, IfErr, OnOk, OnErr, MatchOption};
+ghost use Rattle.std.specs.Option.{option_copied};
+ghost use Rattle.rart_versioned.specs.Given.{ClonesEqual};
+ghost use Rattle.rart_maps.specs.Versions.{HasRoom};
+ghost use Rattle.rart_family.specs.Attempts.{Tries, Gives, replied};
+ghost use Rattle.rart_family.specs.Costs.{read_cost, read_least, change_cost, change_least, touch_least, CountsReads, CountsChanges};
+ghost use Rattle.rart_family.specs.Families.{version_at, placed};
+ghost use Rattle.rart_family.specs.Replies.{seen};
+ghost use Rattle.rart_family.specs.Runs.{Step, Run};
+ghost use Rattle.rart_family.specs.declared.family.reply.Reply.TheVariants.{NoVersion, NoRoom};
+
+mod changes;
+mod command;
+mod reads;
+mod reply;
+mod slot;
+mod updates;
+mod versions;
+
+pub use command::{Command, Failure};
+use rart_versioned::{KeyTrait, VersionedAdaptiveRadixTree, Work};
+pub use reply::Reply;
+use std::alloc::{AllocError, Global};
+use std::marker::Model;
+
+/// A list of places, each a version or discarded. rart has no such type.
+///
+/// Contracts see it as that list. No command on one version alters another.
+#[derive(Drop)]
+pub struct Family<K: KeyTrait, V: Clone> {
+    alloc: Global,
+    versions: Vec<Option<VersionedAdaptiveRadixTree<K, V>>>,
+}
+
+impl<K: KeyTrait, V: Clone> Model for Family<K, V> {
+    ghost use Rattle.std.specs.Prelude.{List, Option};
+    ghost use Rattle.std.specs.Coded.{coded_list, coded_option};
+    ghost use Rattle.rart_maps.specs.Versions.{Version, version_code};
+
+    ghost Value = { List (Option (Version V)) };
+
+    ghost coded = { coded_list (coded_option (version_code V.code)) };
+
+    ghost view = { λ family. family.versions.items };
+}
+
+impl<K: KeyTrait, V: Clone + Drop> Family<K, V> {
+    /// A family without a place.
+    pub fn new(alloc: Global) -> Family<K, V>
+        ensures { result ≡ [] }
+    {
+        Family {
+            alloc,
+            versions: Vec::new(alloc),
+        }
+    }
+
+    /// The number of places, discarded ones too.
+    pub fn len(&self) -> usize
+        ensures { result ≡ length self.now }
+    {
+        self.versions.len()
+    }
+
+    /// The version at a place, or `None` where the place is past the last one or discarded.
+    pub fn version_at(&self, place: usize) -> Option<&VersionedAdaptiveRadixTree<K, V>>
+        ensures { option_copied result ≡ version_at self.now place }
+    {
+        match self.versions.get(place) {
+            Some(Some(version)) => Some(version),
+            _ => None,
+        }
+    }
+
+    /// Does the commands in order, and answers as many replies.
+    ///
+    /// The replies are those of separate sorted maps, each copied when its version was made. `reads`
+    /// counts the nodes that lookups enter, `changes` those that changes enter and make. `Err` comes
+    /// before the first command, where memory for the replies was refused: the family and both
+    /// counts are then as before.
+    pub fn run(
+        &mut self,
+        commands: &[Command<K, V>],
+        reads: &mut Work,
+        changes: &mut Work,
+    ) -> Result<Vec<Reply<K, V>>, AllocError>
+        requires clones { ClonesEqual V.is_clone }
+        ensures run { IfOk result (λ replies. Run K.bytes self.old commands.now (map
+            (seen K.bytes) replies.items) self.new) }
+
+        ensures entered_to_read_at_least { IfOk result (λ replies.
+            reads.old.entered
+            + read_least K.bytes self.old commands.now (map (seen K.bytes) replies.items)
+            ≤ reads.new.entered) }
+        ensures entered_to_read_at_most { IfOk result (λ replies.
+            reads.new.entered
+            ≤ reads.old.entered
+            + read_cost K.bytes self.old commands.now (map (seen K.bytes) replies.items)) }
+        ensures nothing_made_to_read { OnOk result (reads.new.made ≡ reads.old.made) }
+        ensures made_at_least { IfOk result (λ replies.
+            changes.old.made
+            + change_least K.bytes self.old commands.now (map (seen K.bytes) replies.items)
+            ≤ changes.new.made) }
+        ensures made_at_most { IfOk result (λ replies.
+            changes.new.made
+            ≤ changes.old.made
+            + change_cost K.bytes self.old commands.now (map (seen K.bytes) replies.items)) }
+        ensures entered_to_change_at_least { IfOk result (λ replies.
+            changes.old.entered
+            + touch_least K.bytes self.old commands.now (map (seen K.bytes) replies.items)
+            ≤ changes.new.entered) }
+        ensures entered_to_change_at_most { IfOk result (λ replies.
+            changes.new.entered
+            ≤ changes.old.entered
+            + 3 * change_cost K.bytes self.old commands.now (map (seen K.bytes) replies.items)) }
+
+        ensures refused { OnErr result (self.new ≡ self.old) }
+        ensures refused_reads { OnErr result (reads.new ≡ reads.old) }
+        ensures refused_changes { OnErr result (changes.new ≡ changes.old) }
+    {
+        let mut replies = Vec::with_capacity(self.alloc, commands.len())?;
+        for command in commands {
+            let reply = self.step(command, reads, changes);
+            replies.push_reserved(reply);
+        }
+        Ok(replies)
+    }
+
+    fn step(&mut self, command: &Command<K, V>, reads: &mut Work, changes: &mut Work) -> Reply<K, V>
+        requires clones { ClonesEqual V.is_clone }
+        ensures step { Step K.bytes self.old command.now (seen K.bytes result) self.new }
+        ensures reads { CountsReads K.bytes self.old command.now
+            (seen K.bytes result) reads.old reads.new }
+        ensures changes { CountsChanges K.bytes self.old command.now
+            (seen K.bytes result) changes.old changes.new }
+    {
+        match self.try_step(command, reads, changes) {
+            Ok(reply) => reply,
+            Err(AllocError) => Reply::NoMemory,
+        }
+    }
+
+    fn try_step(
+        &mut self,
+        command: &Command<K, V>,
+        reads: &mut Work,
+        changes: &mut Work,
+    ) -> Result<Reply<K, V>, AllocError>
+        requires clones { ClonesEqual V.is_clone }
+        ensures tries { Tries K.bytes self.old command.now result self.new }
+        ensures reads { CountsReads K.bytes self.old command.now
+            (replied K.bytes result) reads.old reads.new }
+        ensures changes { CountsChanges K.bytes self.old command.now
+            (replied K.bytes result) changes.old changes.new }
+    {
+        match command {
+            Command::New => self.place(VersionedAdaptiveRadixTree::new(self.alloc)),
+            Command::NewAt { number } => self.place(VersionedAdaptiveRadixTree::new_at(
+                self.alloc, *number,
+            )),
+            Command::Snapshot { place } => self.snapshot(*place),
+            Command::Duplicate { place } => self.duplicate(*place),
+            Command::Discard { place } => Ok(self.discard(*place)),
+            Command::Version { place } => Ok(self.version(*place)),
+            Command::IsEmpty { place } => Ok(self.is_empty(*place)),
+            Command::Get { place, key } => self.get(*place, key, reads),
+            Command::GetMut { place, key, value } => self.get_mut(*place, key, value, changes),
+            Command::Insert { place, key, value } => self.insert(*place, key, value, changes),
+            Command::Replace { place, key, value } => self.replace(*place, key, value, changes),
+            Command::Remove { place, key } => self.remove(*place, key, changes),
+            Command::Delete { place, key } => self.delete(*place, key, changes),
+            Command::Update {
+                place,
+                key,
+                write,
+                answer,
+            } => self.update(*place, key, write, answer, changes),
+            Command::TryUpdate {
+                place,
+                key,
+                write,
+                answer,
+            } => self.try_update(*place, key, write, answer, changes),
+        }
+    }
+
+    // The version at a new last place.
+    fn place(
+        &mut self,
+        version: VersionedAdaptiveRadixTree<K, V>,
+    ) -> Result<Reply<K, V>, AllocError>
+        ensures ok { IfOk result (λ reply. Gives K.bytes (placed self.old version) reply self.new) }
+        ensures refused { OnErr result (self.new ≡ self.old) }
+    {
+        let place = self.len();
+        self.versions.push(Some(version))?;
+        Ok(Reply::Place(place))
+    }
+
+    // The version at a place, where its number can be raised by so much; else the reply that refuses.
+    fn version_with_room(
+        &self,
+        place: usize,
+        rise: u64,
+    ) -> Result<&VersionedAdaptiveRadixTree<K, V>, Reply<K, V>>
+        ensures found { IfOk result (λ version. version_at self.now place ≡ Some version.now) }
+        ensures room { IfOk result (λ version. HasRoom version.now rise) }
+        ensures refused { IfErr result (λ refusal. MatchOption (version_at self.now place)
+            (refusal ≡ NoVersion)
+            (λ version. (refusal ≡ NoRoom) × ¬ (HasRoom version rise))) }
+    {
+        let Some(version) = self.version_at(place) else {
+            return Err(Reply::NoVersion);
+        };
+        if version.version() > u64::MAX - rise {
+            return Err(Reply::NoRoom);
+        }
+        Ok(version)
+    }
+}

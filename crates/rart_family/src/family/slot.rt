@@ -1,0 +1,76 @@
+// A value written through the reference that a version lends.
+ghost use Rattle.std.specs.Prelude.{◌≡◌, IfOk, IfErr, OnOk, OnErr, IsTrue, true, false, ◌<◌};
+ghost use Rattle.std.specs.Borrow.{sem};
+ghost use Rattle.rart_versioned.specs.Given.{ClonesEqual, CountsUpTo};
+ghost use Rattle.rart_maps.specs.Versions.{HasRoom, has_no_key, value_at, has_key};
+ghost use Rattle.rart_maps.specs.Changes.{rewritten};
+ghost use Rattle.rart_maps.specs.Bounds.{touch_bound, change_bound};
+ghost use Rattle.rart_versioned.specs.Lent.{LendsValue};
+ghost use Rattle.rart_family.specs.Slots.{slot_value, Explains};
+
+use rart_versioned::{KeyTrait, VersionedAdaptiveRadixTree, Work};
+use std::alloc::AllocError;
+
+/// Why there is no value to write to.
+#[derive(Drop)]
+pub(super) enum NoSlot {
+    /// The key is absent.
+    Absent,
+    /// A copy was refused.
+    Memory(AllocError),
+}
+
+// Writes the value of a key that is there, and says whether it was.
+pub(super) fn write_slot<K: KeyTrait, V: Clone + Drop>(
+    version: &mut VersionedAdaptiveRadixTree<K, V>,
+    key: &K,
+    value: V,
+    changes: &mut Work,
+) -> Result<bool, AllocError>
+    requires clones { ClonesEqual V.is_clone }
+    requires room { HasRoom version.old 1 }
+    ensures found { IfOk result (λ found. found ≡ has_key version.old (K.bytes key.now)) }
+    ensures ok { OnOk result (version.new ≡ rewritten version.old (K.bytes key.now) value) }
+    ensures refused { OnErr result (version.new ≡ version.old) }
+    ensures present { OnErr result (IsTrue (has_key version.old (K.bytes key.now))) }
+    ensures counted { CountsUpTo (touch_bound (K.bytes key.now)) (change_bound (K.bytes key.now))
+        changes.old changes.new }
+    ensures entered_least { has_no_key version.old ≡ false → changes.old.entered < changes.new.entered }
+{
+    match slot(version, key, changes) {
+        Ok(slot) => {
+            *slot = value;
+            Ok(true)
+        }
+        Err(NoSlot::Absent) => Ok(false),
+        Err(NoSlot::Memory(error)) => Err(error),
+    }
+}
+
+// The value of a key for writing, an absent key an error of its own.
+fn slot<'a, K: KeyTrait, V: Clone + Drop>(
+    version: &'a mut VersionedAdaptiveRadixTree<K, V>,
+    key: &K,
+    changes: &mut Work,
+) -> Result<&'a mut V, NoSlot>
+    requires clones { ClonesEqual V.is_clone }
+    requires room { HasRoom version.old 1 }
+    ensures* writes_back { sem 𝓛 (LendsValue K.row V.row K.PartialType.row K.MAXIMUM_SIZE K.bytes K.eq K.cmp K.partial_cmp K.PartialType.Partial V.Clone version.entry (K.bytes key.now) result) }
+    ensures there { OnOk result (has_key version.old (K.bytes key.now) ≡ true) }
+    ensures missing { IfErr result (λ why. Explains why (value_at version.old (K.bytes key.now))) }
+    ensures counted { CountsUpTo (touch_bound (K.bytes key.now)) (change_bound (K.bytes key.now))
+        changes.old changes.new }
+    ensures entered_least { has_no_key version.old ≡ false → changes.old.entered < changes.new.entered }
+{
+    slot_of(version.get_mut_k_counted(key, changes))
+}
+
+fn slot_of<'a, V>(found: Result<Option<&'a mut V>, AllocError>) -> Result<&'a mut V, NoSlot>
+    ensures { result ≡ slot_value found.entry }
+{
+    match found {
+        Ok(Some(value)) => Ok(value),
+        Ok(None) => Err(NoSlot::Absent),
+        Err(error) => Err(NoSlot::Memory(error)),
+    }
+}

@@ -1,4 +1,0 @@
-pub mod LawLemmas
-pub mod RunLemmas
-pub mod WorkedRunLemmas
-pub mod SlotLemmas

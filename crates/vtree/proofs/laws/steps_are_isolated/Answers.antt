@@ -1,5 +1,0 @@
-use Rattle.vtree.proofs.LawLemmas.{isolated}
-use Rattle.vtree.proofs.laws.steps_are_isolated.Goals as goal
-
-pub returns-clause-isolated : goal.returns-clause-isolated
-returns-clause-isolated g c = isolated g.row.K.Denot g.row.V.Denot g.K.KeyTrait.bytes

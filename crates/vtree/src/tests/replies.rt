@@ -1,0 +1,40 @@
+// The line of each reply.
+use crate::server::{ServeError, write_reply};
+use rart_family::{ArrayKey, KeyTrait, Reply};
+use std::alloc::Global;
+use std::test::Fail;
+
+#[test]
+fn each_reply_has_its_line(rt: HostRuntime) -> Result<(), Fail> {
+    let alloc = rt.alloc();
+    let mut entries = Vec::new(alloc);
+    entries.push((ArrayKey::<16>::new_from_slice(alloc, b"")?, 1))?;
+    entries.push((ArrayKey::<16>::new_from_slice(alloc, b"a'b")?, u64::MAX))?;
+    let replies = [
+        (Reply::Place(0), "at 0\n"),
+        (Reply::Discarded, "discarded\n"),
+        (
+            Reply::Number(18446744073709551615),
+            "version 18446744073709551615\n",
+        ),
+        (Reply::Flag(true), "true\n"),
+        (Reply::Flag(false), "false\n"),
+        (Reply::Value(Some(7)), "some 7\n"),
+        (Reply::Value(None), "none\n"),
+        (Reply::Entries(Vec::new(alloc)), "entries\n"),
+        (
+            Reply::Entries(entries),
+            "entries ' 1 'a'b 18446744073709551615\n",
+        ),
+        (Reply::Failed, "failed\n"),
+        (Reply::NoVersion, "no version\n"),
+        (Reply::NoRoom, "no room\n"),
+        (Reply::NoMemory, "no memory\n"),
+    ];
+    for (reply, line) in &replies {
+        let mut text = Vec::new(alloc);
+        write_reply(alloc, reply, &mut text)?;
+        assert_eq!(rt; str::from_utf8(&text)?, *line);
+    }
+    Ok(())
+}

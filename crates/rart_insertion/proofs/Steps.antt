@@ -5,8 +5,8 @@ use Rattle.rart_below.specs.Bytes.{common_length}
 use Rattle.rart_below.specs.Children.{child_at}
 use Rattle.std.specs.Option.{option_and_then}
 use Rattle.rart_node.specs.Shape.{Shape, node, prefix_of, children_of, value_of, with_replaced}
-use Rattle.rart_shape.specs.Trees.{behind, BeginsWith, found, IsTree, IsPut, cut_at, path_bound}
-use Rattle.rart_shape.proofs.Behind.{behind-own, behind-whole, split-common, split-whole, common-within, common-long, begins-first, begins-long, no-first, first-parts}
+use Rattle.rart_shape.specs.Trees.{BeginsWith, found, IsTree, IsPut, cut_at, path_bound}
+use Rattle.rart_shape.proofs.Behind.{behind-own, split-common, split-whole, common-within, common-long, begins-first, begins-long, no-first, first-parts}
 use Rattle.rart_shape.proofs.Counting.{path-step}
 use Rattle.rart_insertion.proofs.Cuts.{cut-found, cut-absent, put-cut}
 use Rattle.rart_shape.proofs.Finds.{found-below, found-child, found-end, found-short, ordered, IsBranch}

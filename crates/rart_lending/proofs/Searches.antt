@@ -1,12 +1,12 @@
 -- A search that counts its steps: where it has come to is so many nodes down.
-use Rattle.std.proofs.Common.{◌≡◌, ◌+◌, ◌<◌, ◌≤◌, ℕ, zero, suc, List, [], Option, Some, None, IsSome, IfSome, slice_get, length, refl, arith, sym, ap, subst, ◌∙◌}
+use Rattle.std.proofs.Common.{◌≡◌, ◌+◌, ◌<◌, ◌≤◌, ℕ, List, Some, None, IsSome, slice_get, length, refl, arith, ap, ◌∙◌}
 use Rattle.std.specs.Option.{option_and_then, option_map}
 use Rattle.rart_below.specs.Children.{child_at}
 use Rattle.rart_node.specs.Counts.{Counts}
-use Rattle.rart_node.specs.Shape.{Shape, node, prefix_of, value_of, children_of, entries_of}
-use Rattle.rart_lending.specs.Paths.{child_along, step, descent, Arrives}
+use Rattle.rart_node.specs.Shape.{Shape, prefix_of, value_of, children_of}
+use Rattle.rart_lending.specs.Paths.{descent, Arrives}
 use Rattle.rart_lending.proofs.Ways.{back-is, step-behind}
-use Rattle.rart_shape.specs.Trees.{behind, found, IsTree, path_bound}
+use Rattle.rart_shape.specs.Trees.{behind, path_bound}
 use Rattle.rart_shape.proofs.Behind.{no-first}
 use Rattle.rart_shape.proofs.Counting.{path-one, path-most}
 use Rattle.rart_shape.proofs.Finds.{branch, ordered}

@@ -1,10 +1,7 @@
 -- The way that a key takes down a tree, a node at a time.
-use Rattle.std.specs.Prelude.{◌≡◌, ℕ, zero, suc, List, [], ◌∷◌, Option, Some, None, IsSome, Result, if◌then◌else◌}
+use Rattle.std.specs.Prelude.{◌≡◌, ℕ, zero, suc, List, [], ◌∷◌, Option, Some, None, IsSome, Result}
 use Rattle.std.specs.Option.{option_and_then, option_map}
-use Rattle.std.specs.Result.{IsOk, OnErr}
-use Rattle.std.specs.Str.{bytes_eq}
-use Rattle.std.specs.Borrow.{RattleType, MutBor, Fml, LendsSoOk, follows_so, name_if_ok}
-use Rattle.std.specs.contracts.option.Option as option
+use Rattle.std.specs.Borrow.{RattleType, MutBor, Fml, LendsSoOk}
 use Rattle.std.specs.declared.alloc.AllocError.{AllocError}
 use Rattle.rart_below.specs.Children.{child_at}
 use Rattle.rart_node.specs.contracts.node_ref.NodeRef as pointer

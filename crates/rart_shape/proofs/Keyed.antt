@@ -1,7 +1,7 @@
 -- A tree has a key.
 use Rattle.std.proofs.Common.{◌≡◌, ℕ, List, [], ◌∷◌, ◌++◌, Some, None, IsSome, is_some, Bool, true, false, refl, sym, ap, ◌∙◌}
 use Rattle.std.specs.Prelude.{◌==◌}
-use Rattle.std.proofs.lemmas.Bool.{false≢true, ne_eqb}
+use Rattle.std.proofs.lemmas.Bool.{false≢true}
 use Rattle.rart_node.specs.Shape.{Shape, Forest, node, bare, grown, prefix_of}
 use Rattle.rart_shape.specs.Trees.{BeginsWith, found, IsTree}
 use Rattle.rart_shape.proofs.Behind.{behind-own}

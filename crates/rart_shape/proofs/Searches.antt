@@ -1,5 +1,5 @@
 -- A search for a key that goes down from a root, one node at a time: what is known where it has come to.
-use Rattle.std.proofs.Common.{◌≡◌, ◌+◌, ◌<◌, ◌≤◌, ℕ, List, Option, Some, None, slice_get, refl, arith, sym, ap, subst, ◌∙◌}
+use Rattle.std.proofs.Common.{◌≡◌, ◌+◌, ◌<◌, ◌≤◌, ℕ, List, Option, Some, None, slice_get, refl, arith, sym, ap, ◌∙◌}
 use Rattle.std.specs.Option.{option_and_then}
 use Rattle.rart_below.specs.Children.{child_at}
 use Rattle.rart_node.specs.Counts.{Counts, CountsUpTo}

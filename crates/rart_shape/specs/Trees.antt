@@ -1,5 +1,5 @@
 -- What a tree of nodes means: the value of each byte string.
-use Rattle.std.specs.Prelude.{◌≡◌, ℕ, ◌≤◌, ◌==◌, ◌++◌, Bool, true, false, List, [], ◌∷◌, Option, Some, None, IsSome, IsTrue, ⊤, length, map, if◌then◌else◌, take, drop, slice_index_or, ◌+◌, max}
+use Rattle.std.specs.Prelude.{◌≡◌, ℕ, ◌==◌, ◌++◌, Bool, true, false, List, [], ◌∷◌, Option, Some, None, IsTrue, ⊤, length, map, if◌then◌else◌, take, drop, slice_index_or, ◌+◌, max}
 use Rattle.std.specs.Option.{option_and_then}
 use Rattle.std.specs.Str.{bytes_eq}
 use Rattle.rart_below.specs.Children as children

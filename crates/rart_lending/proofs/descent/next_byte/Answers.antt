@@ -1,7 +1,7 @@
-use Rattle.std.proofs.Common.{◌≡◌, ◌+◌, ◌<◌, length, refl, ap, ◌∙◌, arith}
+use Rattle.std.proofs.Common.{◌≡◌, ◌+◌, length, refl, ap, ◌∙◌, arith}
 use Rattle.rart_node.specs.Seen.{seen}
 use Rattle.rart_node.specs.Shape.{prefix_of}
-use Rattle.rart_lending.proofs.Ways.{step-long, step-next, step-first}
+use Rattle.rart_lending.proofs.Ways.{step-long, step-next}
 use Rattle.rart_lending.proofs.descent.next_byte.Goals as goal
 
 pub overflow_add-depth : goal.overflow_add-depth

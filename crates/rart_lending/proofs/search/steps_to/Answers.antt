@@ -1,7 +1,6 @@
-use Rattle.std.proofs.Common.{◌<◌, Some, length, sym, ◌∙◌, arith}
+use Rattle.std.proofs.Common.{◌<◌, Some, length, sym, arith}
 use Rattle.rart_node.specs.Seen.{shown}
-use Rattle.rart_shape.proofs.Finds.{ascending, ordered}
-use Rattle.rart_shape.proofs.Searches.{search-start, search-counted, search-entered, search-left, search-here, search-missing, search-lower, search-child, stripped, deeper}
+use Rattle.rart_shape.proofs.Searches.{search-counted, search-missing, search-lower, search-child, stripped, deeper}
 use Rattle.rart_lending.proofs.Searches.{search-down, steps-fit}
 use Rattle.rart_lending.proofs.search.steps_to.Goals as goal
 

@@ -1,4 +1,4 @@
-use Rattle.std.proofs.Common.{◌≡◌, ◌≤◌, ◌<◌, length, drop, Some, sym, ap, subst, ◌∙◌, arith}
+use Rattle.std.proofs.Common.{◌≤◌, ◌<◌, length, drop, Some, sym, ap, ◌∙◌, arith}
 use Rattle.rart_below.specs.Bytes.{common_length}
 use Rattle.rart_shape.proofs.Behind.{behind-short, behind-all, common-within}
 use Rattle.rart_shape.proofs.matching.strip_prefix.Goals as goal

@@ -31,13 +31,20 @@ pub fn insert_below<K: KeyTrait, V: Clone + Drop>(
     requires clones { ClonesEqual V.is_clone }
     requires depth { depth ≤ length (K.bytes key.now) }
     requires tree { IsTree (shown K.PartialType.bytes at.old) }
-    ensures put { OnOk result (IsPut (drop depth (K.bytes key.now)) value (shown K.PartialType.bytes at.old) (shown K.PartialType.bytes at.new)) }
-    ensures replaced { IfOk result (λ old. old ≡ found (shown K.PartialType.bytes at.old) (drop depth (K.bytes key.now))) }
-    ensures refused { OnErr result (shown K.PartialType.bytes at.new ≡ shown K.PartialType.bytes at.old) }
-    ensures counted { CountsUpTo (path_bound (shown K.PartialType.bytes at.old) (drop depth (K.bytes key.now))) (length (drop depth (K.bytes key.now)) + 2) work.old work.new }
+    ensures put { OnOk result (IsPut (drop depth (K.bytes key.now)) value
+        (shown K.PartialType.bytes at.old) (shown K.PartialType.bytes at.new)) }
+    ensures replaced { IfOk result (λ old. old ≡ found (shown K.PartialType.bytes at.old)
+        (drop depth (K.bytes key.now))) }
+    ensures refused { OnErr result (shown K.PartialType.bytes at.new ≡ shown K.PartialType.bytes
+        at.old) }
+    ensures counted { CountsUpTo (path_bound (shown K.PartialType.bytes at.old)
+        (drop depth (K.bytes key.now))) (length (drop depth (K.bytes key.now)) + 2) work.old
+        work.new }
     ensures entered { work.old.entered < work.new.entered }
     ensures made { work.old.made < work.new.made }
-    ensures made_below { (byte : ℕ) → BeginsWith byte (prefix_of (shown K.PartialType.bytes at.old)) → BeginsWith byte (drop depth (K.bytes key.now)) → work.new.made ≤ work.old.made + length (drop depth (K.bytes key.now)) + 1 }
+    ensures made_below { (byte : ℕ) → BeginsWith byte (prefix_of (shown K.PartialType.bytes at.old))
+        → BeginsWith byte (drop depth (K.bytes key.now)) → work.new.made ≤ work.old.made + length
+        (drop depth (K.bytes key.now)) + 1 }
 {
     let node = at.open_mut(work)?;
     let end = match_end(node, key, depth);
@@ -68,12 +75,16 @@ fn split<K: KeyTrait, V: Clone + Drop>(
     requires clones { ClonesEqual V.is_clone }
     requires depth { depth ≤ length (K.bytes key.now) }
     requires tree { IsTree (seen K.PartialType.bytes node.old) }
-    requires end { end ≡ depth + common_length (prefix_of (seen K.PartialType.bytes node.old)) (drop depth (K.bytes key.now)) }
+    requires end { end ≡ depth + common_length (prefix_of (seen K.PartialType.bytes node.old))
+        (drop depth (K.bytes key.now)) }
     requires within { end ≤ length (K.bytes key.now) }
     requires inside { end - depth < length (prefix_of (seen K.PartialType.bytes node.old)) }
-    ensures put { OnOk result (IsPut (drop depth (K.bytes key.now)) value (seen K.PartialType.bytes node.old) (seen K.PartialType.bytes node.new)) }
-    ensures replaced { IfOk result (λ old. old ≡ found (seen K.PartialType.bytes node.old) (drop depth (K.bytes key.now))) }
-    ensures refused { OnErr result (seen K.PartialType.bytes node.new ≡ seen K.PartialType.bytes node.old) }
+    ensures put { OnOk result (IsPut (drop depth (K.bytes key.now)) value
+        (seen K.PartialType.bytes node.old) (seen K.PartialType.bytes node.new)) }
+    ensures replaced { IfOk result (λ old. old ≡ found (seen K.PartialType.bytes node.old)
+        (drop depth (K.bytes key.now))) }
+    ensures refused { OnErr result (seen K.PartialType.bytes node.new ≡ seen K.PartialType.bytes
+        node.old) }
     ensures counted { CountsUpTo 0 (length (drop end (K.bytes key.now)) + 1) work.old work.new }
 {
     let mut upper = cut(alloc, node, end - depth, version, work)?;
@@ -95,11 +106,17 @@ fn finish<K: KeyTrait, V: Clone + Drop>(
 ) -> Result<Option<V>, AllocError>
     requires depth { depth ≤ length (K.bytes key.now) }
     requires tree { IsTree (seen K.PartialType.bytes node.old) }
-    requires absent { (byte : ℕ) → slice_get (drop depth (K.bytes key.now)) 0 ≡ Some byte → child_at byte (children_of (seen K.PartialType.bytes node.old)) ≡ None }
-    ensures put { OnOk result (IsPut (prefix_of (seen K.PartialType.bytes node.old) ++ drop depth (K.bytes key.now)) value (seen K.PartialType.bytes node.old) (seen K.PartialType.bytes node.new)) }
-    ensures replaced { IfOk result (λ old. old ≡ found (seen K.PartialType.bytes node.old) (prefix_of (seen K.PartialType.bytes node.old) ++ drop depth (K.bytes key.now))) }
-    ensures refused { OnErr result (seen K.PartialType.bytes node.new ≡ seen K.PartialType.bytes node.old) }
-    ensures counted { CountsUpTo 0 (ending (seen K.PartialType.bytes node.old) (drop depth (K.bytes key.now))) work.old work.new }
+    requires absent { (byte : ℕ) → slice_get (drop depth (K.bytes key.now)) 0 ≡ Some byte
+        → child_at byte (children_of (seen K.PartialType.bytes node.old)) ≡ None }
+    ensures put { OnOk result
+        (IsPut (prefix_of (seen K.PartialType.bytes node.old) ++ drop depth (K.bytes key.now)) value
+        (seen K.PartialType.bytes node.old) (seen K.PartialType.bytes node.new)) }
+    ensures replaced { IfOk result (λ old. old ≡ found (seen K.PartialType.bytes node.old)
+        (prefix_of (seen K.PartialType.bytes node.old) ++ drop depth (K.bytes key.now))) }
+    ensures refused { OnErr result (seen K.PartialType.bytes node.new ≡ seen K.PartialType.bytes
+        node.old) }
+    ensures counted { CountsUpTo 0 (ending (seen K.PartialType.bytes node.old)
+        (drop depth (K.bytes key.now))) work.old work.new }
 {
     match byte_at(key, depth) {
         None => Ok(node.set_value(value)),
@@ -143,7 +160,8 @@ pub fn leaf_of<K: KeyTrait, V: Clone + Drop>(
     work: &mut Work,
 ) -> Result<NodeRef<K::PartialType, V>, AllocError>
     requires { depth ≤ length (K.bytes key.now) }
-    ensures leaf { IfOk result (λ leaf. shown K.PartialType.bytes leaf ≡ node_of (drop depth (K.bytes key.now)) (Some value) 0 []) }
+    ensures leaf { IfOk result (λ leaf. shown K.PartialType.bytes leaf ≡ node_of
+        (drop depth (K.bytes key.now)) (Some value) 0 []) }
     ensures counted { CountsUpTo 0 1 work.old work.new }
     ensures made { OnOk result (work.new.made ≡ work.old.made + 1) }
 {

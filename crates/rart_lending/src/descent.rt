@@ -37,8 +37,10 @@ pub(crate) trait Descent<P: Partial, V: Clone + Drop> {
         requires tree { IsTree (shown P.bytes at.old) }
         requires few { steps ≤ most }
         requires there { IsSome (descent steps (drop depth.old key.now) (shown P.bytes at.old)) }
-        ensures* writes_back { sem 𝓛 (LendsDescent P.row V.row P.bytes at.entry steps (drop depth.entry.now key.now) result) }
-        ensures reached { IfOk result (λ end. descent steps (drop depth.old key.now) (shown P.bytes at.old) ≡ Some (seen P.bytes end.now, drop depth.new key.now)) }
+        ensures* writes_back { sem 𝓛 (LendsDescent P.row V.row P.bytes at.entry steps
+            (drop depth.entry.now key.now) result) }
+        ensures reached { IfOk result (λ end. descent steps (drop depth.old key.now)
+            (shown P.bytes at.old) ≡ Some (seen P.bytes end.now, drop depth.new key.now)) }
         ensures within { depth.new ≤ length key.now }
         ensures counted { CountsUpTo (steps + 1) (steps + 1) work.old work.new };
 }
@@ -93,7 +95,9 @@ impl<P: Partial, V: Clone + Drop, L: Descent<P, V>> Descent<P, V> for Twice<L> {
 fn next_byte<P: Partial, V: Drop>(node: &VersionedNode<P, V>, key: &[u8], depth: &mut usize) -> u8
     requires depth { depth.old ≤ length key.now }
     requires there { IsSome (step (drop depth.old key.now) (seen P.bytes node.now)) }
-    ensures next { step (drop depth.old key.now) (seen P.bytes node.now) ≡ option_map (λ child. (child, drop depth.new key.now)) (child_at result (children_of (seen P.bytes node.now))) }
+    ensures next { step (drop depth.old key.now) (seen P.bytes node.now) ≡ option_map
+        (λ child. (child, drop depth.new key.now))
+        (child_at result (children_of (seen P.bytes node.now))) }
     ensures first { first_byte (drop depth.new key.now) ≡ result }
     ensures within { depth.new ≤ length key.now }
 {

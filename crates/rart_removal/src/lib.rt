@@ -54,7 +54,8 @@ pub fn remove_below<P: Partial, V: Clone + Drop>(
     ensures value { IfOk result (λ taken. taken.value ≡ found (shown P.bytes at.old) key.now) }
     ensures unused { IfOk result (λ taken. taken.left_unused ≡ is_unused (shown P.bytes at.new)) }
     ensures refused { OnErr result (shown P.bytes at.new ≡ shown P.bytes at.old) }
-    ensures counted { CountsUpTo (path_bound (shown P.bytes at.old) key.now) (path_bound (shown P.bytes at.old) key.now) work.old work.new }
+    ensures counted { CountsUpTo (path_bound (shown P.bytes at.old) key.now)
+        (path_bound (shown P.bytes at.old) key.now) work.old work.new }
     ensures entered { work.old.entered < work.new.entered }
 {
     let node = at.open_mut(work)?;

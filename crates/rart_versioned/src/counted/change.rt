@@ -54,7 +54,8 @@ impl<K: KeyTrait, V: Clone + Drop> VersionedAdaptiveRadixTree<K, V> {
         requires present { IsTrue (has_key self.old (K.bytes key.now)) }
         ensures ok { OnOk result (self.new ≡ settled self.old (K.bytes key.now) change more) }
         ensures refused { OnErr result (self.new ≡ self.old) }
-        ensures counted { CountsUpTo (lookup_bound (K.bytes key.now)) (change_bound (K.bytes key.now)) work.old work.new }
+        ensures counted { CountsUpTo (lookup_bound (K.bytes key.now))
+            (change_bound (K.bytes key.now)) work.old work.new }
     {
         match change {
             Change::Stay => {

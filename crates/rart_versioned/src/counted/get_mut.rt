@@ -31,13 +31,17 @@ fn lend_in<'a, P: Partial, V: Clone + Drop>(
     requires room { number.old + 1 < 2 ^ 64 }
     requires tree { IsTreeIn (option_map (shown P.bytes) root.old) }
     ensures* writes_back { sem 𝓛 (LendsBelow P.row V.row P.bytes root.entry key.now result) }
-    ensures value { IfOk result (λ value. found_in (option_map (shown P.bytes) root.old) key.now ≡ Some value.now) }
-    ensures missing { IfErr result (λ missing. Explains missing (found_in (option_map (shown P.bytes) root.old) key.now)) }
+    ensures value { IfOk result (λ value. found_in (option_map (shown P.bytes) root.old) key.now
+        ≡ Some value.now) }
+    ensures missing { IfErr result
+        (λ missing. Explains missing (found_in (option_map (shown P.bytes) root.old) key.now)) }
     ensures raised { OnOk result (number.new ≡ number.old + 1) }
     ensures kept { OnErr result (number.new ≡ number.old) }
-    ensures counted { CountsUpTo (2 * lookup_bound key.now) (lookup_bound key.now) work.old work.new }
+    ensures counted { CountsUpTo (2 * lookup_bound key.now) (lookup_bound key.now) work.old
+        work.new }
     ensures entered_least { IsSome root.old → work.old.entered < work.new.entered }
-    ensures absent_makes_none { found_in (option_map (shown P.bytes) root.old) key.now ≡ None → work.new.made ≡ work.old.made }
+    ensures absent_makes_none { found_in (option_map (shown P.bytes) root.old) key.now ≡ None
+        → work.new.made ≡ work.old.made }
 {
     match root.as_mut() {
         None => Err(Missing::Absent),
@@ -63,10 +67,14 @@ impl<K: KeyTrait, V: Clone + Drop> VersionedAdaptiveRadixTree<K, V> {
     ) -> Result<Option<&mut V>, AllocError>
         requires clones { ClonesEqual V.is_clone }
         requires room { HasRoom self.old 1 }
-        ensures* writes_back { sem 𝓛 (LendsFound K.row V.row K.PartialType.row K.MAXIMUM_SIZE K.bytes K.eq K.cmp K.partial_cmp K.PartialType.Partial V.Clone self.entry (K.bytes key.now) result) }
-        ensures value { IfOk result (λ found. option_map (λ value. value.now) found ≡ value_at self.old (K.bytes key.now)) }
+        ensures* writes_back { sem 𝓛 (LendsFound K.row V.row K.PartialType.row K.MAXIMUM_SIZE
+            K.bytes K.eq K.cmp K.partial_cmp K.PartialType.Partial V.Clone self.entry
+            (K.bytes key.now) result) }
+        ensures value { IfOk result (λ found. option_map (λ value. value.now) found
+            ≡ value_at self.old (K.bytes key.now)) }
         ensures present { OnErr result (IsTrue (has_key self.old (K.bytes key.now))) }
-        ensures counted { CountsUpTo (touch_bound (K.bytes key.now)) (change_bound (K.bytes key.now)) work.old work.new }
+        ensures counted { CountsUpTo (touch_bound (K.bytes key.now))
+            (change_bound (K.bytes key.now)) work.old work.new }
         ensures entered_at_most { work.new.entered
             ≤ work.old.entered + 2 * lookup_bound (K.bytes key.now) }
         ensures entered_least { has_no_key self.old ≡ false → work.old.entered < work.new.entered }
@@ -80,10 +88,15 @@ impl<K: KeyTrait, V: Clone + Drop> VersionedAdaptiveRadixTree<K, V> {
     pub(crate) fn lent_k_counted(&mut self, key: &K, work: &mut Work) -> Result<&mut V, Missing>
         requires clones { ClonesEqual V.is_clone }
         requires room { HasRoom self.old 1 }
-        ensures* writes_back { sem 𝓛 (LendsValue K.row V.row K.PartialType.row K.MAXIMUM_SIZE K.bytes K.eq K.cmp K.partial_cmp K.PartialType.Partial V.Clone self.entry (K.bytes key.now) result) }
-        ensures value { IfOk result (λ value. value_at self.old (K.bytes key.now) ≡ Some value.now) }
-        ensures missing { IfErr result (λ missing. Explains missing (value_at self.old (K.bytes key.now))) }
-        ensures counted { CountsUpTo (touch_bound (K.bytes key.now)) (change_bound (K.bytes key.now)) work.old work.new }
+        ensures* writes_back { sem 𝓛 (LendsValue K.row V.row K.PartialType.row K.MAXIMUM_SIZE
+            K.bytes K.eq K.cmp K.partial_cmp K.PartialType.Partial V.Clone self.entry
+            (K.bytes key.now) result) }
+        ensures value { IfOk result (λ value. value_at self.old (K.bytes key.now)
+            ≡ Some value.now) }
+        ensures missing { IfErr result
+            (λ missing. Explains missing (value_at self.old (K.bytes key.now))) }
+        ensures counted { CountsUpTo (touch_bound (K.bytes key.now))
+            (change_bound (K.bytes key.now)) work.old work.new }
         ensures entered_at_most { work.new.entered
             ≤ work.old.entered + 2 * lookup_bound (K.bytes key.now) }
         ensures entered_least { has_no_key self.old ≡ false → work.old.entered < work.new.entered }

@@ -23,7 +23,8 @@ impl<K: KeyTrait, V: Clone + Drop> VersionedAdaptiveRadixTree<K, V> {
         ensures replaced { IfOk result (λ replaced. replaced ≡ has_key self.old (K.bytes key.now)) }
         ensures ok { OnOk result (self.new ≡ with_key self.old (K.bytes key.now) value 1) }
         ensures refused { OnErr result (self.new ≡ self.old) }
-        ensures counted { CountsUpTo (touch_bound (K.bytes key.now)) (change_bound (K.bytes key.now)) work.old work.new }
+        ensures counted { CountsUpTo (touch_bound (K.bytes key.now))
+            (change_bound (K.bytes key.now)) work.old work.new }
         ensures made { OnOk result (work.old.made < work.new.made) }
         ensures entered_at_most { work.new.entered
             ≤ work.old.entered + lookup_bound (K.bytes key.now) }
@@ -41,10 +42,12 @@ impl<K: KeyTrait, V: Clone + Drop> VersionedAdaptiveRadixTree<K, V> {
     ) -> Result<Option<V>, AllocError>
         requires clones { ClonesEqual V.is_clone }
         requires room { HasRoom self.old 1 }
-        ensures replaced { IfOk result (λ replaced. replaced ≡ value_at self.old (K.bytes key.now)) }
+        ensures replaced { IfOk result (λ replaced. replaced ≡ value_at self.old
+            (K.bytes key.now)) }
         ensures ok { OnOk result (self.new ≡ with_key self.old (K.bytes key.now) value 1) }
         ensures refused { OnErr result (self.new ≡ self.old) }
-        ensures counted { CountsUpTo (touch_bound (K.bytes key.now)) (change_bound (K.bytes key.now)) work.old work.new }
+        ensures counted { CountsUpTo (touch_bound (K.bytes key.now))
+            (change_bound (K.bytes key.now)) work.old work.new }
         ensures made { OnOk result (work.old.made < work.new.made) }
         ensures entered_at_most { work.new.entered
             ≤ work.old.entered + lookup_bound (K.bytes key.now) }
@@ -65,10 +68,12 @@ impl<K: KeyTrait, V: Clone + Drop> VersionedAdaptiveRadixTree<K, V> {
         requires clones { ClonesEqual V.is_clone }
         requires room { HasRoom self.old more }
         requires raised { 1 ≤ more }
-        ensures replaced { IfOk result (λ replaced. replaced ≡ value_at self.old (K.bytes key.now)) }
+        ensures replaced { IfOk result (λ replaced. replaced ≡ value_at self.old
+            (K.bytes key.now)) }
         ensures ok { OnOk result (self.new ≡ with_key self.old (K.bytes key.now) value more) }
         ensures refused { OnErr result (self.new ≡ self.old) }
-        ensures counted { CountsUpTo (lookup_bound (K.bytes key.now)) (change_bound (K.bytes key.now)) work.old work.new }
+        ensures counted { CountsUpTo (lookup_bound (K.bytes key.now))
+            (change_bound (K.bytes key.now)) work.old work.new }
         ensures made { OnOk result (work.old.made < work.new.made) }
         ensures entered_least { has_no_key self.old ≡ false → work.old.entered < work.new.entered }
     {

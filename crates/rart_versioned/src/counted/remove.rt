@@ -21,7 +21,8 @@ impl<K: KeyTrait, V: Clone + Drop> VersionedAdaptiveRadixTree<K, V> {
         ensures ok { OnOk result (self.new ≡ removed self.old (K.bytes key.now)) }
         ensures refused { OnErr result (self.new ≡ self.old) }
         ensures present { OnErr result (IsTrue (has_key self.old (K.bytes key.now))) }
-        ensures counted { CountsUpTo (touch_bound (K.bytes key.now)) (change_bound (K.bytes key.now)) work.old work.new }
+        ensures counted { CountsUpTo (touch_bound (K.bytes key.now))
+            (change_bound (K.bytes key.now)) work.old work.new }
         ensures entered_at_most { work.new.entered
             ≤ work.old.entered + 2 * lookup_bound (K.bytes key.now) }
         ensures entered_least { has_no_key self.old ≡ false → work.old.entered < work.new.entered }
@@ -38,11 +39,13 @@ impl<K: KeyTrait, V: Clone + Drop> VersionedAdaptiveRadixTree<K, V> {
     pub fn delete_k_counted(&mut self, key: &K, work: &mut Work) -> Result<bool, AllocError>
         requires clones { ClonesEqual V.is_clone }
         requires room { HasRoom self.old 1 }
-        ensures removed { IfOk result (λ was_there. was_there ≡ has_key self.old (K.bytes key.now)) }
+        ensures removed { IfOk result (λ was_there. was_there ≡ has_key self.old
+            (K.bytes key.now)) }
         ensures ok { OnOk result (self.new ≡ removed self.old (K.bytes key.now)) }
         ensures refused { OnErr result (self.new ≡ self.old) }
         ensures present { OnErr result (IsTrue (has_key self.old (K.bytes key.now))) }
-        ensures counted { CountsUpTo (touch_bound (K.bytes key.now)) (change_bound (K.bytes key.now)) work.old work.new }
+        ensures counted { CountsUpTo (touch_bound (K.bytes key.now))
+            (change_bound (K.bytes key.now)) work.old work.new }
         ensures entered_at_most { work.new.entered
             ≤ work.old.entered + 2 * lookup_bound (K.bytes key.now) }
         ensures entered_least { has_no_key self.old ≡ false → work.old.entered < work.new.entered }
@@ -66,7 +69,8 @@ impl<K: KeyTrait, V: Clone + Drop> VersionedAdaptiveRadixTree<K, V> {
         ensures value { IfOk result (λ value. value ≡ value_at self.old (K.bytes key.now)) }
         ensures ok { OnOk result (self.new ≡ without_key self.old (K.bytes key.now) more) }
         ensures refused { OnErr result (self.new ≡ self.old) }
-        ensures counted { CountsUpTo (lookup_bound (K.bytes key.now)) (lookup_bound (K.bytes key.now)) work.old work.new }
+        ensures counted { CountsUpTo (lookup_bound (K.bytes key.now))
+            (lookup_bound (K.bytes key.now)) work.old work.new }
     {
         let version = self.version + more;
         let Some(root) = &mut self.root else {

@@ -25,12 +25,18 @@ impl<K: KeyTrait, V: Clone + Drop> VersionedAdaptiveRadixTree<K, V> {
     ) -> Result<bool, Refusal<E>>
         requires clones { ClonesEqual V.is_clone }
         requires room { HasRoom self.old 2 }
-        requires callable { FnOnceTakesAtMut F.FnOnce f (slot_of (value_at self.old (K.bytes key.now))) }
-        ensures ok { IfOk result (λ answer. TriesUpdate F.FnOnce f self.old (K.bytes key.now) (Ok answer) self.new) }
-        ensures failed { IfErr result (λ refusal. IfCallback refusal (λ e. TriesUpdate F.FnOnce f self.old (K.bytes key.now) (Err e) self.new)) }
+        requires callable { FnOnceTakesAtMut F.FnOnce f
+            (slot_of (value_at self.old (K.bytes key.now))) }
+        ensures ok { IfOk result (λ answer. TriesUpdate F.FnOnce f self.old (K.bytes key.now)
+            (Ok answer) self.new) }
+        ensures failed { IfErr result
+            (λ refusal. IfCallback refusal (λ e. TriesUpdate F.FnOnce f self.old (K.bytes key.now)
+            (Err e) self.new)) }
         ensures refused { IfErr result (λ refusal. OnMemory refusal (self.new ≡ self.old)) }
-        ensures memory { IfErr result (λ refusal. OnMemory refusal (TryTakesMemory F.FnOnce f self.old (K.bytes key.now))) }
-        ensures counted { CountsUpTo (touch_bound (K.bytes key.now)) (change_bound (K.bytes key.now)) work.old work.new }
+        ensures memory { IfErr result
+            (λ refusal. OnMemory refusal (TryTakesMemory F.FnOnce f self.old (K.bytes key.now))) }
+        ensures counted { CountsUpTo (touch_bound (K.bytes key.now))
+            (change_bound (K.bytes key.now)) work.old work.new }
         ensures entered_least { has_no_key self.old ≡ false → work.old.entered < work.new.entered }
         ensures absent_makes_none { has_key self.old (K.bytes key.now) ≡ false
             → IfOk result (λ answer. answer ≡ false → work.new.made ≡ work.old.made) }
@@ -60,10 +66,14 @@ impl<K: KeyTrait, V: Clone + Drop> VersionedAdaptiveRadixTree<K, V> {
         requires clones { ClonesEqual V.is_clone }
         requires room { HasRoom self.old 2 }
         requires present { IsTrue (has_key self.old (K.bytes key.now)) }
-        ensures ok { IfOk result (λ answer. IsTried self.old (K.bytes key.now) left told (Ok answer) self.new) }
-        ensures failed { IfErr result (λ refusal. IfCallback refusal (λ e. IsTried self.old (K.bytes key.now) left told (Err e) self.new)) }
+        ensures ok { IfOk result (λ answer. IsTried self.old (K.bytes key.now) left told
+            (Ok answer) self.new) }
+        ensures failed { IfErr result
+            (λ refusal. IfCallback refusal (λ e. IsTried self.old (K.bytes key.now) left told
+            (Err e) self.new)) }
         ensures refused { IfErr result (λ refusal. OnMemory refusal (self.new ≡ self.old)) }
-        ensures counted { CountsUpTo (lookup_bound (K.bytes key.now)) (change_bound (K.bytes key.now)) work.old work.new }
+        ensures counted { CountsUpTo (lookup_bound (K.bytes key.now))
+            (change_bound (K.bytes key.now)) work.old work.new }
     {
         match told {
             Err(error) => {
@@ -90,11 +100,15 @@ impl<K: KeyTrait, V: Clone + Drop> VersionedAdaptiveRadixTree<K, V> {
         requires clones { ClonesEqual V.is_clone }
         requires room { HasRoom self.old 1 }
         requires absent { has_key self.old (K.bytes key.now) ≡ false }
-        ensures ok { IfOk result (λ answer. (left : _) → IsTried self.old (K.bytes key.now) left told (Ok answer) self.new) }
-        ensures failed { IfErr result (λ refusal. IfCallback refusal (λ e. (left : _) → IsTried self.old (K.bytes key.now) left told (Err e) self.new)) }
+        ensures ok { IfOk result (λ answer. (left : _) → IsTried self.old (K.bytes key.now) left
+            told (Ok answer) self.new) }
+        ensures failed { IfErr result
+            (λ refusal. IfCallback refusal (λ e. (left : _) → IsTried self.old (K.bytes key.now)
+            left told (Err e) self.new)) }
         ensures refused { IfErr result (λ refusal. OnMemory refusal (self.new ≡ self.old)) }
         ensures memory { IfErr result (λ refusal. OnMemory refusal (TriesToInsert told)) }
-        ensures counted { CountsUpTo (lookup_bound (K.bytes key.now)) (change_bound (K.bytes key.now)) work.old work.new }
+        ensures counted { CountsUpTo (lookup_bound (K.bytes key.now))
+            (change_bound (K.bytes key.now)) work.old work.new }
         ensures made_to_insert { IfOk result (λ answer. answer ≡ false
             → work.new.made ≡ work.old.made) }
         ensures failed_makes_none { IfErr result (λ refusal. IfCallback refusal (λ _.

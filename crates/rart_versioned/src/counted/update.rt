@@ -25,11 +25,14 @@ impl<K: KeyTrait, V: Clone + Drop> VersionedAdaptiveRadixTree<K, V> {
     ) -> Result<bool, AllocError>
         requires clones { ClonesEqual V.is_clone }
         requires room { HasRoom self.old 1 }
-        requires callable { FnOnceTakesAtMut F.FnOnce f (slot_of (value_at self.old (K.bytes key.now))) }
-        ensures ok { IfOk result (λ answer. Updates F.FnOnce f self.old (K.bytes key.now) answer self.new) }
+        requires callable { FnOnceTakesAtMut F.FnOnce f
+            (slot_of (value_at self.old (K.bytes key.now))) }
+        ensures ok { IfOk result (λ answer. Updates F.FnOnce f self.old (K.bytes key.now) answer
+            self.new) }
         ensures refused { OnErr result (self.new ≡ self.old) }
         ensures memory { OnErr result (UpdateTakesMemory F.FnOnce f self.old (K.bytes key.now)) }
-        ensures counted { CountsUpTo (touch_bound (K.bytes key.now)) (change_bound (K.bytes key.now)) work.old work.new }
+        ensures counted { CountsUpTo (touch_bound (K.bytes key.now))
+            (change_bound (K.bytes key.now)) work.old work.new }
         ensures entered_least { has_no_key self.old ≡ false → work.old.entered < work.new.entered }
         ensures absent_makes_none { has_key self.old (K.bytes key.now) ≡ false
             → IfOk result (λ answer. answer ≡ false → work.new.made ≡ work.old.made) }
@@ -68,10 +71,12 @@ impl<K: KeyTrait, V: Clone + Drop> VersionedAdaptiveRadixTree<K, V> {
         requires clones { ClonesEqual V.is_clone }
         requires room { HasRoom self.old 1 }
         requires absent { has_key self.old (K.bytes key.now) ≡ false }
-        ensures ok { IfOk result (λ answer. (answer, self.new) ≡ settled_absent self.old (K.bytes key.now) told) }
+        ensures ok { IfOk result (λ answer. (answer, self.new) ≡ settled_absent self.old
+            (K.bytes key.now) told) }
         ensures refused { OnErr result (self.new ≡ self.old) }
         ensures memory { OnErr result (AsksMemory told) }
-        ensures counted { CountsUpTo (lookup_bound (K.bytes key.now)) (change_bound (K.bytes key.now)) work.old work.new }
+        ensures counted { CountsUpTo (lookup_bound (K.bytes key.now))
+            (change_bound (K.bytes key.now)) work.old work.new }
         ensures made_to_insert { IfOk result (λ answer. answer ≡ false
             → work.new.made ≡ work.old.made) }
     {

@@ -20,8 +20,11 @@ impl<K: KeyTrait, V: Clone + Drop> VersionedAdaptiveRadixTree<K, V> {
     pub fn get_mut_k(&mut self, key: &K) -> Result<Option<&mut V>, AllocError>
         requires clones { ClonesEqual V.is_clone }
         requires room { HasRoom self.old 1 }
-        ensures* writes_back { sem 𝓛 (LendsFound K.row V.row K.PartialType.row K.MAXIMUM_SIZE K.bytes K.eq K.cmp K.partial_cmp K.PartialType.Partial V.Clone self.entry (K.bytes key.now) result) }
-        ensures value { IfOk result (λ found. option_map (λ value. value.now) found ≡ value_at self.old (K.bytes key.now)) }
+        ensures* writes_back { sem 𝓛 (LendsFound K.row V.row K.PartialType.row K.MAXIMUM_SIZE
+            K.bytes K.eq K.cmp K.partial_cmp K.PartialType.Partial V.Clone self.entry
+            (K.bytes key.now) result) }
+        ensures value { IfOk result (λ found. option_map (λ value. value.now) found
+            ≡ value_at self.old (K.bytes key.now)) }
         ensures present { OnErr result (IsTrue (has_key self.old (K.bytes key.now))) }
     {
         found_of(self.lent_k(key))
@@ -31,8 +34,11 @@ impl<K: KeyTrait, V: Clone + Drop> VersionedAdaptiveRadixTree<K, V> {
     pub fn get_mut(&mut self, key: K) -> Result<Option<&mut V>, AllocError>
         requires clones { ClonesEqual V.is_clone }
         requires room { HasRoom self.old 1 }
-        ensures* writes_back { sem 𝓛 (LendsFound K.row V.row K.PartialType.row K.MAXIMUM_SIZE K.bytes K.eq K.cmp K.partial_cmp K.PartialType.Partial V.Clone self.entry (K.bytes key) result) }
-        ensures value { IfOk result (λ found. option_map (λ value. value.now) found ≡ value_at self.old (K.bytes key)) }
+        ensures* writes_back { sem 𝓛 (LendsFound K.row V.row K.PartialType.row K.MAXIMUM_SIZE
+            K.bytes K.eq K.cmp K.partial_cmp K.PartialType.Partial V.Clone self.entry (K.bytes key)
+            result) }
+        ensures value { IfOk result (λ found. option_map (λ value. value.now) found
+            ≡ value_at self.old (K.bytes key)) }
         ensures present { OnErr result (IsTrue (has_key self.old (K.bytes key))) }
     {
         found_of(self.lent(key))
@@ -42,9 +48,13 @@ impl<K: KeyTrait, V: Clone + Drop> VersionedAdaptiveRadixTree<K, V> {
     fn lent_k(&mut self, key: &K) -> Result<&mut V, Missing>
         requires clones { ClonesEqual V.is_clone }
         requires room { HasRoom self.old 1 }
-        ensures* writes_back { sem 𝓛 (LendsValue K.row V.row K.PartialType.row K.MAXIMUM_SIZE K.bytes K.eq K.cmp K.partial_cmp K.PartialType.Partial V.Clone self.entry (K.bytes key.now) result) }
-        ensures value { IfOk result (λ value. value_at self.old (K.bytes key.now) ≡ Some value.now) }
-        ensures missing { IfErr result (λ missing. Explains missing (value_at self.old (K.bytes key.now))) }
+        ensures* writes_back { sem 𝓛 (LendsValue K.row V.row K.PartialType.row K.MAXIMUM_SIZE
+            K.bytes K.eq K.cmp K.partial_cmp K.PartialType.Partial V.Clone self.entry
+            (K.bytes key.now) result) }
+        ensures value { IfOk result (λ value. value_at self.old (K.bytes key.now)
+            ≡ Some value.now) }
+        ensures missing { IfErr result
+            (λ missing. Explains missing (value_at self.old (K.bytes key.now))) }
     {
         self.lent_k_counted(key, &mut Work::new())
     }
@@ -53,9 +63,12 @@ impl<K: KeyTrait, V: Clone + Drop> VersionedAdaptiveRadixTree<K, V> {
     fn lent(&mut self, key: K) -> Result<&mut V, Missing>
         requires clones { ClonesEqual V.is_clone }
         requires room { HasRoom self.old 1 }
-        ensures* writes_back { sem 𝓛 (LendsValue K.row V.row K.PartialType.row K.MAXIMUM_SIZE K.bytes K.eq K.cmp K.partial_cmp K.PartialType.Partial V.Clone self.entry (K.bytes key) result) }
+        ensures* writes_back { sem 𝓛 (LendsValue K.row V.row K.PartialType.row K.MAXIMUM_SIZE
+            K.bytes K.eq K.cmp K.partial_cmp K.PartialType.Partial V.Clone self.entry (K.bytes key)
+            result) }
         ensures value { IfOk result (λ value. value_at self.old (K.bytes key) ≡ Some value.now) }
-        ensures missing { IfErr result (λ missing. Explains missing (value_at self.old (K.bytes key))) }
+        ensures missing { IfErr result
+            (λ missing. Explains missing (value_at self.old (K.bytes key))) }
     {
         self.lent_k(&key)
     }

@@ -35,7 +35,8 @@ impl<K: KeyTrait, V: Clone + Drop> VersionedAdaptiveRadixTree<K, V> {
     pub fn insert_and_replace_k(&mut self, key: &K, value: V) -> Result<Option<V>, AllocError>
         requires clones { ClonesEqual V.is_clone }
         requires room { HasRoom self.old 1 }
-        ensures replaced { IfOk result (λ replaced. replaced ≡ value_at self.old (K.bytes key.now)) }
+        ensures replaced { IfOk result (λ replaced. replaced ≡ value_at self.old
+            (K.bytes key.now)) }
         ensures ok { OnOk result (self.new ≡ with_key self.old (K.bytes key.now) value 1) }
         ensures refused { OnErr result (self.new ≡ self.old) }
     {

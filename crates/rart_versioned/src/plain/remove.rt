@@ -51,7 +51,8 @@ impl<K: KeyTrait, V: Clone + Drop> VersionedAdaptiveRadixTree<K, V> {
     pub fn delete_k(&mut self, key: &K) -> Result<bool, AllocError>
         requires clones { ClonesEqual V.is_clone }
         requires room { HasRoom self.old 1 }
-        ensures removed { IfOk result (λ was_there. was_there ≡ has_key self.old (K.bytes key.now)) }
+        ensures removed { IfOk result (λ was_there. was_there ≡ has_key self.old
+            (K.bytes key.now)) }
         ensures ok { OnOk result (self.new ≡ removed self.old (K.bytes key.now)) }
         ensures refused { OnErr result (self.new ≡ self.old) }
         ensures present { OnErr result (IsTrue (has_key self.old (K.bytes key.now))) }

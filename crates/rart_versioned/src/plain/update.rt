@@ -19,8 +19,10 @@ impl<K: KeyTrait, V: Clone + Drop> VersionedAdaptiveRadixTree<K, V> {
     ) -> Result<bool, AllocError>
         requires clones { ClonesEqual V.is_clone }
         requires room { HasRoom self.old 1 }
-        requires callable { FnOnceTakesAtMut F.FnOnce f (slot_of (value_at self.old (K.bytes key))) }
-        ensures ok { IfOk result (λ answer. Updates F.FnOnce f self.old (K.bytes key) answer self.new) }
+        requires callable { FnOnceTakesAtMut F.FnOnce f
+            (slot_of (value_at self.old (K.bytes key))) }
+        ensures ok { IfOk result (λ answer. Updates F.FnOnce f self.old (K.bytes key) answer
+            self.new) }
         ensures refused { OnErr result (self.new ≡ self.old) }
         ensures memory { OnErr result (UpdateTakesMemory F.FnOnce f self.old (K.bytes key)) }
     {
@@ -41,8 +43,10 @@ impl<K: KeyTrait, V: Clone + Drop> VersionedAdaptiveRadixTree<K, V> {
     ) -> Result<bool, AllocError>
         requires clones { ClonesEqual V.is_clone }
         requires room { HasRoom self.old 1 }
-        requires callable { FnOnceTakesAtMut F.FnOnce f (slot_of (value_at self.old (K.bytes key.now))) }
-        ensures ok { IfOk result (λ answer. Updates F.FnOnce f self.old (K.bytes key.now) answer self.new) }
+        requires callable { FnOnceTakesAtMut F.FnOnce f
+            (slot_of (value_at self.old (K.bytes key.now))) }
+        ensures ok { IfOk result (λ answer. Updates F.FnOnce f self.old (K.bytes key.now) answer
+            self.new) }
         ensures refused { OnErr result (self.new ≡ self.old) }
         ensures memory { OnErr result (UpdateTakesMemory F.FnOnce f self.old (K.bytes key.now)) }
     {
@@ -57,11 +61,16 @@ impl<K: KeyTrait, V: Clone + Drop> VersionedAdaptiveRadixTree<K, V> {
     ) -> Result<bool, Refusal<E>>
         requires clones { ClonesEqual V.is_clone }
         requires room { HasRoom self.old 2 }
-        requires callable { FnOnceTakesAtMut F.FnOnce f (slot_of (value_at self.old (K.bytes key))) }
-        ensures ok { IfOk result (λ answer. TriesUpdate F.FnOnce f self.old (K.bytes key) (Ok answer) self.new) }
-        ensures failed { IfErr result (λ refusal. IfCallback refusal (λ e. TriesUpdate F.FnOnce f self.old (K.bytes key) (Err e) self.new)) }
+        requires callable { FnOnceTakesAtMut F.FnOnce f
+            (slot_of (value_at self.old (K.bytes key))) }
+        ensures ok { IfOk result (λ answer. TriesUpdate F.FnOnce f self.old (K.bytes key)
+            (Ok answer) self.new) }
+        ensures failed { IfErr result
+            (λ refusal. IfCallback refusal (λ e. TriesUpdate F.FnOnce f self.old (K.bytes key)
+            (Err e) self.new)) }
         ensures refused { IfErr result (λ refusal. OnMemory refusal (self.new ≡ self.old)) }
-        ensures memory { IfErr result (λ refusal. OnMemory refusal (TryTakesMemory F.FnOnce f self.old (K.bytes key))) }
+        ensures memory { IfErr result
+            (λ refusal. OnMemory refusal (TryTakesMemory F.FnOnce f self.old (K.bytes key))) }
     {
         self.try_update_k(&key, f)
     }
@@ -79,11 +88,16 @@ impl<K: KeyTrait, V: Clone + Drop> VersionedAdaptiveRadixTree<K, V> {
     ) -> Result<bool, Refusal<E>>
         requires clones { ClonesEqual V.is_clone }
         requires room { HasRoom self.old 2 }
-        requires callable { FnOnceTakesAtMut F.FnOnce f (slot_of (value_at self.old (K.bytes key.now))) }
-        ensures ok { IfOk result (λ answer. TriesUpdate F.FnOnce f self.old (K.bytes key.now) (Ok answer) self.new) }
-        ensures failed { IfErr result (λ refusal. IfCallback refusal (λ e. TriesUpdate F.FnOnce f self.old (K.bytes key.now) (Err e) self.new)) }
+        requires callable { FnOnceTakesAtMut F.FnOnce f
+            (slot_of (value_at self.old (K.bytes key.now))) }
+        ensures ok { IfOk result (λ answer. TriesUpdate F.FnOnce f self.old (K.bytes key.now)
+            (Ok answer) self.new) }
+        ensures failed { IfErr result
+            (λ refusal. IfCallback refusal (λ e. TriesUpdate F.FnOnce f self.old (K.bytes key.now)
+            (Err e) self.new)) }
         ensures refused { IfErr result (λ refusal. OnMemory refusal (self.new ≡ self.old)) }
-        ensures memory { IfErr result (λ refusal. OnMemory refusal (TryTakesMemory F.FnOnce f self.old (K.bytes key.now))) }
+        ensures memory { IfErr result
+            (λ refusal. OnMemory refusal (TryTakesMemory F.FnOnce f self.old (K.bytes key.now))) }
     {
         self.try_update_k_counted(key, f, &mut Work::new())
     }

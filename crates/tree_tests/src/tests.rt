@@ -1,2 +1,12 @@
+mod bucket;
+mod buckets;
+mod dense;
+mod heap;
 mod interpreter;
+mod lending;
+mod pairs;
+mod removal;
+mod replacing;
+mod sharing;
 mod snapshots;
+mod updates;

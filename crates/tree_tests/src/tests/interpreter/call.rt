@@ -5,69 +5,79 @@ pub enum Form {
     ByValue,
     /// The key by reference, as in `get_k`.
     ByReference,
-    /// The key by reference, and work counted, as in `get_k_counted`.
-    Counted,
+    /// The key by reference, and the work counted, as in `get_k_counted`.
+    WithWork,
 }
 
-/// A call of the tree. A place is an index into the list of versions.
-#[derive(Clone, Copy, Debug)]
+impl Form {
+    /// The form that stands at this turn, going round.
+    pub fn in_turn(turn: usize) -> Form {
+        match turn % 3 {
+            0 => Form::ByReference,
+            1 => Form::ByValue,
+            _ => Form::WithWork,
+        }
+    }
+}
+
+/// A call of the tree.
+#[derive(Clone, Copy)]
 pub enum Call<'a> {
-    /// `new`: `Place` of the new version, at the end of the list.
+    /// `new`. Its answer is `Place`, of the new version.
     New,
-    /// `default`: likewise.
+    /// `default`: `Place`.
     Default,
-    /// `new_at` with this number: likewise.
+    /// `new_at` with this number: `Place`.
     NewAt(u64),
-    /// `snapshot` of the version at a place: likewise.
+    /// `snapshot` of the version at a place: `Place`.
     Snapshot(usize),
-    /// `clone` of the version at a place: likewise.
-    Duplicate(usize),
-    /// `is_empty`: `Flag`.
+    /// `clone` of the version at a place: `Place`.
+    Clone(usize),
+    /// `is_empty` of the version at a place: `Flag`.
     IsEmpty(usize),
-    /// `version`: `Number`.
+    /// `version` of the version at a place: `Number`.
     Version(usize),
-    /// A call with a key, on the version at a place.
-    At(usize, &'a [u8], Action),
+    /// `get` of the key with these bytes, in the version at a place: `Value`.
+    Get(usize, &'a [u8]),
+    /// A change by the key with these bytes, of the version at a place.
+    At(usize, &'a [u8], Change),
 }
 
-/// A call with a key.
-#[derive(Clone, Copy, Debug)]
-pub enum Action {
-    /// `get`: `Value`.
-    Get,
-    /// `get_mut`, and where there is a value this one is written through the reference: `Flag`,
-    /// whether there is one.
+/// A call that changes a version by a key.
+#[derive(Clone, Copy)]
+pub enum Change {
+    /// `get_mut`: `Flag`, whether a reference is lent. This value is written through it.
     GetMut(u64),
-    /// `insert` of a value: `Flag`.
+    /// `insert` of this value: `Flag`.
     Insert(u64),
-    /// `insert_and_replace` of a value: `Value`.
+    /// `insert_and_replace` of this value: `Value`.
     InsertAndReplace(u64),
     /// `remove`: `Value`.
     Remove,
     /// `delete`: `Flag`.
     Delete,
-    /// `update`: `Flag`.
-    Update(Callback, Told),
-    /// `try_update`: `Flag`, or `Failed` with the error of the callback.
-    TryUpdate(Callback, Result<Told, u64>),
+    /// `update` by a callback that does and answers this: `Flag`.
+    Update(Edit, Outcome),
+    /// `try_update` by a callback that does and answers this: `Flag`, or `CallbackError`.
+    TryUpdate(Edit, Result<Outcome, u64>),
 }
 
 /// What a callback does to its slot.
-#[derive(Clone, Copy, Debug)]
-pub enum Callback {
+#[derive(Clone, Copy)]
+pub enum Edit {
     /// Nothing.
-    Looks,
-    /// Writes this value over the one that is there, if there is one.
-    Overwrites(u64),
-    /// Leaves it occupied by this value.
-    Fills(u64),
-    /// Leaves it vacant.
-    Empties,
+    Nothing,
+    /// Writes this value over the value in the slot, if one is there.
+    Overwrite(u64),
+    /// Leaves the slot occupied by this value.
+    Fill(u64),
+    /// Leaves the slot vacant.
+    Clear,
 }
 
-/// What a callback answers.
-#[derive(Clone, Copy, Debug)]
-pub enum Told {
+/// What a callback answers: the `SlotUpdate` of that name.
+#[derive(Clone, Copy)]
+pub enum Outcome {
     Keep,
     Insert(u64),
     Remove,
@@ -76,16 +86,17 @@ pub enum Told {
 /// What a call is answered.
 #[derive(Clone, Copy, PartialEq, Eq, Debug)]
 pub enum Answer {
+    /// The place of a new version.
     Place(usize),
     Number(u64),
     Flag(bool),
     Value(Option<u64>),
-    /// The error of a callback.
-    Failed(u64),
-    /// No version is at the place, and nothing was called.
+    /// The error that the callback answered.
+    CallbackError(u64),
+    /// There is no version at the place: nothing is called.
     NoVersion,
-    /// The number has no room for the call, and nothing was called.
+    /// The version's number has no room for the call: it isn't made.
     NoRoom,
-    /// The key is longer than its type admits, and nothing was called.
-    TooLong,
+    /// A key of the type under test can't be that long: nothing is called.
+    KeyTooLong,
 }

@@ -16,7 +16,7 @@ pub fn insert<K: KeyTrait>(
     let replaced = match form {
         Form::ByValue => tree.insert(key, value)?,
         Form::ByReference => tree.insert_k(&key, value)?,
-        Form::Counted => tree.insert_k_counted(&key, value, &mut Work::new())?,
+        Form::WithWork => tree.insert_k_counted(&key, value, &mut Work::new())?,
     };
     Ok(Answer::Flag(replaced))
 }
@@ -32,7 +32,7 @@ pub fn insert_and_replace<K: KeyTrait>(
     let replaced = match form {
         Form::ByValue => tree.insert_and_replace(key, value)?,
         Form::ByReference => tree.insert_and_replace_k(&key, value)?,
-        Form::Counted => tree.insert_and_replace_k_counted(&key, value, &mut Work::new())?,
+        Form::WithWork => tree.insert_and_replace_k_counted(&key, value, &mut Work::new())?,
     };
     Ok(Answer::Value(replaced))
 }
@@ -43,7 +43,7 @@ pub fn remove<K: KeyTrait>(tree: &mut Tree<K>, form: Form, key: K) -> Result<Ans
     let value = match form {
         Form::ByValue => tree.remove(key)?,
         Form::ByReference => tree.remove_k(&key)?,
-        Form::Counted => tree.remove_k_counted(&key, &mut Work::new())?,
+        Form::WithWork => tree.remove_k_counted(&key, &mut Work::new())?,
     };
     Ok(Answer::Value(value))
 }
@@ -54,7 +54,7 @@ pub fn delete<K: KeyTrait>(tree: &mut Tree<K>, form: Form, key: K) -> Result<Ans
     let was_there = match form {
         Form::ByValue => tree.delete(key)?,
         Form::ByReference => tree.delete_k(&key)?,
-        Form::Counted => tree.delete_k_counted(&key, &mut Work::new())?,
+        Form::WithWork => tree.delete_k_counted(&key, &mut Work::new())?,
     };
     Ok(Answer::Flag(was_there))
 }

@@ -9,7 +9,7 @@ pub fn get<K: KeyTrait>(tree: &Tree<K>, form: Form, key: K) -> Answer {
     let value = match form {
         Form::ByValue => tree.get(key).copied(),
         Form::ByReference => tree.get_k(&key).copied(),
-        Form::Counted => tree.get_k_counted(&key, &mut Work::new()).copied(),
+        Form::WithWork => tree.get_k_counted(&key, &mut Work::new()).copied(),
     };
     Answer::Value(value)
 }
@@ -26,7 +26,7 @@ pub fn get_mut<K: KeyTrait>(
     let was_there = match form {
         Form::ByValue => write(tree.get_mut(key)?, value),
         Form::ByReference => write(tree.get_mut_k(&key)?, value),
-        Form::Counted => write(tree.get_mut_k_counted(&key, &mut Work::new())?, value),
+        Form::WithWork => write(tree.get_mut_k_counted(&key, &mut Work::new())?, value),
     };
     Ok(Answer::Flag(was_there))
 }

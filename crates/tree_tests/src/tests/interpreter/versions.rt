@@ -1,15 +1,16 @@
-ghost use Rattle.std.specs.Prelude.{◌+◌, ◌<◌, ◌≤◌, ◌^◌, length, IsTrue, IfSome};
+ghost use Rattle.std.specs.Prelude.{◌+◌, ◌<◌, ◌≤◌, ◌^◌, length, IsTrue};
 ghost use Rattle.rart_versioned.specs.Given.{IsAdmitted};
 ghost use Rattle.rart_versioned.specs.Versions.{HasRoom};
 
-use super::call::{Action, Answer, Call, Form};
+use super::call::{Answer, Call, Change, Form};
 use super::{changes, lookup, updates};
 use rart_versioned::{KeyTrait, VersionedAdaptiveRadixTree};
 use std::alloc::{AllocError, Global};
 
+/// The tree that is called.
 pub type Tree<K> = VersionedAdaptiveRadixTree<K, u64>;
 
-/// Versions of maps, each at its place in a list.
+/// Versions, each known by its place in a list.
 #[derive(Drop)]
 pub struct Versions<K: KeyTrait> {
     alloc: Global,
@@ -25,17 +26,18 @@ impl<K: KeyTrait> Versions<K> {
         }
     }
 
-    /// Makes a call in a form, and answers what it answered. `Err` is want of memory.
+    /// What a call is answered, made in this form if it has a key. An error is want of memory.
     pub fn answer(&mut self, form: Form, call: &Call) -> Result<Answer, AllocError> {
         match *call {
             Call::New => self.put(Tree::new(self.alloc)),
             Call::Default => self.put(Tree::default(self.alloc)),
             Call::NewAt(number) => self.put(Tree::new_at(self.alloc, number)),
             Call::Snapshot(place) => self.snapshot(place),
-            Call::Duplicate(place) => self.duplicate(place),
+            Call::Clone(place) => self.clone_of(place),
             Call::IsEmpty(place) => Ok(self.is_empty(place)),
             Call::Version(place) => Ok(self.version(place)),
-            Call::At(place, key, action) => self.act(place, form, key, action),
+            Call::Get(place, bytes) => self.get(form, place, bytes),
+            Call::At(place, bytes, change) => self.change(form, place, bytes, change),
         }
     }
 
@@ -56,7 +58,7 @@ impl<K: KeyTrait> Versions<K> {
         self.put(copy)
     }
 
-    fn duplicate(&mut self, place: usize) -> Result<Answer, AllocError> {
+    fn clone_of(&mut self, place: usize) -> Result<Answer, AllocError> {
         let Some(tree) = self.trees.get(place) else {
             return Ok(Answer::NoVersion);
         };
@@ -78,20 +80,58 @@ impl<K: KeyTrait> Versions<K> {
         }
     }
 
-    fn act(
-        &mut self,
-        place: usize,
-        form: Form,
-        key: &[u8],
-        action: Action,
-    ) -> Result<Answer, AllocError> {
-        if !admits::<K>(key) {
-            return Ok(Answer::TooLong);
+    fn get(&self, form: Form, place: usize, bytes: &[u8]) -> Result<Answer, AllocError> {
+        let Some(tree) = self.trees.get(place) else {
+            return Ok(Answer::NoVersion);
+        };
+        if !admits::<K>(bytes) {
+            return Ok(Answer::KeyTooLong);
         }
-        let key = K::new_from_slice(self.alloc, key)?;
-        match self.trees.get_mut(place) {
-            Some(tree) => act(tree, form, key, action),
-            None => Ok(Answer::NoVersion),
+        let key = K::new_from_slice(self.alloc, bytes)?;
+        Ok(lookup::get(tree, form, key))
+    }
+
+    fn change(
+        &mut self,
+        form: Form,
+        place: usize,
+        bytes: &[u8],
+        change: Change,
+    ) -> Result<Answer, AllocError> {
+        let Some(tree) = self.trees.get_mut(place) else {
+            return Ok(Answer::NoVersion);
+        };
+        if !admits::<K>(bytes) {
+            return Ok(Answer::KeyTooLong);
+        }
+        let key = K::new_from_slice(self.alloc, bytes)?;
+        if !has_room(tree, 1) {
+            return Ok(Answer::NoRoom);
+        }
+        change_by(tree, form, key, change)
+    }
+}
+
+fn change_by<K: KeyTrait>(
+    tree: &mut Tree<K>,
+    form: Form,
+    key: K,
+    change: Change,
+) -> Result<Answer, AllocError>
+    requires { HasRoom tree.old 1 }
+{
+    match change {
+        Change::GetMut(value) => lookup::get_mut(tree, form, key, value),
+        Change::Insert(value) => changes::insert(tree, form, key, value),
+        Change::InsertAndReplace(value) => changes::insert_and_replace(tree, form, key, value),
+        Change::Remove => changes::remove(tree, form, key),
+        Change::Delete => changes::delete(tree, form, key),
+        Change::Update(edit, outcome) => updates::update(tree, form, key, edit, outcome),
+        Change::TryUpdate(edit, outcome) => {
+            if !has_room(tree, 2) {
+                return Ok(Answer::NoRoom);
+            }
+            updates::try_update(tree, form, key, edit, outcome)
         }
     }
 }
@@ -111,33 +151,4 @@ fn has_room<K: KeyTrait>(tree: &Tree<K>, rise: u64) -> bool
     ensures { IsTrue result → HasRoom tree.now rise }
 {
     tree.version() <= u64::MAX - rise
-}
-
-fn act<K: KeyTrait>(
-    tree: &mut Tree<K>,
-    form: Form,
-    key: K,
-    action: Action,
-) -> Result<Answer, AllocError> {
-    if let Action::Get = action {
-        return Ok(lookup::get(tree, form, key));
-    }
-    if !has_room(tree, 1) {
-        return Ok(Answer::NoRoom);
-    }
-    match action {
-        Action::Get => Ok(lookup::get(tree, form, key)),
-        Action::GetMut(value) => lookup::get_mut(tree, form, key, value),
-        Action::Insert(value) => changes::insert(tree, form, key, value),
-        Action::InsertAndReplace(value) => changes::insert_and_replace(tree, form, key, value),
-        Action::Remove => changes::remove(tree, form, key),
-        Action::Delete => changes::delete(tree, form, key),
-        Action::Update(callback, told) => updates::update(tree, form, key, callback, told),
-        Action::TryUpdate(callback, told) => {
-            if !has_room(tree, 2) {
-                return Ok(Answer::NoRoom);
-            }
-            updates::try_update(tree, form, key, callback, told)
-        }
-    }
 }

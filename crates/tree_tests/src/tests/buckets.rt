@@ -1,0 +1,45 @@
+// Values that own memory, and have a clone of their own.
+use crate::tests::bucket::Bucket;
+use rart_versioned::{ArrayKey, KeyTrait, VersionedAdaptiveRadixTree};
+use std::alloc::{AllocError, Global};
+use std::process::Abort;
+use std::test::Fail;
+
+type Buckets = VersionedAdaptiveRadixTree<ArrayKey<16>, Bucket>;
+
+// An object, and then a symbol, each with its greatest byte first.
+fn cell(alloc: Global, object: u64, symbol: u32) -> Result<ArrayKey<16>, AllocError> {
+    let mut bytes = [0; 12];
+    bytes[..8].copy_from_slice(&object.to_be_bytes());
+    bytes[8..].copy_from_slice(&symbol.to_be_bytes());
+    ArrayKey::new_from_slice(alloc, &bytes)
+}
+
+fn assert_bucket(rt: &impl Abort, tree: &Buckets, key: &ArrayKey<16>, wanted: &[u64]) {
+    match tree.get_k(key) {
+        Some(bucket) => assert_eq!(rt; bucket.numbers(), wanted),
+        None => assert!(rt; false),
+    }
+}
+
+#[test]
+fn bucket_is_filled_in_one_version(rt: HostRuntime) -> Result<(), Fail> {
+    let alloc = rt.alloc();
+    let mut tree = Buckets::new(alloc);
+    let there = cell(alloc, 10, 2)?;
+    let mut numbers = Vec::new(alloc);
+    numbers.push(1)?;
+    numbers.push(2)?;
+    tree.insert_k(&there, Bucket::new(numbers))?;
+    let snapshot = tree.snapshot()?;
+    match tree.get_mut_k(&there)? {
+        Some(bucket) => bucket.push(3)?,
+        None => assert!(&rt; false),
+    }
+    assert_bucket(&rt, &tree, &there, &[1, 2, 3]);
+    assert_bucket(&rt, &snapshot, &there, &[1, 2]);
+    assert!(rt; tree.version() < 1000);
+    assert!(rt; tree.get_mut_k(&cell(alloc, 10, 3)?)?.is_none());
+    assert_eq!(rt; tree.version(), 2);
+    Ok(())
+}

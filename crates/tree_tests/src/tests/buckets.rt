@@ -1,19 +1,15 @@
 // Values that own memory, and have a clone of their own.
 use crate::tests::bucket::Bucket;
 use rart_versioned::{ArrayKey, KeyTrait, VersionedAdaptiveRadixTree};
-use std::alloc::{AllocError, Global};
 use std::process::Abort;
 use std::test::Fail;
 
 type Buckets = VersionedAdaptiveRadixTree<ArrayKey<16>, Bucket>;
 
-// An object, and then a symbol, each with its greatest byte first.
-fn cell(alloc: Global, object: u64, symbol: u32) -> Result<ArrayKey<16>, AllocError> {
-    let mut bytes = [0; 12];
-    bytes[..8].copy_from_slice(&object.to_be_bytes());
-    bytes[8..].copy_from_slice(&symbol.to_be_bytes());
-    ArrayKey::new_from_slice(alloc, &bytes)
-}
+// An object of 8 bytes, and then a symbol of 4, each with its greatest byte first.
+const CELL: &[u8] = &[0, 0, 0, 0, 0, 0, 0, 10, 0, 0, 0, 2];
+
+const NEXT_CELL: &[u8] = &[0, 0, 0, 0, 0, 0, 0, 10, 0, 0, 0, 3];
 
 fn assert_bucket(rt: &impl Abort, tree: &Buckets, key: &ArrayKey<16>, wanted: &[u64]) {
     match tree.get_k(key) {
@@ -26,7 +22,7 @@ fn assert_bucket(rt: &impl Abort, tree: &Buckets, key: &ArrayKey<16>, wanted: &[
 fn bucket_is_filled_in_one_version(rt: HostRuntime) -> Result<(), Fail> {
     let alloc = rt.alloc();
     let mut tree = Buckets::new(alloc);
-    let there = cell(alloc, 10, 2)?;
+    let there = ArrayKey::new_from_slice(alloc, CELL)?;
     let mut numbers = Vec::new(alloc);
     numbers.push(1)?;
     numbers.push(2)?;
@@ -39,7 +35,10 @@ fn bucket_is_filled_in_one_version(rt: HostRuntime) -> Result<(), Fail> {
     assert_bucket(&rt, &tree, &there, &[1, 2, 3]);
     assert_bucket(&rt, &snapshot, &there, &[1, 2]);
     assert!(rt; tree.version() < 1000);
-    assert!(rt; tree.get_mut_k(&cell(alloc, 10, 3)?)?.is_none());
+    assert!(rt;
+        tree.get_mut_k(&ArrayKey::new_from_slice(alloc, NEXT_CELL)?)?
+            .is_none()
+    );
     assert_eq!(rt; tree.version(), 2);
     Ok(())
 }

@@ -10,15 +10,19 @@ use std::alloc::{AllocError, Global};
 use std::process::Abort;
 use std::test::Fail;
 
-fn key(number: u32) -> [u8; 5] {
-    let [a, b, c, d] = number.to_be_bytes();
-    [8, a, b, c, d]
+fn bytes_of(alloc: Global, number: u32) -> Result<Vec<u8>, AllocError> {
+    let mut bytes = Vec::new(alloc);
+    bytes.push(8)?;
+    bytes.extend_from_slice(&number.to_be_bytes())?;
+    Ok(bytes)
 }
 
 fn pairs_below(alloc: Global, count: u32) -> Result<Vec<Pair>, AllocError> {
     let mut pairs = Vec::new(alloc);
     for number in 0..count {
-        pairs.push(Pair::new(alloc, &key(number), u64::from(number))?)?;
+        let key = bytes_of(alloc, number)?;
+        let value = u64::from(number);
+        pairs.push(Pair { key, value })?;
     }
     Ok(pairs)
 }
@@ -27,8 +31,8 @@ fn pairs_below(alloc: Global, count: u32) -> Result<Vec<Pair>, AllocError> {
 // tree.
 fn assert_all_found(rt: &impl Abort, alloc: Global, count: u32) -> Result<(), Fail> {
     let pairs = pairs_below(alloc, count)?;
-    let first = key(0);
-    let next = key(count);
+    let first = bytes_of(alloc, 0)?;
+    let next = bytes_of(alloc, count)?;
     let mut rows = Vec::new(alloc);
     rows.push((New, Place(0)))?;
     push_insertions(&mut rows, 0, &pairs)?;

@@ -9,16 +9,6 @@ pub struct Pair {
     pub value: u64,
 }
 
-impl Pair {
-    /// A key of these bytes with its value.
-    pub fn new(alloc: Global, key: &[u8], value: u64) -> Result<Pair, AllocError> {
-        Ok(Pair {
-            key: key.to_vec(alloc)?,
-            value,
-        })
-    }
-}
-
 /// Each key is inserted, and wasn't there.
 pub fn push_insertions<'a>(
     rows: &mut Vec<Row<'a>>,

@@ -9,8 +9,10 @@ use std::test::Fail;
 
 fn one_byte_pairs(alloc: Global) -> Result<Vec<Pair>, AllocError> {
     let mut pairs = Vec::new(alloc);
-    for byte in 0..=255u8 {
-        pairs.push(Pair::new(alloc, &[byte], u64::from(byte))?)?;
+    for number in 0..256u64 {
+        let mut key = Vec::new(alloc);
+        key.push(number as u8)?;
+        pairs.push(Pair { key, value: number })?;
     }
     Ok(pairs)
 }

@@ -1,5 +1,3 @@
-ghost use Rattle.std.specs.Prelude.{◌<◌};
-
 use crate::tests::interpreter::Answer::*;
 use crate::tests::interpreter::Call::*;
 use crate::tests::interpreter::Change::*;
@@ -9,34 +7,51 @@ use rart_versioned::VectorKey;
 use std::alloc::{AllocError, Global};
 use std::test::Fail;
 
-// Ten names with two digits behind them, from the number `first` on, which is the value.
-fn push_ten(alloc: Global, pairs: &mut Vec<Pair>, name: &[u8], first: u8) -> Result<(), AllocError>
-    requires { first < 90 }
-{
-    for step in 0..10u8 {
-        let number = first + step;
-        let mut key = name.to_vec(alloc)?;
-        key.push(b'0' + number / 10)?;
-        key.push(b'0' + number % 10)?;
-        let value = u64::from(number);
-        pairs.push(Pair { key, value })?;
-    }
-    Ok(())
-}
+// The digits of a number, and the number.
+type Numeral<'a> = (&'a [u8], u64);
 
-fn ten(alloc: Global, name: &[u8], first: u8) -> Result<Vec<Pair>, AllocError>
-    requires { first < 90 }
-{
+const FIRST_TEN: &[Numeral] = &[
+    (b"00", 0),
+    (b"01", 1),
+    (b"02", 2),
+    (b"03", 3),
+    (b"04", 4),
+    (b"05", 5),
+    (b"06", 6),
+    (b"07", 7),
+    (b"08", 8),
+    (b"09", 9),
+];
+
+const SECOND_TEN: &[Numeral] = &[
+    (b"10", 10),
+    (b"11", 11),
+    (b"12", 12),
+    (b"13", 13),
+    (b"14", 14),
+    (b"15", 15),
+    (b"16", 16),
+    (b"17", 17),
+    (b"18", 18),
+    (b"19", 19),
+];
+
+// Keys of a name and the digits of a number, which is the value.
+fn numbered(alloc: Global, name: &[u8], numerals: &[Numeral]) -> Result<Vec<Pair>, AllocError> {
     let mut pairs = Vec::new(alloc);
-    push_ten(alloc, &mut pairs, name, first)?;
+    for (digits, value) in numerals {
+        let mut key = name.to_vec(alloc)?;
+        key.extend_from_slice(digits)?;
+        pairs.push(Pair { key, value: *value })?;
+    }
     Ok(pairs)
 }
 
 #[test]
 fn keys_are_found_while_nodes_grow(rt: HostRuntime) -> Result<(), Fail> {
     let alloc = rt.alloc();
-    let early = ten(alloc, b"key", 0)?;
-    let late = ten(alloc, b"key", 10)?;
+    let early = numbered(alloc, b"key", FIRST_TEN)?;
+    let late = numbered(alloc, b"key", SECOND_TEN)?;
     let mut rows = Vec::new(alloc);
     rows.push((New, Place(0)))?;
     push_insertions(&mut rows, 0, &early)?;
@@ -49,43 +64,54 @@ fn keys_are_found_while_nodes_grow(rt: HostRuntime) -> Result<(), Fail> {
     assert_runs::<VectorKey>(&rt, alloc, &rows)
 }
 
+const SNAPSHOTS: &[Row] = &[
+    (Snapshot(0), Place(1)),
+    (Snapshot(0), Place(2)),
+    (Snapshot(0), Place(3)),
+    (At(0, b"new_key", Insert(999)), Flag(false)),
+    (Get(0, b"new_key"), Value(Some(999))),
+    (Get(1, b"new_key"), Value(None)),
+    (Get(2, b"new_key"), Value(None)),
+    (Get(3, b"new_key"), Value(None)),
+];
+
 #[test]
 fn snapshots_keep_what_the_tree_changes(rt: HostRuntime) -> Result<(), Fail> {
     let alloc = rt.alloc();
-    let mut shared = ten(alloc, b"shared_key_", 0)?;
-    push_ten(alloc, &mut shared, b"shared_key_", 10)?;
+    let first = numbered(alloc, b"shared_key_", FIRST_TEN)?;
+    let second = numbered(alloc, b"shared_key_", SECOND_TEN)?;
     let mut rows = Vec::new(alloc);
     rows.push((New, Place(0)))?;
-    push_insertions(&mut rows, 0, &shared)?;
-    for place in 1..=3 {
-        rows.push((Snapshot(0), Place(place)))?;
+    push_insertions(&mut rows, 0, &first)?;
+    push_insertions(&mut rows, 0, &second)?;
+    rows.extend_from_slice(SNAPSHOTS)?;
+    for place in 0..4 {
+        push_lookups(&mut rows, place, &first)?;
+        push_lookups(&mut rows, place, &second)?;
     }
-    rows.push((At(0, b"new_key", Insert(999)), Flag(false)))?;
-    for place in 1..=3 {
-        rows.push((Get(place, b"new_key"), Value(None)))?;
-        push_lookups(&mut rows, place, &shared)?;
-    }
-    rows.push((Get(0, b"new_key"), Value(Some(999))))?;
-    push_lookups(&mut rows, 0, &shared)?;
     assert_runs::<VectorKey>(&rt, alloc, &rows)
 }
+
+const ONE_BRANCH: &[Row] = &[
+    (Snapshot(0), Place(1)),
+    (At(0, b"user_00", Insert(999)), Flag(true)),
+    (Get(0, b"user_00"), Value(Some(999))),
+    (Get(1, b"user_00"), Value(Some(0))),
+];
 
 #[test]
 fn change_of_one_branch_leaves_the_others(rt: HostRuntime) -> Result<(), Fail> {
     let alloc = rt.alloc();
-    let changed = ten(alloc, b"user_", 0)?;
-    let mut others = ten(alloc, b"user_profile_", 0)?;
-    push_ten(alloc, &mut others, b"user_settings_", 0)?;
-    push_ten(alloc, &mut others, b"system_", 0)?;
-    push_ten(alloc, &mut others, b"system_config_", 0)?;
+    let changed = numbered(alloc, b"user_", FIRST_TEN)?;
+    let mut others = numbered(alloc, b"user_profile_", FIRST_TEN)?;
+    others.append(&mut numbered(alloc, b"user_settings_", FIRST_TEN)?)?;
+    others.append(&mut numbered(alloc, b"system_", FIRST_TEN)?)?;
+    others.append(&mut numbered(alloc, b"system_config_", FIRST_TEN)?)?;
     let mut rows = Vec::new(alloc);
     rows.push((New, Place(0)))?;
     push_insertions(&mut rows, 0, &changed)?;
     push_insertions(&mut rows, 0, &others)?;
-    rows.push((Snapshot(0), Place(1)))?;
-    rows.push((At(0, b"user_00", Insert(999)), Flag(true)))?;
-    rows.push((Get(0, b"user_00"), Value(Some(999))))?;
-    rows.push((Get(1, b"user_00"), Value(Some(0))))?;
+    rows.extend_from_slice(ONE_BRANCH)?;
     push_lookups(&mut rows, 0, &others)?;
     push_lookups(&mut rows, 1, &others)?;
     assert_runs::<VectorKey>(&rt, alloc, &rows)

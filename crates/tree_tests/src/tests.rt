@@ -4,7 +4,6 @@ mod dense;
 mod heap;
 mod interpreter;
 mod lending;
-mod pairs;
 mod removal;
 mod replacing;
 mod sharing;

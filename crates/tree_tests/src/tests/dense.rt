@@ -3,47 +3,44 @@
 use crate::tests::interpreter::Answer::*;
 use crate::tests::interpreter::Call::*;
 use crate::tests::interpreter::Change::*;
-use crate::tests::interpreter::assert_runs;
-use crate::tests::pairs::{Pair, push_insertions, push_lookups};
+use crate::tests::interpreter::Step::{Each, Rows};
+use crate::tests::interpreter::{Keys, Numeral, Sweep, assert_steps};
 use rart_versioned::ArrayKey;
-use std::alloc::{AllocError, Global};
+use std::alloc::Global;
 use std::process::Abort;
 use std::test::Fail;
 
-fn bytes_of(alloc: Global, number: u32) -> Result<Vec<u8>, AllocError> {
-    let mut bytes = Vec::new(alloc);
-    bytes.push(8)?;
-    bytes.extend_from_slice(&number.to_be_bytes())?;
-    Ok(bytes)
-}
+const FIRST: &[u8] = &[8, 0, 0, 0, 0];
 
-fn pairs_below(alloc: Global, count: u32) -> Result<Vec<Pair>, AllocError> {
-    let mut pairs = Vec::new(alloc);
-    for number in 0..count {
-        let key = bytes_of(alloc, number)?;
-        let value = u64::from(number);
-        pairs.push(Pair { key, value })?;
+fn dense(first: u32, end: u32) -> Keys<'static> {
+    Keys {
+        name: &[8],
+        numeral: Numeral::FourBytes,
+        first,
+        end,
     }
-    Ok(pairs)
 }
 
 // All are found and the next one isn't, in the tree, and in a snapshot of it whatever becomes of the
 // tree.
-fn assert_all_found(rt: &impl Abort, alloc: Global, count: u32) -> Result<(), Fail> {
-    let pairs = pairs_below(alloc, count)?;
-    let first = bytes_of(alloc, 0)?;
-    let next = bytes_of(alloc, count)?;
-    let mut rows = Vec::new(alloc);
-    rows.push((New, Place(0)))?;
-    push_insertions(&mut rows, 0, &pairs)?;
-    push_lookups(&mut rows, 0, &pairs)?;
-    rows.push((Get(0, &next), Value(None)))?;
-    rows.push((Snapshot(0), Place(1)))?;
-    rows.push((At(0, &first, Insert(77)), Flag(true)))?;
-    rows.push((Get(0, &first), Value(Some(77))))?;
-    push_lookups(&mut rows, 1, &pairs)?;
-    rows.push((Get(1, &next), Value(None)))?;
-    assert_runs::<ArrayKey<8>>(rt, alloc, &rows)
+fn assert_all_found(rt: &impl Abort, alloc: Global, count: u16) -> Result<(), Fail> {
+    let count = u32::from(count);
+    let all = dense(0, count);
+    let next = dense(count, count + 1);
+    let steps = [
+        Rows(&[(New, Place(0))]),
+        Each(Sweep::Insert, 0, all),
+        Each(Sweep::Find, 0, all),
+        Each(Sweep::Miss, 0, next),
+        Rows(&[
+            (Snapshot(0), Place(1)),
+            (At(0, FIRST, Insert(77)), Flag(true)),
+            (Get(0, FIRST), Value(Some(77))),
+        ]),
+        Each(Sweep::Find, 1, all),
+        Each(Sweep::Miss, 1, next),
+    ];
+    assert_steps::<ArrayKey<8>>(rt, alloc, &steps)
 }
 
 #[test]

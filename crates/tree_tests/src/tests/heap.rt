@@ -1,8 +1,8 @@
 // Keys on the heap, longer than any inline.
 use crate::tests::interpreter::Answer::*;
 use crate::tests::interpreter::Call::*;
+use crate::tests::interpreter::Change::*;
 use crate::tests::interpreter::{Row, assert_runs};
-use crate::tests::pairs::{Pair, push_insertions, push_lookups};
 use rart_versioned::{KeyTrait, VectorKey};
 use std::alloc::{AllocError, Global};
 use std::process::Abort;
@@ -18,53 +18,45 @@ fn bytes_of(alloc: Global, count: usize, end: &[u8]) -> Result<Vec<u8>, AllocErr
     Ok(bytes)
 }
 
-// Keys that the tree is to have in another order than this.
-fn long_pairs(alloc: Global) -> Result<Vec<Pair>, AllocError> {
-    let mut pairs = Vec::new(alloc);
-    pairs.push(Pair {
-        key: bytes_of(alloc, 300, b"")?,
-        value: 1,
-    })?;
-    pairs.push(Pair {
-        key: bytes_of(alloc, 299, b"b")?,
-        value: 2,
-    })?;
-    pairs.push(Pair {
-        key: bytes_of(alloc, 0, b"")?,
-        value: 3,
-    })?;
-    Ok(pairs)
+fn long_rows<'a>(first: &'a [u8], second: &'a [u8], shorter: &'a [u8]) -> [Row<'a>; 15] {
+    [
+        (New, Place(0)),
+        (At(0, first, Insert(1)), Flag(false)),
+        (At(0, second, Insert(2)), Flag(false)),
+        (At(0, b"", Insert(3)), Flag(false)),
+        (Version(0), Number(3)),
+        (Snapshot(0), Place(1)),
+        (Version(1), Number(4)),
+        (Get(0, first), Value(Some(1))),
+        (Get(0, second), Value(Some(2))),
+        (Get(0, b""), Value(Some(3))),
+        (Get(0, shorter), Value(None)),
+        (Get(1, first), Value(Some(1))),
+        (Get(1, second), Value(Some(2))),
+        (Get(1, b""), Value(Some(3))),
+        (Get(1, shorter), Value(None)),
+    ]
 }
 
-fn assert_ascending(rt: &impl Abort, alloc: Global) -> Result<(), AllocError> {
-    let empty = VectorKey::new_from_slice(alloc, b"")?;
-    let first = VectorKey::new_from_slice(alloc, &bytes_of(alloc, 300, b"")?)?;
-    let second = VectorKey::new_from_slice(alloc, &bytes_of(alloc, 299, b"b")?)?;
-    assert!(rt; empty < first);
-    assert!(rt; first < second);
+fn assert_ascending(
+    rt: &impl Abort,
+    alloc: Global,
+    lower: &[u8],
+    upper: &[u8],
+) -> Result<(), AllocError> {
+    let lower = VectorKey::new_from_slice(alloc, lower)?;
+    let upper = VectorKey::new_from_slice(alloc, upper)?;
+    assert!(rt; lower < upper);
     Ok(())
 }
 
-const NUMBERS: &[Row] = &[
-    (Version(0), Number(3)),
-    (Snapshot(0), Place(1)),
-    (Version(1), Number(4)),
-];
-
 #[test]
 fn long_keys_are_found_and_ordered(rt: HostRuntime) -> Result<(), Fail> {
-    let alloc = rt.alloc();
-    let pairs = long_pairs(alloc)?;
-    let shorter = bytes_of(alloc, 298, b"")?;
-    let mut rows = Vec::new(alloc);
-    rows.push((New, Place(0)))?;
-    push_insertions(&mut rows, 0, &pairs)?;
-    rows.extend_from_slice(NUMBERS)?;
-    push_lookups(&mut rows, 0, &pairs)?;
-    push_lookups(&mut rows, 1, &pairs)?;
-    rows.push((Get(0, &shorter), Value(None)))?;
-    rows.push((Get(1, &shorter), Value(None)))?;
-    assert_runs::<VectorKey>(&rt, alloc, &rows)?;
-    assert_ascending(&rt, alloc)?;
+    let first = bytes_of(rt.alloc(), 300, b"")?;
+    let second = bytes_of(rt.alloc(), 299, b"b")?;
+    let shorter = bytes_of(rt.alloc(), 298, b"")?;
+    assert_runs::<VectorKey>(&rt, rt.alloc(), &long_rows(&first, &second, &shorter))?;
+    assert_ascending(&rt, rt.alloc(), b"", &first)?;
+    assert_ascending(&rt, rt.alloc(), &first, &second)?;
     Ok(())
 }

@@ -1,33 +1,29 @@
 use crate::tests::interpreter::Answer::*;
 use crate::tests::interpreter::Call::*;
 use crate::tests::interpreter::Change::*;
-use crate::tests::interpreter::{Row, assert_runs};
-use crate::tests::pairs::{Pair, push_insertions, push_removals};
+use crate::tests::interpreter::Step::{Each, Rows};
+use crate::tests::interpreter::{Keys, Numeral, Row, Step, Sweep, assert_runs, assert_steps};
 use rart_versioned::ArrayKey;
-use std::alloc::{AllocError, Global};
 use std::test::Fail;
 
-fn one_byte_pairs(alloc: Global) -> Result<Vec<Pair>, AllocError> {
-    let mut pairs = Vec::new(alloc);
-    for number in 0..256u64 {
-        let mut key = Vec::new(alloc);
-        key.push(number as u8)?;
-        pairs.push(Pair { key, value: number })?;
-    }
-    Ok(pairs)
-}
+const BYTES: Keys = Keys {
+    name: b"",
+    numeral: Numeral::Byte,
+    first: 0,
+    end: 256,
+};
+
+const ALL_BYTES: &[Step] = &[
+    Rows(&[(New, Place(0))]),
+    Each(Sweep::Insert, 0, BYTES),
+    Rows(&[(Version(0), Number(256))]),
+    Each(Sweep::Remove, 0, BYTES),
+    Rows(&[(Version(0), Number(512)), (IsEmpty(0), Flag(true))]),
+];
 
 #[test]
 fn all_one_byte_keys_are_removed(rt: HostRuntime) -> Result<(), Fail> {
-    let pairs = one_byte_pairs(rt.alloc())?;
-    let mut rows = Vec::new(rt.alloc());
-    rows.push((New, Place(0)))?;
-    push_insertions(&mut rows, 0, &pairs)?;
-    rows.push((Version(0), Number(256)))?;
-    push_removals(&mut rows, 0, &pairs)?;
-    rows.push((Version(0), Number(512)))?;
-    rows.push((IsEmpty(0), Flag(true)))?;
-    assert_runs::<ArrayKey<16>>(&rt, rt.alloc(), &rows)
+    assert_steps::<ArrayKey<16>>(&rt, rt.alloc(), ALL_BYTES)
 }
 
 const SNAPSHOT: &[Row] = &[

@@ -1,120 +1,106 @@
 use crate::tests::interpreter::Answer::*;
 use crate::tests::interpreter::Call::*;
 use crate::tests::interpreter::Change::*;
-use crate::tests::interpreter::{Row, assert_runs};
-use crate::tests::pairs::{Pair, push_absences, push_insertions, push_lookups};
+use crate::tests::interpreter::Step::{Each, Rows};
+use crate::tests::interpreter::{Keys, Numeral, Row, Step, Sweep, assert_runs, assert_steps};
 use rart_versioned::VectorKey;
-use std::alloc::{AllocError, Global};
 use std::test::Fail;
 
-// The digits of a number, and the number.
-type Numeral<'a> = (&'a [u8], u64);
+const EARLY: Keys = Keys {
+    name: b"key",
+    numeral: Numeral::Decimal,
+    first: 0,
+    end: 10,
+};
 
-const FIRST_TEN: &[Numeral] = &[
-    (b"00", 0),
-    (b"01", 1),
-    (b"02", 2),
-    (b"03", 3),
-    (b"04", 4),
-    (b"05", 5),
-    (b"06", 6),
-    (b"07", 7),
-    (b"08", 8),
-    (b"09", 9),
+const LATE: Keys = Keys {
+    name: b"key",
+    numeral: Numeral::Decimal,
+    first: 10,
+    end: 20,
+};
+
+const GROWTH: &[Step] = &[
+    Rows(&[(New, Place(0))]),
+    Each(Sweep::Insert, 0, EARLY),
+    Each(Sweep::Find, 0, EARLY),
+    Rows(&[(Snapshot(0), Place(1))]),
+    Each(Sweep::Insert, 0, LATE),
+    Each(Sweep::Miss, 1, LATE),
+    Each(Sweep::Find, 0, LATE),
+    Each(Sweep::Find, 1, EARLY),
 ];
-
-const SECOND_TEN: &[Numeral] = &[
-    (b"10", 10),
-    (b"11", 11),
-    (b"12", 12),
-    (b"13", 13),
-    (b"14", 14),
-    (b"15", 15),
-    (b"16", 16),
-    (b"17", 17),
-    (b"18", 18),
-    (b"19", 19),
-];
-
-// Keys of a name and the digits of a number, which is the value.
-fn numbered(alloc: Global, name: &[u8], numerals: &[Numeral]) -> Result<Vec<Pair>, AllocError> {
-    let mut pairs = Vec::new(alloc);
-    for (digits, value) in numerals {
-        let mut key = name.to_vec(alloc)?;
-        key.extend_from_slice(digits)?;
-        pairs.push(Pair { key, value: *value })?;
-    }
-    Ok(pairs)
-}
 
 #[test]
 fn keys_are_found_while_nodes_grow(rt: HostRuntime) -> Result<(), Fail> {
-    let alloc = rt.alloc();
-    let early = numbered(alloc, b"key", FIRST_TEN)?;
-    let late = numbered(alloc, b"key", SECOND_TEN)?;
-    let mut rows = Vec::new(alloc);
-    rows.push((New, Place(0)))?;
-    push_insertions(&mut rows, 0, &early)?;
-    push_lookups(&mut rows, 0, &early)?;
-    rows.push((Snapshot(0), Place(1)))?;
-    push_insertions(&mut rows, 0, &late)?;
-    push_absences(&mut rows, 1, &late)?;
-    push_lookups(&mut rows, 0, &late)?;
-    push_lookups(&mut rows, 1, &early)?;
-    assert_runs::<VectorKey>(&rt, alloc, &rows)
+    assert_steps::<VectorKey>(&rt, rt.alloc(), GROWTH)
 }
 
-const SNAPSHOTS: &[Row] = &[
-    (Snapshot(0), Place(1)),
-    (Snapshot(0), Place(2)),
-    (Snapshot(0), Place(3)),
-    (At(0, b"new_key", Insert(999)), Flag(false)),
-    (Get(0, b"new_key"), Value(Some(999))),
-    (Get(1, b"new_key"), Value(None)),
-    (Get(2, b"new_key"), Value(None)),
-    (Get(3, b"new_key"), Value(None)),
+const SHARED: Keys = Keys {
+    name: b"shared_key_",
+    numeral: Numeral::Decimal,
+    first: 0,
+    end: 20,
+};
+
+const SNAPSHOTS: &[Step] = &[
+    Rows(&[(New, Place(0))]),
+    Each(Sweep::Insert, 0, SHARED),
+    Rows(&[
+        (Snapshot(0), Place(1)),
+        (Snapshot(0), Place(2)),
+        (Snapshot(0), Place(3)),
+        (At(0, b"new_key", Insert(999)), Flag(false)),
+        (Get(1, b"new_key"), Value(None)),
+        (Get(2, b"new_key"), Value(None)),
+        (Get(3, b"new_key"), Value(None)),
+        (Get(0, b"new_key"), Value(Some(999))),
+    ]),
+    Each(Sweep::Find, 1, SHARED),
+    Each(Sweep::Find, 2, SHARED),
+    Each(Sweep::Find, 3, SHARED),
+    Each(Sweep::Find, 0, SHARED),
 ];
 
 #[test]
 fn snapshots_keep_what_the_tree_changes(rt: HostRuntime) -> Result<(), Fail> {
-    let alloc = rt.alloc();
-    let first = numbered(alloc, b"shared_key_", FIRST_TEN)?;
-    let second = numbered(alloc, b"shared_key_", SECOND_TEN)?;
-    let mut rows = Vec::new(alloc);
-    rows.push((New, Place(0)))?;
-    push_insertions(&mut rows, 0, &first)?;
-    push_insertions(&mut rows, 0, &second)?;
-    rows.extend_from_slice(SNAPSHOTS)?;
-    for place in 0..4 {
-        push_lookups(&mut rows, place, &first)?;
-        push_lookups(&mut rows, place, &second)?;
-    }
-    assert_runs::<VectorKey>(&rt, alloc, &rows)
+    assert_steps::<VectorKey>(&rt, rt.alloc(), SNAPSHOTS)
 }
 
-const ONE_BRANCH: &[Row] = &[
-    (Snapshot(0), Place(1)),
-    (At(0, b"user_00", Insert(999)), Flag(true)),
-    (Get(0, b"user_00"), Value(Some(999))),
-    (Get(1, b"user_00"), Value(Some(0))),
-];
+const fn ten(name: &[u8]) -> Keys<'_> {
+    Keys {
+        name,
+        numeral: Numeral::Decimal,
+        first: 0,
+        end: 10,
+    }
+}
 
 #[test]
 fn change_of_one_branch_leaves_the_others(rt: HostRuntime) -> Result<(), Fail> {
-    let alloc = rt.alloc();
-    let changed = numbered(alloc, b"user_", FIRST_TEN)?;
-    let mut others = numbered(alloc, b"user_profile_", FIRST_TEN)?;
-    others.append(&mut numbered(alloc, b"user_settings_", FIRST_TEN)?)?;
-    others.append(&mut numbered(alloc, b"system_", FIRST_TEN)?)?;
-    others.append(&mut numbered(alloc, b"system_config_", FIRST_TEN)?)?;
-    let mut rows = Vec::new(alloc);
-    rows.push((New, Place(0)))?;
-    push_insertions(&mut rows, 0, &changed)?;
-    push_insertions(&mut rows, 0, &others)?;
-    rows.extend_from_slice(ONE_BRANCH)?;
-    push_lookups(&mut rows, 0, &others)?;
-    push_lookups(&mut rows, 1, &others)?;
-    assert_runs::<VectorKey>(&rt, alloc, &rows)
+    let steps = [
+        Rows(&[(New, Place(0))]),
+        Each(Sweep::Insert, 0, ten(b"user_")),
+        Each(Sweep::Insert, 0, ten(b"user_profile_")),
+        Each(Sweep::Insert, 0, ten(b"user_settings_")),
+        Each(Sweep::Insert, 0, ten(b"system_")),
+        Each(Sweep::Insert, 0, ten(b"system_config_")),
+        Rows(&[
+            (Snapshot(0), Place(1)),
+            (At(0, b"user_00", Insert(999)), Flag(true)),
+            (Get(0, b"user_00"), Value(Some(999))),
+            (Get(1, b"user_00"), Value(Some(0))),
+        ]),
+        Each(Sweep::Find, 0, ten(b"user_profile_")),
+        Each(Sweep::Find, 1, ten(b"user_profile_")),
+        Each(Sweep::Find, 0, ten(b"user_settings_")),
+        Each(Sweep::Find, 1, ten(b"user_settings_")),
+        Each(Sweep::Find, 0, ten(b"system_")),
+        Each(Sweep::Find, 1, ten(b"system_")),
+        Each(Sweep::Find, 0, ten(b"system_config_")),
+        Each(Sweep::Find, 1, ten(b"system_config_")),
+    ];
+    assert_steps::<VectorKey>(&rt, rt.alloc(), &steps)
 }
 
 const REPLACEMENTS: &[Row] = &[

@@ -3,8 +3,9 @@
 use crate::tests::interpreter::Answer::*;
 use crate::tests::interpreter::Call::*;
 use crate::tests::interpreter::Change::*;
+use crate::tests::interpreter::Keys::FourBytes;
 use crate::tests::interpreter::Step::{Each, Rows};
-use crate::tests::interpreter::{Keys, Numeral, Sweep, assert_steps};
+use crate::tests::interpreter::{Sweep, assert_steps};
 use rart_versioned::ArrayKey;
 use std::alloc::Global;
 use std::process::Abort;
@@ -12,21 +13,12 @@ use std::test::Fail;
 
 const FIRST: &[u8] = &[8, 0, 0, 0, 0];
 
-fn dense(first: u32, end: u32) -> Keys<'static> {
-    Keys {
-        name: &[8],
-        numeral: Numeral::FourBytes,
-        first,
-        end,
-    }
-}
-
 // All are found and the next one isn't, in the tree, and in a snapshot of it whatever becomes of the
 // tree.
 fn assert_all_found(rt: &impl Abort, alloc: Global, count: u16) -> Result<(), Fail> {
     let count = u32::from(count);
-    let all = dense(0, count);
-    let next = dense(count, count + 1);
+    let all = FourBytes(&[8], 0, count);
+    let next = FourBytes(&[8], count, count + 1);
     let steps = [
         Rows(&[(New, Place(0))]),
         Each(Sweep::Insert, 0, all),

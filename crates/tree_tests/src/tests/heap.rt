@@ -8,35 +8,32 @@ use std::alloc::{AllocError, Global};
 use std::process::Abort;
 use std::test::Fail;
 
-// So many bytes 0x61, and then this end.
-fn bytes_of(alloc: Global, count: usize, end: &[u8]) -> Result<Vec<u8>, AllocError> {
-    let mut bytes = Vec::new(alloc);
-    for _ in 0..count {
-        bytes.push(0x61)?;
-    }
-    bytes.extend_from_slice(end)?;
-    Ok(bytes)
-}
+const FIRST: &[u8] = &[0x61; 300];
+// 299 bytes 0x61, and then 0x62.
+const SECOND: &[u8] = b"aaaaaaaaaaaaaaaaaaaaaaaaaaaaaaaaaaaaaaaaaaaaaaaaaaaaaaaaaaaaaaaaaaaaaaaaaaa\
+    aaaaaaaaaaaaaaaaaaaaaaaaaaaaaaaaaaaaaaaaaaaaaaaaaaaaaaaaaaaaaaaaaaaaaaaaaaa\
+    aaaaaaaaaaaaaaaaaaaaaaaaaaaaaaaaaaaaaaaaaaaaaaaaaaaaaaaaaaaaaaaaaaaaaaaaaaa\
+    aaaaaaaaaaaaaaaaaaaaaaaaaaaaaaaaaaaaaaaaaaaaaaaaaaaaaaaaaaaaaaaaaaaaaaaaaab";
 
-fn long_rows<'a>(first: &'a [u8], second: &'a [u8], shorter: &'a [u8]) -> [Row<'a>; 15] {
-    [
-        (New, Place(0)),
-        (At(0, first, Insert(1)), Flag(false)),
-        (At(0, second, Insert(2)), Flag(false)),
-        (At(0, b"", Insert(3)), Flag(false)),
-        (Version(0), Number(3)),
-        (Snapshot(0), Place(1)),
-        (Version(1), Number(4)),
-        (Get(0, first), Value(Some(1))),
-        (Get(0, second), Value(Some(2))),
-        (Get(0, b""), Value(Some(3))),
-        (Get(0, shorter), Value(None)),
-        (Get(1, first), Value(Some(1))),
-        (Get(1, second), Value(Some(2))),
-        (Get(1, b""), Value(Some(3))),
-        (Get(1, shorter), Value(None)),
-    ]
-}
+const SHORTER: &[u8] = &[0x61; 298];
+
+const LONG: &[Row] = &[
+    (New, Place(0)),
+    (At(0, FIRST, Insert(1)), Flag(false)),
+    (At(0, SECOND, Insert(2)), Flag(false)),
+    (At(0, b"", Insert(3)), Flag(false)),
+    (Version(0), Number(3)),
+    (Snapshot(0), Place(1)),
+    (Version(1), Number(4)),
+    (Get(0, FIRST), Value(Some(1))),
+    (Get(0, SECOND), Value(Some(2))),
+    (Get(0, b""), Value(Some(3))),
+    (Get(0, SHORTER), Value(None)),
+    (Get(1, FIRST), Value(Some(1))),
+    (Get(1, SECOND), Value(Some(2))),
+    (Get(1, b""), Value(Some(3))),
+    (Get(1, SHORTER), Value(None)),
+];
 
 fn assert_ascending(
     rt: &impl Abort,
@@ -52,11 +49,9 @@ fn assert_ascending(
 
 #[test]
 fn long_keys_are_found_and_ordered(rt: HostRuntime) -> Result<(), Fail> {
-    let first = bytes_of(rt.alloc(), 300, b"")?;
-    let second = bytes_of(rt.alloc(), 299, b"b")?;
-    let shorter = bytes_of(rt.alloc(), 298, b"")?;
-    assert_runs::<VectorKey>(&rt, rt.alloc(), &long_rows(&first, &second, &shorter))?;
-    assert_ascending(&rt, rt.alloc(), b"", &first)?;
-    assert_ascending(&rt, rt.alloc(), &first, &second)?;
+    assert_eq!(rt; SECOND.len(), 300);
+    assert_runs::<VectorKey>(&rt, rt.alloc(), LONG)?;
+    assert_ascending(&rt, rt.alloc(), b"", FIRST)?;
+    assert_ascending(&rt, rt.alloc(), FIRST, SECOND)?;
     Ok(())
 }

@@ -13,7 +13,7 @@ mod updates;
 mod versions;
 
 pub use call::{Answer, Call, Change, Edit, Form, Outcome};
-pub use keys::{Keys, Numeral};
+pub use keys::Keys;
 use rart_versioned::KeyTrait;
 use std::alloc::Global;
 use std::process::Abort;
@@ -58,7 +58,7 @@ fn assert_rows<K: KeyTrait>(
     rows: &[Row],
 ) -> Result<(), Fail> {
     for (index, (call, wanted)) in rows.iter().enumerate() {
-        let form = Form::in_turn(turn + index % 3);
+        let form = Form::in_turn(turn, index);
         let answer = versions.answer(form, call)?;
         assert_eq!(rt; answer, *wanted, "step {step}, row {index}, {form:?}");
     }
@@ -74,8 +74,9 @@ fn assert_each<K: KeyTrait>(
     place: usize,
     keys: Keys,
 ) -> Result<(), Fail> {
-    for number in keys.first..keys.end {
-        let form = Form::in_turn(turn + number as usize % 3);
+    let (first, end) = keys.bounds();
+    for number in first..end {
+        let form = Form::in_turn(turn, number as usize);
         let key = keys.key(versions.alloc, number)?;
         let (call, wanted) = sweep.row(place, &key, u64::from(number));
         let answer = versions.answer(form, &call)?;

@@ -1,23 +1,17 @@
 use crate::tests::interpreter::Answer::*;
 use crate::tests::interpreter::Call::*;
 use crate::tests::interpreter::Change::*;
+use crate::tests::interpreter::Keys::Byte;
 use crate::tests::interpreter::Step::{Each, Rows};
-use crate::tests::interpreter::{Keys, Numeral, Row, Step, Sweep, assert_runs, assert_steps};
+use crate::tests::interpreter::{Row, Step, Sweep, assert_runs, assert_steps};
 use rart_versioned::ArrayKey;
 use std::test::Fail;
 
-const BYTES: Keys = Keys {
-    name: b"",
-    numeral: Numeral::Byte,
-    first: 0,
-    end: 256,
-};
-
 const ALL_BYTES: &[Step] = &[
     Rows(&[(New, Place(0))]),
-    Each(Sweep::Insert, 0, BYTES),
+    Each(Sweep::Insert, 0, Byte(b"", 0, 256)),
     Rows(&[(Version(0), Number(256))]),
-    Each(Sweep::Remove, 0, BYTES),
+    Each(Sweep::Remove, 0, Byte(b"", 0, 256)),
     Rows(&[(Version(0), Number(512)), (IsEmpty(0), Flag(true))]),
 ];
 

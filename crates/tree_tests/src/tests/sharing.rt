@@ -1,34 +1,21 @@
 use crate::tests::interpreter::Answer::*;
 use crate::tests::interpreter::Call::*;
 use crate::tests::interpreter::Change::*;
+use crate::tests::interpreter::Keys::Decimal;
 use crate::tests::interpreter::Step::{Each, Rows};
-use crate::tests::interpreter::{Keys, Numeral, Row, Step, Sweep, assert_runs, assert_steps};
+use crate::tests::interpreter::{Row, Step, Sweep, assert_runs, assert_steps};
 use rart_versioned::VectorKey;
 use std::test::Fail;
 
-const EARLY: Keys = Keys {
-    name: b"key",
-    numeral: Numeral::Decimal,
-    first: 0,
-    end: 10,
-};
-
-const LATE: Keys = Keys {
-    name: b"key",
-    numeral: Numeral::Decimal,
-    first: 10,
-    end: 20,
-};
-
 const GROWTH: &[Step] = &[
     Rows(&[(New, Place(0))]),
-    Each(Sweep::Insert, 0, EARLY),
-    Each(Sweep::Find, 0, EARLY),
+    Each(Sweep::Insert, 0, Decimal(b"key", 0, 10)),
+    Each(Sweep::Find, 0, Decimal(b"key", 0, 10)),
     Rows(&[(Snapshot(0), Place(1))]),
-    Each(Sweep::Insert, 0, LATE),
-    Each(Sweep::Miss, 1, LATE),
-    Each(Sweep::Find, 0, LATE),
-    Each(Sweep::Find, 1, EARLY),
+    Each(Sweep::Insert, 0, Decimal(b"key", 10, 20)),
+    Each(Sweep::Miss, 1, Decimal(b"key", 10, 20)),
+    Each(Sweep::Find, 0, Decimal(b"key", 10, 20)),
+    Each(Sweep::Find, 1, Decimal(b"key", 0, 10)),
 ];
 
 #[test]
@@ -36,16 +23,9 @@ fn keys_are_found_while_nodes_grow(rt: HostRuntime) -> Result<(), Fail> {
     assert_steps::<VectorKey>(&rt, rt.alloc(), GROWTH)
 }
 
-const SHARED: Keys = Keys {
-    name: b"shared_key_",
-    numeral: Numeral::Decimal,
-    first: 0,
-    end: 20,
-};
-
 const SNAPSHOTS: &[Step] = &[
     Rows(&[(New, Place(0))]),
-    Each(Sweep::Insert, 0, SHARED),
+    Each(Sweep::Insert, 0, Decimal(b"shared_key_", 0, 20)),
     Rows(&[
         (Snapshot(0), Place(1)),
         (Snapshot(0), Place(2)),
@@ -56,10 +36,10 @@ const SNAPSHOTS: &[Step] = &[
         (Get(3, b"new_key"), Value(None)),
         (Get(0, b"new_key"), Value(Some(999))),
     ]),
-    Each(Sweep::Find, 1, SHARED),
-    Each(Sweep::Find, 2, SHARED),
-    Each(Sweep::Find, 3, SHARED),
-    Each(Sweep::Find, 0, SHARED),
+    Each(Sweep::Find, 1, Decimal(b"shared_key_", 0, 20)),
+    Each(Sweep::Find, 2, Decimal(b"shared_key_", 0, 20)),
+    Each(Sweep::Find, 3, Decimal(b"shared_key_", 0, 20)),
+    Each(Sweep::Find, 0, Decimal(b"shared_key_", 0, 20)),
 ];
 
 #[test]
@@ -67,40 +47,32 @@ fn snapshots_keep_what_the_tree_changes(rt: HostRuntime) -> Result<(), Fail> {
     assert_steps::<VectorKey>(&rt, rt.alloc(), SNAPSHOTS)
 }
 
-const fn ten(name: &[u8]) -> Keys<'_> {
-    Keys {
-        name,
-        numeral: Numeral::Decimal,
-        first: 0,
-        end: 10,
-    }
-}
+const ONE_BRANCH: &[Step] = &[
+    Rows(&[(New, Place(0))]),
+    Each(Sweep::Insert, 0, Decimal(b"user_", 0, 10)),
+    Each(Sweep::Insert, 0, Decimal(b"user_profile_", 0, 10)),
+    Each(Sweep::Insert, 0, Decimal(b"user_settings_", 0, 10)),
+    Each(Sweep::Insert, 0, Decimal(b"system_", 0, 10)),
+    Each(Sweep::Insert, 0, Decimal(b"system_config_", 0, 10)),
+    Rows(&[
+        (Snapshot(0), Place(1)),
+        (At(0, b"user_00", Insert(999)), Flag(true)),
+        (Get(0, b"user_00"), Value(Some(999))),
+        (Get(1, b"user_00"), Value(Some(0))),
+    ]),
+    Each(Sweep::Find, 0, Decimal(b"user_profile_", 0, 10)),
+    Each(Sweep::Find, 1, Decimal(b"user_profile_", 0, 10)),
+    Each(Sweep::Find, 0, Decimal(b"user_settings_", 0, 10)),
+    Each(Sweep::Find, 1, Decimal(b"user_settings_", 0, 10)),
+    Each(Sweep::Find, 0, Decimal(b"system_", 0, 10)),
+    Each(Sweep::Find, 1, Decimal(b"system_", 0, 10)),
+    Each(Sweep::Find, 0, Decimal(b"system_config_", 0, 10)),
+    Each(Sweep::Find, 1, Decimal(b"system_config_", 0, 10)),
+];
 
 #[test]
 fn change_of_one_branch_leaves_the_others(rt: HostRuntime) -> Result<(), Fail> {
-    let steps = [
-        Rows(&[(New, Place(0))]),
-        Each(Sweep::Insert, 0, ten(b"user_")),
-        Each(Sweep::Insert, 0, ten(b"user_profile_")),
-        Each(Sweep::Insert, 0, ten(b"user_settings_")),
-        Each(Sweep::Insert, 0, ten(b"system_")),
-        Each(Sweep::Insert, 0, ten(b"system_config_")),
-        Rows(&[
-            (Snapshot(0), Place(1)),
-            (At(0, b"user_00", Insert(999)), Flag(true)),
-            (Get(0, b"user_00"), Value(Some(999))),
-            (Get(1, b"user_00"), Value(Some(0))),
-        ]),
-        Each(Sweep::Find, 0, ten(b"user_profile_")),
-        Each(Sweep::Find, 1, ten(b"user_profile_")),
-        Each(Sweep::Find, 0, ten(b"user_settings_")),
-        Each(Sweep::Find, 1, ten(b"user_settings_")),
-        Each(Sweep::Find, 0, ten(b"system_")),
-        Each(Sweep::Find, 1, ten(b"system_")),
-        Each(Sweep::Find, 0, ten(b"system_config_")),
-        Each(Sweep::Find, 1, ten(b"system_config_")),
-    ];
-    assert_steps::<VectorKey>(&rt, rt.alloc(), &steps)
+    assert_steps::<VectorKey>(&rt, rt.alloc(), ONE_BRANCH)
 }
 
 const REPLACEMENTS: &[Row] = &[

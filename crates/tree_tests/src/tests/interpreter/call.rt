@@ -10,9 +10,9 @@ pub enum Form {
 }
 
 impl Form {
-    /// The form that stands at this turn, going round.
-    pub fn in_turn(turn: usize) -> Form {
-        match turn % 3 {
+    /// The form of a row: the next row has the next one, and so has the same row at the next turn.
+    pub fn in_turn(turn: usize, row: usize) -> Form {
+        match (turn % 3 + row % 3) % 3 {
             0 => Form::ByReference,
             1 => Form::ByValue,
             _ => Form::WithWork,

@@ -1,7 +1,7 @@
 -- The worked runs, by computation.
 use Rattle.std.proofs.Common.{refl}
 use Rattle.std.specs.FinMap.{gets}
-use Rattle.rart_family.specs.WorkedRuns.{SnapshotKeepsItsValue, ChangesStayApart, CloneKeepsNumber, ReplacementGivesOldValue, AbsentKeyStaysAbsent, DeletionIsNotSeenInSnapshot, FailedUpdateKeepsValue, DiscardedPlaceIsNotUsedAgain, AnswerOutweighsWrite, RoomIsAsked, RoomTwoIsAsked, InsertionByUpdateTakesOne, RemovalOutweighsWrite}
+use Rattle.rart_family.specs.WorkedRuns.{SnapshotKeepsItsValue, ChangesStayApart, CloneKeepsNumber, ReplacementGivesOldValue, AbsentKeyStaysAbsent, DeletionIsNotSeenInSnapshot, FailedUpdateKeepsValue, DiscardedPlaceIsNotUsedAgain, AnswerOutweighsWrite, RoomIsAsked, RoomTwoIsAsked, InsertionByUpdateTakesOne, RemovalOutweighsWrite, RemovalsRaiseNumber, UpdatesOfAnAbsentKey}
 
 pub snapshot_keeps_its_value : SnapshotKeepsItsValue
 snapshot_keeps_its_value = simp gets refl
@@ -41,3 +41,9 @@ insertion_by_update_takes_one = simp gets refl
 
 pub removal_outweighs_write : RemovalOutweighsWrite
 removal_outweighs_write = simp gets refl
+
+pub removals_raise_number : RemovalsRaiseNumber
+removals_raise_number = simp gets refl
+
+pub updates_of_an_absent_key : UpdatesOfAnAbsentKey
+updates_of_an_absent_key = simp gets refl

@@ -5,7 +5,7 @@ use Rattle.rart_family.specs.Replies.{Place, Flag, Value, NoVersion, NoMemory}
 use Rattle.rart_family.specs.Families.{Family}
 use Rattle.rart_family.specs.Runs.{Run}
 use Rattle.rart_family.specs.Costs.{read_cost, read_least, change_cost, change_least, touch_least}
-use Rattle.rart_family.specs.WorkedRuns.{WorkedRun, snapshot_of_a_value, changes_apart, clone_and_snapshot, replacements, removal_of_an_absent_key, deletion_beside_a_snapshot, failed_update, discarded_place, written_and_inserted, room_for_one, room_for_two, insertion_by_update, written_and_removed}
+use Rattle.rart_family.specs.WorkedRuns.{WorkedRun, snapshot_of_a_value, changes_apart, clone_and_snapshot, replacements, removal_of_an_absent_key, deletion_beside_a_snapshot, failed_update, discarded_place, written_and_inserted, room_for_one, room_for_two, insertion_by_update, written_and_removed, numbers_of_removals, updates_of_an_absent_key}
 
 -- The sums of a run: nodes that are entered to read, made to change and entered to change.
 pub record Sums : Type 0 where
@@ -88,6 +88,14 @@ InsertionByUpdateCosts = Costs insertion_by_update 0 0 0 3 0
 -- Updates that remove, and one that fails.
 abbrev pub WrittenAndRemovedCosts : Type 0
 WrittenAndRemovedCosts = Costs written_and_removed 0 0 2 15 4
+
+-- Insertions into a version without a key enter no node, removals of a key that is there do.
+abbrev pub NumbersOfRemovalsCost : Type 0
+NumbersOfRemovalsCost = Costs numbers_of_removals 0 2 2 12 2
+
+-- Updates of an absent key enter a node each, and need not make one.
+abbrev pub UpdatesOfAnAbsentKeyCost : Type 0
+UpdatesOfAnAbsentKeyCost = Costs updates_of_an_absent_key 1 2 1 21 6
 
 -- What is refused for memory leaves the family; and then there is no version at place 1.
 abbrev pub refused_memory : WorkedRun

@@ -175,3 +175,31 @@ written_and_removed = (
 -- An update that removes a key it wrote to leaves no key.
 abbrev pub RemovalOutweighsWrite : Type 0
 RemovalOutweighsWrite = IsReplied written_and_removed
+
+abbrev pub numbers_of_removals : WorkedRun
+numbers_of_removals = (
+  New ∷ Insert 0 (codes "a") 1 ∷ Remove 0 (codes "a") ∷ NumberOf 0 ∷ Insert 0 (codes "a") 2 ∷
+      Delete 0 (codes "a") ∷ NumberOf 0 ∷ Get 0 (codes "a") ∷ [],
+  Place 0 ∷ Flag false ∷ Value (Some 1) ∷ Number 2 ∷ Flag false ∷ Flag true ∷ Number 4 ∷
+      Value None ∷ [],
+)
+
+-- Removal and deletion of a key that is there raise the number by one each.
+abbrev pub RemovalsRaiseNumber : Type 0
+RemovalsRaiseNumber = IsReplied numbers_of_removals
+
+abbrev pub updates_of_an_absent_key : WorkedRun
+updates_of_an_absent_key = (
+  New ∷ Insert 0 (codes "a") 1 ∷ TryUpdate 0 (codes "b") None (Some Keep) ∷
+      TryUpdate 0 (codes "b") None (Some TakeOut) ∷ TryUpdate 0 (codes "b") None None ∷
+      Update 0 (codes "b") None Keep ∷ NumberOf 0 ∷ Update 0 (codes "b") None (Put 3) ∷
+      NumberOf 0 ∷ TryUpdate 0 (codes "b") (Some 7) (Some Keep) ∷ NumberOf 0 ∷
+      Get 0 (codes "b") ∷ [],
+  Place 0 ∷ Flag false ∷ Flag false ∷ Flag false ∷ Failed ∷ Flag false ∷ Number 1 ∷ Flag true ∷
+      Number 2 ∷ Flag true ∷ Number 3 ∷ Value (Some 7) ∷ [],
+)
+
+-- Of an absent key an update changes nothing unless it inserts; once the key is there, what is
+-- written and kept stays.
+abbrev pub UpdatesOfAnAbsentKey : Type 0
+UpdatesOfAnAbsentKey = IsReplied updates_of_an_absent_key

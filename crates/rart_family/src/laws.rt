@@ -1,7 +1,7 @@
 //! What the definitions of families mean: laws, each the contract of a function that does nothing.
 ghost use Rattle.rart_family.specs.Laws.{StepsAreIsolated, PlacesStay, RepliesFixSteps, RepliesFixRuns, NoReplyIsWant, NoWantWithoutMemory, NoWantBeforeLack};
-ghost use Rattle.rart_family.specs.WorkedCosts.{RefusedMemoryIsARun, SnapshotCosts, ChangesApartCost, CloneCosts, ReplacementsCost, AbsentRemovalCosts, DeletionCosts, FailedUpdateCosts, DiscardedPlaceCosts, WrittenAndInsertedCosts, RoomForOneCosts, RoomForTwoCosts, InsertionByUpdateCosts, WrittenAndRemovedCosts, RefusedMemoryCosts};
-ghost use Rattle.rart_family.specs.WorkedRuns.{SnapshotKeepsItsValue, ChangesStayApart, CloneKeepsNumber, ReplacementGivesOldValue, AbsentKeyStaysAbsent, DeletionIsNotSeenInSnapshot, FailedUpdateKeepsValue, DiscardedPlaceIsNotUsedAgain, AnswerOutweighsWrite, RoomIsAsked, RoomTwoIsAsked, InsertionByUpdateTakesOne, RemovalOutweighsWrite};
+ghost use Rattle.rart_family.specs.WorkedCosts.{RefusedMemoryIsARun, SnapshotCosts, ChangesApartCost, CloneCosts, ReplacementsCost, AbsentRemovalCosts, DeletionCosts, FailedUpdateCosts, DiscardedPlaceCosts, WrittenAndInsertedCosts, RoomForOneCosts, RoomForTwoCosts, InsertionByUpdateCosts, WrittenAndRemovedCosts, NumbersOfRemovalsCost, UpdatesOfAnAbsentKeyCost, RefusedMemoryCosts};
+ghost use Rattle.rart_family.specs.WorkedRuns.{SnapshotKeepsItsValue, ChangesStayApart, CloneKeepsNumber, ReplacementGivesOldValue, AbsentKeyStaysAbsent, DeletionIsNotSeenInSnapshot, FailedUpdateKeepsValue, DiscardedPlaceIsNotUsedAgain, AnswerOutweighsWrite, RoomIsAsked, RoomTwoIsAsked, InsertionByUpdateTakesOne, RemovalOutweighsWrite, RemovalsRaiseNumber, UpdatesOfAnAbsentKey};
 
 use rart_versioned::KeyTrait;
 
@@ -49,6 +49,8 @@ pub fn worked_runs()
     ensures room_two_is_asked { RoomTwoIsAsked }
     ensures insertion_by_update_takes_one { InsertionByUpdateTakesOne }
     ensures removal_outweighs_write { RemovalOutweighsWrite }
+    ensures removals_raise_number { RemovalsRaiseNumber }
+    ensures updates_of_an_absent_key { UpdatesOfAnAbsentKey }
 {}
 
 /// What the worked runs cost, found by hand; and a run in which memory is refused.
@@ -66,6 +68,8 @@ pub fn worked_costs()
     ensures room_for_two_costs { RoomForTwoCosts }
     ensures insertion_by_update_costs { InsertionByUpdateCosts }
     ensures written_and_removed_costs { WrittenAndRemovedCosts }
+    ensures numbers_of_removals_cost { NumbersOfRemovalsCost }
+    ensures updates_of_an_absent_key_cost { UpdatesOfAnAbsentKeyCost }
     ensures refused_memory_costs { RefusedMemoryCosts }
     ensures refused_memory_is_a_run { RefusedMemoryIsARun }
 {}

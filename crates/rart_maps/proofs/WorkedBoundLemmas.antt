@@ -1,6 +1,6 @@
 -- The worked values of the bounds, by computation.
 use Rattle.std.proofs.Common.{◌*◌, refl, ap, inl, inr}
-use Rattle.rart_maps.specs.WorkedBounds.{LookupOfNoByte, LookupOfThreeBytes, ChangeOfNoByte, ChangeOfThreeBytes, TouchOfNoByte, TouchOfThreeBytes, MeetOfTwo, MeetBelowOne, MeetWithItself, MeetOfEmpty, ReachOfTwo, ReachOfAll, ReachOfNone}
+use Rattle.rart_maps.specs.WorkedBounds.{LookupOfNoByte, LookupOfThreeBytes, ChangeOfNoByte, ChangeOfThreeBytes, TouchOfNoByte, TouchOfThreeBytes, MeetOfTwo, MeetBelowOne, MeetWithItself, MeetOfEmpty, ReachOfTwo, ReachOfAll, ReachOfNone, MeetOfDistinct, MeetInsideKeys, ReachOfFive, ReachOfOne, ReachPastKeys}
 use Rattle.rart_maps.proofs.MapRules.{maps, sets}
 use Rattle.rart_maps.proofs.PairLawLemmas.{shared_is_empty}
 use Rattle.std.specs.FinMap as finite
@@ -43,3 +43,18 @@ reach_of_none = simp (maps, sets) refl
 
 pub meet_of_empty : (V : Type 0) → MeetOfEmpty V
 meet_of_empty V m = (ap (λ n. 2 * n) ((shared_is_empty V finite.empty m).1 (inl refl)), ap (λ n. 2 * n) ((shared_is_empty V m finite.empty).1 (inr refl)))
+
+pub meet_of_distinct : MeetOfDistinct
+meet_of_distinct = simp (maps, sets) refl
+
+pub meet_inside_keys : MeetInsideKeys
+meet_inside_keys = simp (maps, sets) refl
+
+pub reach_of_five : ReachOfFive
+reach_of_five = simp (maps, sets) refl
+
+pub reach_of_one : ReachOfOne
+reach_of_one = simp (maps, sets) refl
+
+pub reach_past_keys : ReachPastKeys
+reach_past_keys = simp (maps, sets) refl

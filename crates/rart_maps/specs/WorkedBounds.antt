@@ -56,3 +56,24 @@ ReachOfAll = reach_bound (map_of ([] ∷ codes "a" ∷ codes "ab" ∷ [])) [] �
 -- Under abc is no start.
 abbrev pub ReachOfNone : Type 0
 ReachOfNone = reach_bound (map_of ([] ∷ codes "a" ∷ codes "ab" ∷ [])) (codes "abc") ≡ 4
+
+-- Shared is "" alone.
+abbrev pub MeetOfDistinct : Type 0
+MeetOfDistinct = meet_bound (map_of (codes "a" ∷ [])) (map_of (codes "b" ∷ [])) ≡ 2
+
+-- Shared are "", a and ab, which begin other keys in either.
+abbrev pub MeetInsideKeys : Type 0
+MeetInsideKeys = meet_bound (map_of (codes "abc" ∷ [])) (map_of (codes "abd" ∷ codes "x" ∷ [])) ≡ 6
+
+-- Under the empty string are all five starts, "", a, ab, abc and b.
+abbrev pub ReachOfFive : Type 0
+ReachOfFive = reach_bound (map_of (codes "a" ∷ codes "ab" ∷ codes "abc" ∷ codes "b" ∷ [])) [] ≡ 6
+
+-- Under b is b alone.
+abbrev pub ReachOfOne : Type 0
+ReachOfOne = reach_bound (map_of (codes "a" ∷ codes "ab" ∷ codes "abc" ∷ codes "b" ∷ [])) (codes "b") ≡ 3
+
+-- Under abcd is no start, and the prefix has four bytes.
+abbrev pub ReachPastKeys : Type 0
+ReachPastKeys =
+    reach_bound (map_of (codes "a" ∷ codes "ab" ∷ codes "abc" ∷ codes "b" ∷ [])) (codes "abcd") ≡ 5

@@ -1,5 +1,5 @@
 //! Worked values of what is read off maps and of the bounds, found by hand.
-ghost use Rattle.rart_maps.specs.WorkedBounds.{LookupOfNoByte, LookupOfThreeBytes, ChangeOfNoByte, ChangeOfThreeBytes, TouchOfNoByte, TouchOfThreeBytes, MeetOfTwo, MeetBelowOne, MeetWithItself, MeetOfEmpty, ReachOfTwo, ReachOfAll, ReachOfNone};
+ghost use Rattle.rart_maps.specs.WorkedBounds.{LookupOfNoByte, LookupOfThreeBytes, ChangeOfNoByte, ChangeOfThreeBytes, TouchOfNoByte, TouchOfThreeBytes, MeetOfTwo, MeetBelowOne, MeetWithItself, MeetOfEmpty, ReachOfTwo, ReachOfAll, ReachOfNone, MeetOfDistinct, MeetInsideKeys, ReachOfFive, ReachOfOne, ReachPastKeys};
 ghost use Rattle.rart_maps.specs.WorkedPairs.{WithinIncluded, WithinExcluded, WithinOtherKeys, WithinLowAlone, WithinHighAlone, WithinReversed, WithinOneKey, WithinNoKey, UnderTwo, UnderOne, UnderItself, UnderEmpty, UnderNone, BeginningsShortestFirst, BeginningsOfKey, BeginningsNone, CommonLeftFirst, CommonNone};
 
 /// Worked values: the pairs within two bounds, that include or exclude their key, one bound alone,
@@ -53,4 +53,9 @@ pub fn worked_bounds<V>()
     ensures reach_of_two { ReachOfTwo }
     ensures reach_of_all { ReachOfAll }
     ensures reach_of_none { ReachOfNone }
+    ensures meet_of_distinct { MeetOfDistinct }
+    ensures meet_inside_keys { MeetInsideKeys }
+    ensures reach_of_five { ReachOfFive }
+    ensures reach_of_one { ReachOfOne }
+    ensures reach_past_keys { ReachPastKeys }
 {}

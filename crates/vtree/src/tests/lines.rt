@@ -46,6 +46,19 @@ fn each_form_has_its_count_of_words(rt: HostRuntime) -> Result<(), Fail> {
 }
 
 #[test]
+fn words_stand_alone(rt: HostRuntime) -> Result<(), Fail> {
+    assert_served(
+        &rt,
+        rt.alloc(),
+        "new-at 1 2 / delete 0 'a 1 / get 0 'a 'b / update 0 'a - remove 1 / New / \
+         upd 0 'a - keep / version  / insert 0 'a  / new-at  / removed 0 'a",
+        "bad line / bad line / bad line / bad line / bad line / bad line / bad line / bad line / \
+         bad line / bad line",
+        Served::BadLine,
+    )
+}
+
+#[test]
 fn numbers_have_1_to_20_digits(rt: HostRuntime) -> Result<(), Fail> {
     assert_served(
         &rt,
@@ -139,6 +152,15 @@ fn long_line_is_skipped_to_its_end(rt: HostRuntime) -> Result<(), Fail> {
 #[test]
 fn input_may_be_empty(rt: HostRuntime) -> Result<(), Fail> {
     assert_served(&rt, rt.alloc(), "", "", Served::Clean)
+}
+
+#[test]
+fn last_line_of_one_byte_is_read(rt: HostRuntime) -> Result<(), Fail> {
+    let mut output = Vec::new(rt.alloc());
+    let served = serve(rt.alloc(), b"new\nx".as_slice(), &mut output)?;
+    assert_eq!(rt; output.as_slice(), b"at 0\nbad line\n".as_slice());
+    assert_eq!(rt; served, Served::BadLine);
+    Ok(())
 }
 
 #[test]

@@ -62,3 +62,15 @@ fn failed_write_ends_the_serving(rt: HostRuntime) -> Result<(), Fail> {
     assert!(rt; served == Err(ServeError::Write));
     Ok(())
 }
+
+#[test]
+fn failed_write_of_a_bad_line_ends_the_serving(rt: HostRuntime) -> Result<(), Fail> {
+    let mut writer = FailingWriter {
+        taken: Vec::new(rt.alloc()),
+        most: 3,
+    };
+    let served = serve(rt.alloc(), b"old\nnew\n".as_slice(), &mut writer);
+    assert_eq!(rt; writer.taken.as_slice(), b"bad".as_slice());
+    assert!(rt; served == Err(ServeError::Write));
+    Ok(())
+}

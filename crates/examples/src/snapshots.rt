@@ -1,5 +1,5 @@
-//! A snapshot answers with the value that its version had when it was taken, whatever the version is
-//! told afterwards.
+//! A snapshot answers with the value that its version had when it was taken, whatever the version
+//! is told afterwards.
 ghost use Rattle.std.specs.Prelude.{◌≡◌, ◌≢◌, Some, IfOk, All, map, length, slice_get};
 ghost use Rattle.rart_family.specs.Given.{ClonesEqual};
 ghost use Rattle.rart_family.specs.Replies.{Value, NoMemory, seen};

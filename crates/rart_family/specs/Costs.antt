@@ -34,8 +34,8 @@ pub record ReadsBetween (least most : ℕ) (before after : Counts) : Type 0 wher
   pub entered_at_most : after.entered ≤ before.entered + most
   pub made_as_before : after.made ≡ before.made
 
--- From the counts before to those after, so many nodes were made, and so many entered: at least those
--- touched, and at most three times as many as are made at most.
+-- From the counts before to those after, so many nodes were made, and so many entered: at least
+-- those touched, and at most three times as many as are made at most.
 pub record ChangesBetween (least most touched : ℕ) (before after : Counts) : Type 0 where
   pub made_at_least : before.made + least ≤ after.made
   pub made_at_most : after.made ≤ before.made + most
@@ -70,8 +70,8 @@ module _ {K V : Type 0} (bytes : K → List ℕ) where
   change_least_of f (Replace place key value) r = if_done r 1
   change_least_of f c r = 0
 
-  -- It enters at least so many to change its version, where that has a key. Before a call with a value
-  -- the value is copied, so there want of memory may come before a node is entered.
+  -- It enters at least so many to change its version, where that has a key. Before a call with a
+  -- value the value is copied, so there want of memory may come before a node is entered.
   abbrev pub touch_least_of : Family V → Command K V → Reply V → ℕ
   touch_least_of f (GetMut place key value) r = if_done r (one_with_key (version_at f place))
   touch_least_of f (Insert place key value) r = if_done r (one_with_key (version_at f place))
@@ -79,7 +79,8 @@ module _ {K V : Type 0} (bytes : K → List ℕ) where
   touch_least_of f (Remove place key) r = if_called r (one_with_key (version_at f place))
   touch_least_of f (Delete place key) r = if_called r (one_with_key (version_at f place))
   touch_least_of f (Update place key write answer) r = if_done r (one_with_key (version_at f place))
-  touch_least_of f (TryUpdate place key write answer) r = if_done r (one_with_key (version_at f place))
+  touch_least_of f (TryUpdate place key write answer) r =
+      if_done r (one_with_key (version_at f place))
   touch_least_of f c r = 0
 
   -- A command, replied so, raises the counts by what it costs.
@@ -87,7 +88,8 @@ module _ {K V : Type 0} (bytes : K → List ℕ) where
   CountsReads f c r = ReadsBetween (read_least_of f c r) (read_cost_of f c r)
 
   abbrev pub CountsChanges : Family V → Command K V → Reply V → Counts → Counts → Type 0
-  CountsChanges f c r = ChangesBetween (change_least_of f c r) (change_cost_of f c r) (touch_least_of f c r)
+  CountsChanges f c r =
+      ChangesBetween (change_least_of f c r) (change_cost_of f c r) (touch_least_of f c r)
 
   -- costs added up along a run, each at the family before its command
   abbrev pub along : (Family V → Command K V → Reply V → ℕ) → Family V → List (Command K V) → List (Reply V) → ℕ

@@ -46,8 +46,8 @@ module _ (K V : Type 0) (bytes : K → List ℕ) where
   abbrev pub LacksKey : Family V → ℕ → K → Type 0
   LacksKey f place key = IfSome (version_at f place) (λ v. has_key v (bytes key) ≡ false)
 
-  -- The command takes no memory: it looks at a version as a whole, drops it, or looks up or takes out
-  -- a key that the version lacks.
+  -- The command takes no memory: it looks at a version as a whole, drops it, or looks up or takes
+  -- out a key that the version lacks.
   abbrev pub TakesNoMemory : Family V → Command K V → Type 0
   TakesNoMemory f (Discard place) = ⊤
   TakesNoMemory f (NumberOf place) = ⊤
@@ -59,10 +59,13 @@ module _ (K V : Type 0) (bytes : K → List ℕ) where
 
   -- No step replies want of memory to a command that takes none.
   abbrev pub NoWantWithoutMemory : Type 0
-  NoWantWithoutMemory = (old new : Family V) (c : Command K V) → TakesNoMemory old c → ¬ Step bytes old c NoMemory new
+  NoWantWithoutMemory =
+      (old new : Family V) (c : Command K V)
+      → TakesNoMemory old c → ¬ Step bytes old c NoMemory new
 
   -- No step replies want of memory where a version or room is lacking.
   abbrev pub NoWantBeforeLack : Type 0
   NoWantBeforeLack =
       (old new : Family V) (c : Command K V)
-      → (reply_to bytes old c ≡ NoVersion) ⊎ (reply_to bytes old c ≡ NoRoom) → ¬ Step bytes old c NoMemory new
+      → (reply_to bytes old c ≡ NoVersion) ⊎ (reply_to bytes old c ≡ NoRoom)
+      → ¬ Step bytes old c NoMemory new

@@ -7,7 +7,7 @@ use Rattle.rart_family.specs.Runs.{Run}
 use Rattle.rart_family.specs.Costs.{read_cost, read_least, change_cost, change_least, touch_least}
 use Rattle.rart_family.specs.WorkedRuns.{WorkedRun, snapshot_of_a_value, changes_apart, clone_and_snapshot, replacements, removal_of_an_absent_key, deletion_beside_a_snapshot, failed_update, discarded_place, written_and_inserted, room_for_one, room_for_two, insertion_by_update, written_and_removed, numbers_of_removals, updates_of_an_absent_key}
 
--- The sums of a run: nodes that are entered to read, made to change and entered to change.
+-- The sums of a run: how many nodes it enters to read, makes to change and enters to change.
 pub record Sums : Type 0 where
   pub least_read : ℕ
   pub most_read : ℕ
@@ -24,8 +24,8 @@ sums run = record {
   least_touched = touch_least (λ key. key) [] run.0 run.1;
 }
 
--- A lookup of w enters at most as many nodes as w has bytes and one more, a change at w makes at most
--- as many as w has bytes and two more; a run costs so much.
+-- A run enters so many nodes to read, at least and at most, makes so many to change, at least and
+-- at most, and enters at least so many to change.
 abbrev pub Costs : WorkedRun → ℕ → ℕ → ℕ → ℕ → ℕ → Type 0
 Costs run least_read most_read least_made most_made least_touched =
     sums run
@@ -45,7 +45,7 @@ SnapshotCosts = Costs snapshot_of_a_value 1 5 1 6 0
 abbrev pub ChangesApartCost : Type 0
 ChangesApartCost = Costs changes_apart 6 30 3 18 2
 
--- Snapshots and clones cost nothing.
+-- Beside an insertion snapshots and clones cost nothing.
 abbrev pub CloneCosts : Type 0
 CloneCosts = Costs clone_and_snapshot 0 0 1 3 0
 
@@ -65,7 +65,7 @@ DeletionCosts = Costs deletion_beside_a_snapshot 3 7 2 10 2
 abbrev pub FailedUpdateCosts : Type 0
 FailedUpdateCosts = Costs failed_update 2 8 1 10 1
 
--- Writing to a key that is there, and to one that is absent.
+-- Writing to a key that is there and to one that is absent, and a replacement.
 abbrev pub DiscardedPlaceCosts : Type 0
 DiscardedPlaceCosts = Costs discarded_place 0 0 2 12 3
 
@@ -111,7 +111,7 @@ refused_memory = (
 abbrev pub RefusedMemoryIsARun : Type 0
 RefusedMemoryIsARun = (new : Family ℕ) × Run (λ key. key) [] refused_memory.0 refused_memory.1 new
 
--- What is refused for memory counts in what a run costs at most, and not in what it costs at least, but
--- for a removal, which enters a node before memory can be refused.
+-- What is refused for memory counts in what a run costs at most, and not in what it costs at least,
+-- but for a removal, which enters a node before memory can be refused.
 abbrev pub RefusedMemoryCosts : Type 0
 RefusedMemoryCosts = Costs refused_memory 0 5 1 15 1

@@ -35,7 +35,8 @@ pub(super) fn write_slot<K: KeyTrait, V: Clone + Drop>(
     ensures present { OnErr result (IsTrue (has_key version.old (K.bytes key.now))) }
     ensures counted { CountsUpTo (touch_bound (K.bytes key.now)) (change_bound (K.bytes key.now))
         changes.old changes.new }
-    ensures entered_least { has_no_key version.old ≡ false → changes.old.entered < changes.new.entered }
+    ensures entered_least { has_no_key version.old ≡ false
+        → changes.old.entered < changes.new.entered }
 {
     match slot(version, key, changes) {
         Ok(slot) => {
@@ -60,7 +61,8 @@ fn slot<'a, K: KeyTrait, V: Clone + Drop>(
     ensures missing { IfErr result (λ why. Explains why (value_at version.old (K.bytes key.now))) }
     ensures counted { CountsUpTo (touch_bound (K.bytes key.now)) (change_bound (K.bytes key.now))
         changes.old changes.new }
-    ensures entered_least { has_no_key version.old ≡ false → changes.old.entered < changes.new.entered }
+    ensures entered_least { has_no_key version.old ≡ false
+        → changes.old.entered < changes.new.entered }
 {
     slot_of(version.get_mut_k_counted(key, changes))
 }

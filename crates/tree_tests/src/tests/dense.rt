@@ -3,9 +3,8 @@
 use crate::tests::interpreter::Answer::*;
 use crate::tests::interpreter::Call::*;
 use crate::tests::interpreter::Change::*;
-use crate::tests::interpreter::Keys::FourBytes;
 use crate::tests::interpreter::Step::{Each, Rows};
-use crate::tests::interpreter::{Sweep, assert_steps};
+use crate::tests::interpreter::{Keys, Sweep, assert_steps_on};
 use rart_versioned::ArrayKey;
 use std::alloc::Global;
 use std::process::Abort;
@@ -13,12 +12,16 @@ use std::test::Fail;
 
 const FIRST: &[u8] = &[8, 0, 0, 0, 0];
 
+fn keys(first: u32, end: u32) -> Keys<'static> {
+    Keys::FourBytes(&[8], first, end)
+}
+
 // All are found and the next one isn't, in the tree, and in a snapshot of it whatever becomes of the
 // tree.
 fn assert_all_found(rt: &impl Abort, alloc: Global, count: u16) -> Result<(), Fail> {
     let count = u32::from(count);
-    let all = FourBytes(&[8], 0, count);
-    let next = FourBytes(&[8], count, count + 1);
+    let all = keys(0, count);
+    let next = keys(count, count + 1);
     let steps = [
         Rows(&[(New, Place(0))]),
         Each(Sweep::Insert, 0, all),
@@ -32,7 +35,7 @@ fn assert_all_found(rt: &impl Abort, alloc: Global, count: u16) -> Result<(), Fa
         Each(Sweep::Find, 1, all),
         Each(Sweep::Miss, 1, next),
     ];
-    assert_steps::<ArrayKey<8>>(rt, alloc, &steps)
+    assert_steps_on::<ArrayKey<8>>(rt, alloc, &steps)
 }
 
 #[test]

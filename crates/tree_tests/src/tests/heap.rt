@@ -2,7 +2,7 @@
 use crate::tests::interpreter::Answer::*;
 use crate::tests::interpreter::Call::*;
 use crate::tests::interpreter::Change::*;
-use crate::tests::interpreter::{Row, assert_runs};
+use crate::tests::interpreter::{Row, Step, assert_steps_on};
 use rart_versioned::{KeyTrait, VectorKey};
 use std::alloc::{AllocError, Global};
 use std::process::Abort;
@@ -50,7 +50,7 @@ fn assert_ascending(
 #[test]
 fn long_keys_are_found_and_ordered(rt: HostRuntime) -> Result<(), Fail> {
     assert_eq!(rt; SECOND.len(), 300);
-    assert_runs::<VectorKey>(&rt, rt.alloc(), LONG)?;
+    assert_steps_on::<VectorKey>(&rt, rt.alloc(), &[Step::Rows(LONG)])?;
     assert_ascending(&rt, rt.alloc(), b"", FIRST)?;
     assert_ascending(&rt, rt.alloc(), FIRST, SECOND)?;
     Ok(())

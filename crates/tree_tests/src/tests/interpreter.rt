@@ -14,24 +14,31 @@ mod versions;
 
 pub use call::{Answer, Call, Change, Edit, Form, Outcome};
 pub use keys::Keys;
-use rart_versioned::KeyTrait;
+use rart_versioned::{ArrayKey, KeyTrait, VectorKey};
 use std::alloc::Global;
 use std::process::Abort;
 use std::test::Fail;
 pub use step::{Row, Step, Sweep};
 use versions::Versions;
 
-/// Runs a table, as `assert_steps` does the steps that it is one of.
-pub fn assert_runs<K: KeyTrait>(rt: &impl Abort, alloc: Global, table: &[Row]) -> Result<(), Fail> {
-    assert_steps::<K>(rt, alloc, &[Step::Rows(table)])
+/// Runs a table, as `assert_steps` runs the steps that it is one of.
+pub fn assert_runs(rt: &impl Abort, alloc: Global, table: &[Row]) -> Result<(), Fail> {
+    assert_steps(rt, alloc, &[Step::Rows(table)])
 }
 
-/// Runs steps over no version at first, and stops at the first answer that is not the wanted one,
-/// with the indices of its step and of its row there. Want of memory is an error.
+/// Runs steps with keys of at most 16 bytes, once inline and once on the heap, as `assert_steps_on`
+/// does.
+pub fn assert_steps(rt: &impl Abort, alloc: Global, steps: &[Step]) -> Result<(), Fail> {
+    assert_steps_on::<ArrayKey<16>>(rt, alloc, steps)?;
+    assert_steps_on::<VectorKey>(rt, alloc, steps)
+}
+
+/// Runs steps with keys of a type over no version at first, and stops at the first answer that is
+/// not the wanted one, with the index of its step and of its row there. Want of memory is an error.
 ///
 /// The steps are run once for each form. In each run the rows take the forms in turn, and each run
 /// begins with another one: so each row is run in each form, after rows in the others.
-pub fn assert_steps<K: KeyTrait>(
+pub fn assert_steps_on<K: KeyTrait>(
     rt: &impl Abort,
     alloc: Global,
     steps: &[Step],

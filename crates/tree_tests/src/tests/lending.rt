@@ -2,7 +2,6 @@ use crate::tests::interpreter::Answer::*;
 use crate::tests::interpreter::Call::*;
 use crate::tests::interpreter::Change::*;
 use crate::tests::interpreter::{Row, assert_runs};
-use rart_versioned::ArrayKey;
 use std::test::Fail;
 
 const FORMS: &[Row] = &[
@@ -19,7 +18,7 @@ const FORMS: &[Row] = &[
 
 #[test]
 fn each_form_of_lending_writes(rt: HostRuntime) -> Result<(), Fail> {
-    assert_runs::<ArrayKey<16>>(&rt, rt.alloc(), FORMS)
+    assert_runs(&rt, rt.alloc(), FORMS)
 }
 
 const ABSENT_KEY: &[Row] = &[
@@ -34,5 +33,5 @@ const ABSENT_KEY: &[Row] = &[
 
 #[test]
 fn absent_key_lends_nothing(rt: HostRuntime) -> Result<(), Fail> {
-    assert_runs::<ArrayKey<16>>(&rt, rt.alloc(), ABSENT_KEY)
+    assert_runs(&rt, rt.alloc(), ABSENT_KEY)
 }

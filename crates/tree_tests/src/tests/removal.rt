@@ -4,7 +4,6 @@ use crate::tests::interpreter::Change::*;
 use crate::tests::interpreter::Keys::Byte;
 use crate::tests::interpreter::Step::{Each, Rows};
 use crate::tests::interpreter::{Row, Step, Sweep, assert_runs, assert_steps};
-use rart_versioned::ArrayKey;
 use std::test::Fail;
 
 const ALL_BYTES: &[Step] = &[
@@ -17,7 +16,7 @@ const ALL_BYTES: &[Step] = &[
 
 #[test]
 fn all_one_byte_keys_are_removed(rt: HostRuntime) -> Result<(), Fail> {
-    assert_steps::<ArrayKey<16>>(&rt, rt.alloc(), ALL_BYTES)
+    assert_steps(&rt, rt.alloc(), ALL_BYTES)
 }
 
 const SNAPSHOT: &[Row] = &[
@@ -34,7 +33,7 @@ const SNAPSHOT: &[Row] = &[
 
 #[test]
 fn removal_leaves_the_snapshot(rt: HostRuntime) -> Result<(), Fail> {
-    assert_runs::<ArrayKey<16>>(&rt, rt.alloc(), SNAPSHOT)
+    assert_runs(&rt, rt.alloc(), SNAPSHOT)
 }
 
 const LONGER_KEY: &[Row] = &[
@@ -48,7 +47,7 @@ const LONGER_KEY: &[Row] = &[
 
 #[test]
 fn longer_key_is_absent_where_its_beginning_is_there(rt: HostRuntime) -> Result<(), Fail> {
-    assert_runs::<ArrayKey<16>>(&rt, rt.alloc(), LONGER_KEY)
+    assert_runs(&rt, rt.alloc(), LONGER_KEY)
 }
 
 const LAST_KEY: &[Row] = &[
@@ -64,7 +63,7 @@ const LAST_KEY: &[Row] = &[
 
 #[test]
 fn last_key_leaves_an_empty_tree(rt: HostRuntime) -> Result<(), Fail> {
-    assert_runs::<ArrayKey<16>>(&rt, rt.alloc(), LAST_KEY)
+    assert_runs(&rt, rt.alloc(), LAST_KEY)
 }
 
 const FORMS: &[Row] = &[
@@ -82,5 +81,5 @@ const FORMS: &[Row] = &[
 
 #[test]
 fn each_form_of_removal_succeeds(rt: HostRuntime) -> Result<(), Fail> {
-    assert_runs::<ArrayKey<16>>(&rt, rt.alloc(), FORMS)
+    assert_runs(&rt, rt.alloc(), FORMS)
 }

@@ -2,7 +2,6 @@ use crate::tests::interpreter::Answer::*;
 use crate::tests::interpreter::Call::*;
 use crate::tests::interpreter::Change::*;
 use crate::tests::interpreter::{Row, assert_runs};
-use rart_versioned::ArrayKey;
 use std::test::Fail;
 
 const REPLACING: &[Row] = &[
@@ -21,5 +20,5 @@ const REPLACING: &[Row] = &[
 
 #[test]
 fn replacing_gives_the_old_value(rt: HostRuntime) -> Result<(), Fail> {
-    assert_runs::<ArrayKey<16>>(&rt, rt.alloc(), REPLACING)
+    assert_runs(&rt, rt.alloc(), REPLACING)
 }

@@ -4,7 +4,6 @@ use crate::tests::interpreter::Change::*;
 use crate::tests::interpreter::Keys::Decimal;
 use crate::tests::interpreter::Step::{Each, Rows};
 use crate::tests::interpreter::{Row, Step, Sweep, assert_runs, assert_steps};
-use rart_versioned::VectorKey;
 use std::test::Fail;
 
 const GROWTH: &[Step] = &[
@@ -20,7 +19,7 @@ const GROWTH: &[Step] = &[
 
 #[test]
 fn keys_are_found_while_nodes_grow(rt: HostRuntime) -> Result<(), Fail> {
-    assert_steps::<VectorKey>(&rt, rt.alloc(), GROWTH)
+    assert_steps(&rt, rt.alloc(), GROWTH)
 }
 
 const SNAPSHOTS: &[Step] = &[
@@ -44,7 +43,7 @@ const SNAPSHOTS: &[Step] = &[
 
 #[test]
 fn snapshots_keep_what_the_tree_changes(rt: HostRuntime) -> Result<(), Fail> {
-    assert_steps::<VectorKey>(&rt, rt.alloc(), SNAPSHOTS)
+    assert_steps(&rt, rt.alloc(), SNAPSHOTS)
 }
 
 const ONE_BRANCH: &[Step] = &[
@@ -72,7 +71,7 @@ const ONE_BRANCH: &[Step] = &[
 
 #[test]
 fn change_of_one_branch_leaves_the_others(rt: HostRuntime) -> Result<(), Fail> {
-    assert_steps::<VectorKey>(&rt, rt.alloc(), ONE_BRANCH)
+    assert_steps(&rt, rt.alloc(), ONE_BRANCH)
 }
 
 const REPLACEMENTS: &[Row] = &[
@@ -93,7 +92,7 @@ const REPLACEMENTS: &[Row] = &[
 
 #[test]
 fn snapshot_keeps_its_value_through_replacements(rt: HostRuntime) -> Result<(), Fail> {
-    assert_runs::<VectorKey>(&rt, rt.alloc(), REPLACEMENTS)
+    assert_runs(&rt, rt.alloc(), REPLACEMENTS)
 }
 
 const LONGER_KEY: &[Row] = &[
@@ -109,5 +108,5 @@ const LONGER_KEY: &[Row] = &[
 
 #[test]
 fn longer_key_is_not_seen_in_an_earlier_snapshot(rt: HostRuntime) -> Result<(), Fail> {
-    assert_runs::<VectorKey>(&rt, rt.alloc(), LONGER_KEY)
+    assert_runs(&rt, rt.alloc(), LONGER_KEY)
 }

@@ -2,7 +2,6 @@ use crate::tests::interpreter::Answer::*;
 use crate::tests::interpreter::Call::*;
 use crate::tests::interpreter::Change::*;
 use crate::tests::interpreter::{Row, assert_runs};
-use rart_versioned::ArrayKey;
 use std::test::Fail;
 
 const INDEPENDENT: &[Row] = &[
@@ -23,7 +22,7 @@ const INDEPENDENT: &[Row] = &[
 
 #[test]
 fn snapshot_and_tree_change_independently(rt: HostRuntime) -> Result<(), Fail> {
-    assert_runs::<ArrayKey<16>>(&rt, rt.alloc(), INDEPENDENT)
+    assert_runs(&rt, rt.alloc(), INDEPENDENT)
 }
 
 const REPLACING: &[Row] = &[
@@ -38,7 +37,7 @@ const REPLACING: &[Row] = &[
 
 #[test]
 fn insertion_tells_whether_it_replaced(rt: HostRuntime) -> Result<(), Fail> {
-    assert_runs::<ArrayKey<16>>(&rt, rt.alloc(), REPLACING)
+    assert_runs(&rt, rt.alloc(), REPLACING)
 }
 
 const CLONED: &[Row] = &[
@@ -53,7 +52,7 @@ const CLONED: &[Row] = &[
 
 #[test]
 fn clone_keeps_the_number_and_is_its_own(rt: HostRuntime) -> Result<(), Fail> {
-    assert_runs::<ArrayKey<16>>(&rt, rt.alloc(), CLONED)
+    assert_runs(&rt, rt.alloc(), CLONED)
 }
 
 // Keys that begin one another, the empty one among them.
@@ -86,7 +85,7 @@ const BEGINNINGS: &[Row] = &[
 
 #[test]
 fn keys_that_begin_one_another_keep_apart_in_snapshots(rt: HostRuntime) -> Result<(), Fail> {
-    assert_runs::<ArrayKey<16>>(&rt, rt.alloc(), BEGINNINGS)
+    assert_runs(&rt, rt.alloc(), BEGINNINGS)
 }
 
 const FORMS: &[Row] = &[
@@ -100,5 +99,5 @@ const FORMS: &[Row] = &[
 
 #[test]
 fn each_form_of_a_call_answers_the_same(rt: HostRuntime) -> Result<(), Fail> {
-    assert_runs::<ArrayKey<16>>(&rt, rt.alloc(), FORMS)
+    assert_runs(&rt, rt.alloc(), FORMS)
 }

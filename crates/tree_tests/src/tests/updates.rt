@@ -3,7 +3,6 @@ use crate::tests::interpreter::Call::*;
 use crate::tests::interpreter::Change::*;
 use crate::tests::interpreter::Edit::{Clear, Fill, Nothing, Overwrite};
 use crate::tests::interpreter::{Outcome, Row, assert_runs};
-use rart_versioned::ArrayKey;
 use std::test::Fail;
 
 const ONE_VERSION: &[Row] = &[
@@ -26,7 +25,7 @@ const ONE_VERSION: &[Row] = &[
 
 #[test]
 fn update_changes_one_version(rt: HostRuntime) -> Result<(), Fail> {
-    assert_runs::<ArrayKey<16>>(&rt, rt.alloc(), ONE_VERSION)
+    assert_runs(&rt, rt.alloc(), ONE_VERSION)
 }
 
 const ERROR: &[Row] = &[
@@ -44,7 +43,7 @@ const ERROR: &[Row] = &[
 
 #[test]
 fn error_of_the_callback_leaves_the_value(rt: HostRuntime) -> Result<(), Fail> {
-    assert_runs::<ArrayKey<16>>(&rt, rt.alloc(), ERROR)
+    assert_runs(&rt, rt.alloc(), ERROR)
 }
 
 const ABSENT_KEY: &[Row] = &[
@@ -66,7 +65,7 @@ const ABSENT_KEY: &[Row] = &[
 
 #[test]
 fn update_of_an_absent_key_inserts_or_does_nothing(rt: HostRuntime) -> Result<(), Fail> {
-    assert_runs::<ArrayKey<16>>(&rt, rt.alloc(), ABSENT_KEY)
+    assert_runs(&rt, rt.alloc(), ABSENT_KEY)
 }
 
 const INSERTED: &[Row] = &[
@@ -90,7 +89,7 @@ const INSERTED: &[Row] = &[
 
 #[test]
 fn inserted_value_takes_the_place_of_what_was_written(rt: HostRuntime) -> Result<(), Fail> {
-    assert_runs::<ArrayKey<16>>(&rt, rt.alloc(), INSERTED)
+    assert_runs(&rt, rt.alloc(), INSERTED)
 }
 
 const TRIED: &[Row] = &[
@@ -129,7 +128,7 @@ const TRIED: &[Row] = &[
 
 #[test]
 fn tried_update_counts_two_but_for_keep(rt: HostRuntime) -> Result<(), Fail> {
-    assert_runs::<ArrayKey<16>>(&rt, rt.alloc(), TRIED)
+    assert_runs(&rt, rt.alloc(), TRIED)
 }
 
 const LEFT_VACANT: &[Row] = &[
@@ -142,7 +141,7 @@ const LEFT_VACANT: &[Row] = &[
 
 #[test]
 fn value_stays_where_its_slot_is_left_vacant(rt: HostRuntime) -> Result<(), Fail> {
-    assert_runs::<ArrayKey<16>>(&rt, rt.alloc(), LEFT_VACANT)
+    assert_runs(&rt, rt.alloc(), LEFT_VACANT)
 }
 
 const FILLED: &[Row] = &[
@@ -154,7 +153,7 @@ const FILLED: &[Row] = &[
 
 #[test]
 fn value_put_into_a_vacant_slot_is_given_up(rt: HostRuntime) -> Result<(), Fail> {
-    assert_runs::<ArrayKey<16>>(&rt, rt.alloc(), FILLED)
+    assert_runs(&rt, rt.alloc(), FILLED)
 }
 
 const FORMS: &[Row] = &[
@@ -167,7 +166,7 @@ const FORMS: &[Row] = &[
 
 #[test]
 fn each_form_of_update_succeeds(rt: HostRuntime) -> Result<(), Fail> {
-    assert_runs::<ArrayKey<16>>(&rt, rt.alloc(), FORMS)
+    assert_runs(&rt, rt.alloc(), FORMS)
 }
 
 const TRIED_FORMS: &[Row] = &[
@@ -180,5 +179,5 @@ const TRIED_FORMS: &[Row] = &[
 
 #[test]
 fn each_form_of_tried_update_answers_the_error(rt: HostRuntime) -> Result<(), Fail> {
-    assert_runs::<ArrayKey<16>>(&rt, rt.alloc(), TRIED_FORMS)
+    assert_runs(&rt, rt.alloc(), TRIED_FORMS)
 }

@@ -1,4 +1,4 @@
-ghost use Rattle.rart_versioned.specs.Versions.{HasRoom};
+ghost use Rattle.rart_maps.specs.Versions.{HasRoom};
 
 use super::call::{Answer, Form};
 use super::versions::Tree;

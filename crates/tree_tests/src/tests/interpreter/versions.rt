@@ -1,6 +1,6 @@
 ghost use Rattle.std.specs.Prelude.{◌+◌, ◌<◌, ◌≤◌, ◌^◌, length, IsTrue};
 ghost use Rattle.rart_versioned.specs.Given.{IsAdmitted};
-ghost use Rattle.rart_versioned.specs.Versions.{HasRoom};
+ghost use Rattle.rart_maps.specs.Versions.{HasRoom};
 
 use super::call::{Answer, Call, Change, Form};
 use super::{changes, lookup, updates};

@@ -1,54 +1,57 @@
 // Keys on the heap, longer than any inline.
-ghost use Rattle.std.specs.Prelude.{◌<◌};
-
-use rart_versioned::{KeyTrait, VectorKey, VersionedAdaptiveRadixTree};
+use crate::tests::interpreter::Answer::*;
+use crate::tests::interpreter::Call::*;
+use crate::tests::interpreter::Change::*;
+use crate::tests::interpreter::{Row, Step, assert_steps_on};
+use rart_versioned::{KeyTrait, VectorKey};
 use std::alloc::{AllocError, Global};
 use std::process::Abort;
 use std::test::Fail;
 
-type Heap = VersionedAdaptiveRadixTree<VectorKey, u64>;
+const FIRST: &[u8] = &[0x61; 300];
+// 299 bytes 0x61, and then 0x62.
+const SECOND: &[u8] = b"aaaaaaaaaaaaaaaaaaaaaaaaaaaaaaaaaaaaaaaaaaaaaaaaaaaaaaaaaaaaaaaaaaaaaaaaaaa\
+    aaaaaaaaaaaaaaaaaaaaaaaaaaaaaaaaaaaaaaaaaaaaaaaaaaaaaaaaaaaaaaaaaaaaaaaaaaa\
+    aaaaaaaaaaaaaaaaaaaaaaaaaaaaaaaaaaaaaaaaaaaaaaaaaaaaaaaaaaaaaaaaaaaaaaaaaaa\
+    aaaaaaaaaaaaaaaaaaaaaaaaaaaaaaaaaaaaaaaaaaaaaaaaaaaaaaaaaaaaaaaaaaaaaaaaaab";
 
-// So many bytes 0x61, and then this end.
-fn key(alloc: Global, count: usize, end: &[u8]) -> Result<VectorKey, AllocError> {
-    let mut bytes = Vec::new(alloc);
-    for _ in 0..count {
-        bytes.push(0x61)?;
-    }
-    bytes.extend_from_slice(end)?;
-    VectorKey::new_from_slice(alloc, &bytes)
-}
+const SHORTER: &[u8] = &[0x61; 298];
 
-fn insert(
+const LONG: &[Row] = &[
+    (New, Place(0)),
+    (At(0, FIRST, Insert(1)), Flag(false)),
+    (At(0, SECOND, Insert(2)), Flag(false)),
+    (At(0, b"", Insert(3)), Flag(false)),
+    (Version(0), Number(3)),
+    (Snapshot(0), Place(1)),
+    (Version(1), Number(4)),
+    (Get(0, FIRST), Value(Some(1))),
+    (Get(0, SECOND), Value(Some(2))),
+    (Get(0, b""), Value(Some(3))),
+    (Get(0, SHORTER), Value(None)),
+    (Get(1, FIRST), Value(Some(1))),
+    (Get(1, SECOND), Value(Some(2))),
+    (Get(1, b""), Value(Some(3))),
+    (Get(1, SHORTER), Value(None)),
+];
+
+fn assert_ascending(
     rt: &impl Abort,
-    tree: &mut Heap,
-    key: &VectorKey,
-    value: u64,
-) -> Result<bool, AllocError> {
-    assert!(rt; tree.version() < 1000);
-    tree.insert_k(key, value)
+    alloc: Global,
+    lower: &[u8],
+    upper: &[u8],
+) -> Result<(), AllocError> {
+    let lower = VectorKey::new_from_slice(alloc, lower)?;
+    let upper = VectorKey::new_from_slice(alloc, upper)?;
+    assert!(rt; lower < upper);
+    Ok(())
 }
 
 #[test]
 fn long_keys_are_found_and_ordered(rt: HostRuntime) -> Result<(), Fail> {
-    let alloc = rt.alloc();
-    let first = key(alloc, 300, b"")?;
-    let second = key(alloc, 299, b"b")?;
-    let empty = key(alloc, 0, b"")?;
-    let mut tree = Heap::new(alloc);
-    assert!(rt; !insert(&rt, &mut tree, &first, 1)?);
-    assert!(rt; !insert(&rt, &mut tree, &second, 2)?);
-    assert!(rt; !insert(&rt, &mut tree, &empty, 3)?);
-    assert_eq!(rt; tree.version(), 3);
-    assert!(rt; tree.version() < 1000);
-    let snapshot = tree.snapshot()?;
-    assert_eq!(rt; snapshot.version(), 4);
-    for version in [&tree, &snapshot] {
-        assert_eq!(rt; version.get_k(&first).copied(), Some(1));
-        assert_eq!(rt; version.get_k(&second).copied(), Some(2));
-        assert_eq!(rt; version.get_k(&empty).copied(), Some(3));
-        assert_eq!(rt; version.get_k(&key(alloc, 298, b"")?).copied(), None);
-    }
-    assert!(rt; empty < first);
-    assert!(rt; first < second);
+    assert_eq!(rt; SECOND.len(), 300);
+    assert_steps_on::<VectorKey>(&rt, rt.alloc(), &[Step::Rows(LONG)])?;
+    assert_ascending(&rt, rt.alloc(), b"", FIRST)?;
+    assert_ascending(&rt, rt.alloc(), FIRST, SECOND)?;
     Ok(())
 }

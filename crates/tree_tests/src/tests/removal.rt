@@ -1,112 +1,85 @@
-ghost use Rattle.std.specs.Prelude.{◌≤◌, length};
-
-use crate::tests::{Tree, assert_room, assert_value, insert, key};
-use rart_versioned::Work;
-use std::alloc::{AllocError, Global};
-use std::process::Abort;
+use crate::tests::interpreter::Answer::*;
+use crate::tests::interpreter::Call::*;
+use crate::tests::interpreter::Change::*;
+use crate::tests::interpreter::Keys::Byte;
+use crate::tests::interpreter::Step::{Each, Rows};
+use crate::tests::interpreter::{Row, Step, Sweep, assert_runs, assert_steps};
 use std::test::Fail;
 
-fn remove(
-    rt: &impl Abort,
-    alloc: Global,
-    tree: &mut Tree,
-    bytes: &[u8],
-) -> Result<Option<u64>, AllocError>
-    requires { length bytes.now ≤ 16 }
-{
-    assert_room(rt, tree);
-    tree.remove_k(&key(alloc, bytes)?)
-}
-
-fn delete(rt: &impl Abort, alloc: Global, tree: &mut Tree, bytes: &[u8]) -> Result<bool, AllocError>
-    requires { length bytes.now ≤ 16 }
-{
-    assert_room(rt, tree);
-    tree.delete_k(&key(alloc, bytes)?)
-}
-
-fn insert_each_byte(rt: &impl Abort, alloc: Global, tree: &mut Tree) -> Result<(), AllocError> {
-    for byte in 0..=255u8 {
-        assert!(rt; !insert(rt, alloc, tree, &[byte], u64::from(byte))?);
-    }
-    Ok(())
-}
-
-fn remove_each_byte(rt: &impl Abort, alloc: Global, tree: &mut Tree) -> Result<(), AllocError> {
-    for byte in 0..=255u8 {
-        assert_eq!(rt; remove(rt, alloc, tree, &[byte])?, Some(u64::from(byte)));
-    }
-    Ok(())
-}
+const ALL_BYTES: &[Step] = &[
+    Rows(&[(New, Place(0))]),
+    Each(Sweep::Insert, 0, Byte(b"", 0, 256)),
+    Rows(&[(Version(0), Number(256))]),
+    Each(Sweep::Remove, 0, Byte(b"", 0, 256)),
+    Rows(&[(Version(0), Number(512)), (IsEmpty(0), Flag(true))]),
+];
 
 #[test]
 fn all_one_byte_keys_are_removed(rt: HostRuntime) -> Result<(), Fail> {
-    let mut tree = Tree::new(rt.alloc());
-    insert_each_byte(&rt, rt.alloc(), &mut tree)?;
-    assert_eq!(rt; tree.version(), 256);
-    remove_each_byte(&rt, rt.alloc(), &mut tree)?;
-    assert_eq!(rt; tree.version(), 512);
-    assert!(rt; tree.is_empty());
-    Ok(())
+    assert_steps(&rt, rt.alloc(), ALL_BYTES)
 }
+
+const SNAPSHOT: &[Row] = &[
+    (New, Place(0)),
+    (At(0, b"a", Insert(1)), Flag(false)),
+    (At(0, b"ab", Insert(2)), Flag(false)),
+    (Snapshot(0), Place(1)),
+    (At(0, b"a", Delete), Flag(true)),
+    (Get(0, b"a"), Value(None)),
+    (Get(0, b"ab"), Value(Some(2))),
+    (Get(1, b"a"), Value(Some(1))),
+    (Get(1, b"ab"), Value(Some(2))),
+];
 
 #[test]
 fn removal_leaves_the_snapshot(rt: HostRuntime) -> Result<(), Fail> {
-    let mut tree = Tree::new(rt.alloc());
-    insert(&rt, rt.alloc(), &mut tree, b"a", 1)?;
-    insert(&rt, rt.alloc(), &mut tree, b"ab", 2)?;
-    assert_room(&rt, &tree);
-    let snapshot = tree.snapshot()?;
-    assert!(rt; delete(&rt, rt.alloc(), &mut tree, b"a")?);
-    assert_value(&rt, rt.alloc(), &tree, b"a", None)?;
-    assert_value(&rt, rt.alloc(), &tree, b"ab", Some(2))?;
-    assert_value(&rt, rt.alloc(), &snapshot, b"a", Some(1))?;
-    assert_value(&rt, rt.alloc(), &snapshot, b"ab", Some(2))?;
-    Ok(())
+    assert_runs(&rt, rt.alloc(), SNAPSHOT)
 }
+
+const LONGER_KEY: &[Row] = &[
+    (New, Place(0)),
+    (At(0, b"d", Insert(1)), Flag(false)),
+    (At(0, b"da", Remove), Value(None)),
+    (At(0, b"da", Delete), Flag(false)),
+    (Get(0, b"d"), Value(Some(1))),
+    (Version(0), Number(1)),
+];
 
 #[test]
 fn longer_key_is_absent_where_its_beginning_is_there(rt: HostRuntime) -> Result<(), Fail> {
-    let mut tree = Tree::new(rt.alloc());
-    insert(&rt, rt.alloc(), &mut tree, b"d", 1)?;
-    assert_eq!(rt; remove(&rt, rt.alloc(), &mut tree, b"da")?, None);
-    assert!(rt; !delete(&rt, rt.alloc(), &mut tree, b"da")?);
-    assert_value(&rt, rt.alloc(), &tree, b"d", Some(1))?;
-    assert_eq!(rt; tree.version(), 1);
-    Ok(())
+    assert_runs(&rt, rt.alloc(), LONGER_KEY)
 }
+
+const LAST_KEY: &[Row] = &[
+    (New, Place(0)),
+    (At(0, b"", Insert(1)), Flag(false)),
+    (At(0, b"abcdef", Insert(2)), Flag(false)),
+    (At(0, b"", Delete), Flag(true)),
+    (IsEmpty(0), Flag(false)),
+    (At(0, b"abcdef", Delete), Flag(true)),
+    (IsEmpty(0), Flag(true)),
+    (Version(0), Number(4)),
+];
 
 #[test]
 fn last_key_leaves_an_empty_tree(rt: HostRuntime) -> Result<(), Fail> {
-    let mut tree = Tree::new(rt.alloc());
-    insert(&rt, rt.alloc(), &mut tree, b"", 1)?;
-    insert(&rt, rt.alloc(), &mut tree, b"abcdef", 2)?;
-    assert!(rt; delete(&rt, rt.alloc(), &mut tree, b"")?);
-    assert!(rt; !tree.is_empty());
-    assert!(rt; delete(&rt, rt.alloc(), &mut tree, b"abcdef")?);
-    assert!(rt; tree.is_empty());
-    assert_eq!(rt; tree.version(), 4);
-    Ok(())
+    assert_runs(&rt, rt.alloc(), LAST_KEY)
 }
+
+const FORMS: &[Row] = &[
+    (New, Place(0)),
+    (At(0, b"a", Insert(1)), Flag(false)),
+    (At(0, b"b", Insert(2)), Flag(false)),
+    (At(0, b"c", Insert(3)), Flag(false)),
+    (At(0, b"d", Insert(4)), Flag(false)),
+    (At(0, b"a", Remove), Value(Some(1))),
+    (At(0, b"b", Remove), Value(Some(2))),
+    (At(0, b"c", Delete), Flag(true)),
+    (At(0, b"d", Delete), Flag(true)),
+    (IsEmpty(0), Flag(true)),
+];
 
 #[test]
 fn each_form_of_removal_succeeds(rt: HostRuntime) -> Result<(), Fail> {
-    let mut tree = Tree::new(rt.alloc());
-    insert(&rt, rt.alloc(), &mut tree, b"a", 1)?;
-    insert(&rt, rt.alloc(), &mut tree, b"b", 2)?;
-    insert(&rt, rt.alloc(), &mut tree, b"c", 3)?;
-    insert(&rt, rt.alloc(), &mut tree, b"d", 4)?;
-    assert_room(&rt, &tree);
-    assert_eq!(rt; tree.remove(key(rt.alloc(), b"a")?)?, Some(1));
-    assert_room(&rt, &tree);
-    assert_eq!(rt;
-        tree.remove_k_counted(&key(rt.alloc(), b"b")?, &mut Work::new())?,
-        Some(2)
-    );
-    assert_room(&rt, &tree);
-    assert!(rt; tree.delete(key(rt.alloc(), b"c")?)?);
-    assert_room(&rt, &tree);
-    assert!(rt; tree.delete_k_counted(&key(rt.alloc(), b"d")?, &mut Work::new())?);
-    assert!(rt; tree.is_empty());
-    Ok(())
+    assert_runs(&rt, rt.alloc(), FORMS)
 }

@@ -1,45 +1,24 @@
-ghost use Rattle.std.specs.Prelude.{◌≤◌, length};
-
-use crate::tests::{Tree, assert_room, assert_value, key};
-use std::alloc::{AllocError, Global};
-use std::process::Abort;
+use crate::tests::interpreter::Answer::*;
+use crate::tests::interpreter::Call::*;
+use crate::tests::interpreter::Change::*;
+use crate::tests::interpreter::{Row, assert_runs};
 use std::test::Fail;
 
-fn replace(
-    rt: &impl Abort,
-    alloc: Global,
-    tree: &mut Tree,
-    bytes: &[u8],
-    value: u64,
-) -> Result<Option<u64>, AllocError>
-    requires { length bytes.now ≤ 16 }
-{
-    assert_room(rt, tree);
-    tree.insert_and_replace_k(&key(alloc, bytes)?, value)
-}
+const REPLACING: &[Row] = &[
+    (New, Place(0)),
+    (At(0, b"key1", InsertAndReplace(100)), Value(None)),
+    (At(0, b"key1", InsertAndReplace(200)), Value(Some(100))),
+    (Snapshot(0), Place(1)),
+    (At(0, b"key1", InsertAndReplace(300)), Value(Some(200))),
+    (At(0, b"key2", InsertAndReplace(400)), Value(None)),
+    (At(0, b"key2", InsertAndReplace(500)), Value(Some(400))),
+    (Get(0, b"key1"), Value(Some(300))),
+    (Get(0, b"key2"), Value(Some(500))),
+    (Get(1, b"key1"), Value(Some(200))),
+    (Version(0), Number(5)),
+];
 
 #[test]
 fn replacing_gives_the_old_value(rt: HostRuntime) -> Result<(), Fail> {
-    let mut tree = Tree::new(rt.alloc());
-    assert_eq!(rt; replace(&rt, rt.alloc(), &mut tree, b"key1", 100)?, None);
-    assert_eq!(rt;
-        replace(&rt, rt.alloc(), &mut tree, b"key1", 200)?,
-        Some(100)
-    );
-    assert_room(&rt, &tree);
-    let snapshot = tree.snapshot()?;
-    assert_eq!(rt;
-        replace(&rt, rt.alloc(), &mut tree, b"key1", 300)?,
-        Some(200)
-    );
-    assert_eq!(rt; replace(&rt, rt.alloc(), &mut tree, b"key2", 400)?, None);
-    assert_eq!(rt;
-        replace(&rt, rt.alloc(), &mut tree, b"key2", 500)?,
-        Some(400)
-    );
-    assert_value(&rt, rt.alloc(), &tree, b"key1", Some(300))?;
-    assert_value(&rt, rt.alloc(), &tree, b"key2", Some(500))?;
-    assert_value(&rt, rt.alloc(), &snapshot, b"key1", Some(200))?;
-    assert_eq!(rt; tree.version(), 5);
-    Ok(())
+    assert_runs(&rt, rt.alloc(), REPLACING)
 }

@@ -1,187 +1,112 @@
-ghost use Rattle.std.specs.Prelude.{◌<◌};
-
-use rart_versioned::{KeyTrait, VectorKey, VersionedAdaptiveRadixTree};
-use std::alloc::{AllocError, Global};
-use std::process::Abort;
+use crate::tests::interpreter::Answer::*;
+use crate::tests::interpreter::Call::*;
+use crate::tests::interpreter::Change::*;
+use crate::tests::interpreter::Keys::Decimal;
+use crate::tests::interpreter::Step::{Each, Rows};
+use crate::tests::interpreter::{Row, Step, Sweep, assert_runs, assert_steps};
 use std::test::Fail;
 
-type Names = VersionedAdaptiveRadixTree<VectorKey, u64>;
-
-// A name with two digits behind it.
-fn numbered(alloc: Global, name: &[u8], number: u8) -> Result<VectorKey, AllocError>
-    requires { number < 100 }
-{
-    let mut bytes = Vec::new(alloc);
-    bytes.extend_from_slice(name)?;
-    bytes.push(b'0' + number / 10)?;
-    bytes.push(b'0' + number % 10)?;
-    VectorKey::new_from_slice(alloc, bytes.as_slice())
-}
-
-fn named(alloc: Global, name: &[u8]) -> Result<VectorKey, AllocError> {
-    VectorKey::new_from_slice(alloc, name)
-}
-
-fn assert_room(rt: &impl Abort, tree: &Names)
-    ensures { tree.now.number < 1000 }
-{
-    assert!(rt; tree.version() < 1000);
-}
-
-fn snapshot(rt: &impl Abort, tree: &Names) -> Result<Names, AllocError> {
-    assert_room(rt, tree);
-    tree.snapshot()
-}
-
-fn insert(
-    rt: &impl Abort,
-    tree: &mut Names,
-    key: &VectorKey,
-    value: u64,
-) -> Result<bool, AllocError> {
-    assert_room(rt, tree);
-    tree.insert_k(key, value)
-}
-
-fn assert_value(rt: &impl Abort, tree: &Names, key: &VectorKey, wanted: Option<u64>) {
-    assert_eq!(rt; tree.get_k(key).copied(), wanted);
-}
-
-fn insert_ten(
-    rt: &impl Abort,
-    alloc: Global,
-    tree: &mut Names,
-    name: &[u8],
-    first: u8,
-) -> Result<(), AllocError>
-    requires { first < 90 }
-{
-    for step in 0..10u8 {
-        let number = first + step;
-        let key = numbered(alloc, name, number)?;
-        assert!(rt; !insert(rt, tree, &key, u64::from(number))?);
-    }
-    Ok(())
-}
-
-fn assert_ten(
-    rt: &impl Abort,
-    alloc: Global,
-    tree: &Names,
-    name: &[u8],
-    first: u8,
-    are_there: bool,
-) -> Result<(), AllocError>
-    requires { first < 90 }
-{
-    for step in 0..10u8 {
-        let number = first + step;
-        let wanted = if are_there {
-            Some(u64::from(number))
-        } else {
-            None
-        };
-        assert_value(rt, tree, &numbered(alloc, name, number)?, wanted);
-    }
-    Ok(())
-}
+const GROWTH: &[Step] = &[
+    Rows(&[(New, Place(0))]),
+    Each(Sweep::Insert, 0, Decimal(b"key", 0, 10)),
+    Each(Sweep::Find, 0, Decimal(b"key", 0, 10)),
+    Rows(&[(Snapshot(0), Place(1))]),
+    Each(Sweep::Insert, 0, Decimal(b"key", 10, 20)),
+    Each(Sweep::Miss, 1, Decimal(b"key", 10, 20)),
+    Each(Sweep::Find, 0, Decimal(b"key", 10, 20)),
+    Each(Sweep::Find, 1, Decimal(b"key", 0, 10)),
+];
 
 #[test]
 fn keys_are_found_while_nodes_grow(rt: HostRuntime) -> Result<(), Fail> {
-    let alloc = rt.alloc();
-    let mut tree = Names::new(alloc);
-    insert_ten(&rt, alloc, &mut tree, b"key", 0)?;
-    assert_ten(&rt, alloc, &tree, b"key", 0, true)?;
-    let early = snapshot(&rt, &tree)?;
-    insert_ten(&rt, alloc, &mut tree, b"key", 10)?;
-    assert_ten(&rt, alloc, &early, b"key", 10, false)?;
-    assert_ten(&rt, alloc, &tree, b"key", 10, true)?;
-    assert_ten(&rt, alloc, &early, b"key", 0, true)?;
-    Ok(())
+    assert_steps(&rt, rt.alloc(), GROWTH)
 }
+
+const SNAPSHOTS: &[Step] = &[
+    Rows(&[(New, Place(0))]),
+    Each(Sweep::Insert, 0, Decimal(b"shared_key_", 0, 20)),
+    Rows(&[
+        (Snapshot(0), Place(1)),
+        (Snapshot(0), Place(2)),
+        (Snapshot(0), Place(3)),
+        (At(0, b"new_key", Insert(999)), Flag(false)),
+        (Get(1, b"new_key"), Value(None)),
+        (Get(2, b"new_key"), Value(None)),
+        (Get(3, b"new_key"), Value(None)),
+        (Get(0, b"new_key"), Value(Some(999))),
+    ]),
+    Each(Sweep::Find, 1, Decimal(b"shared_key_", 0, 20)),
+    Each(Sweep::Find, 2, Decimal(b"shared_key_", 0, 20)),
+    Each(Sweep::Find, 3, Decimal(b"shared_key_", 0, 20)),
+    Each(Sweep::Find, 0, Decimal(b"shared_key_", 0, 20)),
+];
 
 #[test]
 fn snapshots_keep_what_the_tree_changes(rt: HostRuntime) -> Result<(), Fail> {
-    let alloc = rt.alloc();
-    let mut tree = Names::new(alloc);
-    insert_ten(&rt, alloc, &mut tree, b"shared_key_", 0)?;
-    insert_ten(&rt, alloc, &mut tree, b"shared_key_", 10)?;
-    let first = snapshot(&rt, &tree)?;
-    let second = snapshot(&rt, &tree)?;
-    let third = snapshot(&rt, &tree)?;
-    let new = named(alloc, b"new_key")?;
-    assert!(rt; !insert(&rt, &mut tree, &new, 999)?);
-    for version in [&first, &second, &third] {
-        assert_value(&rt, version, &new, None);
-        assert_ten(&rt, alloc, version, b"shared_key_", 0, true)?;
-        assert_ten(&rt, alloc, version, b"shared_key_", 10, true)?;
-    }
-    assert_value(&rt, &tree, &new, Some(999));
-    assert_ten(&rt, alloc, &tree, b"shared_key_", 0, true)?;
-    assert_ten(&rt, alloc, &tree, b"shared_key_", 10, true)?;
-    Ok(())
+    assert_steps(&rt, rt.alloc(), SNAPSHOTS)
 }
+
+const ONE_BRANCH: &[Step] = &[
+    Rows(&[(New, Place(0))]),
+    Each(Sweep::Insert, 0, Decimal(b"user_", 0, 10)),
+    Each(Sweep::Insert, 0, Decimal(b"user_profile_", 0, 10)),
+    Each(Sweep::Insert, 0, Decimal(b"user_settings_", 0, 10)),
+    Each(Sweep::Insert, 0, Decimal(b"system_", 0, 10)),
+    Each(Sweep::Insert, 0, Decimal(b"system_config_", 0, 10)),
+    Rows(&[
+        (Snapshot(0), Place(1)),
+        (At(0, b"user_00", Insert(999)), Flag(true)),
+        (Get(0, b"user_00"), Value(Some(999))),
+        (Get(1, b"user_00"), Value(Some(0))),
+    ]),
+    Each(Sweep::Find, 0, Decimal(b"user_profile_", 0, 10)),
+    Each(Sweep::Find, 1, Decimal(b"user_profile_", 0, 10)),
+    Each(Sweep::Find, 0, Decimal(b"user_settings_", 0, 10)),
+    Each(Sweep::Find, 1, Decimal(b"user_settings_", 0, 10)),
+    Each(Sweep::Find, 0, Decimal(b"system_", 0, 10)),
+    Each(Sweep::Find, 1, Decimal(b"system_", 0, 10)),
+    Each(Sweep::Find, 0, Decimal(b"system_config_", 0, 10)),
+    Each(Sweep::Find, 1, Decimal(b"system_config_", 0, 10)),
+];
 
 #[test]
 fn change_of_one_branch_leaves_the_others(rt: HostRuntime) -> Result<(), Fail> {
-    let alloc = rt.alloc();
-    let mut tree = Names::new(alloc);
-    let names: [&[u8]; 4] = [
-        b"user_profile_",
-        b"user_settings_",
-        b"system_",
-        b"system_config_",
-    ];
-    insert_ten(&rt, alloc, &mut tree, b"user_", 0)?;
-    for name in names {
-        insert_ten(&rt, alloc, &mut tree, name, 0)?;
-    }
-    let early = snapshot(&rt, &tree)?;
-    let user = named(alloc, b"user_00")?;
-    assert!(rt; insert(&rt, &mut tree, &user, 999)?);
-    assert_value(&rt, &tree, &user, Some(999));
-    assert_value(&rt, &early, &user, Some(0));
-    for name in names {
-        assert_ten(&rt, alloc, &tree, name, 0, true)?;
-        assert_ten(&rt, alloc, &early, name, 0, true)?;
-    }
-    Ok(())
+    assert_steps(&rt, rt.alloc(), ONE_BRANCH)
 }
+
+const REPLACEMENTS: &[Row] = &[
+    (New, Place(0)),
+    (At(0, b"key1", Insert(100)), Flag(false)),
+    (At(0, b"key2", Insert(200)), Flag(false)),
+    (Snapshot(0), Place(1)),
+    (At(0, b"key1", Insert(300)), Flag(true)),
+    (Get(0, b"key1"), Value(Some(300))),
+    (Get(1, b"key1"), Value(Some(100))),
+    (At(0, b"key3", Insert(400)), Flag(false)),
+    (Get(0, b"key3"), Value(Some(400))),
+    (Get(1, b"key3"), Value(None)),
+    (At(0, b"key1", InsertAndReplace(500)), Value(Some(300))),
+    (Get(0, b"key1"), Value(Some(500))),
+    (Get(1, b"key1"), Value(Some(100))),
+];
 
 #[test]
 fn snapshot_keeps_its_value_through_replacements(rt: HostRuntime) -> Result<(), Fail> {
-    let alloc = rt.alloc();
-    let mut tree = Names::new(alloc);
-    let first = named(alloc, b"key1")?;
-    let third = named(alloc, b"key3")?;
-    assert!(rt; !insert(&rt, &mut tree, &first, 100)?);
-    assert!(rt; !insert(&rt, &mut tree, &named(alloc, b"key2")?, 200)?);
-    let early = snapshot(&rt, &tree)?;
-    assert!(rt; insert(&rt, &mut tree, &first, 300)?);
-    assert_value(&rt, &tree, &first, Some(300));
-    assert_value(&rt, &early, &first, Some(100));
-    assert!(rt; !insert(&rt, &mut tree, &third, 400)?);
-    assert_value(&rt, &tree, &third, Some(400));
-    assert_value(&rt, &early, &third, None);
-    assert_room(&rt, &tree);
-    assert_eq!(rt; tree.insert_and_replace_k(&first, 500)?, Some(300));
-    assert_value(&rt, &tree, &first, Some(500));
-    assert_value(&rt, &early, &first, Some(100));
-    Ok(())
+    assert_runs(&rt, rt.alloc(), REPLACEMENTS)
 }
+
+const LONGER_KEY: &[Row] = &[
+    (New, Place(0)),
+    (At(0, b"d", Insert(1)), Flag(false)),
+    (Snapshot(0), Place(1)),
+    (At(0, b"da", Insert(2)), Flag(false)),
+    (Get(0, b"d"), Value(Some(1))),
+    (Get(0, b"da"), Value(Some(2))),
+    (Get(1, b"d"), Value(Some(1))),
+    (Get(1, b"da"), Value(None)),
+];
 
 #[test]
 fn longer_key_is_not_seen_in_an_earlier_snapshot(rt: HostRuntime) -> Result<(), Fail> {
-    let alloc = rt.alloc();
-    let mut tree = Names::new(alloc);
-    let short = named(alloc, b"d")?;
-    let long = named(alloc, b"da")?;
-    assert!(rt; !insert(&rt, &mut tree, &short, 1)?);
-    let early = snapshot(&rt, &tree)?;
-    assert!(rt; !insert(&rt, &mut tree, &long, 2)?);
-    assert_value(&rt, &tree, &short, Some(1));
-    assert_value(&rt, &tree, &long, Some(2));
-    assert_value(&rt, &early, &short, Some(1));
-    assert_value(&rt, &early, &long, None);
-    Ok(())
+    assert_runs(&rt, rt.alloc(), LONGER_KEY)
 }

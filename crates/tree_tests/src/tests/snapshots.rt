@@ -1,111 +1,123 @@
-ghost use Rattle.std.specs.Prelude.{◌≤◌, length};
-
-use crate::tests::{Tree, assert_room, assert_value, insert, key};
-use rart_versioned::Work;
-use std::alloc::{AllocError, Global};
-use std::process::Abort;
+use crate::tests::interpreter::Answer::*;
+use crate::tests::interpreter::Call::*;
+use crate::tests::interpreter::Change::*;
+use crate::tests::interpreter::{Edit, Row, assert_runs};
 use std::test::Fail;
 
-fn snapshot(rt: &impl Abort, tree: &Tree) -> Result<Tree, AllocError> {
-    assert_room(rt, tree);
-    tree.snapshot()
-}
+const INDEPENDENT: &[Row] = &[
+    (New, Place(0)),
+    (At(0, b"key1", Insert(1)), Flag(false)),
+    (Snapshot(0), Place(1)),
+    (Version(0), Number(1)),
+    (Version(1), Number(2)),
+    (At(0, b"key2", Insert(2)), Flag(false)),
+    (At(1, b"key3", Insert(3)), Flag(false)),
+    (Get(0, b"key1"), Value(Some(1))),
+    (Get(0, b"key2"), Value(Some(2))),
+    (Get(0, b"key3"), Value(None)),
+    (Get(1, b"key1"), Value(Some(1))),
+    (Get(1, b"key2"), Value(None)),
+    (Get(1, b"key3"), Value(Some(3))),
+];
 
 #[test]
 fn snapshot_and_tree_change_independently(rt: HostRuntime) -> Result<(), Fail> {
-    let mut tree = Tree::new(rt.alloc());
-    assert!(rt; !insert(&rt, rt.alloc(), &mut tree, b"key1", 1)?);
-    let mut snapshot = snapshot(&rt, &tree)?;
-    assert_eq!(rt; tree.version(), 1);
-    assert_eq!(rt; snapshot.version(), 2);
-    assert!(rt; !insert(&rt, rt.alloc(), &mut tree, b"key2", 2)?);
-    assert!(rt; !insert(&rt, rt.alloc(), &mut snapshot, b"key3", 3)?);
-    assert_value(&rt, rt.alloc(), &tree, b"key1", Some(1))?;
-    assert_value(&rt, rt.alloc(), &tree, b"key2", Some(2))?;
-    assert_value(&rt, rt.alloc(), &tree, b"key3", None)?;
-    assert_value(&rt, rt.alloc(), &snapshot, b"key1", Some(1))?;
-    assert_value(&rt, rt.alloc(), &snapshot, b"key2", None)?;
-    assert_value(&rt, rt.alloc(), &snapshot, b"key3", Some(3))?;
-    Ok(())
+    assert_runs(&rt, rt.alloc(), INDEPENDENT)
 }
+
+const REPLACING: &[Row] = &[
+    (Default, Place(0)),
+    (IsEmpty(0), Flag(true)),
+    (At(0, b"key1", Insert(1)), Flag(false)),
+    (At(0, b"key1", Insert(2)), Flag(true)),
+    (IsEmpty(0), Flag(false)),
+    (Get(0, b"key1"), Value(Some(2))),
+    (Version(0), Number(2)),
+];
 
 #[test]
 fn insertion_tells_whether_it_replaced(rt: HostRuntime) -> Result<(), Fail> {
-    let mut tree = Tree::default(rt.alloc());
-    assert!(rt; tree.is_empty());
-    assert!(rt; !insert(&rt, rt.alloc(), &mut tree, b"key1", 1)?);
-    assert!(rt; insert(&rt, rt.alloc(), &mut tree, b"key1", 2)?);
-    assert!(rt; !tree.is_empty());
-    assert_value(&rt, rt.alloc(), &tree, b"key1", Some(2))?;
-    assert_eq!(rt; tree.version(), 2);
-    Ok(())
+    assert_runs(&rt, rt.alloc(), REPLACING)
 }
+
+const CLONED: &[Row] = &[
+    (NewAt(7), Place(0)),
+    (At(0, b"a", Insert(1)), Flag(false)),
+    (Clone(0), Place(1)),
+    (Version(1), Number(8)),
+    (At(1, b"a", Insert(2)), Flag(true)),
+    (Get(0, b"a"), Value(Some(1))),
+    (Get(1, b"a"), Value(Some(2))),
+];
 
 #[test]
 fn clone_keeps_the_number_and_is_its_own(rt: HostRuntime) -> Result<(), Fail> {
-    let mut tree = Tree::new_at(rt.alloc(), 7);
-    insert(&rt, rt.alloc(), &mut tree, b"a", 1)?;
-    let mut clone = tree.clone()?;
-    assert_eq!(rt; clone.version(), 8);
-    insert(&rt, rt.alloc(), &mut clone, b"a", 2)?;
-    assert_value(&rt, rt.alloc(), &tree, b"a", Some(1))?;
-    assert_value(&rt, rt.alloc(), &clone, b"a", Some(2))?;
-    Ok(())
+    assert_runs(&rt, rt.alloc(), CLONED)
 }
 
 // Keys that begin one another, the empty one among them.
-fn insert_beginnings(rt: &impl Abort, alloc: Global, tree: &mut Tree) -> Result<(), AllocError> {
-    insert(rt, alloc, tree, b"alphabet", 3)?;
-    insert(rt, alloc, tree, b"", 0)?;
-    insert(rt, alloc, tree, b"alphabetical", 4)?;
-    insert(rt, alloc, tree, b"a", 1)?;
-    insert(rt, alloc, tree, b"apple", 5)?;
-    insert(rt, alloc, tree, b"alpha", 2)?;
-    Ok(())
-}
-
-fn assert_beginnings(rt: &impl Abort, alloc: Global, tree: &Tree) -> Result<(), AllocError> {
-    assert_value(rt, alloc, tree, b"", Some(0))?;
-    assert_value(rt, alloc, tree, b"a", Some(1))?;
-    assert_value(rt, alloc, tree, b"alpha", Some(2))?;
-    assert_value(rt, alloc, tree, b"alphabet", Some(3))?;
-    assert_value(rt, alloc, tree, b"alphabetical", Some(4))?;
-    assert_value(rt, alloc, tree, b"apple", Some(5))?;
-    assert_value(rt, alloc, tree, b"al", None)?;
-    assert_value(rt, alloc, tree, b"alphabetic", None)?;
-    assert_value(rt, alloc, tree, b"apples", None)?;
-    Ok(())
-}
+const BEGINNINGS: &[Row] = &[
+    (New, Place(0)),
+    (At(0, b"alphabet", Insert(3)), Flag(false)),
+    (At(0, b"", Insert(0)), Flag(false)),
+    (At(0, b"alphabetical", Insert(4)), Flag(false)),
+    (At(0, b"a", Insert(1)), Flag(false)),
+    (At(0, b"apple", Insert(5)), Flag(false)),
+    (At(0, b"alpha", Insert(2)), Flag(false)),
+    (Snapshot(0), Place(1)),
+    (At(0, b"alpha", Insert(20)), Flag(true)),
+    (Snapshot(0), Place(2)),
+    (At(0, b"", Insert(10)), Flag(true)),
+    (Get(1, b""), Value(Some(0))),
+    (Get(1, b"a"), Value(Some(1))),
+    (Get(1, b"alpha"), Value(Some(2))),
+    (Get(1, b"alphabet"), Value(Some(3))),
+    (Get(1, b"alphabetical"), Value(Some(4))),
+    (Get(1, b"apple"), Value(Some(5))),
+    (Get(1, b"al"), Value(None)),
+    (Get(1, b"alphabetic"), Value(None)),
+    (Get(1, b"apples"), Value(None)),
+    (Get(2, b"alpha"), Value(Some(20))),
+    (Get(2, b""), Value(Some(0))),
+    (Get(0, b"alpha"), Value(Some(20))),
+    (Get(0, b""), Value(Some(10))),
+];
 
 #[test]
 fn keys_that_begin_one_another_keep_apart_in_snapshots(rt: HostRuntime) -> Result<(), Fail> {
-    let mut tree = Tree::new(rt.alloc());
-    insert_beginnings(&rt, rt.alloc(), &mut tree)?;
-    let first = snapshot(&rt, &tree)?;
-    assert!(rt; insert(&rt, rt.alloc(), &mut tree, b"alpha", 20)?);
-    let second = snapshot(&rt, &tree)?;
-    assert!(rt; insert(&rt, rt.alloc(), &mut tree, b"", 10)?);
-    assert_beginnings(&rt, rt.alloc(), &first)?;
-    assert_value(&rt, rt.alloc(), &second, b"alpha", Some(20))?;
-    assert_value(&rt, rt.alloc(), &second, b"", Some(0))?;
-    assert_value(&rt, rt.alloc(), &tree, b"alpha", Some(20))?;
-    assert_value(&rt, rt.alloc(), &tree, b"", Some(10))?;
-    Ok(())
+    assert_runs(&rt, rt.alloc(), BEGINNINGS)
 }
+
+const FORMS: &[Row] = &[
+    (New, Place(0)),
+    (At(0, b"a", Insert(1)), Flag(false)),
+    (Get(0, b"a"), Value(Some(1))),
+    (Get(0, b"a"), Value(Some(1))),
+    (At(0, b"a", Insert(2)), Flag(true)),
+    (Get(0, b"a"), Value(Some(2))),
+];
 
 #[test]
 fn each_form_of_a_call_answers_the_same(rt: HostRuntime) -> Result<(), Fail> {
-    let alloc = rt.alloc();
-    let mut work = Work::new();
-    let mut tree = Tree::new(alloc);
-    assert!(rt; !tree.insert(key(alloc, b"a")?, 1)?);
-    assert_eq!(rt; tree.get(key(alloc, b"a")?).copied(), Some(1));
-    assert_eq!(rt;
-        tree.get_k_counted(&key(alloc, b"a")?, &mut work).copied(),
-        Some(1)
-    );
-    assert_room(&rt, &tree);
-    assert!(rt; tree.insert_k_counted(&key(alloc, b"a")?, 2, &mut work)?);
-    assert_eq!(rt; tree.get_k(&key(alloc, b"a")?).copied(), Some(2));
-    Ok(())
+    assert_runs(&rt, rt.alloc(), FORMS)
+}
+
+const GREATEST_NUMBER: &[Row] = &[
+    (NewAt(u64::MAX - 1), Place(0)),
+    (Snapshot(0), Place(1)),
+    (Version(1), Number(u64::MAX)),
+    (Clone(1), Place(2)),
+    (Version(2), Number(u64::MAX)),
+    (At(0, b"a", TryUpdate(Edit::Nothing, Err(1))), NoRoom),
+    (At(0, b"a", Insert(1)), Flag(false)),
+    (Version(0), Number(u64::MAX)),
+    (At(0, b"a", Delete), NoRoom),
+    (Snapshot(0), NoRoom),
+    (Get(0, b"a"), Value(Some(1))),
+    (Get(3, b"a"), NoVersion),
+];
+
+#[test]
+fn number_goes_up_to_the_greatest(rt: HostRuntime) -> Result<(), Fail> {
+    assert_runs(&rt, rt.alloc(), GREATEST_NUMBER)
 }

@@ -1,0 +1,102 @@
+/// The form of a call with a key.
+#[derive(Clone, Copy, Debug)]
+pub enum Form {
+    /// The key by value, as in `get`.
+    ByValue,
+    /// The key by reference, as in `get_k`.
+    ByReference,
+    /// The key by reference, and the work counted, as in `get_k_counted`.
+    WithWork,
+}
+
+impl Form {
+    /// The form of a row: the next row has the next one, and so has the same row at the next turn.
+    pub fn in_turn(turn: usize, row: usize) -> Form {
+        match (turn % 3 + row % 3) % 3 {
+            0 => Form::ByReference,
+            1 => Form::ByValue,
+            _ => Form::WithWork,
+        }
+    }
+}
+
+/// A call of the tree.
+#[derive(Clone, Copy)]
+pub enum Call<'a> {
+    /// `new`. Its answer is `Place`, of the new version.
+    New,
+    /// `default`: `Place`.
+    Default,
+    /// `new_at` with this number: `Place`.
+    NewAt(u64),
+    /// `snapshot` of the version at a place: `Place`.
+    Snapshot(usize),
+    /// `clone` of the version at a place: `Place`.
+    Clone(usize),
+    /// `is_empty` of the version at a place: `Flag`.
+    IsEmpty(usize),
+    /// `version` of the version at a place: `Number`.
+    Version(usize),
+    /// `get` of the key with these bytes, in the version at a place: `Value`.
+    Get(usize, &'a [u8]),
+    /// A change by the key with these bytes, of the version at a place.
+    At(usize, &'a [u8], Change),
+}
+
+/// A call that changes a version by a key.
+#[derive(Clone, Copy)]
+pub enum Change {
+    /// `get_mut`: `Flag`, whether a reference is lent. This value is written through it.
+    GetMut(u64),
+    /// `insert` of this value: `Flag`.
+    Insert(u64),
+    /// `insert_and_replace` of this value: `Value`.
+    InsertAndReplace(u64),
+    /// `remove`: `Value`.
+    Remove,
+    /// `delete`: `Flag`.
+    Delete,
+    /// `update` by a callback that does and answers this: `Flag`.
+    Update(Edit, Outcome),
+    /// `try_update` by a callback that does and answers this: `Flag`, or `CallbackError`.
+    TryUpdate(Edit, Result<Outcome, u64>),
+}
+
+/// What a callback does to its slot.
+#[derive(Clone, Copy)]
+pub enum Edit {
+    /// Nothing.
+    Nothing,
+    /// Writes this value over the value in the slot, if one is there.
+    Overwrite(u64),
+    /// Leaves the slot occupied by this value.
+    Fill(u64),
+    /// Leaves the slot vacant.
+    Clear,
+}
+
+/// What a callback answers: the `SlotUpdate` of that name.
+#[derive(Clone, Copy)]
+pub enum Outcome {
+    Keep,
+    Insert(u64),
+    Remove,
+}
+
+/// What a call is answered.
+#[derive(Clone, Copy, PartialEq, Eq, Debug)]
+pub enum Answer {
+    /// The place of a new version.
+    Place(usize),
+    Number(u64),
+    Flag(bool),
+    Value(Option<u64>),
+    /// The error that the callback answered.
+    CallbackError(u64),
+    /// There is no version at the place: nothing is called.
+    NoVersion,
+    /// The version's number has no room for the call: it isn't made.
+    NoRoom,
+    /// A key of the type under test can't be that long: nothing is called.
+    KeyTooLong,
+}

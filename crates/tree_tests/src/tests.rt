@@ -1,3 +1,6 @@
+// Most tests are tables of calls with the answers that are wanted of them, run by the interpreter:
+// so that what is proved is the interpreter alone.
+
 mod bucket;
 mod buckets;
 mod dense;

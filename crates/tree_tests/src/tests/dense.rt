@@ -4,7 +4,7 @@ use crate::tests::interpreter::Answer::*;
 use crate::tests::interpreter::Call::*;
 use crate::tests::interpreter::Change::*;
 use crate::tests::interpreter::Step::{Each, Rows};
-use crate::tests::interpreter::{Keys, Sweep, assert_steps_on};
+use crate::tests::interpreter::{Keys, Row, Sweep, assert_steps_on};
 use rart_versioned::ArrayKey;
 use std::alloc::Global;
 use std::process::Abort;
@@ -12,26 +12,30 @@ use std::test::Fail;
 
 const FIRST: &[u8] = &[8, 0, 0, 0, 0];
 
+const START: &[Row] = &[(New, Place(0))];
+
+const CHANGE: &[Row] = &[
+    (Snapshot(0), Place(1)),
+    (At(0, FIRST, Insert(77)), Flag(true)),
+    (Get(0, FIRST), Value(Some(77))),
+];
+
 fn keys(first: u32, end: u32) -> Keys<'static> {
     Keys::FourBytes(&[8], first, end)
 }
 
-// All are found and the next one isn't, in the tree, and in a snapshot of it whatever becomes of the
-// tree.
+// All are found and the next one isn't: in the tree, and in a snapshot of it whatever becomes of
+// the tree.
 fn assert_all_found(rt: &impl Abort, alloc: Global, count: u16) -> Result<(), Fail> {
     let count = u32::from(count);
     let all = keys(0, count);
     let next = keys(count, count + 1);
     let steps = [
-        Rows(&[(New, Place(0))]),
+        Rows(START),
         Each(Sweep::Insert, 0, all),
         Each(Sweep::Find, 0, all),
         Each(Sweep::Miss, 0, next),
-        Rows(&[
-            (Snapshot(0), Place(1)),
-            (At(0, FIRST, Insert(77)), Flag(true)),
-            (Get(0, FIRST), Value(Some(77))),
-        ]),
+        Rows(CHANGE),
         Each(Sweep::Find, 1, all),
         Each(Sweep::Miss, 1, next),
     ];

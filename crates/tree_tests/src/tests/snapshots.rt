@@ -1,7 +1,7 @@
 use crate::tests::interpreter::Answer::*;
 use crate::tests::interpreter::Call::*;
 use crate::tests::interpreter::Change::*;
-use crate::tests::interpreter::{Row, assert_runs};
+use crate::tests::interpreter::{Edit, Row, assert_runs};
 use std::test::Fail;
 
 const INDEPENDENT: &[Row] = &[
@@ -100,4 +100,24 @@ const FORMS: &[Row] = &[
 #[test]
 fn each_form_of_a_call_answers_the_same(rt: HostRuntime) -> Result<(), Fail> {
     assert_runs(&rt, rt.alloc(), FORMS)
+}
+
+const GREATEST_NUMBER: &[Row] = &[
+    (NewAt(u64::MAX - 1), Place(0)),
+    (Snapshot(0), Place(1)),
+    (Version(1), Number(u64::MAX)),
+    (Clone(1), Place(2)),
+    (Version(2), Number(u64::MAX)),
+    (At(0, b"a", TryUpdate(Edit::Nothing, Err(1))), NoRoom),
+    (At(0, b"a", Insert(1)), Flag(false)),
+    (Version(0), Number(u64::MAX)),
+    (At(0, b"a", Delete), NoRoom),
+    (Snapshot(0), NoRoom),
+    (Get(0, b"a"), Value(Some(1))),
+    (Get(3, b"a"), NoVersion),
+];
+
+#[test]
+fn number_goes_up_to_the_greatest(rt: HostRuntime) -> Result<(), Fail> {
+    assert_runs(&rt, rt.alloc(), GREATEST_NUMBER)
 }

@@ -5,6 +5,7 @@ use super::versions::Tree;
 use rart_versioned::{KeyTrait, Work};
 use std::alloc::AllocError;
 
+/// Calls `insert` in a form.
 pub fn insert<K: KeyTrait>(
     tree: &mut Tree<K>,
     form: Form,
@@ -21,6 +22,7 @@ pub fn insert<K: KeyTrait>(
     Ok(Answer::Flag(replaced))
 }
 
+/// Calls `insert_and_replace` in a form.
 pub fn insert_and_replace<K: KeyTrait>(
     tree: &mut Tree<K>,
     form: Form,
@@ -37,6 +39,7 @@ pub fn insert_and_replace<K: KeyTrait>(
     Ok(Answer::Value(replaced))
 }
 
+/// Calls `remove` in a form.
 pub fn remove<K: KeyTrait>(tree: &mut Tree<K>, form: Form, key: K) -> Result<Answer, AllocError>
     requires { HasRoom tree.old 1 }
 {
@@ -48,6 +51,7 @@ pub fn remove<K: KeyTrait>(tree: &mut Tree<K>, form: Form, key: K) -> Result<Ans
     Ok(Answer::Value(value))
 }
 
+/// Calls `delete` in a form.
 pub fn delete<K: KeyTrait>(tree: &mut Tree<K>, form: Form, key: K) -> Result<Answer, AllocError>
     requires { HasRoom tree.old 1 }
 {

@@ -5,6 +5,7 @@ use super::versions::Tree;
 use rart_versioned::{KeyTrait, Work};
 use std::alloc::AllocError;
 
+/// Calls `get` in a form.
 pub fn get<K: KeyTrait>(tree: &Tree<K>, form: Form, key: K) -> Answer {
     let value = match form {
         Form::ByValue => tree.get(key).copied(),
@@ -14,7 +15,7 @@ pub fn get<K: KeyTrait>(tree: &Tree<K>, form: Form, key: K) -> Answer {
     Answer::Value(value)
 }
 
-/// Writes a value through the reference that is lent, if one is.
+/// Calls `get_mut` in a form, and writes a value through the reference that is lent, if one is.
 pub fn get_mut<K: KeyTrait>(
     tree: &mut Tree<K>,
     form: Form,

@@ -5,6 +5,7 @@ use super::versions::Tree;
 use rart_versioned::{KeyTrait, Refusal, Slot, SlotUpdate, Work};
 use std::alloc::AllocError;
 
+/// Calls `update` in a form, by a callback that does this to its slot and answers this.
 pub fn update<K: KeyTrait>(
     tree: &mut Tree<K>,
     form: Form,
@@ -26,6 +27,7 @@ pub fn update<K: KeyTrait>(
     Ok(Answer::Flag(is_there))
 }
 
+/// Calls `try_update` in a form, by a callback that does this to its slot and answers this.
 pub fn try_update<K: KeyTrait>(
     tree: &mut Tree<K>,
     form: Form,

@@ -13,6 +13,7 @@ pub type Tree<K> = VersionedAdaptiveRadixTree<K, u64>;
 /// Versions, each known by its place in a list.
 #[derive(Drop)]
 pub struct Versions<K: KeyTrait> {
+    /// What all memory is asked of.
     pub alloc: Global,
     trees: Vec<Tree<K>>,
 }

@@ -23,8 +23,8 @@ use std::marker::PhantomData;
 pub(crate) trait Descent<P: Partial, V: Clone + Drop> {
     ghost most: { ℕ };
 
-    /// Lends the node that is so many nodes down on the way of a key. `depth` bytes of the key stand
-    /// above the node of the pointer, and then above the last one.
+    /// Lends the node that is so many nodes down on the way of a key. `depth` bytes of the key
+    /// stand above the node of the pointer, and then above the last one.
     fn down<'a>(
         at: &'a mut NodeRef<P, V>,
         key: &[u8],

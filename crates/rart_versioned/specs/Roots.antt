@@ -1,4 +1,5 @@
--- What a root stands for, or the lack of one: a finite map. When it is sound, and what a value lent from below it leaves.
+-- What a root stands for, or the lack of one: a finite map. When it is sound, and what a value lent
+-- from below it leaves.
 use Rattle.std.specs.Prelude.{◌≡◌, ℕ, ◌≤◌, List, [], Option, Some, None, IsSome, Result, ⊤, length, if◌then◌else◌}
 use Rattle.std.specs.Option.{option_map}
 use Rattle.std.specs.Result.{IsOk, OnErr}
@@ -35,7 +36,8 @@ module _ {V : Type 0} where
   IsTreeIn None = ⊤
   IsTreeIn (Some root) = IsTree root
 
-  -- Below the root all is in order, each key has a length that it may have, and there are at most so many keys.
+  -- Below the root all is in order, each key has a length that it may have, and there are at most so
+  -- many keys.
   abbrev pub IsSound : Option ℕ → ℕ → Option (Shape V) → Type 0
   IsSound most count None = ⊤
   IsSound most count (Some root) =
@@ -54,7 +56,8 @@ module _ (P V : RattleType) (bytes : P.Denot → List ℕ) where
   abbrev pub below_root : Option (NodeRef P.Denot V.Denot) → Option (Shape V.Denot)
   below_root = option_map (shown bytes)
 
-  -- The root has the key set to the value as it was left behind the result, and refused, what it had. It stays sound.
+  -- The root has the key set to the value as it was left behind the result, and refused, what it had.
+  -- It stays sound.
   abbrev pub LendsBelow : {E : Type 0} → MutBor (Option (NodeRef P.Denot V.Denot)) → List ℕ → Result (MutBor V.Denot) E → Fml
   LendsBelow lender key result =
       follows_so (option.the_row (pointer.the_row P V)) V lender.ghost_name (name_if_ok (λ value. value.ghost_name) result)

@@ -1,5 +1,5 @@
 -- What a changing call answers and leaves, from the map and the number.
-use Rattle.std.specs.Prelude.{ℕ, Bool, true, false, List, Option, Some, None, Result, Ok, Err, if◌then◌else◌}
+use Rattle.std.specs.Prelude.{◌≡◌, ℕ, Bool, true, false, List, Option, Some, None, Result, Ok, Err, if◌then◌else◌}
 use Rattle.rart_below.specs.declared.slot.Slot.{Slot}
 use Rattle.rart_below.specs.declared.slot.Slot.TheVariants.{Vacant, Occupied}
 use Rattle.rart_below.specs.declared.slot.SlotUpdate.{SlotUpdate}
@@ -7,9 +7,33 @@ use Rattle.rart_below.specs.declared.slot.SlotUpdate.TheVariants.{Keep, Insert, 
 use Rattle.rart_maps.specs.Versions.{Version, value_at, has_key, raised, with_key, without_key}
 
 module _ {V : Type 0} where
+  -- The call answers so and leaves the version so. Refused, it leaves the version as it was.
+  abbrev pub Changes : {A E : Type 0} → Result A E → Version V → Version V → A × Version V → Type 0
+  Changes (Ok answer) before after outcome = (answer ≡ outcome.0) × (after ≡ outcome.1)
+  Changes (Err refusal) before after outcome = after ≡ before
+
+  -- Setting a key to a value: whether a value was replaced, and the version after.
+  abbrev pub insertion : Version V → List ℕ → V → Bool × Version V
+  insertion v w x = (has_key v w, with_key v w x 1)
+
+  -- the same, with the value that was replaced, the number so much greater, and by one
+  abbrev pub replacement_by : ℕ → Version V → List ℕ → V → Option V × Version V
+  replacement_by more v w x = (value_at v w, with_key v w x more)
+
+  abbrev pub replacement : Version V → List ℕ → V → Option V × Version V
+  replacement v w x = replacement_by 1 v w x
+
   -- without the key where it was there, and the number then one greater
-  abbrev pub removed : Version V → List ℕ → Version V
-  removed v w = if has_key v w then without_key v w 1 else v
+  abbrev pub after_removal : Version V → List ℕ → Version V
+  after_removal v w = if has_key v w then without_key v w 1 else v
+
+  -- Taking a key out: its value, and the version after.
+  abbrev pub removal : Version V → List ℕ → Option V × Version V
+  removal v w = (value_at v w, after_removal v w)
+
+  -- the same, with whether the key was there
+  abbrev pub deletion : Version V → List ℕ → Bool × Version V
+  deletion v w = (has_key v w, after_removal v w)
 
   -- with the key set to what was left behind a reference to its value, where it was there
   abbrev pub rewritten : Version V → List ℕ → V → Version V

@@ -1,5 +1,5 @@
 -- What a callback's answer makes of a version, arm by arm.
-use Rattle.std.proofs.Common.{◌≡◌, ℕ, List, Option, Some, None, Result, Ok, inr, is_some, cond, Bool, true, false, refl, sym, ap, subst, ◌∙◌}
+use Rattle.std.proofs.Common.{◌≡◌, ℕ, List, Option, Some, None, Result, Ok, Err, OnErr, inl, inr, is_some, cond, Bool, true, false, refl, sym, ap, subst, ◌∙◌}
 use Rattle.std.specs.Prelude.{◌+◌}
 use Rattle.std.specs.Borrow.{MutBor}
 use Rattle.std.specs.Fn.{Once}
@@ -16,9 +16,9 @@ use Rattle.rart_below.specs.declared.slot.SlotUpdate.{SlotUpdate}
 use Rattle.rart_below.specs.declared.slot.SlotUpdate.TheVariants.{Keep, Insert, Remove}
 use Rattle.rart_below.specs.declared.slot.Refusal.{Refusal}
 use Rattle.rart_below.specs.declared.slot.Refusal.TheVariants.{Callback, Memory}
-use Rattle.rart_maps.specs.Changes.{slot_of, updated}
-use Rattle.rart_versioned.specs.Settled.{change_of, settled, settled_absent, is_occupied, rise_of, AsksMemory, IsTried, TriesToInsert}
-use Rattle.rart_versioned.specs.Updates.{Tells, Updates, UpdateTakesMemory, TellsOrFails, TriesUpdate, TryTakesMemory, IfCallback, OnMemory}
+use Rattle.rart_maps.specs.Changes.{Changes, slot_of, updated}
+use Rattle.rart_versioned.specs.Settled.{change_of, settled, settled_absent, is_occupied, rise_of, AsksMemory, IsTried, Tries, TriesAbsent}
+use Rattle.rart_versioned.specs.Updates.{Tells, Updates, TellsOrFails, TriesUpdate}
 use Rattle.rart_maps.specs.Versions.{Map, Version, value_at, has_key, raised}
 use Rattle.rart_versioned.proofs.Sound.{same-map}
 
@@ -99,30 +99,25 @@ module _ {F V : Type 0} (callback : Once F (MutBor (Slot V) × Unit {0}) (SlotUp
   pub tells : (lent left : MutBor (Slot V)) (told : SlotUpdate V) → lent.now ≡ slot_of (value_at v w) → callback.post f (lent, tt) (told, (left, tt)) → Tells callback f v w left.now told
   tells lent left told is met = record { shown = lent; shows = is; left = left; met = met; leaves = refl }
 
-  pub updates-there : (left : Slot V) (told : SlotUpdate V) (after : Version V) → Tells callback f v w left told → has_key v w ≡ true → after ≡ settled v w (change_of left told) 1 → Updates callback f v w true after
-  updates-there left told after tell there is = (left, told, tell, ap (λ z. (true, z)) is ∙ there-updated v w left told there)
+  pub updates-there : (E : Type 0) (left : Slot V) (told : SlotUpdate V) (after : Version V) → Tells callback f v w left told → has_key v w ≡ true → after ≡ settled v w (change_of left told) 1 → Updates callback {E = E} f v w (Ok true) after
+  updates-there E left told after tell there is = (left, told, tell, ap (λ z. (true, z)) is ∙ there-updated v w left told there)
 
-  pub updates-absent : (left : Slot V) (told : SlotUpdate V) (answer : Bool) (after : Version V) → Tells callback f v w left told → has_key v w ≡ false → (answer, after) ≡ settled_absent v w told → Updates callback f v w answer after
-  updates-absent left told answer after tell absent is = (left, told, tell, is ∙ absent-updated v w left told absent)
-
-  pub memory-absent : (left : Slot V) (told : SlotUpdate V) → Tells callback f v w left told → AsksMemory told → UpdateTakesMemory callback f v w
-  memory-absent left told tell asks = inr (left, asks.0, subst (λ t. Tells callback f v w left t) asks.1 tell)
+  pub updates-absent : {E : Type 0} (left : Slot V) (told : SlotUpdate V) (answer : Result Bool E) (after : Version V) → Tells callback f v w left told → has_key v w ≡ false → Changes answer v after (settled_absent v w told) → OnErr answer (AsksMemory told)
+    → Updates callback f v w answer after
+  updates-absent left told (Ok answer) after tell absent is asks =
+      (left, told, tell, ap (λ z. (z, after)) is.0 ∙ ap (λ z. ((settled_absent v w told).0, z)) is.1 ∙ absent-updated v w left told absent)
+  updates-absent left told (Err refusal) after tell absent is asks = (is, inr (left, asks.0, subst (λ t. Tells callback f v w left t) asks.1 tell))
 
 module _ {F V E : Type 0} (callback : Once F (MutBor (Slot V) × Unit {0}) (Result (SlotUpdate V) E × (MutBor (Slot V) × Unit {0}))) (f : F) (v : Version V) (w : List ℕ) where
   pub tells-or-fails : (lent left : MutBor (Slot V)) (told : Result (SlotUpdate V) E) → lent.now ≡ slot_of (value_at v w) → callback.post f (lent, tt) (told, (left, tt)) → TellsOrFails callback f v w left.now told
   tells-or-fails lent left told is met = record { shown = lent; shows = is; left = left; met = met; leaves = refl }
 
-  pub tries : (left : Slot V) (told : Result (SlotUpdate V) E) (answer : Result Bool E) (after : Version V) → TellsOrFails callback f v w left told → IsTried v w left told answer after → TriesUpdate callback f v w answer after
-  tries left told answer after tell is = (left, told, tell, is)
+  pub tries-there : (left : Slot V) (told : Result (SlotUpdate V) E) (answer : Result Bool (Refusal E)) (after : Version V) → TellsOrFails callback f v w left told → has_key v w ≡ true → Tries v w left told answer after → TriesUpdate callback f v w answer after
+  tries-there left told (Ok answer) after tell there is = (left, told, tell, is)
+  tries-there left told (Err (Callback e)) after tell there is = (left, told, tell, is)
+  tries-there left told (Err (Memory refusal)) after tell there is = (is, inl there)
 
-  pub memory-tried : (left : Slot V) (told : Result (SlotUpdate V) E) → TellsOrFails callback f v w left told → TriesToInsert told → TryTakesMemory callback f v w
-  memory-tried left told tell asks = inr (left, asks.0, subst (λ t. TellsOrFails callback f v w left t) asks.1 tell)
-
--- ---- what is said of a refusal says something else of it
-pub callback-weaker : {E : Type 0} {Says Instead : E → Type 0} (refusal : Refusal E) → ((e : E) → Says e → Instead e) → IfCallback refusal Says → IfCallback refusal Instead
-callback-weaker (Callback e) weaker says = weaker e says
-callback-weaker (Memory refused) weaker says = tt
-
-pub memory-weaker : {E : Type 0} {Says Instead : Type 0} (refusal : Refusal E) → (Says → Instead) → OnMemory refusal Says → OnMemory refusal Instead
-memory-weaker (Callback e) weaker says = tt
-memory-weaker (Memory refused) weaker says = weaker says
+  pub tries-absent : (left : Slot V) (told : Result (SlotUpdate V) E) (answer : Result Bool (Refusal E)) (after : Version V) → TellsOrFails callback f v w left told → TriesAbsent v w told answer after → TriesUpdate callback f v w answer after
+  tries-absent left told (Ok answer) after tell is = (left, told, tell, is left)
+  tries-absent left told (Err (Callback e)) after tell is = (left, told, tell, is left)
+  tries-absent left told (Err (Memory refusal)) after tell is = (is.0, inr (left, is.1.0, subst (λ t. TellsOrFails callback f v w left t) is.1.1 tell))

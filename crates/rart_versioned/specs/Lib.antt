@@ -1,3 +1,4 @@
+pub mod ChangeCounts
 pub mod Given
 pub mod Keys
 pub mod Lent

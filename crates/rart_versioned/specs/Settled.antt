@@ -1,5 +1,7 @@
 -- What becomes of a key that is there, once a callback has answered.
-use Rattle.std.specs.Prelude.{◌≡◌, ℕ, Bool, true, false, List, Result, Ok}
+use Rattle.std.specs.Prelude.{◌≡◌, ℕ, Bool, true, false, List, Result, Ok, Err}
+use Rattle.rart_below.specs.declared.slot.Refusal.{Refusal}
+use Rattle.rart_below.specs.declared.slot.Refusal.TheVariants.{Callback, Memory}
 use Rattle.rart_below.specs.declared.slot.Slot.{Slot}
 use Rattle.rart_below.specs.declared.slot.Slot.TheVariants.{Vacant, Occupied}
 use Rattle.rart_below.specs.declared.slot.SlotUpdate.{SlotUpdate}
@@ -43,10 +45,30 @@ module _ {V : Type 0} where
   rise_of (Insert x) = 2
   rise_of Remove = 2
 
-  -- What a callback that may fail left in the slot and answered leads to this answer and this version.
-  abbrev pub IsTried : {E : Type 0} → Version V → List ℕ → Slot V → Result (SlotUpdate V) E → Result Bool E → Version V → Type 0
-  IsTried before w left told answer after = (answer, after) ≡ tried before w left told
-
   -- The answer is no error and asks for a value to be stored.
   abbrev pub TriesToInsert : {E : Type 0} → Result (SlotUpdate V) E → Type 0
   TriesToInsert told = (x : V) × (told ≡ Ok (Insert x))
+
+  -- What a callback that may fail left in the slot and answered leads to this answer and this version.
+  abbrev pub IsTried : {E : Type 0} →
+      Version V → List ℕ → Slot V → Result (SlotUpdate V) E → Result Bool E → Version V → Type 0
+  IsTried before w left told answer after = (answer, after) ≡ tried before w left told
+
+  -- The same of a key that is there, whose change may be refused: the version is then as before.
+  abbrev pub Tries : {E : Type 0} →
+      Version V → List ℕ → Slot V → Result (SlotUpdate V) E → Result Bool (Refusal E) → Version V
+      → Type 0
+  Tries before w left told (Ok answer) after = IsTried before w left told (Ok answer) after
+  Tries before w left told (Err (Callback e)) after = IsTried before w left told (Err e) after
+  Tries before w left told (Err (Memory refusal)) after = after ≡ before
+
+  -- The same of an absent key, whatever was left in its vacant slot. Only a value that is to be stored
+  -- can be refused.
+  abbrev pub TriesAbsent : {E : Type 0} →
+      Version V → List ℕ → Result (SlotUpdate V) E → Result Bool (Refusal E) → Version V → Type 0
+  TriesAbsent before w told (Ok answer) after =
+      (left : Slot V) → IsTried before w left told (Ok answer) after
+  TriesAbsent before w told (Err (Callback e)) after =
+      (left : Slot V) → IsTried before w left told (Err e) after
+  TriesAbsent before w told (Err (Memory refusal)) after =
+      (after ≡ before) × TriesToInsert told

@@ -1,5 +1,5 @@
 -- What an update answers and leaves, from what its callback allows on the slot at entry.
-use Rattle.std.specs.Prelude.{◌≡◌, ℕ, Bool, List, IsSome, ◌⊎◌, Result, Ok, ⊤}
+use Rattle.std.specs.Prelude.{◌≡◌, ℕ, Bool, List, IsSome, ◌⊎◌, Result, Ok, Err}
 use Rattle.std.specs.Fn.{Once, FnOnceReturnsAtMut}
 use Rattle.std.specs.Borrow.{MutBor}
 use Rattle.rart_below.specs.declared.slot.Slot.{Slot}
@@ -15,30 +15,38 @@ module _ {F V : Type 0} (callback : Once F (MutBor (Slot V) × Unit {0}) (SlotUp
   abbrev pub Tells : F → Version V → List ℕ → Slot V → SlotUpdate V → Type 0
   Tells f v w left told = FnOnceReturnsAtMut callback f (slot_of (value_at v w)) told left
 
-  -- Some outcome that the callback allows leads from the version before to the answer and the version after.
-  abbrev pub Updates : F → Version V → List ℕ → Bool → Version V → Type 0
-  Updates f before w answer after = (left : Slot V) × (told : SlotUpdate V) × Tells f before w left told × ((answer, after) ≡ updated before w left told)
-
-  -- The key is there, or the callback may answer that it is to be inserted: else an update takes no memory.
+  -- The key is there, or the callback may answer that it is to be inserted: else an update takes no
+  -- memory.
   abbrev pub UpdateTakesMemory : F → Version V → List ℕ → Type 0
-  UpdateTakesMemory f v w = IsSome (value_at v w) ⊎ ((left : Slot V) × (x : V) × Tells f v w left (Insert x))
+  UpdateTakesMemory f v w =
+      IsSome (value_at v w) ⊎ ((left : Slot V) × (x : V) × Tells f v w left (Insert x))
+
+  -- Some outcome that the callback allows leads from the version before to the answer and the version
+  -- after. Refused for memory, which was taken then, the version is as before.
+  abbrev pub Updates : {E : Type 0} → F → Version V → List ℕ → Result Bool E → Version V → Type 0
+  Updates f before w (Ok answer) after =
+      (left : Slot V) × (told : SlotUpdate V) × Tells f before w left told
+      × ((answer, after) ≡ updated before w left told)
+  Updates f before w (Err refusal) after = (after ≡ before) × UpdateTakesMemory f before w
 
 module _ {F V E : Type 0} (callback : Once F (MutBor (Slot V) × Unit {0}) (Result (SlotUpdate V) E × (MutBor (Slot V) × Unit {0}))) where
-  -- The same three for a callback that may answer an error.
+  -- The same for a callback that may answer an error.
   abbrev pub TellsOrFails : F → Version V → List ℕ → Slot V → Result (SlotUpdate V) E → Type 0
   TellsOrFails f v w left told = FnOnceReturnsAtMut callback f (slot_of (value_at v w)) told left
 
-  abbrev pub TriesUpdate : F → Version V → List ℕ → Result Bool E → Version V → Type 0
-  TriesUpdate f before w answer after = (left : Slot V) × (told : Result (SlotUpdate V) E) × TellsOrFails f before w left told × ((answer, after) ≡ tried before w left told)
-
   abbrev pub TryTakesMemory : F → Version V → List ℕ → Type 0
-  TryTakesMemory f v w = IsSome (value_at v w) ⊎ ((left : Slot V) × (x : V) × TellsOrFails f v w left (Ok (Insert x)))
+  TryTakesMemory f v w =
+      IsSome (value_at v w) ⊎ ((left : Slot V) × (x : V) × TellsOrFails f v w left (Ok (Insert x)))
 
--- what is said of a callback's error, and of want of memory
-abbrev pub IfCallback : {E : Type 0} → Refusal E → (E → Type 0) → Type 0
-IfCallback (Callback e) Says = Says e
-IfCallback (Memory refused) Says = ⊤
+  abbrev pub Answers : F → Version V → List ℕ → Result Bool E → Version V → Type 0
+  Answers f before w answer after =
+      (left : Slot V) × (told : Result (SlotUpdate V) E) × TellsOrFails f before w left told
+      × ((answer, after) ≡ tried before w left told)
 
-abbrev pub OnMemory : {E : Type 0} → Refusal E → Type 0 → Type 0
-OnMemory (Callback e) Says = ⊤
-OnMemory (Memory refused) Says = Says
+  -- Its error is an answer as any other.
+  abbrev pub TriesUpdate :
+      F → Version V → List ℕ → Result Bool (Refusal E) → Version V → Type 0
+  TriesUpdate f before w (Ok answer) after = Answers f before w (Ok answer) after
+  TriesUpdate f before w (Err (Callback e)) after = Answers f before w (Err e) after
+  TriesUpdate f before w (Err (Memory refusal)) after =
+      (after ≡ before) × TryTakesMemory f before w

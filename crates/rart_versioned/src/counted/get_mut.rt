@@ -1,16 +1,16 @@
 //! A value lent for writing.
-ghost use Rattle.std.specs.Prelude.{◌≡◌, ◌+◌, ◌*◌, ◌<◌, ◌≤◌, ◌^◌, Some, None, IsSome, IsTrue, IfOk, IfErr, OnOk, OnErr, false};
+ghost use Rattle.std.specs.Prelude.{◌≡◌, ◌+◌, ◌*◌, ◌<◌, ◌^◌, Some, None, IsSome, IsTrue, IfOk, IfErr, OnOk, OnErr};
 ghost use Rattle.std.specs.Borrow.{sem};
 ghost use Rattle.std.specs.Option.{option_map};
 ghost use Rattle.rart_below.specs.Clones.{ClonesEqual};
 ghost use Rattle.rart_node.specs.Seen.{shown};
 ghost use Rattle.rart_node.specs.Counts.{CountsUpTo};
-ghost use Rattle.rart_maps.specs.Bounds.{lookup_bound, touch_bound, change_bound};
+ghost use Rattle.rart_maps.specs.Bounds.{lookup_bound};
+ghost use Rattle.rart_versioned.specs.ChangeCounts.{CountsChange};
 ghost use Rattle.rart_versioned.specs.Lent.{LendsValue, LendsFound};
 ghost use Rattle.rart_versioned.specs.Missing.{Explains};
-ghost use Rattle.rart_versioned.specs.Roots.{LendsBelow};
-ghost use Rattle.rart_versioned.specs.Roots.{IsTreeIn, found_in};
-ghost use Rattle.rart_maps.specs.Versions.{HasRoom, has_key, value_at, has_no_key};
+ghost use Rattle.rart_versioned.specs.Roots.{LendsBelow, IsTreeIn, found_in};
+ghost use Rattle.rart_maps.specs.Versions.{HasRoom, has_key, value_at};
 
 use crate::counted::missing::{Missing, found_of};
 use crate::counted::tree::VersionedAdaptiveRadixTree;
@@ -73,11 +73,8 @@ impl<K: KeyTrait, V: Clone + Drop> VersionedAdaptiveRadixTree<K, V> {
         ensures value { IfOk result (λ found. option_map (λ value. value.now) found
             ≡ value_at self.old (K.bytes key.now)) }
         ensures present { OnErr result (IsTrue (has_key self.old (K.bytes key.now))) }
-        ensures counted { CountsUpTo (touch_bound (K.bytes key.now))
-            (change_bound (K.bytes key.now)) work.old work.new }
-        ensures entered_at_most { work.new.entered
-            ≤ work.old.entered + 2 * lookup_bound (K.bytes key.now) }
-        ensures entered_least { has_no_key self.old ≡ false → work.old.entered < work.new.entered }
+        ensures counted { CountsChange (2 * lookup_bound (K.bytes key.now)) self.old
+            (K.bytes key.now) work.old work.new }
         ensures absent_makes_none { value_at self.old (K.bytes key.now) ≡ None
             → work.new.made ≡ work.old.made }
     {
@@ -95,11 +92,8 @@ impl<K: KeyTrait, V: Clone + Drop> VersionedAdaptiveRadixTree<K, V> {
             ≡ Some value.now) }
         ensures missing { IfErr result
             (λ missing. Explains missing (value_at self.old (K.bytes key.now))) }
-        ensures counted { CountsUpTo (touch_bound (K.bytes key.now))
-            (change_bound (K.bytes key.now)) work.old work.new }
-        ensures entered_at_most { work.new.entered
-            ≤ work.old.entered + 2 * lookup_bound (K.bytes key.now) }
-        ensures entered_least { has_no_key self.old ≡ false → work.old.entered < work.new.entered }
+        ensures counted { CountsChange (2 * lookup_bound (K.bytes key.now)) self.old
+            (K.bytes key.now) work.old work.new }
         ensures absent_makes_none { value_at self.old (K.bytes key.now) ≡ None
             → work.new.made ≡ work.old.made }
     {

@@ -1,8 +1,9 @@
-ghost use Rattle.std.specs.Prelude.{◌≡◌, ◌+◌, ◌<◌, ◌≤◌, IfOk, OnOk, OnErr, length, false, None, ◌*◌};
+ghost use Rattle.std.specs.Prelude.{◌<◌, ◌≤◌, OnOk};
 ghost use Rattle.rart_below.specs.Clones.{ClonesEqual};
-ghost use Rattle.rart_node.specs.Counts.{CountsUpTo};
-ghost use Rattle.rart_maps.specs.Bounds.{touch_bound, lookup_bound, change_bound};
-ghost use Rattle.rart_maps.specs.Versions.{HasRoom, has_key, value_at, with_key, has_no_key};
+ghost use Rattle.rart_maps.specs.Bounds.{lookup_bound};
+ghost use Rattle.rart_maps.specs.Changes.{Changes, insertion, replacement, replacement_by};
+ghost use Rattle.rart_maps.specs.Versions.{HasRoom};
+ghost use Rattle.rart_versioned.specs.ChangeCounts.{CountsChange};
 
 use crate::counted::tree::VersionedAdaptiveRadixTree;
 use rart_below::{KeyTrait, Partial};
@@ -20,15 +21,11 @@ impl<K: KeyTrait, V: Clone + Drop> VersionedAdaptiveRadixTree<K, V> {
     ) -> Result<bool, AllocError>
         requires clones { ClonesEqual V.is_clone }
         requires room { HasRoom self.old 1 }
-        ensures replaced { IfOk result (λ replaced. replaced ≡ has_key self.old (K.bytes key.now)) }
-        ensures ok { OnOk result (self.new ≡ with_key self.old (K.bytes key.now) value 1) }
-        ensures refused { OnErr result (self.new ≡ self.old) }
-        ensures counted { CountsUpTo (touch_bound (K.bytes key.now))
-            (change_bound (K.bytes key.now)) work.old work.new }
+        ensures changes { Changes result self.old self.new
+            (insertion self.old (K.bytes key.now) value) }
+        ensures counted { CountsChange (lookup_bound (K.bytes key.now)) self.old
+            (K.bytes key.now) work.old work.new }
         ensures made { OnOk result (work.old.made < work.new.made) }
-        ensures entered_at_most { work.new.entered
-            ≤ work.old.entered + lookup_bound (K.bytes key.now) }
-        ensures entered_least { has_no_key self.old ≡ false → work.old.entered < work.new.entered }
     {
         Ok(self.put_in(key, value, 1, work)?.is_some())
     }
@@ -42,16 +39,11 @@ impl<K: KeyTrait, V: Clone + Drop> VersionedAdaptiveRadixTree<K, V> {
     ) -> Result<Option<V>, AllocError>
         requires clones { ClonesEqual V.is_clone }
         requires room { HasRoom self.old 1 }
-        ensures replaced { IfOk result (λ replaced. replaced ≡ value_at self.old
-            (K.bytes key.now)) }
-        ensures ok { OnOk result (self.new ≡ with_key self.old (K.bytes key.now) value 1) }
-        ensures refused { OnErr result (self.new ≡ self.old) }
-        ensures counted { CountsUpTo (touch_bound (K.bytes key.now))
-            (change_bound (K.bytes key.now)) work.old work.new }
+        ensures changes { Changes result self.old self.new
+            (replacement self.old (K.bytes key.now) value) }
+        ensures counted { CountsChange (lookup_bound (K.bytes key.now)) self.old
+            (K.bytes key.now) work.old work.new }
         ensures made { OnOk result (work.old.made < work.new.made) }
-        ensures entered_at_most { work.new.entered
-            ≤ work.old.entered + lookup_bound (K.bytes key.now) }
-        ensures entered_least { has_no_key self.old ≡ false → work.old.entered < work.new.entered }
     {
         self.put_in(key, value, 1, work)
     }
@@ -68,14 +60,11 @@ impl<K: KeyTrait, V: Clone + Drop> VersionedAdaptiveRadixTree<K, V> {
         requires clones { ClonesEqual V.is_clone }
         requires room { HasRoom self.old more }
         requires raised { 1 ≤ more }
-        ensures replaced { IfOk result (λ replaced. replaced ≡ value_at self.old
-            (K.bytes key.now)) }
-        ensures ok { OnOk result (self.new ≡ with_key self.old (K.bytes key.now) value more) }
-        ensures refused { OnErr result (self.new ≡ self.old) }
-        ensures counted { CountsUpTo (lookup_bound (K.bytes key.now))
-            (change_bound (K.bytes key.now)) work.old work.new }
+        ensures changes { Changes result self.old self.new
+            (replacement_by more self.old (K.bytes key.now) value) }
+        ensures counted { CountsChange (lookup_bound (K.bytes key.now)) self.old
+            (K.bytes key.now) work.old work.new }
         ensures made { OnOk result (work.old.made < work.new.made) }
-        ensures entered_least { has_no_key self.old ≡ false → work.old.entered < work.new.entered }
     {
         // Read for the invariant alone: a length is a number of 64 bits.
         let _length = key.length_at(0);

@@ -1,10 +1,11 @@
 //! Removal of a key.
-ghost use Rattle.std.specs.Prelude.{◌≡◌, ◌+◌, ◌*◌, ◌<◌, ◌≤◌, IsTrue, IfOk, OnOk, OnErr, false, None};
+ghost use Rattle.std.specs.Prelude.{◌≡◌, ◌*◌, IsTrue, OnErr, None};
 ghost use Rattle.rart_below.specs.Clones.{ClonesEqual};
 ghost use Rattle.rart_node.specs.Counts.{CountsUpTo};
-ghost use Rattle.rart_maps.specs.Bounds.{lookup_bound, touch_bound, change_bound};
-ghost use Rattle.rart_maps.specs.Changes.{removed};
-ghost use Rattle.rart_maps.specs.Versions.{HasRoom, has_key, value_at, without_key, has_no_key};
+ghost use Rattle.rart_maps.specs.Bounds.{lookup_bound};
+ghost use Rattle.rart_maps.specs.Changes.{Changes, removal, deletion};
+ghost use Rattle.rart_maps.specs.Versions.{HasRoom, has_key, value_at, without_key};
+ghost use Rattle.rart_versioned.specs.ChangeCounts.{CountsChange};
 
 use crate::counted::tree::VersionedAdaptiveRadixTree;
 use rart_below::{KeyTrait, Partial};
@@ -17,15 +18,10 @@ impl<K: KeyTrait, V: Clone + Drop> VersionedAdaptiveRadixTree<K, V> {
     pub fn remove_k_counted(&mut self, key: &K, work: &mut Work) -> Result<Option<V>, AllocError>
         requires clones { ClonesEqual V.is_clone }
         requires room { HasRoom self.old 1 }
-        ensures removed { IfOk result (λ value. value ≡ value_at self.old (K.bytes key.now)) }
-        ensures ok { OnOk result (self.new ≡ removed self.old (K.bytes key.now)) }
-        ensures refused { OnErr result (self.new ≡ self.old) }
+        ensures changes { Changes result self.old self.new (removal self.old (K.bytes key.now)) }
         ensures present { OnErr result (IsTrue (has_key self.old (K.bytes key.now))) }
-        ensures counted { CountsUpTo (touch_bound (K.bytes key.now))
-            (change_bound (K.bytes key.now)) work.old work.new }
-        ensures entered_at_most { work.new.entered
-            ≤ work.old.entered + 2 * lookup_bound (K.bytes key.now) }
-        ensures entered_least { has_no_key self.old ≡ false → work.old.entered < work.new.entered }
+        ensures counted { CountsChange (2 * lookup_bound (K.bytes key.now)) self.old
+            (K.bytes key.now) work.old work.new }
         ensures absent_makes_none { value_at self.old (K.bytes key.now) ≡ None
             → work.new.made ≡ work.old.made }
     {
@@ -39,16 +35,10 @@ impl<K: KeyTrait, V: Clone + Drop> VersionedAdaptiveRadixTree<K, V> {
     pub fn delete_k_counted(&mut self, key: &K, work: &mut Work) -> Result<bool, AllocError>
         requires clones { ClonesEqual V.is_clone }
         requires room { HasRoom self.old 1 }
-        ensures removed { IfOk result (λ was_there. was_there ≡ has_key self.old
-            (K.bytes key.now)) }
-        ensures ok { OnOk result (self.new ≡ removed self.old (K.bytes key.now)) }
-        ensures refused { OnErr result (self.new ≡ self.old) }
+        ensures changes { Changes result self.old self.new (deletion self.old (K.bytes key.now)) }
         ensures present { OnErr result (IsTrue (has_key self.old (K.bytes key.now))) }
-        ensures counted { CountsUpTo (touch_bound (K.bytes key.now))
-            (change_bound (K.bytes key.now)) work.old work.new }
-        ensures entered_at_most { work.new.entered
-            ≤ work.old.entered + 2 * lookup_bound (K.bytes key.now) }
-        ensures entered_least { has_no_key self.old ≡ false → work.old.entered < work.new.entered }
+        ensures counted { CountsChange (2 * lookup_bound (K.bytes key.now)) self.old
+            (K.bytes key.now) work.old work.new }
         ensures absent_makes_none { value_at self.old (K.bytes key.now) ≡ None
             → work.new.made ≡ work.old.made }
     {
@@ -66,9 +56,8 @@ impl<K: KeyTrait, V: Clone + Drop> VersionedAdaptiveRadixTree<K, V> {
         requires clones { ClonesEqual V.is_clone }
         requires room { HasRoom self.old more }
         requires present { IsTrue (has_key self.old (K.bytes key.now)) }
-        ensures value { IfOk result (λ value. value ≡ value_at self.old (K.bytes key.now)) }
-        ensures ok { OnOk result (self.new ≡ without_key self.old (K.bytes key.now) more) }
-        ensures refused { OnErr result (self.new ≡ self.old) }
+        ensures changes { Changes result self.old self.new (value_at self.old (K.bytes key.now),
+            without_key self.old (K.bytes key.now) more) }
         ensures counted { CountsUpTo (lookup_bound (K.bytes key.now))
             (lookup_bound (K.bytes key.now)) work.old work.new }
     {

@@ -1,13 +1,14 @@
 //! Updates of a key's slot by a callback that may fail.
-ghost use Rattle.std.specs.Prelude.{◌≡◌, IsTrue, IfOk, IfErr, Ok, Err, false, None, ◌*◌, ◌<◌, ◌≤◌, ◌+◌};
+ghost use Rattle.std.specs.Prelude.{◌≡◌, IsTrue, false};
 ghost use Rattle.std.specs.Fn.{FnOnceTakesAtMut};
 ghost use Rattle.rart_below.specs.Clones.{ClonesEqual};
 ghost use Rattle.rart_node.specs.Counts.{CountsUpTo};
 ghost use Rattle.rart_maps.specs.Bounds.{lookup_bound, touch_bound, change_bound};
 ghost use Rattle.rart_maps.specs.Changes.{slot_of};
-ghost use Rattle.rart_versioned.specs.Settled.{rise_of, IsTried, TriesToInsert};
-ghost use Rattle.rart_versioned.specs.Updates.{TriesUpdate, TryTakesMemory, IfCallback, OnMemory};
-ghost use Rattle.rart_maps.specs.Versions.{HasRoom, has_key, value_at, has_no_key};
+ghost use Rattle.rart_maps.specs.Versions.{HasRoom, has_key, value_at};
+ghost use Rattle.rart_versioned.specs.ChangeCounts.{CountsChange, MakesToTryInsert};
+ghost use Rattle.rart_versioned.specs.Settled.{rise_of, Tries, TriesAbsent};
+ghost use Rattle.rart_versioned.specs.Updates.{TriesUpdate};
 
 use crate::counted::change::Change;
 use crate::counted::tree::VersionedAdaptiveRadixTree;
@@ -27,21 +28,11 @@ impl<K: KeyTrait, V: Clone + Drop> VersionedAdaptiveRadixTree<K, V> {
         requires room { HasRoom self.old 2 }
         requires callable { FnOnceTakesAtMut F.FnOnce f
             (slot_of (value_at self.old (K.bytes key.now))) }
-        ensures ok { IfOk result (λ answer. TriesUpdate F.FnOnce f self.old (K.bytes key.now)
-            (Ok answer) self.new) }
-        ensures failed { IfErr result
-            (λ refusal. IfCallback refusal (λ e. TriesUpdate F.FnOnce f self.old (K.bytes key.now)
-            (Err e) self.new)) }
-        ensures refused { IfErr result (λ refusal. OnMemory refusal (self.new ≡ self.old)) }
-        ensures memory { IfErr result
-            (λ refusal. OnMemory refusal (TryTakesMemory F.FnOnce f self.old (K.bytes key.now))) }
-        ensures counted { CountsUpTo (touch_bound (K.bytes key.now))
-            (change_bound (K.bytes key.now)) work.old work.new }
-        ensures entered_least { has_no_key self.old ≡ false → work.old.entered < work.new.entered }
+        ensures updates { TriesUpdate F.FnOnce f self.old (K.bytes key.now) result self.new }
+        ensures counted { CountsChange (touch_bound (K.bytes key.now)) self.old
+            (K.bytes key.now) work.old work.new }
         ensures absent_makes_none { has_key self.old (K.bytes key.now) ≡ false
-            → IfOk result (λ answer. answer ≡ false → work.new.made ≡ work.old.made) }
-        ensures absent_fails_for_none { has_key self.old (K.bytes key.now) ≡ false
-            → IfErr result (λ refusal. IfCallback refusal (λ _. work.new.made ≡ work.old.made)) }
+            → MakesToTryInsert result work.old work.new }
     {
         let mut slot = match self.slot_at(key, work) {
             Ok(slot) => slot,
@@ -66,12 +57,7 @@ impl<K: KeyTrait, V: Clone + Drop> VersionedAdaptiveRadixTree<K, V> {
         requires clones { ClonesEqual V.is_clone }
         requires room { HasRoom self.old 2 }
         requires present { IsTrue (has_key self.old (K.bytes key.now)) }
-        ensures ok { IfOk result (λ answer. IsTried self.old (K.bytes key.now) left told
-            (Ok answer) self.new) }
-        ensures failed { IfErr result
-            (λ refusal. IfCallback refusal (λ e. IsTried self.old (K.bytes key.now) left told
-            (Err e) self.new)) }
-        ensures refused { IfErr result (λ refusal. OnMemory refusal (self.new ≡ self.old)) }
+        ensures tries { Tries self.old (K.bytes key.now) left told result self.new }
         ensures counted { CountsUpTo (lookup_bound (K.bytes key.now))
             (change_bound (K.bytes key.now)) work.old work.new }
     {
@@ -100,19 +86,10 @@ impl<K: KeyTrait, V: Clone + Drop> VersionedAdaptiveRadixTree<K, V> {
         requires clones { ClonesEqual V.is_clone }
         requires room { HasRoom self.old 1 }
         requires absent { has_key self.old (K.bytes key.now) ≡ false }
-        ensures ok { IfOk result (λ answer. (left : _) → IsTried self.old (K.bytes key.now) left
-            told (Ok answer) self.new) }
-        ensures failed { IfErr result
-            (λ refusal. IfCallback refusal (λ e. (left : _) → IsTried self.old (K.bytes key.now)
-            left told (Err e) self.new)) }
-        ensures refused { IfErr result (λ refusal. OnMemory refusal (self.new ≡ self.old)) }
-        ensures memory { IfErr result (λ refusal. OnMemory refusal (TriesToInsert told)) }
+        ensures tries { TriesAbsent self.old (K.bytes key.now) told result self.new }
         ensures counted { CountsUpTo (lookup_bound (K.bytes key.now))
             (change_bound (K.bytes key.now)) work.old work.new }
-        ensures made_to_insert { IfOk result (λ answer. answer ≡ false
-            → work.new.made ≡ work.old.made) }
-        ensures failed_makes_none { IfErr result (λ refusal. IfCallback refusal (λ _.
-            work.new.made ≡ work.old.made)) }
+        ensures makes_to_insert { MakesToTryInsert result work.old work.new }
     {
         match told {
             Err(error) => Err(Refusal::Callback(error)),

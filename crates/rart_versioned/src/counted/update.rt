@@ -1,13 +1,14 @@
 //! Updates of a key's slot by a callback.
-ghost use Rattle.std.specs.Prelude.{◌≡◌, IsTrue, IfOk, OnErr, false, None, ◌*◌, ◌<◌, ◌≤◌, ◌+◌};
+ghost use Rattle.std.specs.Prelude.{◌≡◌, ◌<◌, IsTrue, IfOk, OnErr, false};
 ghost use Rattle.std.specs.Fn.{FnOnceTakesAtMut};
 ghost use Rattle.rart_below.specs.Clones.{ClonesEqual};
 ghost use Rattle.rart_node.specs.Counts.{CountsUpTo};
 ghost use Rattle.rart_maps.specs.Bounds.{lookup_bound, touch_bound, change_bound};
-ghost use Rattle.rart_maps.specs.Changes.{slot_of};
-ghost use Rattle.rart_versioned.specs.Settled.{settled_absent, AsksMemory, is_occupied};
-ghost use Rattle.rart_versioned.specs.Updates.{Updates, UpdateTakesMemory};
+ghost use Rattle.rart_maps.specs.Changes.{Changes, slot_of};
 ghost use Rattle.rart_maps.specs.Versions.{HasRoom, has_key, value_at, has_no_key};
+ghost use Rattle.rart_versioned.specs.ChangeCounts.{CountsChange, MakesToInsert};
+ghost use Rattle.rart_versioned.specs.Settled.{settled_absent, AsksMemory, is_occupied};
+ghost use Rattle.rart_versioned.specs.Updates.{Updates};
 
 use crate::counted::change::Change;
 use crate::counted::tree::VersionedAdaptiveRadixTree;
@@ -27,15 +28,11 @@ impl<K: KeyTrait, V: Clone + Drop> VersionedAdaptiveRadixTree<K, V> {
         requires room { HasRoom self.old 1 }
         requires callable { FnOnceTakesAtMut F.FnOnce f
             (slot_of (value_at self.old (K.bytes key.now))) }
-        ensures ok { IfOk result (λ answer. Updates F.FnOnce f self.old (K.bytes key.now) answer
-            self.new) }
-        ensures refused { OnErr result (self.new ≡ self.old) }
-        ensures memory { OnErr result (UpdateTakesMemory F.FnOnce f self.old (K.bytes key.now)) }
-        ensures counted { CountsUpTo (touch_bound (K.bytes key.now))
-            (change_bound (K.bytes key.now)) work.old work.new }
-        ensures entered_least { has_no_key self.old ≡ false → work.old.entered < work.new.entered }
+        ensures updates { Updates F.FnOnce f self.old (K.bytes key.now) result self.new }
+        ensures counted { CountsChange (touch_bound (K.bytes key.now)) self.old
+            (K.bytes key.now) work.old work.new }
         ensures absent_makes_none { has_key self.old (K.bytes key.now) ≡ false
-            → IfOk result (λ answer. answer ≡ false → work.new.made ≡ work.old.made) }
+            → MakesToInsert result work.old work.new }
     {
         let mut slot = self.slot_at(key, work)?;
         let was_there = is_occupied(&slot);
@@ -71,14 +68,12 @@ impl<K: KeyTrait, V: Clone + Drop> VersionedAdaptiveRadixTree<K, V> {
         requires clones { ClonesEqual V.is_clone }
         requires room { HasRoom self.old 1 }
         requires absent { has_key self.old (K.bytes key.now) ≡ false }
-        ensures ok { IfOk result (λ answer. (answer, self.new) ≡ settled_absent self.old
-            (K.bytes key.now) told) }
-        ensures refused { OnErr result (self.new ≡ self.old) }
+        ensures changes { Changes result self.old self.new
+            (settled_absent self.old (K.bytes key.now) told) }
         ensures memory { OnErr result (AsksMemory told) }
         ensures counted { CountsUpTo (lookup_bound (K.bytes key.now))
             (change_bound (K.bytes key.now)) work.old work.new }
-        ensures made_to_insert { IfOk result (λ answer. answer ≡ false
-            → work.new.made ≡ work.old.made) }
+        ensures makes_to_insert { MakesToInsert result work.old work.new }
     {
         match told {
             SlotUpdate::Insert(value) => {

@@ -1,6 +1,6 @@
-ghost use Rattle.std.specs.Prelude.{◌≡◌, IfOk, OnOk, OnErr};
 ghost use Rattle.rart_below.specs.Clones.{ClonesEqual};
-ghost use Rattle.rart_maps.specs.Versions.{HasRoom, has_key, value_at, with_key};
+ghost use Rattle.rart_maps.specs.Changes.{Changes, insertion, replacement};
+ghost use Rattle.rart_maps.specs.Versions.{HasRoom};
 
 use crate::counted::VersionedAdaptiveRadixTree;
 use rart_below::KeyTrait;
@@ -13,9 +13,7 @@ impl<K: KeyTrait, V: Clone + Drop> VersionedAdaptiveRadixTree<K, V> {
     pub fn insert_k(&mut self, key: &K, value: V) -> Result<bool, AllocError>
         requires clones { ClonesEqual V.is_clone }
         requires room { HasRoom self.old 1 }
-        ensures replaced { IfOk result (λ replaced. replaced ≡ has_key self.old (K.bytes key.now)) }
-        ensures ok { OnOk result (self.new ≡ with_key self.old (K.bytes key.now) value 1) }
-        ensures refused { OnErr result (self.new ≡ self.old) }
+        ensures { Changes result self.old self.new (insertion self.old (K.bytes key.now) value) }
     {
         self.insert_k_counted(key, value, &mut Work::new())
     }
@@ -24,9 +22,7 @@ impl<K: KeyTrait, V: Clone + Drop> VersionedAdaptiveRadixTree<K, V> {
     pub fn insert(&mut self, key: K, value: V) -> Result<bool, AllocError>
         requires clones { ClonesEqual V.is_clone }
         requires room { HasRoom self.old 1 }
-        ensures replaced { IfOk result (λ replaced. replaced ≡ has_key self.old (K.bytes key)) }
-        ensures ok { OnOk result (self.new ≡ with_key self.old (K.bytes key) value 1) }
-        ensures refused { OnErr result (self.new ≡ self.old) }
+        ensures { Changes result self.old self.new (insertion self.old (K.bytes key) value) }
     {
         self.insert_k(&key, value)
     }
@@ -35,10 +31,7 @@ impl<K: KeyTrait, V: Clone + Drop> VersionedAdaptiveRadixTree<K, V> {
     pub fn insert_and_replace_k(&mut self, key: &K, value: V) -> Result<Option<V>, AllocError>
         requires clones { ClonesEqual V.is_clone }
         requires room { HasRoom self.old 1 }
-        ensures replaced { IfOk result (λ replaced. replaced ≡ value_at self.old
-            (K.bytes key.now)) }
-        ensures ok { OnOk result (self.new ≡ with_key self.old (K.bytes key.now) value 1) }
-        ensures refused { OnErr result (self.new ≡ self.old) }
+        ensures { Changes result self.old self.new (replacement self.old (K.bytes key.now) value) }
     {
         self.insert_and_replace_k_counted(key, value, &mut Work::new())
     }
@@ -47,9 +40,7 @@ impl<K: KeyTrait, V: Clone + Drop> VersionedAdaptiveRadixTree<K, V> {
     pub fn insert_and_replace(&mut self, key: K, value: V) -> Result<Option<V>, AllocError>
         requires clones { ClonesEqual V.is_clone }
         requires room { HasRoom self.old 1 }
-        ensures replaced { IfOk result (λ replaced. replaced ≡ value_at self.old (K.bytes key)) }
-        ensures ok { OnOk result (self.new ≡ with_key self.old (K.bytes key) value 1) }
-        ensures refused { OnErr result (self.new ≡ self.old) }
+        ensures { Changes result self.old self.new (replacement self.old (K.bytes key) value) }
     {
         self.insert_and_replace_k(&key, value)
     }

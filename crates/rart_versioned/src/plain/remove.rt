@@ -1,7 +1,7 @@
-ghost use Rattle.std.specs.Prelude.{◌≡◌, IsTrue, IfOk, OnOk, OnErr};
+ghost use Rattle.std.specs.Prelude.{IsTrue, OnErr};
 ghost use Rattle.rart_below.specs.Clones.{ClonesEqual};
-ghost use Rattle.rart_maps.specs.Changes.{removed};
-ghost use Rattle.rart_maps.specs.Versions.{HasRoom, has_key, value_at};
+ghost use Rattle.rart_maps.specs.Changes.{Changes, removal, deletion};
+ghost use Rattle.rart_maps.specs.Versions.{HasRoom, has_key};
 
 use crate::counted::VersionedAdaptiveRadixTree;
 use rart_below::KeyTrait;
@@ -13,9 +13,7 @@ impl<K: KeyTrait, V: Clone + Drop> VersionedAdaptiveRadixTree<K, V> {
     pub fn remove(&mut self, key: K) -> Result<Option<V>, AllocError>
         requires clones { ClonesEqual V.is_clone }
         requires room { HasRoom self.old 1 }
-        ensures removed { IfOk result (λ value. value ≡ value_at self.old (K.bytes key)) }
-        ensures ok { OnOk result (self.new ≡ removed self.old (K.bytes key)) }
-        ensures refused { OnErr result (self.new ≡ self.old) }
+        ensures changes { Changes result self.old self.new (removal self.old (K.bytes key)) }
         ensures present { OnErr result (IsTrue (has_key self.old (K.bytes key))) }
     {
         self.remove_k(&key)
@@ -27,9 +25,7 @@ impl<K: KeyTrait, V: Clone + Drop> VersionedAdaptiveRadixTree<K, V> {
     pub fn remove_k(&mut self, key: &K) -> Result<Option<V>, AllocError>
         requires clones { ClonesEqual V.is_clone }
         requires room { HasRoom self.old 1 }
-        ensures removed { IfOk result (λ value. value ≡ value_at self.old (K.bytes key.now)) }
-        ensures ok { OnOk result (self.new ≡ removed self.old (K.bytes key.now)) }
-        ensures refused { OnErr result (self.new ≡ self.old) }
+        ensures changes { Changes result self.old self.new (removal self.old (K.bytes key.now)) }
         ensures present { OnErr result (IsTrue (has_key self.old (K.bytes key.now))) }
     {
         self.remove_k_counted(key, &mut Work::new())
@@ -39,9 +35,7 @@ impl<K: KeyTrait, V: Clone + Drop> VersionedAdaptiveRadixTree<K, V> {
     pub fn delete(&mut self, key: K) -> Result<bool, AllocError>
         requires clones { ClonesEqual V.is_clone }
         requires room { HasRoom self.old 1 }
-        ensures removed { IfOk result (λ was_there. was_there ≡ has_key self.old (K.bytes key)) }
-        ensures ok { OnOk result (self.new ≡ removed self.old (K.bytes key)) }
-        ensures refused { OnErr result (self.new ≡ self.old) }
+        ensures changes { Changes result self.old self.new (deletion self.old (K.bytes key)) }
         ensures present { OnErr result (IsTrue (has_key self.old (K.bytes key))) }
     {
         self.delete_k(&key)
@@ -51,10 +45,7 @@ impl<K: KeyTrait, V: Clone + Drop> VersionedAdaptiveRadixTree<K, V> {
     pub fn delete_k(&mut self, key: &K) -> Result<bool, AllocError>
         requires clones { ClonesEqual V.is_clone }
         requires room { HasRoom self.old 1 }
-        ensures removed { IfOk result (λ was_there. was_there ≡ has_key self.old
-            (K.bytes key.now)) }
-        ensures ok { OnOk result (self.new ≡ removed self.old (K.bytes key.now)) }
-        ensures refused { OnErr result (self.new ≡ self.old) }
+        ensures changes { Changes result self.old self.new (deletion self.old (K.bytes key.now)) }
         ensures present { OnErr result (IsTrue (has_key self.old (K.bytes key.now))) }
     {
         self.delete_k_counted(key, &mut Work::new())

@@ -1,8 +1,7 @@
-ghost use Rattle.std.specs.Prelude.{◌≡◌, IfOk, IfErr, OnErr, Ok, Err};
 ghost use Rattle.std.specs.Fn.{FnOnceTakesAtMut};
 ghost use Rattle.rart_below.specs.Clones.{ClonesEqual};
 ghost use Rattle.rart_maps.specs.Changes.{slot_of};
-ghost use Rattle.rart_versioned.specs.Updates.{Updates, UpdateTakesMemory, TriesUpdate, TryTakesMemory, IfCallback, OnMemory};
+ghost use Rattle.rart_versioned.specs.Updates.{Updates, TriesUpdate};
 ghost use Rattle.rart_maps.specs.Versions.{HasRoom, value_at};
 
 use crate::counted::VersionedAdaptiveRadixTree;
@@ -21,10 +20,7 @@ impl<K: KeyTrait, V: Clone + Drop> VersionedAdaptiveRadixTree<K, V> {
         requires room { HasRoom self.old 1 }
         requires callable { FnOnceTakesAtMut F.FnOnce f
             (slot_of (value_at self.old (K.bytes key))) }
-        ensures ok { IfOk result (λ answer. Updates F.FnOnce f self.old (K.bytes key) answer
-            self.new) }
-        ensures refused { OnErr result (self.new ≡ self.old) }
-        ensures memory { OnErr result (UpdateTakesMemory F.FnOnce f self.old (K.bytes key)) }
+        ensures { Updates F.FnOnce f self.old (K.bytes key) result self.new }
     {
         self.update_k(&key, f)
     }
@@ -45,10 +41,7 @@ impl<K: KeyTrait, V: Clone + Drop> VersionedAdaptiveRadixTree<K, V> {
         requires room { HasRoom self.old 1 }
         requires callable { FnOnceTakesAtMut F.FnOnce f
             (slot_of (value_at self.old (K.bytes key.now))) }
-        ensures ok { IfOk result (λ answer. Updates F.FnOnce f self.old (K.bytes key.now) answer
-            self.new) }
-        ensures refused { OnErr result (self.new ≡ self.old) }
-        ensures memory { OnErr result (UpdateTakesMemory F.FnOnce f self.old (K.bytes key.now)) }
+        ensures { Updates F.FnOnce f self.old (K.bytes key.now) result self.new }
     {
         self.update_k_counted(key, f, &mut Work::new())
     }
@@ -63,14 +56,7 @@ impl<K: KeyTrait, V: Clone + Drop> VersionedAdaptiveRadixTree<K, V> {
         requires room { HasRoom self.old 2 }
         requires callable { FnOnceTakesAtMut F.FnOnce f
             (slot_of (value_at self.old (K.bytes key))) }
-        ensures ok { IfOk result (λ answer. TriesUpdate F.FnOnce f self.old (K.bytes key)
-            (Ok answer) self.new) }
-        ensures failed { IfErr result
-            (λ refusal. IfCallback refusal (λ e. TriesUpdate F.FnOnce f self.old (K.bytes key)
-            (Err e) self.new)) }
-        ensures refused { IfErr result (λ refusal. OnMemory refusal (self.new ≡ self.old)) }
-        ensures memory { IfErr result
-            (λ refusal. OnMemory refusal (TryTakesMemory F.FnOnce f self.old (K.bytes key))) }
+        ensures { TriesUpdate F.FnOnce f self.old (K.bytes key) result self.new }
     {
         self.try_update_k(&key, f)
     }
@@ -90,14 +76,7 @@ impl<K: KeyTrait, V: Clone + Drop> VersionedAdaptiveRadixTree<K, V> {
         requires room { HasRoom self.old 2 }
         requires callable { FnOnceTakesAtMut F.FnOnce f
             (slot_of (value_at self.old (K.bytes key.now))) }
-        ensures ok { IfOk result (λ answer. TriesUpdate F.FnOnce f self.old (K.bytes key.now)
-            (Ok answer) self.new) }
-        ensures failed { IfErr result
-            (λ refusal. IfCallback refusal (λ e. TriesUpdate F.FnOnce f self.old (K.bytes key.now)
-            (Err e) self.new)) }
-        ensures refused { IfErr result (λ refusal. OnMemory refusal (self.new ≡ self.old)) }
-        ensures memory { IfErr result
-            (λ refusal. OnMemory refusal (TryTakesMemory F.FnOnce f self.old (K.bytes key.now))) }
+        ensures { TriesUpdate F.FnOnce f self.old (K.bytes key.now) result self.new }
     {
         self.try_update_k_counted(key, f, &mut Work::new())
     }

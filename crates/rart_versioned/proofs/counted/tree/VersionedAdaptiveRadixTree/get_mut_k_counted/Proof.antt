@@ -2,21 +2,21 @@
 -- Rows, laws, bounds with their dictionaries and their proofs come in the order of the statement: keys K, values V, prefixes P; then KeyTrait, Eq, PartialEq, Ord, PartialOrd, Partial, Clone, and the drops of K, V and P.
 use Rattle.rart_versioned.proofs.Walks.{◌≡◌, ◌+◌, ◌<◌, ◌^◌, Some, [], ◌∷◌, refl, sym, ap, subst, ◌∙◌, proved, GName, ftrue, flft, id⊢, sep, emp, via, fst∗, snd∗, ◌⊑◌, fact, fact_use, fact_i, tables, inst_fn, Args, named, a_type, dcons, dnil, ‵, raw, ◌⊛◌, some, later, ◌$◌, ◌∵◌, !, qed, done, move, drop, use0, use1, split, split3, join, fjoin, suffices, pick, await, rewrite, frame, enter, addr, stop, no_more, and_then, returns, alloc_all, pass_all, free_all, look_at, get, through, sets, lands_as, RefOf, yes, no, follows_if, Is, shows, param, bounded, param_laws, RattleType, mut_vals, mut_Tells, shr_vals, shr_Tells, plain, mut_ref_to, named_lft, type_at, nothing, heard, peeks, calls_at, lasts, Lasts, on_entry, triple_of, framed, Stays, stay_dropped, Goes-dropped, Goes-spent_ref, gave_ref, Goes-gave_ref, ends_at}
 use mathlib.Core.Option as maybe
-use Rattle.std.specs.Prelude.{◌*◌, ◌≤◌, false, None, OnErr, IfErr, IfOk, IsSome}
+use Rattle.std.specs.Prelude.{◌*◌, None, OnErr, IfErr, IfOk, IsSome}
 use Rattle.std.specs.Option.{option_map}
 use Rattle.std.proofs.result.Result.TheLaws as Result-laws
 use Rattle.std.proofs.option.Option.TheLaws as Option-laws
 use Rattle.std.proofs.alloc.AllocError.TheLaws as Err-laws
 use Rattle.rart_below.specs.Clones.{ClonesEqual}
 use Rattle.rart_node.specs.contracts.work.Work.{the_row as work_row}
-use Rattle.rart_node.specs.Counts.{CountsUpTo}
-use Rattle.rart_maps.specs.Bounds.{lookup_bound, touch_bound, change_bound}
+use Rattle.rart_maps.specs.Bounds.{lookup_bound}
+use Rattle.rart_versioned.specs.ChangeCounts.{CountsChange}
 use Rattle.rart_versioned.proofs.Walks.{reference-laws}
 use Rattle.rart_versioned.proofs.Found.{same-name, found-was, refused-there}
 use Rattle.rart_versioned.proofs.counted.missing.Missing.TheLaws as Missing-laws
 use Rattle.rart_versioned.specs.Lent.{LendsValue, found_name}
 use Rattle.rart_versioned.specs.Missing.{Explains, found_value}
-use Rattle.rart_maps.specs.Versions.{with_key, value_at, has_no_key}
+use Rattle.rart_maps.specs.Versions.{with_key, value_at}
 use Rattle.rart_versioned.specs.contracts.counted.tree.VersionedAdaptiveRadixTree.{the_row}
 use Rattle.rart_versioned.specs.contracts.counted.tree.VersionedAdaptiveRadixTree.get_mut_k_counted as f
 use Rattle.rart_versioned.proofs.counted.tree.VersionedAdaptiveRadixTree.get_mut_k_counted.Statement.{statement}
@@ -57,9 +57,7 @@ get_mut_k_counted_spec 𝓤 𝓛 𝓜 𝓡 wired K V P LK LV LP k k-d e e-d q q-
     let in-V = fact 𝓤 (κ-V ⊑ V.lives) in
     let in-P = fact 𝓤 (κs.1.1.1.1.1.0 ⊑ P.lives) in
     let asked = sep 𝓤 (fact 𝓤 (ClonesEqual v.is_clone)) (fact 𝓤 (a.0.now.number + 1 < 2 ^ 64)) in
-    let Counted : Lasts g-end κs a → Type 0 = λ ws. CountsUpTo (touch_bound w) (change_bound w) a.1.1.0.now ws.1.1.0 in
-    let Most : Lasts g-end κs a → Type 0 = λ ws. ws.1.1.0.entered ≤ a.1.1.0.now.entered + 2 * lookup_bound w in
-    let Least : Lasts g-end κs a → Type 0 = λ ws. has_no_key a.0.now ≡ false → a.1.1.0.now.entered < ws.1.1.0.entered in
+    let Counted : Lasts g-end κs a → Type 0 = λ ws. CountsChange (2 * lookup_bound w) a.0.now w a.1.1.0.now ws.1.1.0 in
     let Absent : Lasts g-end κs a → Type 0 = λ ws. was ≡ None → ws.1.1.0.made ≡ a.1.1.0.now.made in
     let after-V = sep 𝓤 in-P asked in
     let after-K = sep 𝓤 in-V after-V in
@@ -70,9 +68,9 @@ get_mut_k_counted_spec 𝓤 𝓛 𝓜 𝓡 wired K V P LK LV LP k k-d e e-d q q-
     calls_at ! fr G (g-met.met 𝓤 𝓛 𝓜 𝓡 (code.calls-rart_versioned::counted::tree::VersionedAdaptiveRadixTree::lent_k_counted 𝓡.env wired) K V P LK LV LP k k-d e e-d q q-d o o-d r r-d p p-d v v-d x-d y-d z-d mk me mq mo mr mp mv mx my mz) z
     (and_then ! (get ! refl) (and_then ! (get ! refl) (and_then ! (get ! refl) (no_more !)))) (λ u.
     use1 𝓛 (later (some (λ (lent : Found.Denot). ((‵ (flft κs.0 qs.0) ⊛ ‵ (flft κs.1.0 qs.1.0) ⊛ ‵ (flft κs.1.1.0 qs.1.1.0) ⊛ ‵ (flft κs.1.1.1.0 qs.1.1.1.0) ⊛ ‵ (flft κ-V q-V) ⊛ ‵ (flft κs.1.1.1.1.1.0 qs.1.1.1.1.1.0) ⊛ ‵ ftrue) ⊛ ‵ (Found.own_val lent (u ∷ []))) ⊛
-    some (λ (ws : Lasts g-end κs a). ‵ (lasts g-end κs a ws) ⊛ ‵ (LendsValue (param 0 K) T (param 2 P) k.MAXIMUM_SIZE k.bytes q.eq o.cmp r.partial_cmp p v a.0 w lent) ⊛ raw (fact 𝓤 (IfOk lent (λ value. was ≡ Some value.now))) ⊛ raw (fact 𝓤 (IfErr lent (λ missing. Explains missing was))) ⊛ raw (fact 𝓤 (Counted ws)) ⊛ raw (fact 𝓤 (Most ws)) ⊛ raw (fact 𝓤 (Least ws)) ⊛ raw (fact 𝓤 (Absent ws)))))) (id⊢ 𝓤 _) $
+    some (λ (ws : Lasts g-end κs a). ‵ (lasts g-end κs a ws) ⊛ ‵ (LendsValue (param 0 K) T (param 2 P) k.MAXIMUM_SIZE k.bytes q.eq o.cmp r.partial_cmp p v a.0 w lent) ⊛ raw (fact 𝓤 (IfOk lent (λ value. was ≡ Some value.now))) ⊛ raw (fact 𝓤 (IfErr lent (λ missing. Explains missing was))) ⊛ raw (fact 𝓤 (Counted ws)) ⊛ raw (fact 𝓤 (Absent ws)))))) (id⊢ 𝓤 _) $
     await ! tt $ pick ! (λ lent. split ! $ split ! $ move ! (2 ∷ []) $ pick ! (λ ws. split ! $ move ! (1 ∷ []) $ split3 ! $
-    move ! (1 ∷ []) $ heard ! _ (λ there. move ! (1 ∷ []) $ split3 ! $ heard ! _ (λ missing. heard ! _ (λ counted. split3 ! $ heard ! _ (λ most. heard ! _ (λ least. heard ! _ (λ absent. move ! (2 ∷ []) $ split3 ! $ move ! (2 ∷ []) $ split3 ! $ move ! (2 ∷ []) $ split3 ! $ move ! (9 ∷ []) $
+    move ! (1 ∷ []) $ heard ! _ (λ there. move ! (1 ∷ []) $ split3 ! $ heard ! _ (λ missing. heard ! _ (λ counted. heard ! _ (λ absent. move ! (2 ∷ []) $ split3 ! $ move ! (2 ∷ []) $ split3 ! $ move ! (2 ∷ []) $ split3 ! $ move ! (9 ∷ []) $
     -- [the result; κ₄; κ₅; nothing; κ₂; κ₃; κ₀; κ₁; what follows; what the work ends as]
     peeks ! Found (Is Found) (shows 𝓛 Found) lent (u ∷ []) (λ is. lands_as ! refl refl ((found_laws.lawful 𝓛).typed lent (u ∷ []) is).0 $
     let z' : H.Ghost = (((κs.0, (κ-V, tt)), (qs.0, (q-V, tt)), (bounds.1.0, tt), (lent, tt), (u ∷ [], tt)), tt) in
@@ -90,9 +88,7 @@ get_mut_k_counted_spec 𝓤 𝓛 𝓜 𝓡 wired K V P LK LV LP k k-d e e-d q q-
     suffices ! _ (ends_at 𝓛 ended stayed c z u' found ws (tt, (tt, (tt, tt)))) $
     move ! (3 ∷ 0 ∷ []) $ join ! $ move ! (2 ∷ 0 ∷ []) $ join ! $ frame ! $
     use0 𝓛 (raw (fact 𝓤 (Absent ws))) (fact_i 𝓤 (Absent ws) (emp 𝓤) absent) $
-    use0 𝓛 (raw (fact 𝓤 (Least ws))) (fact_i 𝓤 (Least ws) (emp 𝓤) least) $ join ! $
-    use0 𝓛 (raw (fact 𝓤 (Most ws))) (fact_i 𝓤 (Most ws) (emp 𝓤) most) $ join ! $
     use0 𝓛 (raw (fact 𝓤 (Counted ws))) (fact_i 𝓤 (Counted ws) (emp 𝓤) counted) $ join ! $
     use0 𝓛 (raw (fact 𝓤 (OnErr found (IsSome was)))) (fact_i 𝓤 (OnErr found (IsSome was)) (emp 𝓤) (subst (λ x. OnErr x (IsSome was)) (sym same) (refused-there was lent missing))) $ join ! $
     use0 𝓛 (raw (fact 𝓤 (IfOk found (λ value. option_map (λ x. x.now) value ≡ was)))) (fact_i 𝓤 (IfOk found (λ value. option_map (λ x. x.now) value ≡ was)) (emp 𝓤) (subst (λ x. IfOk x (λ value. option_map (λ x. x.now) value ≡ was)) (sym same) (found-was was lent there missing))) $
-    join ! $ move ! (1 ∷ []) $ frame ! $ done !))))))))))))))))))
+    join ! $ move ! (1 ∷ []) $ frame ! $ done !))))))))))))))))

@@ -33,8 +33,7 @@ returns g c =
     let long : length key ≡ length w = ap length same in
     let n = c.self.inside.version in
     let before = option_map f c.self.inside.root in
-    let here : value_at c.args.self.now w ≡ found_in before key = rw (← c.self.view_is) (value-in most n before n w c.self.invariant ∙ ap (found_in before) (sym same)) in
-    let entered = c.lend_in.ensures.counted.entered_at_most in (
+    let here : value_at c.args.self.now w ≡ found_in before key = rw (← c.self.view_is) (value-in most n before n w c.self.invariant ∙ ap (found_in before) (sym same)) in (
       same-ends _ c.lend_in.result _ _ _ _
           (λ ok value.
           let after = option_map f (c.lend_in.follows.lender value) in
@@ -47,9 +46,10 @@ returns g c =
         writes_back = tt;
         value = IfOk-weaker c.lend_in.result _ _ (λ value is. here ∙ is) c.lend_in.ensures.value;
         missing = IfErr-weaker c.lend_in.result _ _ (λ missing explains. subst (Explains missing) (sym here) explains) c.lend_in.ensures.missing;
-        counted = counts-most c.lend_in.ensures.counted (omega (arith, long)) (omega (arith, long));
-        entered_at_most = omega (arith, entered, long);
-        entered_least = λ keyed. c.lend_in.ensures.entered_least (has-root f c.self.inside.root n c.args.self.now c.self.view_is keyed);
+        counted = record {
+          at_most = counts-most c.lend_in.ensures.counted (omega (arith, long)) (omega (arith, long));
+          at_least = λ keyed. c.lend_in.ensures.entered_least (has-root f c.self.inside.root n c.args.self.now c.self.view_is keyed);
+        };
         absent_makes_none = λ absent. c.lend_in.ensures.absent_makes_none (sym here ∙ absent);
       },
     )

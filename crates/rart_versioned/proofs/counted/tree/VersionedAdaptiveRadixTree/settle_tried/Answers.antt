@@ -3,8 +3,8 @@ use Rattle.rart_versioned.specs.Settled.{settled, IsTried}
 use Rattle.rart_versioned.proofs.Settles.{there-tried}
 use Rattle.rart_versioned.proofs.counted.tree.VersionedAdaptiveRadixTree.settle_tried.Goals as goal
 
-pub returns-in-Ok-settle-clause-ok : goal.returns-in-Ok-settle-clause-ok
-returns-in-Ok-settle-clause-ok g c =
+pub returns-in-Ok-settle-clause-tries : goal.returns-in-Ok-settle-clause-tries
+returns-in-Ok-settle-clause-tries g c =
     let v = c.args.self.now in
     let w = g.K.KeyTrait.bytes c.args.key.now in
     let settles = c.in-Ok-settle.ensures.ok ∙ (λ i. settled v w (c.of.ensures i) (c.rise_of-more.ensures i)) in

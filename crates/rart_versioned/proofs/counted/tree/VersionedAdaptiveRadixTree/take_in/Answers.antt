@@ -48,17 +48,8 @@ invariant_of-self-2 g c =
     let taken : IsTakenIn w before after = subst (λ o. IsTakenIn w (option_map f o) after) (sym c.in-Some.is) (root-taken w (f c.in-Some.root) (f c.remove_below.new.at) left after at_root c.in_ok-removed.ensures.unused root_is) in
     sound-taken g.K.KeyTrait.MAXIMUM_SIZE c.self.inside.version _ before after w c.self.invariant (omega arith) taken
 
-pub returns-clause-value : goal.returns-clause-value
-returns-clause-value g c =
-    let f = shown g.K.PartialType.Partial.bytes in
-    let w = g.K.KeyTrait.bytes c.args.key.now in
-    let before = option_map f c.self.inside.root in
-    let tree = tree-in g.K.KeyTrait.MAXIMUM_SIZE c.self.inside.version before c.self.invariant in
-    c.in_ok-removed.ensures.value ∙ ap (found (f c.in-Some.root)) c.as_ref.ensures ∙ ap (λ o. found_in (option_map f o) w) (sym c.in-Some.is) ∙ sym (get-found before w tree)
-    ∙ ap (λ (v : Version g.row.V.Denot). value_at v w) c.self.view_is
-
-pub returns-clause-ok : goal.returns-clause-ok
-returns-clause-ok g c =
+pub returns-clause-changes : goal.returns-clause-changes
+returns-clause-changes g c =
     let f = shown g.K.PartialType.Partial.bytes in
     let w = g.K.KeyTrait.bytes c.args.key.now in
     let before = option_map f c.self.inside.root in
@@ -72,8 +63,10 @@ returns-clause-ok g c =
     ] in
     let at_root : IsTaken w (f c.in-Some.root) (f c.remove_below.new.at) = subst (λ k. IsTaken k (f c.in-Some.root) (f c.remove_below.new.at)) c.as_ref.ensures c.in_ok-removed.ensures.taken in
     let taken : IsTakenIn w before after = subst (λ o. IsTakenIn w (option_map f o) after) (sym c.in-Some.is) (root-taken w (f c.in-Some.root) (f c.remove_below.new.at) left after at_root c.in_ok-removed.ensures.unused root_is) in
+    (c.in_ok-removed.ensures.value ∙ ap (found (f c.in-Some.root)) c.as_ref.ensures ∙ ap (λ o. found_in (option_map f o) w) (sym c.in-Some.is) ∙ sym (get-found before w tree)
+    ∙ ap (λ (v : Version g.row.V.Denot). value_at v w) c.self.view_is,
     ap (λ m. record { content = m; number = c.self.inside.version + c.args.more }) (map-taken before after w tree taken)
-    ∙ ap (λ (v : Version g.row.V.Denot). without_key v w c.args.more) c.self.view_is
+    ∙ ap (λ (v : Version g.row.V.Denot). without_key v w c.args.more) c.self.view_is)
 
 pub returns-in_err-removed-clause-counted : goal.returns-in_err-removed-clause-counted
 returns-in_err-removed-clause-counted g c =

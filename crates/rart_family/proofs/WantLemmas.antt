@@ -2,7 +2,7 @@
 use Rattle.std.proofs.Common.{◌≡◌, ℕ, ◌+◌, ◌^◌, Bool, true, false, nat_lt, cond, List, sym, ap, refl, subst, ⊎_elim, IsTrue}
 use Rattle.std.specs.Prelude.{Option, Some, None, IfSome, is_some, slice_set}
 use Rattle.rart_maps.specs.Versions.{Version, value_at, has_key}
-use Rattle.rart_maps.specs.Changes.{removed}
+use Rattle.rart_maps.specs.Changes.{after_removal}
 use Rattle.rart_family.specs.declared.family.command.Command.{Command}
 use Rattle.rart_family.specs.declared.family.command.Command.TheVariants.{Discard, Version as NumberOf, IsEmpty, Get, Remove, Delete}
 use Rattle.rart_family.specs.Replies.{Reply, Value, Flag, NoRoom, NoMemory}
@@ -44,10 +44,10 @@ module _ {K V : Type 0} (bytes : K → List ℕ) where
   takes_none f (IsEmpty place) none = called_not {K = K} f (IsEmpty place) _ (version_at f place) (λ v is. refl)
   takes_none f (Get place key) none = called_not {K = K} f (Get place key) _ (version_at f place) (λ v is. get_not place key (value_at v (bytes key)) (lacks_at (version_at f place) (bytes key) v none is))
   takes_none f (Remove place key) none = called_not {K = K} f (Remove place key) _ (version_at f place) (λ v is.
-      room_not f (Remove place key) (nat_lt (v.number + 1) (2 ^ 64)) (Value (value_at v (bytes key))) (slice_set f place (Some (removed v (bytes key))))
+      room_not f (Remove place key) (nat_lt (v.number + 1) (2 ^ 64)) (Value (value_at v (bytes key))) (slice_set f place (Some (after_removal v (bytes key))))
       (remove_not place key (value_at v (bytes key)) (lacks_at (version_at f place) (bytes key) v none is)))
   takes_none f (Delete place key) none = called_not {K = K} f (Delete place key) _ (version_at f place) (λ v is.
-      room_not f (Delete place key) (nat_lt (v.number + 1) (2 ^ 64)) (Flag (has_key v (bytes key))) (slice_set f place (Some (removed v (bytes key))))
+      room_not f (Delete place key) (nat_lt (v.number + 1) (2 ^ 64)) (Flag (has_key v (bytes key))) (slice_set f place (Some (after_removal v (bytes key))))
       (delete_not V place key (has_key v (bytes key)) (lacks_at (version_at f place) (bytes key) v none is)))
   takes_none f c none = absurd none
 

@@ -3,6 +3,7 @@ pub mod Costs
 pub mod Families
 pub mod Given
 pub mod Laws
+pub mod PlaceChanges
 pub mod Replies
 pub mod Runs
 pub mod Slots

@@ -36,8 +36,12 @@ module _ {V : Type 0} where
   deletion v w = (has_key v w, after_removal v w)
 
   -- with the key set to what was left behind a reference to its value, where it was there
-  abbrev pub rewritten : Version V → List ℕ → V → Version V
-  rewritten v w x = if has_key v w then with_key v w x 1 else v
+  abbrev pub after_writing : Version V → List ℕ → V → Version V
+  after_writing v w x = if has_key v w then with_key v w x 1 else v
+
+  -- Writing behind a reference: whether the key was there, and the version after.
+  abbrev pub writing : Version V → List ℕ → V → Bool × Version V
+  writing v w x = (has_key v w, after_writing v w x)
 
   -- the slot that a callback is lent
   abbrev pub slot_of : Option V → Slot V

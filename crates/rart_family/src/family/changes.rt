@@ -1,12 +1,13 @@
 // Commands that change the version at their place by one key.
-ghost use Rattle.std.specs.Prelude.{◌≡◌, IfOk, OnErr, OnOk, IsSomeAnd, IfSome, IsTrue, slice_set, Some, ◌+◌, ◌<◌, ◌≤◌};
-ghost use Rattle.rart_versioned.specs.Given.{ClonesEqual, CountsUpTo};
-ghost use Rattle.rart_maps.specs.Versions.{HasRoom, value_at, has_key, with_key};
-ghost use Rattle.rart_maps.specs.Changes.{removed, rewritten};
-ghost use Rattle.rart_maps.specs.Bounds.{touch_bound, change_bound};
+ghost use Rattle.std.specs.Prelude.{◌*◌, ◌<◌, OnErr, OnOk, IsSomeAnd, IfSome, IsTrue};
+ghost use Rattle.rart_versioned.specs.Given.{ClonesEqual};
+ghost use Rattle.rart_maps.specs.Bounds.{lookup_bound};
+ghost use Rattle.rart_maps.specs.Changes.{writing, insertion, replacement, removal, deletion};
+ghost use Rattle.rart_maps.specs.Versions.{HasRoom, has_key};
 ghost use Rattle.rart_family.specs.Attempts.{Tries, replied};
-ghost use Rattle.rart_family.specs.Costs.{CountsChanges, one_with_key};
+ghost use Rattle.rart_family.specs.Costs.{CountsChanges};
 ghost use Rattle.rart_family.specs.Families.{version_at};
+ghost use Rattle.rart_family.specs.PlaceChanges.{ChangesAt, CountsChangeAt};
 ghost use Rattle.rart_family.specs.declared.family.command.Command.TheVariants.{GetMut, Insert, Replace, Remove, Delete};
 
 use super::slot::write_slot;
@@ -121,22 +122,17 @@ fn rewrite_at<K: KeyTrait, V: Clone + Drop>(
 ) -> Result<bool, AllocError>
     requires clones { ClonesEqual V.is_clone }
     requires there { IsSomeAnd (version_at versions.old place) (λ v. HasRoom v 1) }
-    ensures found { IfOk result (λ found. IfSome (version_at versions.old place) (λ v.
-        found ≡ has_key v (K.bytes key.now))) }
-    ensures ok { OnOk result (IfSome (version_at versions.old place) (λ v.
-        versions.new ≡ slice_set versions.old place (Some (rewritten v (K.bytes key.now) value)))) }
-    ensures refused { OnErr result (versions.new ≡ versions.old) }
+    ensures changes { ChangesAt place result versions.old versions.new (λ v. 
+        writing v (K.bytes key.now) value) }
     ensures present { OnErr result (IfSome (version_at versions.old place) (λ v.
         IsTrue (has_key v (K.bytes key.now)))) }
-    ensures counted { CountsUpTo (touch_bound (K.bytes key.now)) (change_bound (K.bytes key.now))
-        changes.old changes.new }
-    ensures entered_least { changes.old.entered + one_with_key (version_at versions.old place)
-        ≤ changes.new.entered }
+    ensures counted { CountsChangeAt (2 * lookup_bound (K.bytes key.now)) versions.old place
+        (K.bytes key.now) changes.old changes.new }
 {
-    match &mut versions[place] {
-        Some(version) => write_slot(version, key, value, changes),
-        None => Err(AllocError),
-    }
+    let Some(version) = &mut versions[place] else {
+        unreachable!();
+    };
+    write_slot(version, key, value, changes)
 }
 
 fn insert_at<K: KeyTrait, V: Clone + Drop>(
@@ -148,21 +144,16 @@ fn insert_at<K: KeyTrait, V: Clone + Drop>(
 ) -> Result<bool, AllocError>
     requires clones { ClonesEqual V.is_clone }
     requires there { IsSomeAnd (version_at versions.old place) (λ v. HasRoom v 1) }
-    ensures replaced { IfOk result (λ replaced. IfSome (version_at versions.old place) (λ v.
-        replaced ≡ has_key v (K.bytes key.now))) }
-    ensures ok { OnOk result (IfSome (version_at versions.old place) (λ v.
-        versions.new ≡ slice_set versions.old place (Some (with_key v (K.bytes key.now) value 1)))) }
-    ensures refused { OnErr result (versions.new ≡ versions.old) }
-    ensures counted { CountsUpTo (touch_bound (K.bytes key.now)) (change_bound (K.bytes key.now))
-        changes.old changes.new }
-    ensures entered_least { changes.old.entered + one_with_key (version_at versions.old place)
-        ≤ changes.new.entered }
+    ensures changes { ChangesAt place result versions.old versions.new (λ v. 
+        insertion v (K.bytes key.now) value) }
+    ensures counted { CountsChangeAt (lookup_bound (K.bytes key.now)) versions.old place
+        (K.bytes key.now) changes.old changes.new }
     ensures made { OnOk result (changes.old.made < changes.new.made) }
 {
-    match &mut versions[place] {
-        Some(version) => version.insert_k_counted(key, value, changes),
-        None => Err(AllocError),
-    }
+    let Some(version) = &mut versions[place] else {
+        unreachable!();
+    };
+    version.insert_k_counted(key, value, changes)
 }
 
 fn replace_at<K: KeyTrait, V: Clone + Drop>(
@@ -174,21 +165,16 @@ fn replace_at<K: KeyTrait, V: Clone + Drop>(
 ) -> Result<Option<V>, AllocError>
     requires clones { ClonesEqual V.is_clone }
     requires there { IsSomeAnd (version_at versions.old place) (λ v. HasRoom v 1) }
-    ensures replaced { IfOk result (λ replaced. IfSome (version_at versions.old place) (λ v.
-        replaced ≡ value_at v (K.bytes key.now))) }
-    ensures ok { OnOk result (IfSome (version_at versions.old place) (λ v.
-        versions.new ≡ slice_set versions.old place (Some (with_key v (K.bytes key.now) value 1)))) }
-    ensures refused { OnErr result (versions.new ≡ versions.old) }
-    ensures counted { CountsUpTo (touch_bound (K.bytes key.now)) (change_bound (K.bytes key.now))
-        changes.old changes.new }
-    ensures entered_least { changes.old.entered + one_with_key (version_at versions.old place)
-        ≤ changes.new.entered }
+    ensures changes { ChangesAt place result versions.old versions.new (λ v. 
+        replacement v (K.bytes key.now) value) }
+    ensures counted { CountsChangeAt (lookup_bound (K.bytes key.now)) versions.old place
+        (K.bytes key.now) changes.old changes.new }
     ensures made { OnOk result (changes.old.made < changes.new.made) }
 {
-    match &mut versions[place] {
-        Some(version) => version.insert_and_replace_k_counted(key, value, changes),
-        None => Err(AllocError),
-    }
+    let Some(version) = &mut versions[place] else {
+        unreachable!();
+    };
+    version.insert_and_replace_k_counted(key, value, changes)
 }
 
 fn remove_at<K: KeyTrait, V: Clone + Drop>(
@@ -199,22 +185,17 @@ fn remove_at<K: KeyTrait, V: Clone + Drop>(
 ) -> Result<Option<V>, AllocError>
     requires clones { ClonesEqual V.is_clone }
     requires there { IsSomeAnd (version_at versions.old place) (λ v. HasRoom v 1) }
-    ensures found { IfOk result (λ found. IfSome (version_at versions.old place) (λ v.
-        found ≡ value_at v (K.bytes key.now))) }
-    ensures ok { OnOk result (IfSome (version_at versions.old place) (λ v.
-        versions.new ≡ slice_set versions.old place (Some (removed v (K.bytes key.now))))) }
-    ensures refused { OnErr result (versions.new ≡ versions.old) }
+    ensures changes { ChangesAt place result versions.old versions.new (λ v. 
+        removal v (K.bytes key.now)) }
     ensures present { OnErr result (IfSome (version_at versions.old place) (λ v.
         IsTrue (has_key v (K.bytes key.now)))) }
-    ensures counted { CountsUpTo (touch_bound (K.bytes key.now)) (change_bound (K.bytes key.now))
-        changes.old changes.new }
-    ensures entered_least { changes.old.entered + one_with_key (version_at versions.old place)
-        ≤ changes.new.entered }
+    ensures counted { CountsChangeAt (2 * lookup_bound (K.bytes key.now)) versions.old place
+        (K.bytes key.now) changes.old changes.new }
 {
-    match &mut versions[place] {
-        Some(version) => version.remove_k_counted(key, changes),
-        None => Err(AllocError),
-    }
+    let Some(version) = &mut versions[place] else {
+        unreachable!();
+    };
+    version.remove_k_counted(key, changes)
 }
 
 fn delete_at<K: KeyTrait, V: Clone + Drop>(
@@ -225,20 +206,15 @@ fn delete_at<K: KeyTrait, V: Clone + Drop>(
 ) -> Result<bool, AllocError>
     requires clones { ClonesEqual V.is_clone }
     requires there { IsSomeAnd (version_at versions.old place) (λ v. HasRoom v 1) }
-    ensures found { IfOk result (λ found. IfSome (version_at versions.old place) (λ v.
-        found ≡ has_key v (K.bytes key.now))) }
-    ensures ok { OnOk result (IfSome (version_at versions.old place) (λ v.
-        versions.new ≡ slice_set versions.old place (Some (removed v (K.bytes key.now))))) }
-    ensures refused { OnErr result (versions.new ≡ versions.old) }
+    ensures changes { ChangesAt place result versions.old versions.new (λ v. 
+        deletion v (K.bytes key.now)) }
     ensures present { OnErr result (IfSome (version_at versions.old place) (λ v.
         IsTrue (has_key v (K.bytes key.now)))) }
-    ensures counted { CountsUpTo (touch_bound (K.bytes key.now)) (change_bound (K.bytes key.now))
-        changes.old changes.new }
-    ensures entered_least { changes.old.entered + one_with_key (version_at versions.old place)
-        ≤ changes.new.entered }
+    ensures counted { CountsChangeAt (2 * lookup_bound (K.bytes key.now)) versions.old place
+        (K.bytes key.now) changes.old changes.new }
 {
-    match &mut versions[place] {
-        Some(version) => version.delete_k_counted(key, changes),
-        None => Err(AllocError),
-    }
+    let Some(version) = &mut versions[place] else {
+        unreachable!();
+    };
+    version.delete_k_counted(key, changes)
 }

@@ -1,10 +1,11 @@
 // A value written through the reference that a version lends.
-ghost use Rattle.std.specs.Prelude.{◌≡◌, IfOk, IfErr, OnOk, OnErr, IsTrue, true, false, ◌<◌};
+ghost use Rattle.std.specs.Prelude.{◌≡◌, ◌*◌, IfErr, OnOk, OnErr, IsTrue, true};
 ghost use Rattle.std.specs.Borrow.{sem};
-ghost use Rattle.rart_versioned.specs.Given.{ClonesEqual, CountsUpTo};
-ghost use Rattle.rart_maps.specs.Versions.{HasRoom, has_no_key, value_at, has_key};
-ghost use Rattle.rart_maps.specs.Changes.{rewritten};
-ghost use Rattle.rart_maps.specs.Bounds.{touch_bound, change_bound};
+ghost use Rattle.rart_versioned.specs.Given.{ClonesEqual};
+ghost use Rattle.rart_maps.specs.Versions.{HasRoom, value_at, has_key};
+ghost use Rattle.rart_maps.specs.Changes.{Changes, writing};
+ghost use Rattle.rart_maps.specs.Bounds.{lookup_bound};
+ghost use Rattle.rart_versioned.specs.ChangeCounts.{CountsChange};
 ghost use Rattle.rart_versioned.specs.Lent.{LendsValue};
 ghost use Rattle.rart_family.specs.Slots.{slot_value, Explains};
 
@@ -29,14 +30,11 @@ pub(super) fn write_slot<K: KeyTrait, V: Clone + Drop>(
 ) -> Result<bool, AllocError>
     requires clones { ClonesEqual V.is_clone }
     requires room { HasRoom version.old 1 }
-    ensures found { IfOk result (λ found. found ≡ has_key version.old (K.bytes key.now)) }
-    ensures ok { OnOk result (version.new ≡ rewritten version.old (K.bytes key.now) value) }
-    ensures refused { OnErr result (version.new ≡ version.old) }
+    ensures changes { Changes result version.old version.new
+        (writing version.old (K.bytes key.now) value) }
     ensures present { OnErr result (IsTrue (has_key version.old (K.bytes key.now))) }
-    ensures counted { CountsUpTo (touch_bound (K.bytes key.now)) (change_bound (K.bytes key.now))
-        changes.old changes.new }
-    ensures entered_least { has_no_key version.old ≡ false
-        → changes.old.entered < changes.new.entered }
+    ensures counted { CountsChange (2 * lookup_bound (K.bytes key.now)) version.old
+        (K.bytes key.now) changes.old changes.new }
 {
     match slot(version, key, changes) {
         Ok(slot) => {
@@ -59,10 +57,8 @@ fn slot<'a, K: KeyTrait, V: Clone + Drop>(
     ensures* writes_back { sem 𝓛 (LendsValue K.row V.row K.PartialType.row K.MAXIMUM_SIZE K.bytes K.eq K.cmp K.partial_cmp K.PartialType.Partial V.Clone version.entry (K.bytes key.now) result) }
     ensures there { OnOk result (has_key version.old (K.bytes key.now) ≡ true) }
     ensures missing { IfErr result (λ why. Explains why (value_at version.old (K.bytes key.now))) }
-    ensures counted { CountsUpTo (touch_bound (K.bytes key.now)) (change_bound (K.bytes key.now))
-        changes.old changes.new }
-    ensures entered_least { has_no_key version.old ≡ false
-        → changes.old.entered < changes.new.entered }
+    ensures counted { CountsChange (2 * lookup_bound (K.bytes key.now)) version.old
+        (K.bytes key.now) changes.old changes.new }
 {
     slot_of(version.get_mut_k_counted(key, changes))
 }

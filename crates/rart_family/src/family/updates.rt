@@ -1,12 +1,13 @@
 // Commands that update the slot of a key by a callback.
-ghost use Rattle.std.specs.Prelude.{◌≡◌, IfOk, OnErr, IsSomeAnd, IfSome, slice_set, Some, option_map, ◌+◌, ◌≤◌};
-ghost use Rattle.rart_versioned.specs.Given.{ClonesEqual, CountsUpTo};
+ghost use Rattle.std.specs.Prelude.{◌≡◌, IfOk, IsSomeAnd, option_map};
+ghost use Rattle.rart_versioned.specs.Given.{ClonesEqual};
 ghost use Rattle.rart_maps.specs.Versions.{HasRoom, value_at};
 ghost use Rattle.rart_maps.specs.Changes.{slot_of, updated, tried};
-ghost use Rattle.rart_maps.specs.Bounds.{touch_bound, change_bound};
+ghost use Rattle.rart_maps.specs.Bounds.{touch_bound};
 ghost use Rattle.rart_family.specs.Attempts.{Tries, replied};
-ghost use Rattle.rart_family.specs.Costs.{CountsChanges, one_with_key};
+ghost use Rattle.rart_family.specs.Costs.{CountsChanges};
 ghost use Rattle.rart_family.specs.Families.{version_at, written, told};
+ghost use Rattle.rart_family.specs.PlaceChanges.{ChangesAt, CountsChangeAt};
 ghost use Rattle.rart_family.specs.declared.family.command.Command.TheVariants.{Update, TryUpdate};
 
 use super::{Failure, Family, Reply};
@@ -105,26 +106,23 @@ fn update_at<K: KeyTrait, V: Clone + Drop>(
 ) -> Result<bool, AllocError>
     requires clones { ClonesEqual V.is_clone }
     requires there { IsSomeAnd (version_at versions.old place) (λ v. HasRoom v 1) }
-    ensures ok { IfOk result (λ is_there. IfSome (version_at versions.old place) (λ v.
-        let after = updated v (K.bytes key.now) (slot_of (written (value_at v (K.bytes key.now)) write)) answer in
-        (is_there ≡ after.0) × (versions.new ≡ slice_set versions.old place (Some after.1)))) }
-    ensures refused { OnErr result (versions.new ≡ versions.old) }
-    ensures counted { CountsUpTo (touch_bound (K.bytes key.now)) (change_bound (K.bytes key.now))
-        changes.old changes.new }
-    ensures entered_least { changes.old.entered + one_with_key (version_at versions.old place)
-        ≤ changes.new.entered }
+    ensures changes { ChangesAt place result versions.old versions.new (λ v.
+        updated v (K.bytes key.now) (slot_of (written (value_at v (K.bytes key.now)) write))
+        answer) }
+    ensures counted { CountsChangeAt (touch_bound (K.bytes key.now)) versions.old place
+        (K.bytes key.now) changes.old changes.new }
 {
-    match &mut versions[place] {
-        Some(version) => version.update_k_counted(
-            key,
-            move |slot: &mut Slot<V>| -> SlotUpdate<V> {
-                write_slot(slot, write);
-                answer
-            },
-            changes,
-        ),
-        None => Err(AllocError),
-    }
+    let Some(version) = &mut versions[place] else {
+        unreachable!();
+    };
+    version.update_k_counted(
+        key,
+        move |slot: &mut Slot<V>| -> SlotUpdate<V> {
+            write_slot(slot, write);
+            answer
+        },
+        changes,
+    )
 }
 
 fn try_update_at<K: KeyTrait, V: Clone + Drop>(
@@ -137,31 +135,26 @@ fn try_update_at<K: KeyTrait, V: Clone + Drop>(
 ) -> Result<Result<bool, Failure>, AllocError>
     requires clones { ClonesEqual V.is_clone }
     requires there { IsSomeAnd (version_at versions.old place) (λ v. HasRoom v 2) }
-    ensures ok { IfOk result (λ reply. IfSome (version_at versions.old place) (λ v.
-        let after = tried v (K.bytes key.now) (slot_of (written (value_at v (K.bytes key.now)) write)) (told answer) in
-        (reply ≡ after.0) × (versions.new ≡ slice_set versions.old place (Some after.1)))) }
-    ensures refused { OnErr result (versions.new ≡ versions.old) }
-    ensures counted { CountsUpTo (touch_bound (K.bytes key.now)) (change_bound (K.bytes key.now))
-        changes.old changes.new }
-    ensures entered_least { changes.old.entered + one_with_key (version_at versions.old place)
-        ≤ changes.new.entered }
+    ensures changes { ChangesAt place result versions.old versions.new (λ v.
+        tried v (K.bytes key.now) (slot_of (written (value_at v (K.bytes key.now)) write))
+        (told answer)) }
+    ensures counted { CountsChangeAt (touch_bound (K.bytes key.now)) versions.old place
+        (K.bytes key.now) changes.old changes.new }
 {
-    match &mut versions[place] {
-        Some(version) => {
-            let tried = version.try_update_k_counted(
-                key,
-                move |slot: &mut Slot<V>| -> Result<SlotUpdate<V>, Failure> {
-                    write_slot(slot, write);
-                    answer.ok_or(Failure)
-                },
-                changes,
-            );
-            match tried {
-                Ok(is_there) => Ok(Ok(is_there)),
-                Err(Refusal::Callback(failure)) => Ok(Err(failure)),
-                Err(Refusal::Memory(refused)) => Err(refused),
-            }
-        }
-        None => Err(AllocError),
+    let Some(version) = &mut versions[place] else {
+        unreachable!();
+    };
+    let tried = version.try_update_k_counted(
+        key,
+        move |slot: &mut Slot<V>| -> Result<SlotUpdate<V>, Failure> {
+            write_slot(slot, write);
+            answer.ok_or(Failure)
+        },
+        changes,
+    );
+    match tried {
+        Ok(is_there) => Ok(Ok(is_there)),
+        Err(Refusal::Callback(failure)) => Ok(Err(failure)),
+        Err(Refusal::Memory(refused)) => Err(refused),
     }
 }

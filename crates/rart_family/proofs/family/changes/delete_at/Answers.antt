@@ -1,11 +1,14 @@
-use Rattle.rart_family.proofs.PlaceLemmas.{if_none_at, touches_none, touches_some}
+use Rattle.rart_family.proofs.PlaceLemmas.{changes_at, counts_at, on_err_at, there_at}
 use Rattle.rart_family.proofs.family.changes.delete_at.Goals as goal
 
-pub returns-in-Some-clause-entered_least : goal.returns-in-Some-clause-entered_least
-returns-in-Some-clause-entered_least g c = touches_some c.args.versions.now c.args.place _ _ _ _ c.in-Some.is c.delete_k_counted.ensures.counted.entered_grows c.delete_k_counted.ensures.entered_least
+pub returns-clause-changes : goal.returns-clause-changes
+returns-clause-changes g c = changes_at c.args.versions.now c.args.place _ _ _ c.delete_k_counted.result _ c.in-Some.is c.delete_k_counted.ensures.changes
 
-pub returns-in-None-clause-present : goal.returns-in-None-clause-present
-returns-in-None-clause-present g c = if_none_at c.args.versions.now c.args.place _ _ c.in-None.is
+pub returns-clause-present : goal.returns-clause-present
+returns-clause-present g c = on_err_at c.args.versions.now c.args.place _ _ c.delete_k_counted.result _ c.in-Some.is c.delete_k_counted.ensures.present
 
-pub returns-in-None-clause-entered_least : goal.returns-in-None-clause-entered_least
-returns-in-None-clause-entered_least g c = touches_none c.args.versions.now c.args.place _ _ c.in-None.is
+pub returns-clause-counted : goal.returns-clause-counted
+returns-clause-counted g c = counts_at c.args.versions.now c.args.place _ _ c.in-Some.is c.delete_k_counted.ensures.counted
+
+pub unreachable-requires : goal.unreachable-requires
+unreachable-requires g c = absurd (there_at c.args.versions.now c.args.place _ _ c.in_default.is c.requires.there)

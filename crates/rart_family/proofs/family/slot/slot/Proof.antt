@@ -9,10 +9,11 @@ use Rattle.std.proofs.result.Result.TheLaws as Result-laws
 use Rattle.std.proofs.option.Option.TheLaws as Option-laws
 use Rattle.std.proofs.alloc.AllocError.TheLaws as Err-laws
 use Rattle.rart_versioned.proofs.Walks.{reference-laws}
-use Rattle.rart_maps.specs.Bounds.{lookup_bound, touch_bound, change_bound}
-use Rattle.rart_versioned.specs.Given.{ClonesEqual, CountsUpTo, work_row}
+use Rattle.rart_maps.specs.Bounds.{lookup_bound}
+use Rattle.rart_versioned.specs.ChangeCounts.{CountsChange}
+use Rattle.rart_versioned.specs.Given.{ClonesEqual, work_row}
 use Rattle.rart_versioned.specs.Lent.{LendsFound}
-use Rattle.rart_maps.specs.Versions.{with_key, value_at, has_no_key}
+use Rattle.rart_maps.specs.Versions.{with_key, value_at}
 use Rattle.rart_versioned.specs.contracts.counted.tree.VersionedAdaptiveRadixTree.{the_row}
 use Rattle.rart_versioned.specs.contracts.counted.tree.VersionedAdaptiveRadixTree.get_mut_k_counted as g
 use Rattle.rart_versioned.proofs.counted.tree.VersionedAdaptiveRadixTree.get_mut_k_counted.Met as g-met
@@ -56,9 +57,7 @@ slot_spec 𝓤 𝓛 𝓜 𝓡 wired K V P LK LV LP k k-d e e-d q q-d o o-d r r-d
     let in-V = fact 𝓤 (κ-V ⊑ V.lives) in
     let in-P = fact 𝓤 (κs.1.1.1.1.1.0 ⊑ P.lives) in
     let asked = sep 𝓤 (fact 𝓤 (ClonesEqual v.is_clone)) (fact 𝓤 (a.0.now.number + 1 < 2 ^ 64)) in
-    let Counted : Lasts g-end κs a → Type 0 = λ ws. CountsUpTo (touch_bound w) (change_bound w) a.1.1.0.now ws.1.1.0 in
-    let AtMost : Lasts g-end κs a → Type 0 = λ ws. ws.1.1.0.entered ≤ a.1.1.0.now.entered + 2 * lookup_bound w in
-    let Entered : Lasts g-end κs a → Type 0 = λ ws. has_no_key a.0.now ≡ false → a.1.1.0.now.entered < ws.1.1.0.entered in
+    let Counted : Lasts g-end κs a → Type 0 = λ ws. CountsChange (2 * lookup_bound w) a.0.now w a.1.1.0.now ws.1.1.0 in
     let MakesNone : Lasts g-end κs a → Type 0 = λ ws. value_at a.0.now w ≡ None → ws.1.1.0.made ≡ a.1.1.0.now.made in
     let after-V = sep 𝓤 in-P asked in
     let after-K = sep 𝓤 in-V after-V in
@@ -69,9 +68,9 @@ slot_spec 𝓤 𝓛 𝓜 𝓡 wired K V P LK LV LP k k-d e e-d q q-d o o-d r r-d
     calls_at ! fr G (g-met.met 𝓤 𝓛 𝓜 𝓡 (code.calls-rart_versioned::counted::tree::VersionedAdaptiveRadixTree::get_mut_k_counted 𝓡.env wired) K V P LK LV LP k k-d e e-d q q-d o o-d r r-d p p-d v v-d x-d y-d z-d mk me mq mo mr mp mv mx my mz) z
     (and_then ! (get ! refl) (and_then ! (get ! refl) (and_then ! (get ! refl) (no_more !)))) (λ u.
     use1 𝓛 (later (some (λ (found : Found.Denot). ((‵ (flft κs.0 qs.0) ⊛ ‵ (flft κs.1.0 qs.1.0) ⊛ ‵ (flft κs.1.1.0 qs.1.1.0) ⊛ ‵ (flft κs.1.1.1.0 qs.1.1.1.0) ⊛ ‵ (flft κ-V q-V) ⊛ ‵ (flft κs.1.1.1.1.1.0 qs.1.1.1.1.1.0) ⊛ ‵ ftrue) ⊛ ‵ (Found.own_val found (u ∷ []))) ⊛
-    some (λ (ws : Lasts g-end κs a). ‵ (lasts g-end κs a ws) ⊛ ‵ (LendsFound (param 0 K) T (param 2 P) k.MAXIMUM_SIZE k.bytes q.eq o.cmp r.partial_cmp p v a.0 w found) ⊛ raw (fact 𝓤 (IfOk found (λ value. option_map (λ x. x.now) value ≡ was))) ⊛ raw (fact 𝓤 (OnErr found (IsSome was))) ⊛ raw (fact 𝓤 (Counted ws)) ⊛ raw (fact 𝓤 (AtMost ws)) ⊛ raw (fact 𝓤 (Entered ws)) ⊛ raw (fact 𝓤 (MakesNone ws)))))) (id⊢ 𝓤 _) $
+    some (λ (ws : Lasts g-end κs a). ‵ (lasts g-end κs a ws) ⊛ ‵ (LendsFound (param 0 K) T (param 2 P) k.MAXIMUM_SIZE k.bytes q.eq o.cmp r.partial_cmp p v a.0 w found) ⊛ raw (fact 𝓤 (IfOk found (λ value. option_map (λ x. x.now) value ≡ was))) ⊛ raw (fact 𝓤 (OnErr found (IsSome was))) ⊛ raw (fact 𝓤 (Counted ws)) ⊛ raw (fact 𝓤 (MakesNone ws)))))) (id⊢ 𝓤 _) $
     await ! tt $ pick ! (λ found. split ! $ split ! $ move ! (2 ∷ []) $ pick ! (λ ws. split ! $ move ! (1 ∷ []) $ split3 ! $
-    move ! (1 ∷ []) $ heard ! _ (λ is. move ! (1 ∷ []) $ split ! $ heard ! _ (λ present. split ! $ heard ! _ (λ counted. split ! $ heard ! _ (λ at_most. split ! $ heard ! _ (λ entered. heard ! _ (λ makes_none. move ! (2 ∷ []) $ split3 ! $ move ! (2 ∷ []) $ split3 ! $ move ! (2 ∷ []) $ split3 ! $ move ! (9 ∷ []) $
+    move ! (1 ∷ []) $ heard ! _ (λ is. move ! (1 ∷ []) $ split ! $ heard ! _ (λ present. split ! $ heard ! _ (λ counted. heard ! _ (λ makes_none. move ! (2 ∷ []) $ split3 ! $ move ! (2 ∷ []) $ split3 ! $ move ! (2 ∷ []) $ split3 ! $ move ! (9 ∷ []) $
     -- [the result; κ₄; κ₅; nothing; κ₂; κ₃; κ₀; κ₁; what follows; what the work ends as]
     peeks ! Found (Is Found) (shows 𝓛 Found) found (u ∷ []) (λ typed. lands_as ! refl refl ((found_laws.lawful 𝓛).typed found (u ∷ []) typed).0 $
     let z' : H.Ghost = (((κs.0, (κ-V, tt)), (qs.0, (q-V, tt)), (bounds.1.0, tt), (found, tt), (u ∷ [], tt)), tt) in
@@ -88,8 +87,7 @@ slot_spec 𝓤 𝓛 𝓜 𝓡 wired K V P LK LV LP k k-d e e-d q q-d o o-d r r-d
     rewrite ! 1 (λ (m : maybe.Option GName). ‵ (follows_if R T a.0.ghost_name m (λ left. with_key a.0.now w left 1) a.0.now)) (same-name found ∙ ap (name_if_ok (λ (x : MutBor V.Denot). x.ghost_name)) (sym same)) refl $
     suffices ! _ (ends_at 𝓛 ended stayed c z u' slot ws (tt, (tt, (tt, tt)))) $
     move ! (3 ∷ 0 ∷ []) $ join ! $ move ! (2 ∷ 0 ∷ []) $ join ! $ frame ! $
-    use0 𝓛 (raw (fact 𝓤 (Entered ws))) (fact_i 𝓤 (Entered ws) (emp 𝓤) entered) $
-    use0 𝓛 (raw (fact 𝓤 (Counted ws))) (fact_i 𝓤 (Counted ws) (emp 𝓤) counted) $ join ! $
+    use0 𝓛 (raw (fact 𝓤 (Counted ws))) (fact_i 𝓤 (Counted ws) (emp 𝓤) counted) $
     use0 𝓛 (raw (fact 𝓤 (IfErr slot (λ why. Explains why was)))) (fact_i 𝓤 (IfErr slot (λ why. Explains why was)) (emp 𝓤) (subst (λ x. IfErr x (λ why. Explains why was)) (sym same) (slot-missing was found is present))) $ join ! $
     use0 𝓛 (raw (fact 𝓤 (OnOk slot (is_some was ≡ true)))) (fact_i 𝓤 (OnOk slot (is_some was ≡ true)) (emp 𝓤) (subst (λ x. OnOk x (is_some was ≡ true)) (sym same) (slot-there was found is))) $
-    join ! $ move ! (1 ∷ []) $ frame ! $ done !))))))))))))))))))
+    join ! $ move ! (1 ∷ []) $ frame ! $ done !))))))))))))))))

@@ -1,0 +1,40 @@
+-- Byte strings in segments, one behind the other: a segment more, and their order.
+use Rattle.std.proofs.Common.{◌≡◌, ℕ, ◌+◌, ◌<◌, ◌≤◌, List, [], ◌∷◌, ◌++◌, length, take, drop, get_or, refl, sym, ap, ◌∙◌, arith, add-one}
+use Rattle.std.proofs.Math.Seq.{drop-cons}
+use Rattle.std.specs.Borrow.{Bor}
+use Rattle.std.specs.declared.cmp.Ordering.{Ordering}
+use Rattle.std.specs.declared.cmp.Ordering.TheVariants.{Less, Equal, Greater}
+use Rattle.std.specs.Ordering.{nat_cmp, ordering_then}
+use Rattle.rart_below.specs.Bytes.{byte_order}
+use Rattle.rart_below.specs.LendingKeyView.{joined}
+
+-- the bytes from one segment on
+pub joined-drop : (segments : List (Bor (List ℕ))) (i : ℕ) (other : Bor (List ℕ)) → i < length segments →
+    joined (drop i segments) ≡ (get_or segments i other).now ++ joined (drop (i + 1) segments)
+joined-drop segments i other inside =
+    ap joined (drop-cons segments i other inside)
+    ∙ ap (λ k. (get_or segments i other).now ++ joined (drop k segments)) (sym (add-one i))
+
+ordering_then_assoc : (a b c : Ordering) → ordering_then (ordering_then a b) c ≡ ordering_then a (ordering_then b c)
+ordering_then_assoc Less b c = refl
+ordering_then_assoc Equal b c = refl
+ordering_then_assoc Greater b c = refl
+
+-- A segment that the other string is long enough for is compared with its front, and what follows
+-- with the rest.
+pub byte_order-append : (segment behind other : List ℕ) → length segment ≤ length other →
+    byte_order (segment ++ behind) other
+    ≡ ordering_then (byte_order segment (take (length segment) other)) (byte_order behind (drop (length segment) other))
+byte_order-append [] behind other fits = refl
+byte_order-append (b ∷ segment) behind [] fits = absurd (omega (arith, fits))
+byte_order-append (b ∷ segment) behind (c ∷ other) fits =
+    ap (ordering_then (nat_cmp b c)) (byte_order-append segment behind other (omega (arith, fits)))
+    ∙ sym (ordering_then_assoc (nat_cmp b c) (byte_order segment (take (length segment) other)) (byte_order behind (drop (length segment) other)))
+
+-- Against a shorter string a segment decides alone.
+pub byte_order-append_longer : (segment behind other : List ℕ) → length other < length segment →
+    byte_order (segment ++ behind) other ≡ byte_order segment other
+byte_order-append_longer [] behind other longer = absurd (omega (arith, longer))
+byte_order-append_longer (b ∷ segment) behind [] longer = refl
+byte_order-append_longer (b ∷ segment) behind (c ∷ other) longer =
+    ap (ordering_then (nat_cmp b c)) (byte_order-append_longer segment behind other (omega (arith, longer)))

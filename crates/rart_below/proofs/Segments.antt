@@ -38,3 +38,27 @@ byte_order-append_longer [] behind other longer = absurd (omega (arith, longer))
 byte_order-append_longer (b ∷ segment) behind [] longer = refl
 byte_order-append_longer (b ∷ segment) behind (c ∷ other) longer =
     ap (ordering_then (nat_cmp b c)) (byte_order-append_longer segment behind other (omega (arith, longer)))
+
+-- the bytes from one segment on, and a string that is at least as long as the segment
+pub joined-order : (segments : List (Bor (List ℕ))) (i : ℕ) (other : Bor (List ℕ)) (rest front behind : List ℕ) → i < length segments →
+    length (get_or segments i other).now ≤ length rest → front ≡ take (length (get_or segments i other).now) rest → behind ≡ drop (length (get_or segments i other).now) rest →
+    byte_order (joined (drop i segments)) rest ≡ ordering_then (byte_order (get_or segments i other).now front) (byte_order (joined (drop (i + 1) segments)) behind)
+joined-order segments i other rest front behind inside fits is_front is_behind =
+    let segment = (get_or segments i other).now in
+    let later = joined (drop (i + 1) segments) in
+    ap (λ bytes. byte_order bytes rest) (joined-drop segments i other inside)
+    ∙ byte_order-append segment later rest fits
+    ∙ (λ k. ordering_then (byte_order segment (sym is_front k)) (byte_order later (sym is_behind k)))
+
+-- the same, and a shorter string
+pub joined-order_longer : (segments : List (Bor (List ℕ))) (i : ℕ) (other : Bor (List ℕ)) (rest : List ℕ) → i < length segments →
+    length rest < length (get_or segments i other).now → byte_order (joined (drop i segments)) rest ≡ byte_order (get_or segments i other).now rest
+joined-order_longer segments i other rest inside longer =
+    ap (λ bytes. byte_order bytes rest) (joined-drop segments i other inside)
+    ∙ byte_order-append_longer (get_or segments i other).now (joined (drop (i + 1) segments)) rest longer
+
+-- What isn't equal decides.
+pub ordering_then-decided : (first later : Ordering) → (first ≡ Equal → ⊥) → ordering_then first later ≡ first
+ordering_then-decided Less later unequal = refl
+ordering_then-decided Equal later unequal = absurd (unequal refl)
+ordering_then-decided Greater later unequal = refl

@@ -2,6 +2,7 @@ pub mod Maps
 pub mod Keyed
 pub mod Lending
 pub mod Found
+pub mod NodeBounds
 pub mod Walks
 pub mod Sound
 pub mod TakenIn

@@ -1,0 +1,69 @@
+-- Calls on the members of a list: how they go on from one part of it to the next.
+use Rattle.std.proofs.Common.{◌≡◌, List, [], ◌∷◌, ◌++◌, Result, Ok, refl, sym, ap, subst, ◌∙◌, append_assoc}
+use Rattle.std.proofs.lemmas.List.{append-nil}
+use Rattle.std.specs.Fn.{Mut, Takes}
+use Rattle.rart_below.specs.declared.visit.VisitControl.{VisitControl}
+use Rattle.rart_below.specs.declared.visit.VisitControl.TheVariants.{Continue}
+use Rattle.rart_maps.specs.Visits.{CalledOn, Answers, AnswersUpTo, CallableInTurn, VisitUpTo}
+
+module _ {F A R X : Type 0} (g : Mut F A R) (Shows : A → X → Type 0) (answer : R) where
+  -- the calls on one list, and then those on another
+  pub answers-append : (xs ys : List X) (f between last : F) →
+      Answers g Shows answer f xs between → Answers g Shows answer between ys last → Answers g Shows answer f (xs ++ ys) last
+  answers-append [] ys f between last first second = subst (λ state. Answers g Shows answer state ys last) (sym first) second
+  answers-append (x ∷ xs) ys f between last first second = (first.0, first.1, answers-append xs ys first.0 between last first.2 second)
+
+  -- Before the first call all members are left.
+  pub up_to-start : (f : F) (members : List X) → AnswersUpTo g Shows answer f members members f
+  up_to-start f members = ([], refl, refl)
+
+  module _ {f between last : F} {members : List X} (part rest : List X) (before : AnswersUpTo g Shows answer f members (part ++ rest) between) where
+    -- calls within a part
+    pub up_to-within : (left : List X) → AnswersUpTo g Shows answer between part left last → AnswersUpTo g Shows answer f members (left ++ rest) last
+    up_to-within left within = (
+      before.0 ++ within.0,
+      before.1 ∙ ap (λ xs. before.0 ++ (xs ++ rest)) within.1 ∙ ap (λ xs. before.0 ++ xs) (append_assoc within.0 left rest)
+      ∙ sym (append_assoc before.0 within.0 (left ++ rest)),
+      answers-append before.0 within.0 f between last before.2 within.2,
+    )
+
+    -- calls on the whole part
+    pub up_to-part : Answers g Shows answer between part last → AnswersUpTo g Shows answer f members rest last
+    up_to-part whole = up_to-within [] (part, sym (append-nil part), whole)
+
+  -- one call more
+  pub up_to-next : {f between last : F} {members : List X} (x : X) (rest : List X) →
+      AnswersUpTo g Shows answer f members (x ∷ rest) between → CalledOn g Shows between x answer last → AnswersUpTo g Shows answer f members rest last
+  up_to-next {f} {between} {last} x rest before called = up_to-part (x ∷ []) rest before (last, called, refl)
+
+  -- Where no member is left, there was a call on each.
+  pub up_to-end : {f last : F} {members : List X} → AnswersUpTo g Shows answer f members [] last → Answers g Shows answer f members last
+  up_to-end {f} {last} before = subst (λ xs. Answers g Shows answer f xs last) (sym (append-nil before.0) ∙ sym before.1) before.2
+
+  -- What is callable on all members in turn is so on each part, when it comes to it.
+  pub callable-part : {f between : F} {members : List X} (part rest : List X) →
+      CallableInTurn g Shows answer f members → AnswersUpTo g Shows answer f members (part ++ rest) between → CallableInTurn g Shows answer between part
+  callable-part part rest callable before =
+      record { at = λ x left last within. callable.at x (left ++ rest) last (up_to-within part rest before (x ∷ left) within) }
+
+  -- What may always be called is callable on any members in turn.
+  pub callable-always : ((f : F) (a : A) → Takes g f a) → (f : F) (members : List X) → CallableInTurn g Shows answer f members
+  callable-always always f members = record { at = λ x rest last before a shows. always last a }
+
+  -- What a closure has collected that may give up: where it has not given up at the end, each call has
+  -- put its member at the end of what was seen.
+  pub answers-collect : (Keeps : F → Type 0) (seen : F → List X) →
+      ((f : F) (x : X) (after : F) → CalledOn g Shows f x answer after → Keeps after → Keeps f × (seen after ≡ seen f ++ x ∷ [])) →
+      (members : List X) (f last : F) → Answers g Shows answer f members last → Keeps last → Keeps f × (seen last ≡ seen f ++ members)
+  answers-collect Keeps seen each [] f last calls keeps = (subst Keeps (sym calls) keeps, ap seen (sym calls) ∙ sym (append-nil (seen f)))
+  answers-collect Keeps seen each (x ∷ xs) f last calls keeps =
+      let later = answers-collect Keeps seen each xs calls.0 last calls.2 keeps in
+      let here = each f x calls.0 calls.1 later.0 in
+      (here.0, later.1 ∙ ap (λ ys. ys ++ xs) here.1 ∙ append_assoc (seen f) (x ∷ []) xs)
+
+module _ {F A X E : Type 0} (g : Mut F A (Result VisitControl E)) (Shows : A → X → Type 0) where
+  -- A visit that ends within a part ends the visit of all members.
+  pub visit_up_to-part : {f between last : F} {members : List X} {answer : Result VisitControl E} (part rest : List X) →
+      AnswersUpTo g Shows (Ok Continue) f members (part ++ rest) between → VisitUpTo g Shows between part answer last → VisitUpTo g Shows f members answer last
+  visit_up_to-part part rest before ends =
+      (ends.0, ends.1 ++ rest, ends.2, up_to-within g Shows (Ok Continue) part rest before (ends.0 ∷ ends.1) ends.3, ends.4)

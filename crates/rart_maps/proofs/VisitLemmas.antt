@@ -4,7 +4,7 @@ use Rattle.std.proofs.lemmas.List.{append-nil}
 use Rattle.std.specs.Fn.{Mut, Takes}
 use Rattle.rart_below.specs.declared.visit.VisitControl.{VisitControl}
 use Rattle.rart_below.specs.declared.visit.VisitControl.TheVariants.{Continue}
-use Rattle.rart_maps.specs.Visits.{CalledOn, Answers, AnswersUpTo, CallableInTurn, VisitUpTo}
+use Rattle.rart_maps.specs.Visits.{CalledOn, CallableOn, Answers, AnswersUpTo, CallableInTurn, VisitUpTo}
 
 module _ {F A R X : Type 0} (g : Mut F A R) (Shows : A → X → Type 0) (answer : R) where
   -- the calls on one list, and then those on another
@@ -17,34 +17,40 @@ module _ {F A R X : Type 0} (g : Mut F A R) (Shows : A → X → Type 0) (answer
   pub up_to-start : (f : F) (members : List X) → AnswersUpTo g Shows answer f members members f
   up_to-start f members = ([], refl, refl)
 
-  module _ {f between last : F} {members : List X} (part rest : List X) (before : AnswersUpTo g Shows answer f members (part ++ rest) between) where
-    -- calls within a part
-    pub up_to-within : (left : List X) → AnswersUpTo g Shows answer between part left last → AnswersUpTo g Shows answer f members (left ++ rest) last
-    up_to-within left within = (
-      before.0 ++ within.0,
-      before.1 ∙ ap (λ xs. before.0 ++ (xs ++ rest)) within.1 ∙ ap (λ xs. before.0 ++ xs) (append_assoc within.0 left rest)
-      ∙ sym (append_assoc before.0 within.0 (left ++ rest)),
-      answers-append before.0 within.0 f between last before.2 within.2,
+  -- Where a part of the members comes next:
+  module _ {f between last : F} {members left : List X} (part rest : List X) (comes : left ≡ part ++ rest) (before : AnswersUpTo g Shows answer f members left between) where
+    -- calls within the part
+    pub up_to-within : (within : List X) → AnswersUpTo g Shows answer between part within last → AnswersUpTo g Shows answer f members (within ++ rest) last
+    up_to-within within calls = (
+      before.0 ++ calls.0,
+      before.1 ∙ ap (λ xs. before.0 ++ xs) (comes ∙ ap (λ xs. xs ++ rest) calls.1 ∙ append_assoc calls.0 within rest) ∙ sym (append_assoc before.0 calls.0 (within ++ rest)),
+      answers-append before.0 calls.0 f between last before.2 calls.2,
     )
 
-    -- calls on the whole part
+    -- calls on all of it
     pub up_to-part : Answers g Shows answer between part last → AnswersUpTo g Shows answer f members rest last
-    up_to-part whole = up_to-within [] (part, sym (append-nil part), whole)
+    up_to-part calls = up_to-within [] (part, sym (append-nil part), calls)
 
-  -- one call more
-  pub up_to-next : {f between last : F} {members : List X} (x : X) (rest : List X) →
-      AnswersUpTo g Shows answer f members (x ∷ rest) between → CalledOn g Shows between x answer last → AnswersUpTo g Shows answer f members rest last
-  up_to-next {f} {between} {last} x rest before called = up_to-part (x ∷ []) rest before (last, called, refl)
+  -- and where one member comes next, a call on it
+  pub up_to-next : {f between last : F} {members left : List X} (x : X) (rest : List X) → left ≡ x ∷ rest →
+      AnswersUpTo g Shows answer f members left between → CalledOn g Shows between x answer last → AnswersUpTo g Shows answer f members rest last
+  up_to-next {f} {between} {last} x rest comes before called = up_to-part (x ∷ []) rest comes before (last, called, refl)
 
   -- Where no member is left, there was a call on each.
   pub up_to-end : {f last : F} {members : List X} → AnswersUpTo g Shows answer f members [] last → Answers g Shows answer f members last
   up_to-end {f} {last} before = subst (λ xs. Answers g Shows answer f xs last) (sym (append-nil before.0) ∙ sym before.1) before.2
 
   -- What is callable on all members in turn is so on each part, when it comes to it.
-  pub callable-part : {f between : F} {members : List X} (part rest : List X) →
-      CallableInTurn g Shows answer f members → AnswersUpTo g Shows answer f members (part ++ rest) between → CallableInTurn g Shows answer between part
-  callable-part part rest callable before =
-      record { at = λ x left last within. callable.at x (left ++ rest) last (up_to-within part rest before (x ∷ left) within) }
+  pub callable-part : {f between : F} {members left : List X} (part rest : List X) → left ≡ part ++ rest →
+      CallableInTurn g Shows answer f members → AnswersUpTo g Shows answer f members left between → CallableInTurn g Shows answer between part
+  callable-part part rest comes callable before =
+      record { at = λ x within last calls. callable.at x (within ++ rest) last (up_to-within part rest comes before (x ∷ within) calls) }
+
+  -- and on each member
+  pub callable-next : {f between : F} {members left : List X} (x : X) (rest : List X) → left ≡ x ∷ rest →
+      CallableInTurn g Shows answer f members → AnswersUpTo g Shows answer f members left between → CallableOn g Shows between x
+  callable-next {f} {between} {members} x rest comes callable before =
+      callable.at x rest between (subst (λ left. AnswersUpTo g Shows answer f members left between) comes before)
 
   -- What may always be called is callable on any members in turn.
   pub callable-always : ((f : F) (a : A) → Takes g f a) → (f : F) (members : List X) → CallableInTurn g Shows answer f members
@@ -62,8 +68,13 @@ module _ {F A R X : Type 0} (g : Mut F A R) (Shows : A → X → Type 0) (answer
       (here.0, later.1 ∙ ap (λ ys. ys ++ xs) here.1 ∙ append_assoc (seen f) (x ∷ []) xs)
 
 module _ {F A X E : Type 0} (g : Mut F A (Result VisitControl E)) (Shows : A → X → Type 0) where
-  -- A visit that ends within a part ends the visit of all members.
-  pub visit_up_to-part : {f between last : F} {members : List X} {answer : Result VisitControl E} (part rest : List X) →
-      AnswersUpTo g Shows (Ok Continue) f members (part ++ rest) between → VisitUpTo g Shows between part answer last → VisitUpTo g Shows f members answer last
-  visit_up_to-part part rest before ends =
-      (ends.0, ends.1 ++ rest, ends.2, up_to-within g Shows (Ok Continue) part rest before (ends.0 ∷ ends.1) ends.3, ends.4)
+  -- A visit that ends on the next member, or within the next part, ends the visit of all members.
+  pub visit_up_to-next : {f between last : F} {members left : List X} {answer : Result VisitControl E} (x : X) (rest : List X) → left ≡ x ∷ rest →
+      AnswersUpTo g Shows (Ok Continue) f members left between → CalledOn g Shows between x answer last → VisitUpTo g Shows f members answer last
+  visit_up_to-next {f} {between} {last} {members} x rest comes before called =
+      (x, rest, between, subst (λ left. AnswersUpTo g Shows (Ok Continue) f members left between) comes before, called)
+
+  pub visit_up_to-part : {f between last : F} {members left : List X} {answer : Result VisitControl E} (part rest : List X) → left ≡ part ++ rest →
+      AnswersUpTo g Shows (Ok Continue) f members left between → VisitUpTo g Shows between part answer last → VisitUpTo g Shows f members answer last
+  visit_up_to-part part rest comes before ends =
+      (ends.0, ends.1 ++ rest, ends.2, up_to-within g Shows (Ok Continue) part rest comes before (ends.0 ∷ ends.1) ends.3, ends.4)

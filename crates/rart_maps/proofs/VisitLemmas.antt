@@ -56,6 +56,15 @@ module _ {F A R X : Type 0} (g : Mut F A R) (Shows : A → X → Type 0) (answer
   pub callable-always : ((f : F) (a : A) → Takes g f a) → (f : F) (members : List X) → CallableInTurn g Shows answer f members
   callable-always always f members = record { at = λ x rest last before a shows. always last a }
 
+  -- What each call keeps between the states before and after it, all keep together: for what the
+  -- closure's captures refer to.
+  pub answers-keep : (Keeps : F → F → Type 0) → ((f : F) → Keeps f f) →
+      ((f : F) (x : X) (after last : F) → CalledOn g Shows f x answer after → Keeps after last → Keeps f last) →
+      (members : List X) (f last : F) → Answers g Shows answer f members last → Keeps f last
+  answers-keep Keeps none each [] f last calls = subst (Keeps f) calls (none f)
+  answers-keep Keeps none each (x ∷ xs) f last calls =
+      each f x calls.0 last calls.1 (answers-keep Keeps none each xs calls.0 last calls.2)
+
   -- What a closure has collected that may give up: where it has not given up at the end, each call has
   -- put its member at the end of what was seen.
   pub answers-collect : (Keeps : F → Type 0) (seen : F → List X) →

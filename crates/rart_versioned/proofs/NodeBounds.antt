@@ -1,20 +1,19 @@
 -- A tree has no more nodes than there are strings that begin its keys.
-use Rattle.std.proofs.Common.{◌≡◌, ◌≤◌, ◌+◌, ℕ, true, cond, ◌&&◌, List, [], ◌∷◌, ◌++◌, map, Option, Some, None, IsSome, is_some, refl, sym, ap, subst, ◌∙◌, ⊎_elim, arith, append_assoc}
+use Rattle.std.proofs.Common.{◌≡◌, ◌≤◌, ℕ, true, cond, List, [], ◌∷◌, ◌++◌, map, Some, None, IsSome, is_some, refl, sym, ap, subst, ◌∙◌, ⊎_elim, arith, append_assoc}
 use mathlib.Core.Bool.{and-true}
 use Rattle.std.specs.Prelude.{◌==◌, Contains, sum_by}
 use Rattle.std.specs.FinMap as finite
 use Rattle.std.specs.FinSet as set
 use Rattle.std.proofs.Math.Nat.{le_refl}
-use Rattle.std.proofs.lemmas.Bool.{and_parts, and_from, eq-eqb, false≢true}
+use Rattle.std.proofs.lemmas.Bool.{and_from, eq-eqb, false≢true}
 use Rattle.std.proofs.lemmas.Cmp.{nat_list_cmp_total}
 use Rattle.std.proofs.lemmas.List.Elements.{Contains-append_left, Contains-append_right}
 use Rattle.std.proofs.lemmas.List.Sums.{sum_by-cons}
 use Rattle.rart_below.specs.Bytes.{begins}
-use Rattle.rart_below.specs.Children as children
 use Rattle.rart_node.specs.Shape.{Shape, Forest, node, bare, grown, prefix_of, entries_of}
 use Rattle.rart_shape.specs.Nodes.{nodes_of, nodes_below}
 use Rattle.rart_shape.specs.Trees.{BeginsWith, found, own_pair, pairs_of, pairs_below, IsTree, AreBranches}
-use Rattle.rart_maps.specs.Pairs.{Strings, pairs, starts}
+use Rattle.rart_maps.specs.Pairs.{Strings, starts}
 use Rattle.rart_maps.specs.StartLaws.{strings_under, with_byte}
 use Rattle.rart_maps.specs.Versions.{Map}
 use Rattle.rart_maps.proofs.Elements.{Contains-nil, Contains-here, Contains-later, Contains-cases}
@@ -37,6 +36,20 @@ begins-behind : (p u w : List ℕ) → begins u w ≡ true → begins (p ++ u) (
 begins-behind [] u w is = is
 begins-behind (b ∷ p) u w is = and_from (b == b) (begins (p ++ u) (p ++ w)) (eq-eqb b b refl) (begins-behind p u w is)
 
+-- The strings of a child are among those of its byte.
+child-under : (strings : Strings) (above prefix : List ℕ) (byte : ℕ) → BeginsWith byte prefix →
+    set.len (strings_under strings (above ++ prefix)) ≤ set.len (strings_under strings (with_byte above byte))
+child-under strings above [] byte first = absurd first
+child-under strings above (b ∷ rest) byte first =
+    let same : above ++ (b ∷ rest) ≡ with_byte above byte ++ rest = ap (λ c. above ++ (c ∷ rest)) first ∙ sym (append_assoc above (byte ∷ []) rest) in
+    subst (λ w. set.len (strings_under strings w) ≤ set.len (strings_under strings (with_byte above byte))) (sym same) (len-strings_under-append strings (with_byte above byte) rest)
+
+-- The empty string begins every string.
+under-all : (strings : Strings) → strings_under strings [] ≡ strings
+under-all strings =
+    set.same_set nat_list_cmp_total byte_order-IsAntisymmetric (strings_under strings []) strings (λ q.
+    contains-kept nat_list_cmp_total byte_order-IsAntisymmetric strings (begins []) q ∙ and-true (set.contains strings q))
+
 module _ {V : Type 0} where
   -- A tree has a pair, whose key begins with the prefix.
   tree-has-pair : (s : Shape V) → IsTree s → (pair : List ℕ × V) × Contains (pairs_of s) pair × (begins (prefix_of s) pair.0 ≡ true)
@@ -52,39 +65,27 @@ module _ {V : Type 0} where
       )
 
   -- Behind the bytes above, each string that begins a key of the list is in the set.
-  HasStarts : Strings → List ℕ → List (List ℕ × V) → Type 0
+  abbrev HasStarts : Strings → List ℕ → List (List ℕ × V) → Type 0
   HasStarts strings above list = (pair : List ℕ × V) → Contains list pair → (u : List ℕ) → begins u pair.0 ≡ true → set.contains strings (above ++ u) ≡ true
 
   starts-behind : (strings : Strings) (above prefix : List ℕ) (list : List (List ℕ × V)) →
       HasStarts strings above (map (λ pair. (prefix ++ pair.0, pair.1)) list) → HasStarts strings (above ++ prefix) list
-  unfolding HasStarts
   starts-behind strings above prefix list has pair there u is =
       ap (set.contains strings) (append_assoc above prefix u)
       ∙ has (prefix ++ pair.0, pair.1) (Contains-map (λ pair. (prefix ++ pair.0, pair.1)) list pair there) (prefix ++ u) (begins-behind prefix u pair.0 is)
 
   starts-front : (strings : Strings) (above : List ℕ) (front back : List (List ℕ × V)) → HasStarts strings above (front ++ back) → HasStarts strings above front
-  unfolding HasStarts
   starts-front strings above front back has pair there = has pair (Contains-append_left front back pair there)
 
   starts-back : (strings : Strings) (above : List ℕ) (front back : List (List ℕ × V)) → HasStarts strings above (front ++ back) → HasStarts strings above back
-  unfolding HasStarts
   starts-back strings above front back has pair there = has pair (Contains-append_right front back pair there)
-
-  -- The strings of a child are among those of its byte.
-  child-under : (strings : Strings) (above prefix : List ℕ) (byte : ℕ) → BeginsWith byte prefix →
-      set.len (strings_under strings (above ++ prefix)) ≤ set.len (strings_under strings (with_byte above byte))
-  child-under strings above [] byte begins = absurd begins
-  child-under strings above (b ∷ rest) byte begins =
-      let same : above ++ (b ∷ rest) ≡ with_byte above byte ++ rest = ap (λ c. above ++ (c ∷ rest)) begins ∙ sym (append_assoc above (byte ∷ []) rest) in
-      subst (λ w. set.len (strings_under strings w) ≤ set.len (strings_under strings (with_byte above byte))) (sym same) (len-strings_under-append strings (with_byte above byte) rest)
 
   mutual
     nodes-within : (strings : Strings) (above : List ℕ) (s : Shape V) → IsTree s → HasStarts strings above (pairs_of s) →
         nodes_of s ≤ set.len (strings_under strings (above ++ prefix_of s))
-    unfolding HasStarts
     nodes-within strings above (node prefix value width forest) tree has =
         let some = tree-has-pair (node prefix value width forest) tree in
-        let here = ap (λ b. cond b 1 0) (has some.0 some.1 prefix some.2) in
+        let here = ap {B = ℕ} (λ b. cond b 1 0) (has some.0 some.1 prefix some.2) in
         let within = starts-behind strings above prefix (own_pair value ++ pairs_below forest) has in
         let below = nodes-within_below strings (above ++ prefix) forest tree.1 (starts-back strings (above ++ prefix) (own_pair value) (pairs_below forest) within) in
         let parts = at_least-children strings (above ++ prefix) (entries_of forest) tree.0 in
@@ -103,7 +104,6 @@ module _ {V : Type 0} where
   -- The keys of a tree, behind the bytes above, are keys of the map: so their beginnings are starts.
   has-starts : (m : Map V) (above : List ℕ) (s : Shape V) → IsTree s →
       ((key : List ℕ) → IsSome (found s key) → finite.contains_key m (above ++ key) ≡ true) → HasStarts (starts m) above (pairs_of s)
-  unfolding HasStarts
   has-starts m above s tree keys pair there u is =
       let value = (Contains-pairs (map_of (Some s)) pair.0 pair.1).0 (subst (λ list. Contains list pair) (sym (pairs-map (Some s) tree)) there) in
       let key = keys pair.0 (ap is_some (sym (get-found (Some s) pair.0 tree) ∙ value)) in
@@ -120,11 +120,6 @@ module _ {V : Type 0} where
       let fewer = len-strings_under-append (starts m) p more.0 in
       let same : set.len (strings_under (starts m) (above ++ prefix_of s)) ≡ set.len (strings_under (starts m) (p ++ more.0)) = ap (λ w. set.len (strings_under (starts m) w)) more.1 in
       omega (arith, within, fewer, same)
-
-  under-all : (strings : Strings) → strings_under strings [] ≡ strings
-  under-all strings =
-      set.same_set nat_list_cmp_total byte_order-IsAntisymmetric (strings_under strings []) strings (λ q.
-      contains-kept nat_list_cmp_total byte_order-IsAntisymmetric strings (begins []) q ∙ and-true (set.contains strings q))
 
   -- A tree has no more nodes than strings begin the keys of its map.
   pub nodes-starts : (s : Shape V) → IsTree s → nodes_of s ≤ set.len (starts (map_of (Some s)))

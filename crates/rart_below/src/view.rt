@@ -122,8 +122,8 @@ impl<'a, 'view> LendingKeyView<'a, 'view> {
         Ok(bytes)
     }
 
-    /// The key itself, or want of memory. Only a key on the heap, or one longer than 64 bytes, takes
-    /// memory.
+    /// The key itself, or want of memory. Only a key on the heap, or one of more than 64 bytes,
+    /// takes memory.
     ///
     /// ```
     /// let key: VectorKey = key.to_key(alloc)?;
@@ -154,8 +154,8 @@ impl<'a, 'view> LendingKeyView<'a, 'view> {
         bytes
     }
 
-    /// Replaces what is in the vector by the key's bytes. Where memory is refused for them, the vector
-    /// is left as it was; none is asked for where the vector has room for the bytes already.
+    /// Replaces what is in the vector by the key's bytes. Where memory is refused for them, the
+    /// vector is left as it was; none is asked for where it has room for the bytes already.
     ///
     /// ```
     /// key.write_into(&mut buffer)?;

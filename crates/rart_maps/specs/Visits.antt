@@ -1,5 +1,5 @@
 -- What a visitor does: calls of its closure on the members of a list.
-use Rattle.std.specs.Prelude.{◌≡◌, ℕ, List, [], ◌∷◌, ◌++◌, Result, Ok, Err}
+use Rattle.std.specs.Prelude.{◌≡◌, ℕ, List, ◌∷◌, ◌++◌, Result, Ok, Err}
 use Rattle.std.specs.Borrow.{Bor}
 use Rattle.std.specs.Fn.{Mut, Called, Takes}
 use Rattle.std.specs.List.{FoldsTo}
@@ -33,17 +33,20 @@ module _ {F A R X : Type 0} (g : Mut F A R) (Shows : A → X → Type 0) where
   abbrev pub CallableOn : F → X → Type 0
   CallableOn f x = (a : A) → Shows a x → Takes g f a
 
-  -- It is called on the members in order, once each, and on nothing else, and gives this answer each time.
+  -- It is called on the members in order, once each, and on nothing else, and gives this answer each
+  -- time.
   abbrev pub Answers : R → F → List X → F → Type 0
-  Answers answer f members f' = FoldsTo (λ before x after. CalledOn before x answer after) f members f'
+  Answers answer f members f' = FoldsTo (λ j x j'. CalledOn j x answer j') f members f'
 
   -- so for the members before the rest
   abbrev pub AnswersUpTo : R → F → List X → List X → F → Type 0
-  AnswersUpTo answer f members rest f' = (front : List X) × (members ≡ front ++ rest) × Answers answer f front f'
+  AnswersUpTo answer f members rest f' =
+      (front : List X) × (members ≡ front ++ rest) × Answers answer f front f'
 
   -- It may be called on each member, in every state that such calls on those before it may leave.
   pub record CallableInTurn (answer : R) (f : F) (members : List X) : Type 0 where
-    pub at : (x : X) (rest : List X) (f' : F) → AnswersUpTo answer f members (x ∷ rest) f' → CallableOn f' x
+    pub at : (x : X) (rest : List X) (f' : F) →
+        AnswersUpTo answer f members (x ∷ rest) f' → CallableOn f' x
 
 -- ---- visitors
 
@@ -61,13 +64,15 @@ module _ {F A X : Type 0} (g : Mut F A (Unit {0})) (Shows : A → X → Type 0) 
   Visitable f members = CallableInTurn g Shows tt f members
 
 module _ {F A X E : Type 0} (g : Mut F A (Result VisitControl E)) (Shows : A → X → Type 0) where
-  -- f is called on the members up to one on which it gives this answer, and it answers `Continue` before.
+  -- f is called on the members up to one on which it gives this answer, and on those before it
+  -- answers `Continue`.
   abbrev pub VisitUpTo : F → List X → Result VisitControl E → F → Type 0
-  VisitUpTo f members answer f' = (x : X) × (rest : List X) × (before : F)
-      × AnswersUpTo g Shows (Ok Continue) f members (x ∷ rest) before × CalledOn g Shows before x answer f'
+  VisitUpTo f members answer f' = (x : X) × (rest : List X) × (j : F)
+      × AnswersUpTo g Shows (Ok Continue) f members (x ∷ rest) j × CalledOn g Shows j x answer f'
 
-  -- f is called on the members in order, once each, up to and including the first on which it answers
-  -- `Stop` or an error, and on nothing else. The last answer is `Continue` where there is no such member.
+  -- f is called on the members in order, once each, up to and including the first on which it
+  -- answers `Stop` or an error, and on nothing else. Its last answer is `Continue` where there is no
+  -- such member.
   abbrev pub VisitUntil : F → List X → Result VisitControl E → F → Type 0
   VisitUntil f members (Ok Continue) f' = Answers g Shows (Ok Continue) f members f'
   VisitUntil f members (Ok Stop) f' = VisitUpTo f members (Ok Stop) f'
@@ -75,7 +80,8 @@ module _ {F A X E : Type 0} (g : Mut F A (Result VisitControl E)) (Shows : A →
 
   -- what a refusal leaves: f is called on the members of a beginning, and answers `Continue` on each
   abbrev pub VisitUntilFront : F → List X → F → Type 0
-  VisitUntilFront f members f' = (rest : List X) × AnswersUpTo g Shows (Ok Continue) f members rest f'
+  VisitUntilFront f members f' =
+      (rest : List X) × AnswersUpTo g Shows (Ok Continue) f members rest f'
 
   -- what its caller grants: f may be called on each member, in every state that is reached
   abbrev pub VisitableUntil : F → List X → Type 0

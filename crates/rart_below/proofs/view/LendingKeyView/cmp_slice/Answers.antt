@@ -8,9 +8,10 @@ use Rattle.rart_below.proofs.view.LendingKeyView.cmp_slice.Goals as goal
 pub returns-then-rest-segment : goal.returns-then-rest-segment
 returns-then-rest-segment c =
     let segments = c.segments-segment-items in
-    let at = c.loop-segment.segment-index in
+    let rest = c.loop-segment.rest.now in
     c.cmp.ensures
-    ∙ sym (joined-order_longer segments.result.now at _ c.loop-segment.rest.now c.loop-segment-test.true c.if-rest-segment.true)
+    ∙ sym (joined-order_longer segments.result.now c.loop-segment.segment-index _ rest
+    c.loop-segment-test.true c.if-rest-segment.true)
     ∙ c.loop-segment.invariant
     ∙ ap (λ bytes. byte_order bytes c.args.slice.now) segments.ensures
 
@@ -19,10 +20,13 @@ returns-in_default c =
     let segments = c.segments-segment-items in
     let at = c.loop-segment.segment-index in
     let split = c.split_at in
+    let compared = c.cmp-in-loop-segment in
     let later = byte_order (joined (drop (at + 1) segments.result.now)) split.result.1.now in
-    sym (ordering_then-decided c.cmp-in-loop-segment.result later c.in_default.not-Equal)
-    ∙ ap (λ first. ordering_then first later) c.cmp-in-loop-segment.ensures
-    ∙ sym (joined-order segments.result.now at _ c.loop-segment.rest.now split.result.0.now split.result.1.now c.loop-segment-test.true c.if-rest-segment.false split.ensures.front split.ensures.back)
+    sym (ordering_then-decided compared.result later c.in_default.not-Equal)
+    ∙ ap (λ first. ordering_then first later) compared.ensures
+    ∙ sym (joined-order segments.result.now at _ c.loop-segment.rest.now c.loop-segment-test.true
+    split.result.0.now split.result.1.now c.if-rest-segment.false
+    split.ensures.front split.ensures.back)
     ∙ c.loop-segment.invariant
     ∙ ap (λ bytes. byte_order bytes c.args.slice.now) segments.ensures
 
@@ -33,5 +37,7 @@ loop-segment-preserved c =
     let split = c.split_at in
     let later = byte_order (joined (drop (at + 1) segments.result.now)) split.result.1.now in
     ap (λ first. ordering_then first later) (sym c.in-Equal.is ∙ c.cmp-in-loop-segment.ensures)
-    ∙ sym (joined-order segments.result.now at _ c.loop-segment.rest.now split.result.0.now split.result.1.now c.loop-segment-test.true c.if-rest-segment.false split.ensures.front split.ensures.back)
+    ∙ sym (joined-order segments.result.now at _ c.loop-segment.rest.now c.loop-segment-test.true
+    split.result.0.now split.result.1.now c.if-rest-segment.false
+    split.ensures.front split.ensures.back)
     ∙ c.loop-segment.invariant

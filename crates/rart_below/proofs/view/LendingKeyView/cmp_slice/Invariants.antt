@@ -5,4 +5,5 @@ use Rattle.rart_below.proofs.view.LendingKeyView.cmp_slice.Given as goal
 
 abbrev pub invariant-loop-segment : goal.invariant-loop-segment
 invariant-loop-segment l =
-    byte_order (joined (drop l.segment-index l.segment-items)) l.rest ≡ byte_order (joined l.segment-items) l.fn.slice
+    byte_order (joined (drop l.segment-index l.segment-items)) l.rest
+    ≡ byte_order (joined l.segment-items) l.fn.slice

@@ -51,7 +51,8 @@ order-append_longer : (segment later other : List ℕ) → length other < length
 order-append_longer [] later other longer = absurd (omega (arith, longer))
 order-append_longer (b ∷ segment) later [] longer = refl
 order-append_longer (b ∷ segment) later (c ∷ other) longer =
-    ap (ordering_then (nat_cmp b c)) (order-append_longer segment later other (omega (arith, longer)))
+    ap (ordering_then (nat_cmp b c))
+    (order-append_longer segment later other (omega (arith, longer)))
 
 module _ (segments : List (Bor (List ℕ))) (i : ℕ) (other : Bor (List ℕ)) (rest : List ℕ)
   (inside : i < length segments) where

@@ -21,17 +21,16 @@ module _ {F A R X : Type 0} (g : Mut F A R) (Shows : A → X → Type 0) (answer
 
   -- Where a part of the members comes next:
   module _ {f j last : F} {members left : List X} (part rest : List X) (comes : left ≡ part ++ rest)
-    (before : AnswersUpTo g Shows answer f members left j) where
+      (before : AnswersUpTo g Shows answer f members left j) where
     -- calls within the part
     pub up_to-within : (within : List X) → AnswersUpTo g Shows answer j part within last →
         AnswersUpTo g Shows answer f members (within ++ rest) last
     up_to-within within calls =
         let next : left ≡ calls.0 ++ (within ++ rest) =
-          comes ∙ ap (λ xs. xs ++ rest) calls.1 ∙ append_assoc calls.0 within rest in
-        (
+        comes ∙ ap (λ xs. xs ++ rest) calls.1 ∙ append_assoc calls.0 within rest in (
           before.0 ++ calls.0,
           before.1 ∙ ap (λ xs. before.0 ++ xs) next
-          ∙ sym (append_assoc before.0 calls.0 (within ++ rest)),
+              ∙ sym (append_assoc before.0 calls.0 (within ++ rest)),
           answers-append before.0 calls.0 f j last before.2 calls.2,
         )
 
@@ -61,7 +60,7 @@ module _ {F A R X : Type 0} (g : Mut F A R) (Shows : A → X → Type 0) (answer
   callable-part part rest comes callable before =
       record {
         at = λ x within last calls. callable.at x (within ++ rest) last
-        (up_to-within part rest comes before (x ∷ within) calls)
+            (up_to-within part rest comes before (x ∷ within) calls);
       }
 
   -- and on each member.
@@ -81,7 +80,7 @@ module _ {F A R X : Type 0} (g : Mut F A R) (Shows : A → X → Type 0) (answer
   -- closure's captures refer to.
   pub answers-keep : (Keeps : F → F → Type 0) → ((f : F) → Keeps f f) →
       ((f : F) (x : X) (j last : F) →
-        CalledOn g Shows f x answer j → Keeps j last → Keeps f last) →
+      CalledOn g Shows f x answer j → Keeps j last → Keeps f last) →
       (members : List X) (f last : F) → Answers g Shows answer f members last → Keeps f last
   answers-keep Keeps none each [] f last calls = subst (Keeps f) calls (none f)
   answers-keep Keeps none each (x ∷ xs) f last calls =
@@ -91,7 +90,7 @@ module _ {F A R X : Type 0} (g : Mut F A R) (Shows : A → X → Type 0) (answer
   -- has put its member at the end of what was seen.
   pub answers-collect : (Goes : F → Type 0) (seen : F → List X) →
       ((f : F) (x : X) (j : F) → CalledOn g Shows f x answer j → Goes j →
-        Goes f × (seen j ≡ seen f ++ x ∷ [])) →
+      Goes f × (seen j ≡ seen f ++ x ∷ [])) →
       (members : List X) (f last : F) → Answers g Shows answer f members last → Goes last →
       Goes f × (seen last ≡ seen f ++ members)
   answers-collect Goes seen each [] f last calls goes =

@@ -33,8 +33,8 @@ module _ {F A R X : Type 0} (g : Mut F A R) (Shows : A → X → Type 0) where
   abbrev pub CallableOn : F → X → Type 0
   CallableOn f x = (a : A) → Shows a x → Takes g f a
 
-  -- It is called on the members in order, once each, and on nothing else, and gives this answer each
-  -- time.
+  -- It is called on the members in order, once each, and on nothing else, and each time gives this
+  -- answer.
   abbrev pub Answers : R → F → List X → F → Type 0
   Answers answer f members f' = FoldsTo (λ j x j'. CalledOn j x answer j') f members f'
 
@@ -71,14 +71,14 @@ module _ {F A X E : Type 0} (g : Mut F A (Result VisitControl E)) (Shows : A →
       × AnswersUpTo g Shows (Ok Continue) f members (x ∷ rest) j × CalledOn g Shows j x answer f'
 
   -- f is called on the members in order, once each, up to and including the first on which it
-  -- answers `Stop` or an error, and on nothing else. Its last answer is `Continue` where there is no
-  -- such member.
+  -- answers `Stop` or an error, and on nothing else. Its last answer is `Continue` where there is
+  -- no such member.
   abbrev pub VisitUntil : F → List X → Result VisitControl E → F → Type 0
   VisitUntil f members (Ok Continue) f' = Answers g Shows (Ok Continue) f members f'
   VisitUntil f members (Ok Stop) f' = VisitUpTo f members (Ok Stop) f'
   VisitUntil f members (Err e) f' = VisitUpTo f members (Err e) f'
 
-  -- what a refusal leaves: f is called on the members of a beginning, and answers `Continue` on each
+  -- what a refusal leaves: f is called on the members of a beginning, and on each answers `Continue`
   abbrev pub VisitUntilFront : F → List X → F → Type 0
   VisitUntilFront f members f' =
       (rest : List X) × AnswersUpTo g Shows (Ok Continue) f members rest f'

@@ -55,8 +55,8 @@ under-byte strings above (b ∷ rest) byte first =
 -- The empty string begins every string.
 under-all : (strings : Strings) → strings_under strings [] ≡ strings
 under-all strings =
-    set.same_set nat_list_cmp_total byte_order-IsAntisymmetric (strings_under strings []) strings (λ q.
-    contains-kept nat_list_cmp_total byte_order-IsAntisymmetric strings (begins []) q
+    set.same_set nat_list_cmp_total byte_order-IsAntisymmetric (strings_under strings []) strings
+    (λ q. contains-kept nat_list_cmp_total byte_order-IsAntisymmetric strings (begins []) q
     ∙ and-true (set.contains strings q))
 
 module _ {V : Type 0} where
@@ -74,14 +74,16 @@ module _ {V : Type 0} where
       (pair : List ℕ × V) × Contains (pairs_of s) pair × (begins (prefix_of s) pair.0 ≡ true)
   tree-has-pair (node prefix (Some value) width forest) tree =
       let pair : List ℕ × V = (prefix ++ [], value) in
-      (pair, Contains-here pair (behind_prefix prefix (pairs_below forest)), begins-append prefix [])
+      let there = Contains-here pair (behind_prefix prefix (pairs_below forest)) in
+      (pair, there, begins-append prefix [])
   tree-has-pair (node prefix None width bare) tree = absurd (false≢true tree.2)
   tree-has-pair (node prefix None width (grown byte child forest)) tree =
       let below = tree-has-pair child tree.1.1 in
       let pair = below.0 in
       let all = pairs_of child ++ pairs_below forest in
-      let there = Contains-append_left (pairs_of child) (pairs_below forest) pair below.1 in
-      ((prefix ++ pair.0, pair.1), Contains-behind prefix all pair there, begins-append prefix pair.0)
+      let listed = Contains-append_left (pairs_of child) (pairs_below forest) pair below.1 in
+      let there = Contains-behind prefix all pair listed in
+      ((prefix ++ pair.0, pair.1), there, begins-append prefix pair.0)
 
   -- Behind the bytes above, each string that begins a key of the list is in the set.
   abbrev HasStarts : Strings → List ℕ → List (List ℕ × V) → Type 0
@@ -165,6 +167,7 @@ module _ {V : Type 0} where
   pub nodes-starts : (s : Shape V) → IsTree s → nodes_of s ≤ set.len (starts (map_of (Some s)))
   nodes-starts s tree =
       let m = map_of (Some s) in
-      let keys : HasItsKeys m [] s = λ key there. ap is_some (get-found (Some s) key tree) ∙ there in
+      let keys : HasItsKeys m [] s =
+        λ key there. ap is_some (get-found (Some s) key tree) ∙ there in
       subst (λ strings. nodes_of s ≤ set.len strings) (under-all (starts m))
       (nodes-under m [] [] s tree keys refl)

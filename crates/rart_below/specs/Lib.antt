@@ -6,6 +6,7 @@ pub mod DirectMapping
 pub mod IndexedMapping
 pub mod Laws
 pub mod Layouts
+pub mod LendingKeyView
 pub mod Lent
 pub mod Mapped
 pub mod SlotArray

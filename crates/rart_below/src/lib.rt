@@ -1,5 +1,5 @@
 //! What the tree stands on: keys and their prefixes, seen as the bytes they hold, the mappings from
-//! a byte to a child, and the slot that an update is lent.
+//! a byte to a child, the slot that an update is lent, and the keys that visitors are lent.
 #![tactic(auto)]
 
 mod array;
@@ -11,6 +11,8 @@ mod slot;
 #[cfg(test)]
 mod tests;
 mod vector;
+mod view;
+mod visit;
 
 pub use array::{ArrPartial, ArrayKey};
 pub use key::KeyTrait;
@@ -18,3 +20,5 @@ pub use mapping::{DirectMapping, IndexedMapping, NodeMapping, SortedKeyedMapping
 pub use partial::Partial;
 pub use slot::{Refusal, Slot, SlotUpdate};
 pub use vector::{VectorKey, VectorPartial};
+pub use view::LendingKeyView;
+pub use visit::VisitControl;

@@ -8,6 +8,7 @@ mod indexed;
 mod inline;
 mod mappings;
 mod sorted;
+mod views;
 
 ghost use Rattle.std.specs.Prelude.{ℕ, ◌≤◌, length};
 ghost use Rattle.rart_below.specs.Bytes.{IsAdmitted};

@@ -5,5 +5,7 @@ pub mod OrderLemmas
 pub mod PairLawLemmas
 pub mod SetLemmas
 pub mod StartLemmas
+pub mod VisitLawLemmas
+pub mod VisitLemmas
 pub mod WorkedBoundLemmas
 pub mod WorkedPairLemmas

@@ -19,7 +19,7 @@ use Rattle.std.proofs.lemmas.Map.Text.{is_eq-slice_cmp}
 use Rattle.rart_below.specs.Bytes.{byte_order, begins}
 use Rattle.rart_maps.specs.Versions.{Map}
 use Rattle.rart_maps.specs.Pairs.{Strings, pairs, starts, shared}
-use Rattle.rart_maps.specs.StartLaws.{strings_under, with_byte, all_bytes, HasByteKeys, StringsUnderSplit, StringsUnderAreApart, StringsUnderAddUp, StartsBeginKeys, SharedAreInBoth, StartsAddUp, SharedAddUp}
+use Rattle.rart_maps.specs.StartLaws.{strings_under, with_byte, all_bytes, HasByteKeys, sum_of_parts, StringsUnderSplit, StringsUnderAreApart, StringsUnderAddUp, StartsBeginKeys, SharedAreInBoth, StartsAddUp, SharedAddUp}
 use Rattle.rart_maps.proofs.Elements.{Contains-here, Contains-later, list_any-is}
 use Rattle.rart_maps.proofs.FoundLemmas.{Contains-pairs}
 use Rattle.rart_maps.proofs.OrderLemmas.{byte_order-IsAntisymmetric, lt-less, begins-append, begins-rest}
@@ -136,6 +136,47 @@ count_part s bytes (k ∷ ks) once =
     let split = sum_by-plus (λ b. cond (begins (with_byte s b) k) 1 0) (λ b. count_by (begins (with_byte s b)) ks) bytes in
     left ∙ omega (arith, here, more, itself, each, split)
 
+-- Each byte stands in the list at most once.
+abbrev HasBytesOnce : List ℕ → Type 0
+HasBytesOnce bytes = (b : ℕ) → count_by (λ c. c == b) bytes ≤ 1
+
+-- Then the parts are no more than the whole.
+part_at_most : (s bytes k : List ℕ) → HasBytesOnce bytes →
+    cond (bytes_eq s k) 1 0 + sum_by (λ b. cond (begins (with_byte s b) k) 1 0) bytes
+    ≤ cond (begins s k) 1 0
+part_at_most [] bytes [] once = let none = sum_by-zero bytes in omega (arith, none)
+part_at_most [] bytes (c ∷ rest) once =
+    let same : sum_by (λ b. cond (b == c && true) 1 0) bytes ≡ count_by (λ b. b == c) bytes =
+    λ i. sum_by (λ b. cond (and-true (b == c) i) 1 0) bytes in
+    let one = once c in
+    omega (arith, same, one)
+part_at_most (a ∷ s) bytes [] once = let none = sum_by-zero bytes in omega (arith, none)
+part_at_most (a ∷ s) bytes (c ∷ k) once =
+    elim (a == c) as
+    (λ t. cond (t && bytes_eq s k) 1 0
+    + sum_by (λ b. cond (t && begins (with_byte s b) k) 1 0) bytes
+    ≤ cond (t && begins s k) 1 0) [
+      | true ↦ part_at_most s bytes k once
+      | false ↦ let none = sum_by-zero bytes in omega (arith, none)
+    ]
+
+count_part_most : (s bytes : List ℕ) (ks : List (List ℕ)) → HasBytesOnce bytes →
+    count_by (bytes_eq s) ks + sum_by (λ b. count_by (begins (with_byte s b)) ks) bytes
+    ≤ count_by (begins s) ks
+count_part_most s bytes [] once = let none = sum_by-zero bytes in omega (arith, none)
+count_part_most s bytes (k ∷ ks) once =
+    let one = λ (b : ℕ). cond (begins (with_byte s b) k) 1 0 in
+    let more = λ (b : ℕ). count_by (begins (with_byte s b)) ks in
+    let here = part_at_most s bytes k once in
+    let later = count_part_most s bytes ks once in
+    let whole = sum_by-cons (λ q. cond (begins s q) 1 0) k ks in
+    let itself = sum_by-cons (λ q. cond (bytes_eq s q) 1 0) k ks in
+    let each : sum_by (λ b. count_by (begins (with_byte s b)) (k ∷ ks)) bytes
+    ≡ sum_by (λ b. one b + more b) bytes =
+    λ i. sum_by (λ b. sum_by-cons (λ q. cond (begins (with_byte s b) q) 1 0) k ks i) bytes in
+    let split = sum_by-plus one more bytes in
+    omega (arith, here, later, whole, itself, each, split)
+
 -- the set of s alone, or no string
 one_or_none : (t : Bool) (s q : List ℕ) → set.contains (cond t (set.insert (set.empty {R = byte_order}) s) set.empty) q ≡ (t && bytes_eq s q)
 one_or_none true s q =
@@ -172,6 +213,22 @@ strings_under_add_up strings s bytes once =
     ∙ (λ i. (sym (len-retain nat_list_cmp_total byte_order-IsAntisymmetric strings (bytes_eq s)) ∙ len-itself strings s) i
     + sum_by (λ b. sym (len-retain nat_list_cmp_total byte_order-IsAntisymmetric strings (begins (with_byte s b))) i) bytes)
 
+-- The strings that s begins are no fewer than s, where it is in the set, and those that s and one of
+-- these bytes begin.
+strings_under-at_least : (strings : Strings) (s bytes : List ℕ) → HasBytesOnce bytes →
+    sum_of_parts strings s bytes ≤ set.len (strings_under strings s)
+strings_under-at_least strings s bytes once =
+    let o = nat_list_cmp_total in
+    let same = byte_order-IsAntisymmetric in
+    let all = elements o same strings in
+    let whole = len-retain o same strings (begins s) in
+    let itself = sym (len-itself strings s) ∙ len-retain o same strings (bytes_eq s) in
+    let each : sum_by (λ b. set.len (strings_under strings (with_byte s b))) bytes
+    ≡ sum_by (λ b. count_by (begins (with_byte s b)) all) bytes =
+    λ i. sum_by (λ b. len-retain o same strings (begins (with_byte s b)) i) bytes in
+    let parts = count_part_most s bytes all once in
+    omega (arith, whole, itself, each, parts)
+
 -- ---- the lists of bytes
 
 lt-below : (b c : ℕ) → is_lt (nat_cmp b c) ≡ true → b < c
@@ -197,6 +254,38 @@ module _ {C : Type 0} where
       (λ other. λ i. cond (ne_eqb child.0 b other i) 1 0
       + once-children b children parts.1 (ap (λ t. is_some (cond t (Some child.1) (find nat_cmp b children))) (sym (unsigned_tied b child.0 ∙ ne_eqb b child.0 (λ is. other (sym is)))) ∙ there) i)
       (cases_eq child.0 b)
+
+  at_most_once-children : (children : List (ℕ × C)) → is_sorted nat_cmp children ≡ true →
+      HasBytesOnce (map (λ child. child.0) children)
+  at_most_once-children [] sorted b = omega arith
+  at_most_once-children (child ∷ children) sorted b =
+      let parts = and_parts (below_all nat_cmp child.0 children) (is_sorted nat_cmp children) sorted in
+      let first = sum_by-cons (λ c. cond (c == b) 1 0) child.0 (map (λ child. child.0) children) in
+      ⊎_elim
+      (λ is.
+      let none = none_below b children (ap (λ a. below_all nat_cmp a children) (sym is) ∙ parts.0) in
+      let one = ap {B = ℕ} (λ t. cond t 1 0) (eq-eqb child.0 b is) in
+      omega (arith, first, none, one))
+      (λ other.
+      let later = at_most_once-children children parts.1 b in
+      let none_here = ap {B = ℕ} (λ t. cond t 1 0) (ne_eqb child.0 b other) in
+      omega (arith, first, later, none_here))
+      (cases_eq child.0 b)
+
+  -- So the strings that s begins are no fewer than s, where it is in the set, and those that s and
+  -- the byte of a child begin.
+  pub at_least-children : (strings : Strings) (s : List ℕ) (children : List (ℕ × C)) →
+      is_sorted nat_cmp children ≡ true →
+      cond (set.contains strings s) 1 0
+      + sum_by (λ child. set.len (strings_under strings (with_byte s child.0))) children
+      ≤ set.len (strings_under strings s)
+  at_least-children strings s children sorted =
+      let bytes = map (λ child. child.0) children in
+      let numbers = λ (b : ℕ). set.len (strings_under strings (with_byte s b)) in
+      let same = sum_by-map numbers (λ child. child.0) children in
+      let once = at_most_once-children children sorted in
+      let parts = strings_under-at_least strings s bytes once in
+      omega (arith, same, parts)
 
   -- So the strings that s begins add up over children in order, where there is one beside each byte
   -- with which a string goes on after s.

@@ -6,5 +6,7 @@ pub mod PairLaws
 pub mod Pairs
 pub mod StartLaws
 pub mod Versions
+pub mod VisitLaws
+pub mod Visits
 pub mod WorkedBounds
 pub mod WorkedPairs

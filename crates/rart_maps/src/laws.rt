@@ -1,7 +1,8 @@
-//! What the words on maps and their pairs mean: laws, each the contract of a function that does
-//! nothing.
+//! What the words on maps, their pairs and visits mean: laws, each the contract of a function that
+//! does nothing.
 
 pub mod pairs;
 pub mod starts;
 pub mod strings;
+pub mod visits;
 pub mod worked;

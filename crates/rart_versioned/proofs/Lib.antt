@@ -3,6 +3,7 @@ pub mod Keyed
 pub mod Lending
 pub mod Found
 pub mod OneOutcome
+pub mod NodeBounds
 pub mod Walks
 pub mod Sound
 pub mod TakenIn

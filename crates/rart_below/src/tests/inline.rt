@@ -2,7 +2,7 @@ use crate::tests::{
     assert_common_length_at_each_place, assert_common_lengths, assert_key_shows_its_bytes,
     assert_keys_of_each_length, assert_order_of_bytes, assert_prefix_shows_its_bytes,
 };
-use crate::{ArrPartial, ArrayKey, KeyTrait};
+use crate::{ArrPartial, ArrayKey, KeyTrait, LendingKeyView};
 use std::test::Fail;
 
 #[test]
@@ -33,5 +33,14 @@ fn inline_prefix_of_two_blocks_is_compared(rt: HostRuntime) -> Result<(), Fail> 
     let key: ArrayKey<16> = ArrayKey::new_from_slice(rt.alloc(), b"abcdefghijklmnop")?;
     let prefix: ArrPartial<16> = key.to_partial(rt.alloc(), 0)?;
     assert_common_length_at_each_place(&rt, &prefix);
+    Ok(())
+}
+
+#[test]
+fn inline_key_is_made_of_a_view(rt: HostRuntime) -> Result<(), Fail> {
+    let segments = [b"ob".as_slice(), b"ject".as_slice()];
+    let view = LendingKeyView::new(&segments, 6);
+    let key: ArrayKey<16> = view.to_key(rt.alloc())?;
+    assert_eq!(rt; key.as_ref(), b"object".as_slice());
     Ok(())
 }

@@ -1,0 +1,43 @@
+use Rattle.std.proofs.Common.{◌+◌, drop, sym, ap, ◌∙◌}
+use Rattle.std.specs.Ordering.{ordering_then}
+use Rattle.rart_below.specs.Bytes.{byte_order}
+use Rattle.rart_below.specs.LendingKeyView.{joined}
+use Rattle.rart_below.proofs.Segments.{joined-order, joined-order_longer, ordering_then-decided}
+use Rattle.rart_below.proofs.view.LendingKeyView.cmp_slice.Goals as goal
+
+pub returns-then-rest-segment : goal.returns-then-rest-segment
+returns-then-rest-segment c =
+    let segments = c.segments-segment-items in
+    let rest = c.loop-segment.rest.now in
+    c.cmp.ensures
+    ∙ sym (joined-order_longer segments.result.now c.loop-segment.segment-index _ rest
+    c.loop-segment-test.true c.if-rest-segment.true)
+    ∙ c.loop-segment.invariant
+    ∙ ap (λ bytes. byte_order bytes c.args.slice.now) segments.ensures
+
+pub returns-in_default : goal.returns-in_default
+returns-in_default c =
+    let segments = c.segments-segment-items in
+    let at = c.loop-segment.segment-index in
+    let split = c.split_at in
+    let compared = c.cmp-in-loop-segment in
+    let later = byte_order (joined (drop (at + 1) segments.result.now)) split.result.1.now in
+    sym (ordering_then-decided compared.result later c.in_default.not-Equal)
+    ∙ ap (λ first. ordering_then first later) compared.ensures
+    ∙ sym (joined-order segments.result.now at _ c.loop-segment.rest.now c.loop-segment-test.true
+    split.result.0.now split.result.1.now c.if-rest-segment.false
+    split.ensures.front split.ensures.back)
+    ∙ c.loop-segment.invariant
+    ∙ ap (λ bytes. byte_order bytes c.args.slice.now) segments.ensures
+
+pub loop-segment-preserved : goal.loop-segment-preserved
+loop-segment-preserved c =
+    let segments = c.segments-segment-items in
+    let at = c.loop-segment.segment-index in
+    let split = c.split_at in
+    let later = byte_order (joined (drop (at + 1) segments.result.now)) split.result.1.now in
+    ap (λ first. ordering_then first later) (sym c.in-Equal.is ∙ c.cmp-in-loop-segment.ensures)
+    ∙ sym (joined-order segments.result.now at _ c.loop-segment.rest.now c.loop-segment-test.true
+    split.result.0.now split.result.1.now c.if-rest-segment.false
+    split.ensures.front split.ensures.back)
+    ∙ c.loop-segment.invariant

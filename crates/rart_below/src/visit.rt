@@ -1,0 +1,8 @@
+/// What a visitor's closure answers of each value.
+#[derive(Clone, Copy, PartialEq, Eq)]
+pub enum VisitControl {
+    /// The visit goes on to the next value.
+    Continue,
+    /// The visit ends behind this value.
+    Stop,
+}

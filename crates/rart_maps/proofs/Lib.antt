@@ -5,5 +5,6 @@ pub mod OrderLemmas
 pub mod PairLawLemmas
 pub mod SetLemmas
 pub mod StartLemmas
+pub mod VersionLemmas
 pub mod WorkedBoundLemmas
 pub mod WorkedPairLemmas

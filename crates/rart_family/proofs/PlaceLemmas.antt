@@ -1,6 +1,6 @@
 -- What is told of the version at a place, once the place was read.
-use Rattle.std.proofs.Common.{◌≡◌, ℕ, zero, suc, ◌+◌, ◌≤◌, ◌<◌, Bool, true, false, cond, [], ◌∷◌, refl, get_or, arith}
-use Rattle.std.specs.Prelude.{Option, Some, None, IfSome}
+use Rattle.std.proofs.Common.{◌≡◌, ℕ, zero, suc, ◌+◌, ◌≤◌, ◌<◌, Bool, true, false, cond, [], ◌∷◌, refl, subst, get_or, arith}
+use Rattle.std.specs.Prelude.{Option, Some, None, IfSome, IsSomeAnd}
 use Rattle.rart_maps.specs.Versions.{Version, has_no_key}
 use Rattle.rart_family.specs.Families.{Family, version_at}
 use Rattle.rart_family.specs.Costs.{one_with_key}
@@ -15,12 +15,9 @@ module _ {V : Type 0} where
   none_at (v ∷ f) zero read is = is
   none_at (v ∷ f) (suc place) read is = none_at f place read is
 
-  -- Where there is no version, anything holds of it, and no node is to be entered.
-  pub if_none_at : (f : Family V) (place : ℕ) (read : Option (Version V)) (Says : Version V → Type 0) → get_or f place read ≡ None → IfSome (version_at f place) Says
-  if_none_at f place read Says is = rw (none_at f place read is) tt
-
-  pub touches_none : (f : Family V) (place : ℕ) (read : Option (Version V)) (n : ℕ) → get_or f place read ≡ None → n + one_with_key (version_at f place) ≤ n
-  touches_none f place read n is = rw (none_at f place read is) (omega arith)
+  -- Where a version is to be, one is read.
+  pub is_read : (f : Family V) (place : ℕ) (read : Option (Version V)) (Says : Version V → Type 0) → IsSomeAnd (version_at f place) Says → get_or f place read ≡ None → ⊥
+  is_read f place read Says there is = subst (λ version. IsSomeAnd version Says) (none_at f place read is) there
 
   -- Where there is a version, a node is to be entered if it has a key.
   pub touches_some : (f : Family V) (place : ℕ) (read : Option (Version V)) (v : Version V) (before after : ℕ) → get_or f place read ≡ Some v → before ≤ after → (has_no_key v ≡ false → before < after) → before + one_with_key (version_at f place) ≤ after

@@ -135,7 +135,7 @@ fn rewrite_at<K: KeyTrait, V: Clone + Drop>(
 {
     match &mut versions[place] {
         Some(version) => write_slot(version, key, value, changes),
-        None => Err(AllocError),
+        None => unreachable!(),
     }
 }
 
@@ -161,7 +161,7 @@ fn insert_at<K: KeyTrait, V: Clone + Drop>(
 {
     match &mut versions[place] {
         Some(version) => version.insert_k_counted(key, value, changes),
-        None => Err(AllocError),
+        None => unreachable!(),
     }
 }
 
@@ -187,7 +187,7 @@ fn replace_at<K: KeyTrait, V: Clone + Drop>(
 {
     match &mut versions[place] {
         Some(version) => version.insert_and_replace_k_counted(key, value, changes),
-        None => Err(AllocError),
+        None => unreachable!(),
     }
 }
 
@@ -213,7 +213,7 @@ fn remove_at<K: KeyTrait, V: Clone + Drop>(
 {
     match &mut versions[place] {
         Some(version) => version.remove_k_counted(key, changes),
-        None => Err(AllocError),
+        None => unreachable!(),
     }
 }
 
@@ -239,6 +239,6 @@ fn delete_at<K: KeyTrait, V: Clone + Drop>(
 {
     match &mut versions[place] {
         Some(version) => version.delete_k_counted(key, changes),
-        None => Err(AllocError),
+        None => unreachable!(),
     }
 }

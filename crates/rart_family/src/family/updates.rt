@@ -123,7 +123,7 @@ fn update_at<K: KeyTrait, V: Clone + Drop>(
             },
             changes,
         ),
-        None => Err(AllocError),
+        None => unreachable!(),
     }
 }
 
@@ -162,6 +162,6 @@ fn try_update_at<K: KeyTrait, V: Clone + Drop>(
                 Err(Refusal::Memory(refused)) => Err(refused),
             }
         }
-        None => Err(AllocError),
+        None => unreachable!(),
     }
 }

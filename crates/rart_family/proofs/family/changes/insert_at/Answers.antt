@@ -1,8 +1,8 @@
-use Rattle.rart_family.proofs.PlaceLemmas.{touches_none, touches_some}
+use Rattle.rart_family.proofs.PlaceLemmas.{is_read, touches_some}
 use Rattle.rart_family.proofs.family.changes.insert_at.Goals as goal
 
-pub returns-in-Some-clause-entered_least : goal.returns-in-Some-clause-entered_least
-returns-in-Some-clause-entered_least g c = touches_some c.args.versions.now c.args.place _ _ _ _ c.in-Some.is c.insert_k_counted.ensures.counted.entered_grows c.insert_k_counted.ensures.entered_least
+pub returns-clause-entered_least : goal.returns-clause-entered_least
+returns-clause-entered_least g c = touches_some c.args.versions.now c.args.place _ _ _ _ c.in-Some.is c.insert_k_counted.ensures.counted.entered_grows c.insert_k_counted.ensures.entered_least
 
-pub returns-in-None-clause-entered_least : goal.returns-in-None-clause-entered_least
-returns-in-None-clause-entered_least g c = touches_none c.args.versions.now c.args.place _ _ c.in-None.is
+pub unreachable-requires : goal.unreachable-requires
+unreachable-requires g c = is_read c.args.versions.now c.args.place _ _ c.requires.there c.in-None.is

@@ -1,3 +1,4 @@
+//! The keys that are measured with.
 use rand_core::utils::NextWord;
 use rand_pcg::Pcg32;
 use std::alloc::{AllocError, Global};

@@ -1,3 +1,4 @@
+//! The maps that are measured: the tree, and std's `BTreeMap`.
 use rart_versioned::{ArrayKey, KeyTrait, VersionedAdaptiveRadixTree};
 use std::alloc::{AllocError, Global};
 use std::collections::BTreeMap;

@@ -1,3 +1,4 @@
+-- What children a `DirectMapping` shows, and when its count is in step with its slots.
 use Rattle.std.specs.Prelude.{ℕ, ◌&&◌, ◌==◌, Bool, List, length}
 use Rattle.rart_below.specs.Layouts.{slot_children}
 use Rattle.rart_below.specs.declared.mapping.direct.DirectMapping.{DirectMapping}

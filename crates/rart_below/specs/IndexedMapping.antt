@@ -1,3 +1,4 @@
+-- What children an `IndexedMapping` shows, and when its index and its bits are in step with its slots.
 use Rattle.std.specs.Prelude.{ℕ, ◌&&◌, ◌==◌, Bool, List, length}
 use Rattle.rart_below.specs.Layouts.{slot_children, named_slots, marks_of, is_named_once}
 use Rattle.rart_below.specs.declared.mapping.indexed.IndexedMapping.{IndexedMapping}

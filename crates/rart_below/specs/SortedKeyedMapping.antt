@@ -1,3 +1,4 @@
+-- What children a `SortedKeyedMapping` shows, and when its bytes and its slots are in step.
 use Rattle.std.specs.Prelude.{ℕ, ◌&&◌, Bool, List, length, nat_le}
 use Rattle.std.specs.Ordering.{nat_cmp}
 use Rattle.std.specs.FinMap.Entries.{is_sorted}

@@ -1,3 +1,4 @@
+//! What the tree asks of a prefix, the part of a key that one node stores.
 ghost use Rattle.std.specs.Prelude.{◌≡◌, ◌==◌, ℕ, ◌<◌, ◌≤◌, List, length, take, drop, slice_index, IfOk};
 ghost use Rattle.rart_below.specs.Bytes.{common_length};
 

@@ -1,3 +1,4 @@
+//! How many bytes two byte strings have in common at their beginning.
 ghost use Rattle.std.specs.Prelude.{◌≡◌, ◌+◌, ◌≤◌, length, take, drop};
 ghost use Rattle.std.specs.Int.{from_le_bytes, w32, w64};
 ghost use Rattle.rart_below.specs.Bytes.{common_length};

@@ -1,4 +1,7 @@
+//! What an update by a callback is lent, what it answers, and why it is refused.
 use std::alloc::AllocError;
+use std::fmt::Display;
+use thiserror::Error;
 
 /// What an update is lent of one key.
 ///
@@ -24,10 +27,13 @@ pub enum SlotUpdate<V> {
 }
 
 /// Why a call with a callback was refused.
-#[derive(Drop)]
+#[derive(Debug, Drop, Error)]
+#[error_bound(E: Display)]
 pub enum Refusal<E> {
     /// The callback answered this error.
+    #[error("the callback failed: {0}")]
     Callback(E),
     /// Memory was refused.
+    #[error(transparent)]
     Memory(AllocError),
 }

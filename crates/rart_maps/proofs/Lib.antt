@@ -5,6 +5,7 @@ pub mod OrderLemmas
 pub mod PairLawLemmas
 pub mod SetLemmas
 pub mod StartLemmas
+pub mod VersionLemmas
 pub mod VisitLawLemmas
 pub mod VisitLemmas
 pub mod WorkedBoundLemmas

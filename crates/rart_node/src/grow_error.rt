@@ -1,15 +1,20 @@
+//! Why a node was not widened.
 ghost use Rattle.std.specs.Prelude.{◌≡◌};
 
 use std::alloc::AllocError;
+use thiserror::Error;
 
 /// Why a node was not widened.
-#[derive(Debug, Drop)]
+#[derive(Debug, Drop, Error)]
 pub enum GrowError {
     /// The node is a leaf.
+    #[error("a leaf is not widened")]
     Leaf,
     /// The node has the greatest width, 256.
+    #[error("the node has the greatest width, 256")]
     Widest,
     /// Memory was refused.
+    #[error(transparent)]
     Memory(AllocError),
 }
 

@@ -1,3 +1,4 @@
+//! The node: a prefix, an optional value, and children under bytes.
 ghost use Rattle.std.specs.Prelude.{◌≡◌, ◌==◌, ◌+◌, ◌↔◌, IsErrOf, IsOk, IsSome, IsTrue, IfOk, OnOk, OnErr, Some, None, [], length, not};
 ghost use Rattle.std.specs.Option.{option_map, option_copied};
 ghost use Rattle.rart_below.specs.Children.{child_at, children_from, first_of};
@@ -164,8 +165,9 @@ impl<P: Partial, V: Drop> VersionedNode<P, V> {
     }
 
     /// Adds a child under a byte that has none. A leaf becomes width 4 and a full node the next
-    /// width, which is one node made. Refused for memory, the node is as before. Where the node is
-    /// neither a leaf nor full, no memory is asked for and the call succeeds.
+    /// width, which is one node made. Refused for memory, the node is as before and the child is
+    /// given up. Where the node is neither a leaf nor full, no memory is asked for and the call
+    /// succeeds.
     pub fn add_child(
         &mut self,
         alloc: Global,

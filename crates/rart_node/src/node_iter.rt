@@ -1,3 +1,4 @@
+//! The iterator over the children of a node.
 ghost use Rattle.rart_node.specs.Seen.{seen};
 ghost use Rattle.rart_node.specs.Shape.{IsAscending};
 

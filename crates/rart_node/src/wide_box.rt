@@ -1,3 +1,4 @@
+//! The box of a wide mapping.
 /// A box that is let go by a call of its own.
 ///
 /// What is dropped in place is moved out of its box first, into the frame of whoever drops it. A

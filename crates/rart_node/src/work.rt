@@ -1,3 +1,4 @@
+//! Counts of nodes entered and made, which contracts see and no program reads.
 ghost use Rattle.std.specs.Prelude.{◌≡◌, ℕ, ◌+◌, if◌then◌else◌};
 
 use std::marker::Model;

@@ -3,6 +3,7 @@ use crate::line::{LineCommand, LineError, parse};
 use rart_family::{ArrayKey, Family, KeyTrait, Reply, Work};
 use std::alloc::{AllocError, Global};
 use std::io::{Read, Write};
+use thiserror::Error;
 
 // The greatest length of a good line, without its line feed.
 const LONGEST: usize = 200;
@@ -17,13 +18,16 @@ pub enum Served {
 }
 
 /// What ended the serving of an input before its end.
-#[derive(Debug, Clone, Copy, PartialEq, Eq)]
+#[derive(Debug, Clone, Copy, PartialEq, Eq, Error)]
 pub enum ServeError {
     /// Reading failed.
+    #[error("reading failed")]
     Read,
     /// Writing failed.
+    #[error("writing failed")]
     Write,
     /// Memory for a line's own text, as it is read or written, was refused.
+    #[error("memory for a line was refused")]
     Memory,
 }
 

@@ -1,3 +1,4 @@
+//! The mapping of width 48: an index from each byte to its slot.
 ghost use Rattle.std.specs.Prelude.{◌≡◌, [], IsTrue};
 ghost use Rattle.rart_below.specs.Layouts.{SameBytes};
 ghost use Rattle.rart_below.specs.IndexedMapping.{indexed_children, indexed_in_order};

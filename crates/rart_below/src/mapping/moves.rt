@@ -1,3 +1,4 @@
+//! The move of all children to another mapping, for a node that grows.
 ghost use Rattle.std.specs.Prelude.{◌≡◌, ◌≤◌, [], length, IsTrue};
 
 use super::NodeMapping;

@@ -1,3 +1,4 @@
+//! An array that lends one of its slots for writing.
 ghost use Rattle.std.specs.Prelude.{◌≡◌, ◌<◌, slice_index_or};
 ghost use Rattle.std.specs.Borrow.{sem};
 

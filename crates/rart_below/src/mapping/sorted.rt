@@ -1,3 +1,4 @@
+//! The mapping of width 4 and 16: bytes in ascending order, with a child beside each.
 ghost use Rattle.std.specs.Prelude.{◌≡◌, ◌≤◌, [], Some, None, length, MatchOption, IsTrue};
 ghost use Rattle.rart_below.specs.Layouts.{SameBytes, IsAbsent, IsPlaceOf, rank};
 ghost use Rattle.rart_below.specs.SortedKeyedMapping.{sorted_children, sorted_in_order};

@@ -1,3 +1,4 @@
+//! The mapping of width 256.
 use crate::DirectMapping;
 use crate::tests::mappings::{assert_children_change, assert_four_children};
 use std::test::Fail;

@@ -1,3 +1,4 @@
+//! The mapping of width 48.
 use crate::IndexedMapping;
 use crate::tests::mappings::{assert_children_change, assert_four_children};
 use std::test::Fail;

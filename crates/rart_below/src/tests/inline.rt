@@ -1,3 +1,4 @@
+//! Keys and prefixes held inline: `./test` runs these with memory refused.
 use crate::tests::{
     assert_common_length_at_each_place, assert_common_lengths, assert_key_shows_its_bytes,
     assert_keys_of_each_length, assert_order_of_bytes, assert_prefix_shows_its_bytes,

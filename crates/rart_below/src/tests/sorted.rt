@@ -1,3 +1,4 @@
+//! The mappings of width 4 and 16, and the move from one to the other.
 use crate::tests::mappings::{assert_children_change, assert_four_children, assert_next};
 use crate::{NodeMapping, SortedKeyedMapping, move_children};
 use std::test::Fail;

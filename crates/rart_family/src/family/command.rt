@@ -1,3 +1,4 @@
+//! The commands on a family of versions.
 use rart_versioned::SlotUpdate;
 
 /// One call on a version of a family.

@@ -1,3 +1,4 @@
+//! The replies to commands.
 /// What a command is answered.
 #[derive(Drop)]
 pub enum Reply<K, V> {

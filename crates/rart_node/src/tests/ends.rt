@@ -1,3 +1,4 @@
+//! The end of an iterator over children.
 ghost use Rattle.std.specs.Prelude.{◌≡◌, []};
 ghost use Rattle.rart_node.specs.VersionedNodeIter.{children_left};
 

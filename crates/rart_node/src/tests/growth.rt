@@ -1,5 +1,7 @@
+//! Growth to the next width, and the nodes that do not grow.
 use crate::tests::{add_leaves, assert_children, assert_prefix, prefix};
 use crate::{GrowError, VersionedNode};
+use std::alloc::AllocError;
 use std::test::Fail;
 
 #[test]
@@ -33,5 +35,18 @@ fn widest_node_does_not_grow(rt: HostRuntime) -> Result<(), Fail> {
     let mut node = VersionedNode::new_inner(alloc, prefix(alloc, b"wide")?, 0)?;
     add_leaves(&rt, alloc, &mut node, 49)?;
     assert!(rt; matches!(node.grow(alloc, 1), Err(GrowError::Widest)));
+    Ok(())
+}
+
+#[test]
+fn error_says_why_a_node_does_not_grow(rt: HostRuntime) -> Result<(), Fail> {
+    for (error, wanted) in [
+        (GrowError::Leaf, "a leaf is not widened"),
+        (GrowError::Widest, "the node has the greatest width, 256"),
+        (GrowError::Memory(AllocError), "memory allocation failed"),
+    ] {
+        let text = format!(in rt.alloc(); "{error}")?;
+        assert_eq!(rt; text.as_str(), wanted);
+    }
     Ok(())
 }

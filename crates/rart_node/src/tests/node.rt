@@ -1,3 +1,4 @@
+//! Nodes: their parts, and how they change.
 ghost use Rattle.rart_node.specs.Seen.{seen};
 ghost use Rattle.rart_node.specs.Shape.{IsAscending};
 

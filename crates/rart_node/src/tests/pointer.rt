@@ -1,3 +1,4 @@
+//! Pointers: what is written through one shows in no other.
 use crate::tests::{add_leaf, assert_children, assert_prefix, leaf, prefix, value_of};
 use crate::{VersionedNode, Work};
 use std::test::Fail;

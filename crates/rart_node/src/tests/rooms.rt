@@ -1,3 +1,4 @@
+//! A node with room for one more child makes no node.
 ghost use Rattle.std.specs.Prelude.{◌≡◌, ◌<◌, None, length};
 ghost use Rattle.rart_below.specs.Children.{child_at};
 ghost use Rattle.rart_node.specs.Seen.{seen, shown};

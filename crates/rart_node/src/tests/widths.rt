@@ -1,3 +1,4 @@
+//! When a node is full, and that deletion keeps its width.
 ghost use Rattle.rart_node.specs.Seen.{seen};
 ghost use Rattle.rart_node.specs.Shape.{IsAscending};
 

@@ -59,7 +59,9 @@ fn lend_in<'a, P: Partial, V: Clone + Drop>(
 }
 
 impl<K: KeyTrait, V: Clone + Drop> VersionedAdaptiveRadixTree<K, V> {
-    /// As `get_mut_k`, with the nodes entered and made counted into `work`.
+    /// As `get_mut_k`, with the nodes entered and made counted into `work`: at most two more entered
+    /// than twice the bytes of the key, and at most two more made than it has. None is made where
+    /// the key is absent.
     pub fn get_mut_k_counted(
         &mut self,
         key: &K,

@@ -1,3 +1,4 @@
+//! Insertion of a value at a key.
 ghost use Rattle.std.specs.Prelude.{◌<◌, ◌≤◌, OnOk};
 ghost use Rattle.rart_below.specs.Clones.{ClonesEqual};
 ghost use Rattle.rart_maps.specs.Bounds.{lookup_bound};
@@ -12,7 +13,8 @@ use rart_node::{NodeRef, Work};
 use std::alloc::AllocError;
 
 impl<K: KeyTrait, V: Clone + Drop> VersionedAdaptiveRadixTree<K, V> {
-    /// As `insert_k`, with the nodes entered and made counted into `work`.
+    /// As `insert_k`, with the nodes entered and made counted into `work`: at most one more entered
+    /// than the key has bytes, and at most two more made. Where it succeeds one is made at least.
     pub fn insert_k_counted(
         &mut self,
         key: &K,
@@ -30,7 +32,7 @@ impl<K: KeyTrait, V: Clone + Drop> VersionedAdaptiveRadixTree<K, V> {
         Ok(self.put_in(key, value, 1, work)?.is_some())
     }
 
-    /// As `insert_and_replace_k`, with the nodes entered and made counted into `work`.
+    /// As `insert_and_replace_k`, counted as by `insert_k_counted`.
     pub fn insert_and_replace_k_counted(
         &mut self,
         key: &K,

@@ -1,3 +1,4 @@
+//! Lookup of a key.
 ghost use Rattle.std.specs.Prelude.{◌≡◌, ◌<◌, false};
 ghost use Rattle.std.specs.Option.{option_copied};
 ghost use Rattle.rart_maps.specs.Bounds.{lookup_bound};

@@ -1,3 +1,4 @@
+//! Why a value is not lent.
 ghost use Rattle.std.specs.Prelude.{◌≡◌};
 ghost use Rattle.rart_versioned.specs.Missing.{found_value};
 

@@ -14,7 +14,9 @@ use rart_removal::remove_below;
 use std::alloc::AllocError;
 
 impl<K: KeyTrait, V: Clone + Drop> VersionedAdaptiveRadixTree<K, V> {
-    /// As `remove_k`, with the nodes entered and made counted into `work`.
+    /// As `remove_k`, with the nodes entered and made counted into `work`: at most two more entered
+    /// than twice the bytes of the key, and at most two more made than it has. None is made where
+    /// the key is absent.
     pub fn remove_k_counted(&mut self, key: &K, work: &mut Work) -> Result<Option<V>, AllocError>
         requires clones { ClonesEqual V.is_clone }
         requires room { HasRoom self.old 1 }
@@ -31,7 +33,7 @@ impl<K: KeyTrait, V: Clone + Drop> VersionedAdaptiveRadixTree<K, V> {
         self.take_in(key, 1, work)
     }
 
-    /// As `delete_k`, with the nodes entered and made counted into `work`.
+    /// As `delete_k`, counted as by `remove_k_counted`.
     pub fn delete_k_counted(&mut self, key: &K, work: &mut Work) -> Result<bool, AllocError>
         requires clones { ClonesEqual V.is_clone }
         requires room { HasRoom self.old 1 }

@@ -17,7 +17,7 @@ use rart_below::{KeyTrait, Refusal, Slot, SlotUpdate};
 use rart_node::Work;
 
 impl<K: KeyTrait, V: Clone + Drop> VersionedAdaptiveRadixTree<K, V> {
-    /// As `try_update_k`, with the nodes entered and made counted into `work`.
+    /// As `try_update_k`, counted as by `update_k_counted`.
     pub fn try_update_k_counted<E: Drop, F: FnOnce(&mut Slot<V>) -> Result<SlotUpdate<V>, E>>(
         &mut self,
         key: &K,

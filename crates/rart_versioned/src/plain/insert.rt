@@ -1,3 +1,4 @@
+//! Insertion with no count.
 ghost use Rattle.rart_below.specs.Clones.{ClonesEqual};
 ghost use Rattle.rart_maps.specs.Changes.{Changes, insertion, replacement};
 ghost use Rattle.rart_maps.specs.Versions.{HasRoom};

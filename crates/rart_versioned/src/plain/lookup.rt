@@ -1,3 +1,4 @@
+//! Lookup with no count.
 ghost use Rattle.std.specs.Prelude.{◌≡◌};
 ghost use Rattle.std.specs.Option.{option_copied};
 ghost use Rattle.rart_maps.specs.Versions.{value_at};

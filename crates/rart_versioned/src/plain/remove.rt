@@ -1,3 +1,4 @@
+//! Removal with no count.
 ghost use Rattle.std.specs.Prelude.{IsTrue, OnErr};
 ghost use Rattle.rart_below.specs.Clones.{ClonesEqual};
 ghost use Rattle.rart_maps.specs.Changes.{Changes, removal, deletion};

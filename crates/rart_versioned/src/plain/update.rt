@@ -1,3 +1,4 @@
+//! Updates by a callback, with no count.
 ghost use Rattle.std.specs.Fn.{FnOnceTakesAtMut};
 ghost use Rattle.rart_below.specs.Clones.{ClonesEqual};
 ghost use Rattle.rart_maps.specs.Changes.{slot_of};

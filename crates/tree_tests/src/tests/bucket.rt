@@ -1,3 +1,4 @@
+//! A value that owns memory, with a clone of its own.
 use std::alloc::AllocError;
 use std::marker::Model;
 

@@ -1,3 +1,4 @@
+//! Values lent for writing.
 use crate::tests::interpreter::Answer::*;
 use crate::tests::interpreter::Call::*;
 use crate::tests::interpreter::Change::*;

@@ -1,3 +1,4 @@
+//! Removals, and what they leave of snapshots.
 use crate::tests::interpreter::Answer::*;
 use crate::tests::interpreter::Call::*;
 use crate::tests::interpreter::Change::*;

@@ -1,3 +1,4 @@
+//! Insertions that give the value that was there.
 use crate::tests::interpreter::Answer::*;
 use crate::tests::interpreter::Call::*;
 use crate::tests::interpreter::Change::*;

@@ -1,3 +1,4 @@
+//! Changes of trees that share nodes with snapshots.
 use crate::tests::interpreter::Answer::*;
 use crate::tests::interpreter::Call::*;
 use crate::tests::interpreter::Change::*;

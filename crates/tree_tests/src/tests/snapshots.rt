@@ -1,3 +1,4 @@
+//! Snapshots, clones and numbers.
 use crate::tests::interpreter::Answer::*;
 use crate::tests::interpreter::Call::*;
 use crate::tests::interpreter::Change::*;

@@ -1,3 +1,4 @@
+//! Updates by a callback, and what their answers leave.
 use crate::tests::interpreter::Answer::*;
 use crate::tests::interpreter::Call::*;
 use crate::tests::interpreter::Change::*;

@@ -1,3 +1,4 @@
+//! The calls of a table, and the answers to them.
 /// The form of a call with a key.
 #[derive(Clone, Copy, Debug)]
 pub enum Form {

@@ -1,3 +1,4 @@
+//! Insertions and removals in each form.
 ghost use Rattle.rart_maps.specs.Versions.{HasRoom};
 
 use super::call::{Answer, Form};

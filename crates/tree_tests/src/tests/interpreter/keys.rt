@@ -1,3 +1,4 @@
+//! Many keys, each made of a number.
 use std::alloc::{AllocError, Global};
 
 /// Keys of a name with a number behind it, for each number from the first one given on and below

@@ -1,3 +1,4 @@
+//! Lookups and lent values in each form.
 ghost use Rattle.rart_maps.specs.Versions.{HasRoom};
 
 use super::call::{Answer, Form};

@@ -1,3 +1,4 @@
+//! The steps of a test: tables, and calls with each of many keys.
 use super::call::{Answer, Call, Change};
 use super::keys::Keys;
 

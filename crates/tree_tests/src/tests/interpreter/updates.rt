@@ -1,3 +1,4 @@
+//! Updates by a callback in each form.
 ghost use Rattle.rart_maps.specs.Versions.{HasRoom};
 
 use super::call::{Answer, Edit, Form, Outcome};

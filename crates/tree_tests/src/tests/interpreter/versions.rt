@@ -1,3 +1,4 @@
+//! The list of versions that the calls go over.
 ghost use Rattle.std.specs.Prelude.{◌+◌, ◌<◌, ◌≤◌, ◌^◌, length, IsTrue};
 ghost use Rattle.rart_versioned.specs.Given.{IsAdmitted};
 ghost use Rattle.rart_maps.specs.Versions.{HasRoom};

@@ -1,0 +1,9 @@
+//! What a caller of the tree writes and proves, from the public contracts of `rart_versioned` alone.
+//! `docs/USING.md` shows these functions.
+#![tactic(auto)]
+
+pub mod prices;
+pub mod stock;
+#[cfg(test)]
+mod tests;
+pub mod values;

@@ -1,0 +1,83 @@
+//! With ample memory the calls succeed, which no contract can say.
+use crate::prices::{PriceList, before_and_after, set_price_counted, try_set_price};
+use crate::stock::{Stock, add};
+use crate::values::{Numbers, Readings, Text, Titles, keep, retitle};
+use rart_versioned::{KeyTrait, VectorKey, Work};
+use std::alloc::{AllocError, Global};
+use std::test::Fail;
+
+fn key(alloc: Global, name: &str) -> Result<VectorKey, AllocError> {
+    VectorKey::new_from_slice(alloc, name.as_bytes())
+}
+
+#[test]
+fn price_is_set_beside_a_snapshot(rt: HostRuntime) -> Result<(), Fail> {
+    let alloc = rt.alloc();
+    let mut list = PriceList::new(alloc);
+    assert_eq!(rt;
+        before_and_after(alloc, &mut list, "tea", 300)?,
+        (None, Some(300))
+    );
+    assert!(rt; list.version() < 1000);
+    assert_eq!(rt;
+        before_and_after(alloc, &mut list, "tea", 350)?,
+        (Some(300), Some(350))
+    );
+    assert!(rt; list.version() < 1000);
+    set_price_counted(alloc, &mut list, "salt", 90, &mut Work::new())?;
+    assert_eq!(rt; list.get(key(alloc, "salt")?).copied(), Some(90));
+    assert_eq!(rt; list.version(), 3);
+    Ok(())
+}
+
+#[test]
+fn greatest_number_has_no_room(rt: HostRuntime) -> Result<(), Fail> {
+    let alloc = rt.alloc();
+    let mut list = PriceList::new_at(alloc, u64::MAX - 1);
+    try_set_price(alloc, &mut list, "tea", 300)?;
+    let refused = try_set_price(alloc, &mut list, "tea", 350)
+        .err()
+        .ok_or("no error")?;
+    let text = format!(in alloc; "{refused}")?;
+    assert_eq!(rt; text.as_str(), "the list was changed too often");
+    assert_eq!(rt; list.get(key(alloc, "tea")?).copied(), Some(300));
+    Ok(())
+}
+
+#[test]
+fn pieces_of_an_absent_name_are_those_added(rt: HostRuntime) -> Result<(), Fail> {
+    let alloc = rt.alloc();
+    let mut stock = Stock::new(alloc);
+    add(alloc, &mut stock, "tea", 5)?;
+    assert_eq!(rt; stock.get(key(alloc, "tea")?).copied(), Some(5));
+    assert_eq!(rt; stock.version(), 1);
+    Ok(())
+}
+
+#[test]
+fn title_is_replaced(rt: HostRuntime) -> Result<(), Fail> {
+    let alloc = rt.alloc();
+    let mut titles = Titles::new(alloc);
+    let old = retitle(alloc, &mut titles, "tea", Text::new(alloc, "Tea")?)?;
+    assert!(rt; old.is_none());
+    assert!(rt; titles.version() < 1000);
+    let old = retitle(alloc, &mut titles, "tea", Text::new(alloc, "Green tea")?)?.ok_or("none")?;
+    assert_eq!(rt; old.as_str(), "Tea");
+    Ok(())
+}
+
+#[test]
+fn numbers_are_kept(rt: HostRuntime) -> Result<(), Fail> {
+    let alloc = rt.alloc();
+    let mut readings = Readings::new(alloc);
+    let replaced = keep(
+        alloc,
+        &mut readings,
+        "tea",
+        Numbers::new([3, 5].to_vec(alloc)?),
+    )?;
+    assert!(rt; !replaced);
+    let kept = readings.get(key(alloc, "tea")?).ok_or("none")?;
+    assert_eq!(rt; kept.as_slice(), [3, 5].as_slice());
+    Ok(())
+}

@@ -55,7 +55,7 @@ order-append_longer (b ∷ segment) later (c ∷ other) longer =
     (order-append_longer segment later other (omega (arith, longer)))
 
 module _ (segments : List (Bor (List ℕ))) (i : ℕ) (other : Bor (List ℕ)) (rest : List ℕ)
-  (inside : i < length segments) where
+    (inside : i < length segments) where
   -- the bytes from one segment on, and a string that is at least as long as it
   pub joined-order : (front behind : List ℕ) →
       length (get_or segments i other).now ≤ length rest →

@@ -60,6 +60,11 @@ impl<'a, 'view> LendingKeyView<'a, 'view> {
     }
 
     /// Whether this is the empty key.
+    ///
+    /// ```
+    /// let mut has_empty_key = false;
+    /// tree.for_each_view(&mut |key, _value| has_empty_key |= key.is_empty())?;
+    /// ```
     pub fn is_empty(&self) -> bool
         ensures { result ≡ (length self.now == 0) }
     {
@@ -126,7 +131,7 @@ impl<'a, 'view> LendingKeyView<'a, 'view> {
     /// takes memory.
     ///
     /// ```
-    /// let key: VectorKey = key.to_key(alloc)?;
+    /// let owned: VectorKey = key.to_key(alloc)?;
     /// ```
     pub fn to_key<K: KeyTrait>(&self, alloc: Global) -> Result<K, AllocError>
         requires { IsAdmitted K.MAXIMUM_SIZE (length self.now) }

@@ -43,7 +43,8 @@ module _ {F A R X : Type 0} (g : Mut F A R) (Shows : A → X → Type 0) (answer
   callable-first x xs f callable = (
     callable.at x xs f ([], refl, refl),
     λ k called. record {
-      at = λ y rest j before. callable.at y rest j (up_to-first x xs (y ∷ rest) f k j called before);
+      at = λ y rest j before.
+          callable.at y rest j (up_to-first x xs (y ∷ rest) f k j called before);
     },
   )
 
@@ -82,8 +83,10 @@ module _ {F A X E : Type 0} (g : Mut F A (Result VisitControl E)) (Shows : A →
 
   pub until_nothing : UntilNothing g Shows
   until_nothing f f' (Ok Continue) = (λ same. (same, refl), λ both. both.0)
-  until_nothing f f' (Ok Stop) = (λ v. absurd (not-up_to f f' (Ok Stop) v), λ both. let is = both.1 in cc)
-  until_nothing f f' (Err e) = (λ v. absurd (not-up_to f f' (Err e) v), λ both. let is = both.1 in cc)
+  until_nothing f f' (Ok Stop) =
+      (λ v. absurd (not-up_to f f' (Ok Stop) v), λ both. let is = both.1 in cc)
+  until_nothing f f' (Err e) =
+      (λ v. absurd (not-up_to f f' (Err e) v), λ both. let is = both.1 in cc)
 
   -- what comes of the answer on the first member
   abbrev Steps : X → List X → F → F → Result VisitControl E → Type 0
@@ -133,10 +136,14 @@ module _ {F A X E : Type 0} (g : Mut F A (Result VisitControl E)) (Shows : A →
         Steps x xs f f' last
     until-steps (Ok Continue) v = (Ok Continue, v.0, v.1, v.2)
     until-steps (Ok Stop) v =
-        ⊎_elim (λ here. (Ok Stop, f', here, (refl, refl))) (λ more. (Ok Continue, more.0, more.1, more.2))
+        ⊎_elim
+        (λ here. (Ok Stop, f', here, (refl, refl)))
+        (λ more. (Ok Continue, more.0, more.1, more.2))
         (up_to-steps (Ok Stop) v)
     until-steps (Err e) v =
-        ⊎_elim (λ here. (Err e, f', here, (refl, refl))) (λ more. (Ok Continue, more.0, more.1, more.2))
+        ⊎_elim
+        (λ here. (Err e, f', here, (refl, refl)))
+        (λ more. (Ok Continue, more.0, more.1, more.2))
         (up_to-steps (Err e) v)
 
   pub until_step_by_step : UntilStepByStep g Shows

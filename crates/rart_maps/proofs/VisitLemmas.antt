@@ -1,10 +1,10 @@
 -- Calls on the members of a list: how they go on from one part of it to the next.
-use Rattle.std.proofs.Common.{◌≡◌, List, [], ◌∷◌, ◌++◌, Result, Ok, refl, sym, ap, subst, ◌∙◌, append_assoc}
+use Rattle.std.proofs.Common.{◌≡◌, List, [], ◌∷◌, ◌++◌, Result, Ok, Err, refl, sym, ap, subst, ◌∙◌, append_assoc}
 use Rattle.std.proofs.lemmas.List.{append-nil}
 use Rattle.std.specs.Fn.{Mut, Takes}
 use Rattle.rart_below.specs.declared.visit.VisitControl.{VisitControl}
-use Rattle.rart_below.specs.declared.visit.VisitControl.TheVariants.{Continue}
-use Rattle.rart_maps.specs.Visits.{CalledOn, CallableOn, Answers, AnswersUpTo, CallableInTurn, VisitUpTo}
+use Rattle.rart_below.specs.declared.visit.VisitControl.TheVariants.{Continue, Stop}
+use Rattle.rart_maps.specs.Visits.{CalledOn, CallableOn, Answers, AnswersUpTo, CallableInTurn, VisitUpTo, VisitUntil}
 
 module _ {F A R X : Type 0} (g : Mut F A R) (Shows : A → X → Type 0) (answer : R) where
   -- the calls on one list, and then those on another
@@ -118,3 +118,10 @@ module _ {F A X E : Type 0} (g : Mut F A (Result VisitControl E)) (Shows : A →
       let within = ends.0 ∷ ends.1 in
       let here = up_to-within g Shows (Ok Continue) part rest comes before within ends.3 in
       (ends.0, ends.1 ++ rest, ends.2, here, ends.4)
+
+  -- a visit of one member, which its one answer ends
+  pub visit_until-one : {f last : F} (x : X) (answer : Result VisitControl E) →
+      CalledOn g Shows f x answer last → VisitUntil g Shows f (x ∷ []) answer last
+  visit_until-one {f} {last} x (Ok Continue) called = (last, called, refl)
+  visit_until-one {f} x (Ok Stop) called = (x, [], f, ([], refl, refl), called)
+  visit_until-one {f} x (Err e) called = (x, [], f, ([], refl, refl), called)

@@ -48,7 +48,7 @@ under-byte : (strings : Strings) (above prefix : List ℕ) (byte : ℕ) → Begi
 under-byte strings above [] byte first = absurd first
 under-byte strings above (b ∷ rest) byte first =
     let same : above ++ (b ∷ rest) ≡ with_byte above byte ++ rest =
-      ap (λ c. above ++ (c ∷ rest)) first ∙ sym (append_assoc above (byte ∷ []) rest) in
+    ap (λ c. above ++ (c ∷ rest)) first ∙ sym (append_assoc above (byte ∷ []) rest) in
     let fewer = len-strings_under-append strings (with_byte above byte) rest in
     subst (λ w. under strings w ≤ under strings (with_byte above byte)) (sym same) fewer
 
@@ -98,7 +98,7 @@ module _ {V : Type 0} where
       (prefix ++ u) (begins-behind prefix u pair.0 is)
 
   module _ (strings : Strings) (above : List ℕ) (front back : List (List ℕ × V))
-    (has : HasStarts strings above (front ++ back)) where
+      (has : HasStarts strings above (front ++ back)) where
     starts-front : HasStarts strings above front
     starts-front pair there = has pair (Contains-append_left front back pair there)
 
@@ -160,7 +160,7 @@ module _ {V : Type 0} where
       let within = nodes-within (starts m) above s tree (has-starts m above s tree keys) in
       let fewer = len-strings_under-append (starts m) p rest.0 in
       let same : under (starts m) (above ++ prefix_of s) ≡ under (starts m) (p ++ rest.0) =
-        ap (under (starts m)) rest.1 in
+      ap (under (starts m)) rest.1 in
       omega (arith, within, fewer, same)
 
   -- A tree has no more nodes than strings begin the keys of its map.
@@ -168,6 +168,6 @@ module _ {V : Type 0} where
   nodes-starts s tree =
       let m = map_of (Some s) in
       let keys : HasItsKeys m [] s =
-        λ key there. ap is_some (get-found (Some s) key tree) ∙ there in
+      λ key there. ap is_some (get-found (Some s) key tree) ∙ there in
       subst (λ strings. nodes_of s ≤ set.len strings) (under-all (starts m))
       (nodes-under m [] [] s tree keys refl)

@@ -15,7 +15,8 @@ pub fn visits_go_part_by_part<V, F: FnMut(&V)>()
     ensures callable { VisitableStepByStep F.FnMut ByValue }
 {}
 
-/// A visit that may end goes on behind a member where the answer is `Continue`, and else ends there.
+/// A visit that may end goes on behind a member where the answer is `Continue`, and else ends
+/// there.
 pub fn visits_end_at_the_first_other_answer<V, E, F: FnMut(&V) -> Result<VisitControl, E>>()
     ensures nothing { UntilNothing F.FnMut ByValue }
     ensures steps { UntilStepByStep F.FnMut ByValue }

@@ -5,7 +5,7 @@ use Rattle.tree_examples.proofs.stock.add.Goals as goal
 
 pub returns-clause-added : goal.returns-clause-added
 returns-clause-added c =
-    let told = c.in_ok-update_k.ensures.ok in
+    let told = c.in_ok-update_k.ensures in
     let shows = told.2.shows in
     let leaves = told.2.leaves in
     let met = told.2.met in

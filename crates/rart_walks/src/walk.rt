@@ -1,0 +1,140 @@
+//! The walk itself.
+ghost use Rattle.std.specs.Prelude.{◌≡◌, ◌+◌, ◌≤◌, ◌++◌, ◌∷◌, [], List, length, is_ok, if◌then◌else◌, IfOk, OnOk, OnErr};
+ghost use Rattle.std.specs.List.{concat};
+ghost use Rattle.std.specs.Option.{option_map};
+ghost use Rattle.rart_below.specs.Bytes.{IsAdmitted};
+ghost use Rattle.rart_node.specs.Seen.{seen, shown};
+ghost use Rattle.rart_node.specs.Shape.{IsAscending, prefix_of, children_of};
+ghost use Rattle.rart_shape.specs.Trees.{IsTree, pairs_of};
+ghost use Rattle.rart_walks.specs.Walks.{Gives, AreShort, ended, nodes_of};
+ghost use Rattle.rart_walks.specs.Frames.{Opened, TakesChild, segments_of};
+ghost use Rattle.rart_walks.specs.Opened.{opened, standing, IsWalk};
+
+use crate::trail::Trail;
+use rart_below::Partial;
+use rart_node::{NodeRef, VersionedNode, VersionedNodeIter, Work};
+use std::alloc::{AllocError, Global};
+
+// A node that is open: its prefix, and the children that are left.
+#[derive(Drop)]
+struct Frame<'a, P: Partial, V> {
+    segment: &'a [u8],
+    children: VersionedNodeIter<'a, P, V>,
+}
+
+/// A walk over a tree, from node to node.
+///
+/// Contracts see a walk as the prefixes of the nodes down to the one that it stands at, the pairs
+/// that it has left, and how many nodes it has left to enter.
+#[derive(Drop)]
+pub struct Walk<'a, P: Partial, V, T> {
+    trail: T,
+    frames: Vec<Frame<'a, P, V>>,
+    pending: Option<&'a V>,
+}
+
+impl<'a, P: Partial, V: Drop, T: Trail<'a>> Walk<'a, P, V, T> {
+    /// The trail, which keeps the way to the node that the walk stands at.
+    pub fn trail(&self) -> &T
+        requires walk { IsWalk P.bytes T.holds T.greatest self.now }
+        ensures { T.holds result.now (standing P.bytes self.now).segments }
+    {
+        &self.trail
+    }
+
+    /// Gives the next value, or `None` where there is none left.
+    #[inline]
+    pub fn next_value(&mut self, work: &mut Work) -> Result<Option<&'a V>, AllocError>
+        requires walk { IsWalk P.bytes T.holds T.greatest self.old }
+        ensures walk { IsWalk P.bytes T.holds T.greatest self.new }
+        ensures gives { IfOk result (λ value. Gives (standing P.bytes self.old) value
+            (standing P.bytes self.new)) }
+        ensures refused { OnErr result (standing P.bytes self.new ≡ ended) }
+        ensures entered { OnOk result (work.new.entered + (standing P.bytes self.new).nodes
+            ≡ work.old.entered + (standing P.bytes self.old).nodes) }
+        ensures at_most { work.new.entered ≤ work.old.entered + (standing P.bytes self.old).nodes }
+        ensures made { work.new.made ≡ work.old.made }
+    {
+        if let Some(value) = self.pending {
+            self.pending = None;
+            return Ok(Some(value));
+        }
+        'step: while let Some(next) = next_child(&mut self.frames) {
+            let Some(child) = next else {
+                leave(&mut self.frames, &mut self.trail);
+                continue;
+            };
+            let node = child.open(work);
+            if let Err(refused) = enter(&mut self.frames, &mut self.trail, node) {
+                end(&mut self.frames, &mut self.trail);
+                return Err(refused);
+            }
+            if let Some(value) = node.value() {
+                return Ok(Some(value));
+            }
+        }
+        Ok(None)
+    }
+}
+
+/// Takes the next child of the innermost node: `Some(None)` where it has none left, `None` where no
+/// node is open.
+#[inline]
+fn next_child<'a, P: Partial, V: Drop>(
+    frames: &mut Vec<Frame<'a, P, V>>,
+) -> Option<Option<&'a NodeRef<P, V>>>
+    ensures { TakesChild (opened P.bytes frames.old.items)
+        (option_map (option_map (λ child. shown P.bytes child.now)) result)
+        (opened P.bytes frames.new.items) }
+{
+    let frame = frames.last_mut()?;
+    match frame.children.next() {
+        Some((_byte, child)) => Some(Some(child)),
+        None => Some(None),
+    }
+}
+
+/// Opens a node below the innermost one. Refused for memory, none is opened.
+fn enter<'a, P: Partial, V: Drop, T: Trail<'a>>(
+    frames: &mut Vec<Frame<'a, P, V>>,
+    trail: &mut T,
+    node: &'a VersionedNode<P, V>,
+) -> Result<(), AllocError>
+    requires order { IsAscending (seen P.bytes node.now) }
+    requires holds { T.holds trail.old (segments_of (opened P.bytes frames.old.items)) }
+    requires short { IsAdmitted T.greatest (length (concat (segments_of (opened P.bytes frames.old.items) ++ prefix_of (seen P.bytes node.now) ∷ []))) }
+    ensures opened { opened P.bytes frames.new.items ≡ (if is_ok result then opened P.bytes frames.old.items ++ (prefix_of (seen P.bytes node.now), children_of (seen P.bytes node.now)) ∷ [] else opened P.bytes frames.old.items) }
+    ensures holds { T.holds trail.new (segments_of (opened P.bytes frames.new.items)) }
+{
+    let segment = node.prefix().as_ref();
+    trail.push(segment)?;
+    let children = node.iter();
+    if let Err(refused) = frames.push(Frame { segment, children }) {
+        trail.pop(segment);
+        return Err(refused.into());
+    }
+    Ok(())
+}
+
+/// Leaves the innermost node, if there is one.
+fn leave<'a, P: Partial, V: Drop, T: Trail<'a>>(frames: &mut Vec<Frame<'a, P, V>>, trail: &mut T)
+    requires holds { T.holds trail.old (segments_of (opened P.bytes frames.old.items)) }
+    ensures left { (front : List (Opened V)) (last : Opened V) → opened P.bytes frames.old.items ≡ front ++ last ∷ [] → opened P.bytes frames.new.items ≡ front }
+    ensures holds { T.holds trail.new (segments_of (opened P.bytes frames.new.items)) }
+{
+    if let Some(frame) = frames.pop() {
+        trail.pop(frame.segment);
+    }
+}
+
+/// Leaves every node.
+#[cold]
+fn end<'a, P: Partial, V: Drop, T: Trail<'a>>(frames: &mut Vec<Frame<'a, P, V>>, trail: &mut T)
+    requires holds { T.holds trail.old (segments_of (opened P.bytes frames.old.items)) }
+    ensures left { opened P.bytes frames.new.items ≡ [] }
+    ensures holds { T.holds trail.new [] }
+{
+    'leaving: while let Some(frame) = frames.pop() {
+        trail.pop(frame.segment);
+    }
+}

@@ -3,6 +3,7 @@ use Rattle.std.proofs.Common.{◌≡◌, ◌+◌, ◌*◌, ◌<◌, ◌≤◌, �
 use Rattle.std.specs.Prelude.{⊤}
 use Rattle.std.specs.List.{concat}
 use Rattle.std.proofs.lemmas.Bool.{false≢true}
+use Rattle.std.proofs.lemmas.List.Elements.{All-append, All-nil, All-cons}
 use Rattle.std.proofs.lemmas.List.{append_assoc, append-nil, map-append, length-append}
 use Rattle.rart_below.specs.Bytes.{IsAdmitted}
 use Rattle.rart_node.specs.Shape.{Shape, Forest, node, bare, grown, prefix_of, value_of, children_of, entries_of}
@@ -122,6 +123,57 @@ module _ {V : Type 0} where
   short-first None path more value pairs short = tt
   short-first (Some most) path more value pairs short = let le = short 0 (path ++ more, value) (omega arith) in let long = length-append path more in omega (arith, le, long)
 
+  pub short-append : (greatest : Option ℕ) (front back : List (List ℕ × V)) → AreShort greatest front → AreShort greatest back → AreShort greatest (front ++ back)
+  short-append None front back short also = tt
+  short-append (Some most) front back short also = All-append (λ (pair : List ℕ × V). length pair.0 ≤ most) front back short also
+
+  pub short-front : (greatest : Option ℕ) (front back : List (List ℕ × V)) → AreShort greatest (front ++ back) → AreShort greatest front
+  short-front None front back short = tt
+  short-front (Some most) [] back short = All-nil (λ (pair : List ℕ × V). length pair.0 ≤ most)
+  short-front (Some most) (pair ∷ front) back short =
+      All-cons (λ (pair : List ℕ × V). length pair.0 ≤ most) pair front (short 0 pair (omega arith)) (short-front (Some most) front back (short-rest (Some most) pair (front ++ back) short))
+
+  short-pending : (greatest : Option ℕ) (path : List ℕ) (value : Option V) (pairs : List (List ℕ × V)) → AreShort greatest (pending_pair path value ++ pairs) → AreShort greatest pairs
+  short-pending greatest path None pairs short = short
+  short-pending greatest path (Some value) pairs short = short-rest greatest (path, value) pairs short
+
+  -- ---- a node is entered below the innermost one
+  module _ (frames : List (Opened V)) (s : Shape V) where
+    path-whole : concat (segments_of (frames ++ (prefix_of s, children_of s) ∷ [])) ≡ concat (segments_of frames) ++ prefix_of s
+    path-whole = path-push frames (prefix_of s, children_of s)
+
+    pub whole-pairs : behind_path (concat (segments_of frames)) (pairs_of s) ++ pairs_ahead frames
+        ≡ pending_pair (concat (segments_of (frames ++ (prefix_of s, children_of s) ∷ []))) (value_of s) ++ pairs_ahead (frames ++ (prefix_of s, children_of s) ∷ [])
+    whole-pairs =
+        let path = concat (segments_of frames) in
+        let own = pending_pair (path ++ prefix_of s) (value_of s) in
+        let below = behind_path (path ++ prefix_of s) (pairs_of_all (children_of s)) in
+        ap (λ pairs. pairs ++ pairs_ahead frames) (pairs-entered path s)
+        ∙ append_assoc own below (pairs_ahead frames)
+        ∙ ap (λ p. pending_pair p (value_of s) ++ (below ++ pairs_ahead frames)) (sym path-whole)
+        ∙ ap (λ later. pending_pair (concat (segments_of (frames ++ (prefix_of s, children_of s) ∷ []))) (value_of s) ++ later) (sym (ahead-push frames (prefix_of s, children_of s)))
+
+    pub whole-nodes : nodes_ahead (frames ++ (prefix_of s, children_of s) ∷ []) + 1 ≡ nodes_ahead frames + nodes_of s
+    whole-nodes = let after = nodes-push frames (prefix_of s, children_of s) in let own = nodes-entered s in omega (arith, after, own)
+
+    pub whole-trees : IsTree s → TreesAhead frames → TreesAhead (frames ++ (prefix_of s, children_of s) ∷ [])
+    whole-trees tree trees = trees-push frames (prefix_of s, children_of s) trees (trees-entered s tree)
+
+    pub path-fits : (greatest : Option ℕ) → IsTree s → AreShort greatest (behind_path (concat (segments_of frames)) (pairs_of s)) → IsAdmitted greatest (length (concat (segments_of frames ++ prefix_of s ∷ [])))
+    path-fits greatest tree short =
+        let path = concat (segments_of frames) in
+        let has = tree-has-pair s tree in
+        let is-first : behind_path path (pairs_of s) ≡ ((path ++ prefix_of s) ++ has.behind, has.value) ∷ behind_path path has.others =
+            ap (behind_path path) has.first ∙ ap (λ key. (key, has.value) ∷ behind_path path has.others) (sym (append_assoc path (prefix_of s) has.behind)) in
+        let joined : concat (segments_of frames ++ prefix_of s ∷ []) ≡ path ++ prefix_of s = ap concat (sym (segments-push frames (prefix_of s, children_of s))) ∙ path-whole in
+        subst (λ path. IsAdmitted greatest (length path)) (sym joined)
+        (short-first greatest (path ++ prefix_of s) has.behind has.value _ (subst (AreShort greatest) is-first short))
+
+    pub whole-short : (greatest : Option ℕ) → AreShort greatest (behind_path (concat (segments_of frames)) (pairs_of s)) → AreShort greatest (pairs_ahead frames) → AreShort greatest (pairs_ahead (frames ++ (prefix_of s, children_of s) ∷ []))
+    whole-short greatest short later =
+        short-pending greatest (concat (segments_of (frames ++ (prefix_of s, children_of s) ∷ []))) (value_of s) (pairs_ahead (frames ++ (prefix_of s, children_of s) ∷ []))
+        (subst (AreShort greatest) whole-pairs (short-append greatest (behind_path (concat (segments_of frames)) (pairs_of s)) (pairs_ahead frames) short later))
+
   -- ---- the innermost node's next child
   module _ (greatest : Option ℕ) (start : List (Opened V)) (count : ℕ) (frames : List (Opened V)) (entered : ℕ) (going : IsGoing greatest start count frames entered) where
     -- it has none left, and is left
@@ -164,9 +216,6 @@ module _ {V : Type 0} where
       path-taken : concat (segments_of taken) ≡ above
       path-taken = path-push front (segment, rest)
 
-      path-inner : concat (segments_of inner) ≡ above ++ prefix_of s
-      path-inner = path-push taken (prefix_of s, children_of s) ∙ ap (λ p. p ++ prefix_of s) path-taken
-
       ahead-frames : pairs_ahead frames ≡ behind_path above (pairs_of s) ++ pairs_ahead taken
       ahead-frames =
           ap pairs_ahead is ∙ ahead-push front (segment, (byte, s) ∷ rest)
@@ -176,26 +225,14 @@ module _ {V : Type 0} where
 
       -- what was left before the child is entered: its own pair, and what is left behind it
       pub inner-pairs : pairs_ahead frames ≡ pending_pair (concat (segments_of inner)) (value_of s) ++ pairs_ahead inner
-      inner-pairs =
-          let own = pending_pair (above ++ prefix_of s) (value_of s) in
-          let below = behind_path (above ++ prefix_of s) (pairs_of_all (children_of s)) in
-          ahead-frames
-          ∙ ap (λ pairs. pairs ++ pairs_ahead taken) (pairs-entered above s)
-          ∙ append_assoc own below (pairs_ahead taken)
-          ∙ ap (λ path. pending_pair path (value_of s) ++ (behind_path path (pairs_of_all (children_of s)) ++ pairs_ahead taken)) (sym path-inner)
-          ∙ ap (λ path. pending_pair (concat (segments_of inner)) (value_of s) ++ (behind_path path (pairs_of_all (children_of s)) ++ pairs_ahead taken)) (path-inner ∙ ap (λ p. p ++ prefix_of s) (sym path-taken))
-          ∙ ap (λ later. pending_pair (concat (segments_of inner)) (value_of s) ++ later) (sym (ahead-push taken (prefix_of s, children_of s)))
+      inner-pairs = ahead-frames ∙ ap (λ path. behind_path path (pairs_of s) ++ pairs_ahead taken) (sym path-taken) ∙ whole-pairs taken s
 
       -- the trail has room for its prefix
       pub taken-fits : IsAdmitted greatest (length (concat (segments_of taken ++ prefix_of s ∷ [])))
       taken-fits =
-          let has = tree-has-pair s taken-tree in
-          let is-first : pairs_ahead frames ≡ ((above ++ prefix_of s) ++ has.behind, has.value) ∷ (behind_path above has.others ++ pairs_ahead taken) =
-              ahead-frames ∙ ap (λ pairs. behind_path above pairs ++ pairs_ahead taken) has.first
-              ∙ ap (λ key. (key, has.value) ∷ (behind_path above has.others ++ pairs_ahead taken)) (sym (append_assoc above (prefix_of s) has.behind)) in
-          let path : concat (segments_of taken ++ prefix_of s ∷ []) ≡ above ++ prefix_of s = ap concat (sym (segments-push taken (prefix_of s, children_of s))) ∙ path-inner in
-          subst (λ path. IsAdmitted greatest (length path)) (sym path)
-          (short-first greatest (above ++ prefix_of s) has.behind has.value _ (subst (AreShort greatest) is-first going.short))
+          path-fits taken s greatest taken-tree
+          (short-front greatest (behind_path (concat (segments_of taken)) (pairs_of s)) (pairs_ahead taken)
+          (subst (AreShort greatest) (ahead-frames ∙ ap (λ path. behind_path path (pairs_of s) ++ pairs_ahead taken) (sym path-taken)) going.short))
 
       inner-nodes : nodes_ahead frames ≡ 1 + nodes_ahead inner
       inner-nodes =

@@ -11,6 +11,10 @@ use Rattle.rart_shape.specs.Trees.{IsTree, AreBranches, own_pair, pairs_of, pair
 use Rattle.rart_walks.specs.Walks.{AreShort, nodes_of, nodes_below}
 use Rattle.rart_walks.specs.Frames.{Opened, behind_path, pairs_of_all, nodes_of_all, AreTrees, segments_of, pairs_ahead, nodes_ahead, TreesAhead, TakesChild, pending_pair}
 
+pub short-none : (V : Type 0) (greatest : Option ℕ) → AreShort {V = V} greatest []
+short-none V None = tt
+short-none V (Some most) = All-nil (λ (pair : List ℕ × V). length pair.0 ≤ most)
+
 module _ {V : Type 0} where
   -- ---- pairs behind a path
   pub behind-append : (path : List ℕ) (front back : List (List ℕ × V)) → behind_path path (front ++ back) ≡ behind_path path front ++ behind_path path back
@@ -133,7 +137,11 @@ module _ {V : Type 0} where
   short-front (Some most) (pair ∷ front) back short =
       All-cons (λ (pair : List ℕ × V). length pair.0 ≤ most) pair front (short 0 pair (omega arith)) (short-front (Some most) front back (short-rest (Some most) pair (front ++ back) short))
 
-  short-pending : (greatest : Option ℕ) (path : List ℕ) (value : Option V) (pairs : List (List ℕ × V)) → AreShort greatest (pending_pair path value ++ pairs) → AreShort greatest pairs
+  pub short-back : (greatest : Option ℕ) (front back : List (List ℕ × V)) → AreShort greatest (front ++ back) → AreShort greatest back
+  short-back greatest [] back short = short
+  short-back greatest (pair ∷ front) back short = short-back greatest front back (short-rest greatest pair (front ++ back) short)
+
+  pub short-pending : (greatest : Option ℕ) (path : List ℕ) (value : Option V) (pairs : List (List ℕ × V)) → AreShort greatest (pending_pair path value ++ pairs) → AreShort greatest pairs
   short-pending greatest path None pairs short = short
   short-pending greatest path (Some value) pairs short = short-rest greatest (path, value) pairs short
 

@@ -1,7 +1,7 @@
 -- The nodes that a walk has open, from the root down: each with its prefix and the children that are left.
 use Rattle.std.specs.Prelude.{◌≡◌, ℕ, ◌+◌, List, [], ◌∷◌, ◌++◌, Option, Some, None, map, ⊤}
 use Rattle.std.specs.List.{concat}
-use Rattle.rart_node.specs.Shape.{Shape}
+use Rattle.rart_node.specs.Shape.{Shape, prefix_of, children_of}
 use Rattle.rart_shape.specs.Trees.{IsTree, pairs_of}
 use Rattle.rart_walks.specs.Walks.{Standing, nodes_of}
 
@@ -21,6 +21,10 @@ module _ {V : Type 0} where
   abbrev pub nodes_of_all : List (ℕ × Shape V) → ℕ
   nodes_of_all [] = 0
   nodes_of_all (child ∷ children) = nodes_of child.1 + nodes_of_all children
+
+  -- the pairs of a node but its own
+  abbrev pub pairs_inside : Shape V → List (List ℕ × V)
+  pairs_inside s = behind_path (prefix_of s) (pairs_of_all (children_of s))
 
   abbrev pub AreTrees : List (ℕ × Shape V) → Type 0
   AreTrees [] = ⊤

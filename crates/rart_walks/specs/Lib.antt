@@ -1,3 +1,4 @@
 pub mod Walks
 pub mod Frames
 pub mod Opened
+pub mod Parts

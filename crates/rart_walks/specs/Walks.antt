@@ -1,5 +1,5 @@
 -- What a walk over a tree has left, and how long the keys of what it goes over may be.
-use Rattle.std.specs.Prelude.{◌≡◌, ◌+◌, ◌≤◌, ℕ, suc, List, [], ◌∷◌, Option, Some, None, All, length, ⊤}
+use Rattle.std.specs.Prelude.{◌≡◌, ◌+◌, ◌≤◌, ℕ, suc, List, [], ◌∷◌, ◌++◌, map, Option, Some, None, All, length, ⊤}
 use Rattle.std.specs.List.{concat}
 use Rattle.std.specs.Borrow.{Bor}
 use Rattle.rart_node.specs.Shape.{Shape, Forest, node, bare, grown}
@@ -13,6 +13,15 @@ module _ {V : Type 0} where
     pub nodes_below : Forest V → ℕ
     nodes_below bare = 0
     nodes_below (grown byte child forest) = nodes_of child + nodes_below forest
+
+  abbrev mutual
+    -- the path of each node: the prefixes from the root down to it, joined
+    pub paths_of : Shape V → List (List ℕ)
+    paths_of (node prefix value width forest) = map (λ path. prefix ++ path) ([] ∷ paths_below forest)
+
+    pub paths_below : Forest V → List (List ℕ)
+    paths_below bare = []
+    paths_below (grown byte child forest) = paths_of child ++ paths_below forest
 
   -- No key is longer than this, where there is a greatest length.
   abbrev pub AreShort : Option ℕ → List (List ℕ × V) → Type 0

@@ -11,6 +11,8 @@ ghost use Rattle.rart_walks.specs.Walks.{Gives, AreShort, ended, nodes_of};
 ghost use Rattle.rart_walks.specs.Frames.{Opened, TakesChild, segments_of, behind_path};
 ghost use Rattle.rart_walks.specs.Opened.{opened, standing, IsWalk};
 
+mod ways;
+
 use crate::trail::Trail;
 use rart_below::Partial;
 use rart_node::{NodeRef, VersionedNode, VersionedNodeIter, Work};
@@ -18,7 +20,7 @@ use std::alloc::{AllocError, Global};
 
 // A node that is open: its prefix, and the children that are left.
 #[derive(Drop)]
-pub(crate) struct Frame<'a, P: Partial, V> {
+struct Frame<'a, P: Partial, V> {
     segment: &'a [u8],
     children: VersionedNodeIter<'a, P, V>,
 }
@@ -36,7 +38,7 @@ pub struct Walk<'a, P: Partial, V, T> {
 
 impl<'a, P: Partial, V: Drop, T: Trail<'a>> Walk<'a, P, V, T> {
     /// A walk with nothing left.
-    pub(crate) fn new(alloc: Global) -> Walk<'a, P, V, T>
+    fn new(alloc: Global) -> Walk<'a, P, V, T>
         ensures walk { IsWalk P.bytes T.holds T.greatest result }
         ensures ended { standing P.bytes result ≡ ended }
         ensures frames { opened P.bytes result.frames.items ≡ [] }
@@ -50,7 +52,7 @@ impl<'a, P: Partial, V: Drop, T: Trail<'a>> Walk<'a, P, V, T> {
     }
 
     /// Enters a node below the innermost one, whose value and children are all left then.
-    pub(crate) fn enter_whole(&mut self, node: &'a VersionedNode<P, V>) -> Result<(), AllocError>
+    fn enter_whole(&mut self, node: &'a VersionedNode<P, V>) -> Result<(), AllocError>
         requires walk { IsWalk P.bytes T.holds T.greatest self.old }
         requires pending { self.old.pending ≡ None }
         requires tree { IsTree (seen P.bytes node.now) }
@@ -70,6 +72,24 @@ impl<'a, P: Partial, V: Drop, T: Trail<'a>> Walk<'a, P, V, T> {
         enter(&mut self.frames, &mut self.trail, node)?;
         self.pending = node.value();
         Ok(())
+    }
+
+    /// Enters a node for these of its children; its value is passed.
+    fn enter_part(
+        &mut self,
+        segment: &'a [u8],
+        children: VersionedNodeIter<'a, P, V>,
+    ) -> Result<(), AllocError>
+        requires holds { T.holds self.old.trail (segments_of (opened P.bytes self.old.frames.items)) }
+        requires short { IsAdmitted T.greatest (length (concat
+            (segments_of (opened P.bytes self.old.frames.items) ++ segment.now ∷ []))) }
+        ensures holds { T.holds self.new.trail (segments_of (opened P.bytes self.new.frames.items)) }
+        ensures frames { OnOk result (opened P.bytes self.new.frames.items
+            ≡ opened P.bytes self.old.frames.items
+                ++ (segment.now, children_left P.bytes children.entry) ∷ []) }
+        ensures pending { self.new.pending ≡ self.old.pending }
+    {
+        enter_for(&mut self.frames, &mut self.trail, segment, children)
     }
 
     /// A walk over the whole tree: all its pairs are left. It enters the root.
@@ -156,7 +176,7 @@ fn next_child<'a, P: Partial, V: Drop>(
 
 /// Opens a node below the innermost one. Refused for memory, none is opened.
 #[inline]
-pub(crate) fn enter<'a, P: Partial, V: Drop, T: Trail<'a>>(
+fn enter<'a, P: Partial, V: Drop, T: Trail<'a>>(
     frames: &mut Vec<Frame<'a, P, V>>,
     trail: &mut T,
     node: &'a VersionedNode<P, V>,
@@ -176,7 +196,7 @@ pub(crate) fn enter<'a, P: Partial, V: Drop, T: Trail<'a>>(
 
 /// Opens a node with this prefix, for these of its children. Refused for memory, none is opened.
 #[inline]
-pub(crate) fn enter_for<'a, P: Partial, V: Drop, T: Trail<'a>>(
+fn enter_for<'a, P: Partial, V: Drop, T: Trail<'a>>(
     frames: &mut Vec<Frame<'a, P, V>>,
     trail: &mut T,
     segment: &'a [u8],

@@ -1,7 +1,9 @@
+pub mod Ends
 pub mod Gathers
 pub mod Lasts
 pub mod Parting
 pub mod Places
+pub mod Skips
 pub mod Sublists
 pub mod Trails
 pub mod Walking

@@ -135,49 +135,13 @@ module _ {V : Type 0} where
             omega (arith, counted, paths),
           )
 
-    -- ---- a node inside whose prefix the string ends, or with it
-    module _ (q : List ℕ) (is : prefix_of s ≡ rest ++ q) where
-      pub within-all : ((key : List ℕ) → keeps part [] (q ++ key) ≡ true) → keeping (keeps part probe) (pairs_of root) ≡ behind_path (concat (segments_of frames)) (pairs_of s) ++ pairs_ahead frames
-      within-all each =
-          way.kept ∙ ap (λ z. behind_path (concat (segments_of frames)) z ++ pairs_ahead frames)
-          (parted-all own_pair own_pair-ends (keeps part) (goes_on part) (keeps-goes part) s rest q is each ∙ sym (pairs-gathered s))
+    -- what the whole way keeps, where it ends at this node
+    pub way-kept : keeping (keeps part probe) (pairs_of root) ≡ behind_path (concat (segments_of frames)) (keeping (keeps part rest) (pairs_of s)) ++ pairs_ahead frames
+    way-kept = way.kept ∙ ap (λ z. behind_path (concat (segments_of frames)) (keeping (keeps part rest) z) ++ pairs_ahead frames) (sym (pairs-gathered s))
 
-      pub within-inside : q ≡ [] → is_strict part ≡ true → keeping (keeps part probe) (pairs_of root) ≡ behind_path (concat (segments_of frames)) (pairs_inside s) ++ pairs_ahead frames
-      within-inside end strict =
-          way.kept ∙ ap (λ z. behind_path (concat (segments_of frames)) z ++ pairs_ahead frames)
-          (parted-inside own_pair own_pair-ends (keeps part) (goes_on part) (keeps-goes part) s rest q is way.at.tree end (strict-itself part strict)
-          ∙ ap (behind_path (prefix_of s)) (sym (all-gathered (children_of s))))
-
-      pub within-counted : count_by (reaches part probe) (paths_of root) ≡ nodes_of s + nodes_ahead frames
-      within-counted =
-          paths-counted (reaches part probe) root ∙ way.counted
-          ∙ ap (λ z. length z + nodes_ahead frames) (parted-all own_place own_place-ends (reaches part) (goes_on part) (reaches-goes part) s rest q is (λ key. reaches-itself part (q ++ key)))
-          ∙ ap (λ n. n + nodes_ahead frames) (places-counted s)
-
-    -- ---- a node whose prefix the string leaves
-    module _ (p : List ℕ) (b : ℕ) (q : List ℕ) (c : ℕ) (r : List ℕ) (prefix : prefix_of s ≡ p ++ (b ∷ q)) (string : rest ≡ p ++ (c ∷ r)) where
-      beside : (kept : List (List ℕ × V)) → keeping (keeps part (p ++ (c ∷ r))) (gathered own_pair s) ≡ kept → keeping (keeps part probe) (pairs_of root) ≡ behind_path (concat (segments_of frames)) kept ++ pairs_ahead frames
-      beside kept is =
-          way.kept ∙ ap (λ z. behind_path (concat (segments_of frames)) (keeping (keeps part z) (gathered own_pair s)) ++ pairs_ahead frames) string
-          ∙ ap (λ z. behind_path (concat (segments_of frames)) z ++ pairs_ahead frames) is
-
-      -- below the string, or above it in a part that ends with it
-      pub beside-none : (b < c) ⊎ ((c < b) × (goes_on part ≡ false)) → keeping (keeps part probe) (pairs_of root) ≡ pairs_ahead frames
-      beside-none how = ⊎_elim
-          (λ less. beside [] (parted-lower own_pair own_pair-ends (keeps part) (goes_on part) (keeps-goes part) s p b q c r prefix less))
-          (λ more. beside [] (parted-upper own_pair own_pair-ends (keeps part) (goes_on part) (keeps-goes part) s p b q c r prefix more.0 ∙ ap (λ t. cond t (gathered own_pair s) []) more.1))
-          how
-
-      pub beside-all : c < b → goes_on part ≡ true → keeping (keeps part probe) (pairs_of root) ≡ behind_path (concat (segments_of frames)) (pairs_of s) ++ pairs_ahead frames
-      beside-all less on =
-          beside (pairs_of s) (parted-upper own_pair own_pair-ends (keeps part) (goes_on part) (keeps-goes part) s p b q c r prefix less ∙ ap (λ t. cond t (gathered own_pair s) []) on ∙ sym (pairs-gathered s))
-
-      pub beside-counted : c < b → goes_on part ≡ true → count_by (reaches part probe) (paths_of root) ≡ nodes_of s + nodes_ahead frames
-      beside-counted less on =
-          paths-counted (reaches part probe) root ∙ way.counted
-          ∙ ap (λ z. length (keeping (reaches part z) (gathered own_place s)) + nodes_ahead frames) string
-          ∙ ap (λ z. length z + nodes_ahead frames) (parted-upper own_place own_place-ends (reaches part) (goes_on part) (reaches-goes part) s p b q c r prefix less ∙ ap (λ t. cond t (gathered own_place s) []) on)
-          ∙ ap (λ n. n + nodes_ahead frames) (places-counted s)
-
-    pub ahead-counted : nodes_ahead frames ≤ count_by (reaches part probe) (paths_of root)
-    ahead-counted = let counted = way.counted in let paths = paths-counted (reaches part probe) root in omega (arith, counted, paths)
+    pub way-counted : count_by (reaches part probe) (paths_of root) ≡ nodes_ahead frames + count_by (reaches part rest) (paths_of s)
+    way-counted =
+        let whole = paths-counted (reaches part probe) root in
+        let here = paths-counted (reaches part rest) s in
+        let counted = way.counted in
+        omega (arith, whole, here, counted)

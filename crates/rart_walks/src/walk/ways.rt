@@ -1,13 +1,13 @@
 //! The ways down to where a walk starts.
-ghost use Rattle.std.specs.Prelude.{◌≡◌, ◌+◌, ◌≤◌, [], ◌∷◌, ◌++◌, List, length, filter, count_by, if◌then◌else◌, IfOk, OnOk, None};
+ghost use Rattle.std.specs.Prelude.{◌≡◌, ◌+◌, ◌<◌, ◌≤◌, ◌⊎◌, ◌&&◌, [], ◌∷◌, ◌++◌, List, length, filter, count_by, if◌then◌else◌, IfOk, OnOk, None};
 ghost use Rattle.std.specs.Option.{option_copied};
 ghost use Rattle.std.specs.Ordering.{as_partial_cmp, is_le};
 ghost use Rattle.std.specs.Range.Bound.{is_from_start, bound_map};
-ghost use Rattle.rart_below.specs.Bytes.{begins, byte_order};
+ghost use Rattle.rart_below.specs.Bytes.{begins, byte_order, common_length};
 ghost use Rattle.rart_below.specs.Children.{children_from};
 ghost use Rattle.rart_node.specs.Counts.{CountsUpTo};
 ghost use Rattle.rart_node.specs.Seen.{seen, shown};
-ghost use Rattle.rart_node.specs.Shape.{IsAscending, children_of};
+ghost use Rattle.rart_node.specs.Shape.{IsAscending, prefix_of, children_of};
 ghost use Rattle.rart_node.specs.VersionedNodeIter.{children_left};
 ghost use Rattle.rart_shape.specs.Trees.{IsTree, pairs_of, path_bound};
 ghost use Rattle.std.specs.List.{concat};
@@ -133,27 +133,64 @@ fn way_to<'a, P: Partial, V: Drop, T: Trail<'a>>(
     let mut rest = probe;
     'down: loop {
         let node = at.open(work);
-        let prefix = node.prefix();
-        let common = prefix.prefix_length_slice(rest);
-        if common == rest.len() {
-            let is_passed = part.is_strict() && common == prefix.len();
-            enter_end(&mut walk, node, is_passed)?;
-            return Ok(walk);
-        }
-        if common < prefix.len() {
-            if part.goes_on() && rest[common] < prefix.at(common) {
-                enter_end(&mut walk, node, false)?;
-            }
+        let common = node.prefix().prefix_length_slice(rest);
+        if common == rest.len() || common < node.prefix().len() {
+            finish(&mut walk, node, part, rest, common)?;
             return Ok(walk);
         }
         rest = rest_of(rest, common);
-        let later = later_children(node, rest[0], part.goes_on());
-        walk.enter_part(prefix.as_ref(), later)?;
-        at = match node.seek_child(rest[0]) {
+        let byte = rest[0];
+        let later = later_children(node, byte, part.goes_on());
+        walk.enter_part(node.prefix().as_ref(), later)?;
+        at = match node.seek_child(byte) {
             Some(child) => child,
             None => return Ok(walk),
         };
     }
+}
+
+// Ends a way at a node, of whose prefix the string has not the whole, or has no more: what is in
+// the part of its pairs is left then.
+fn finish<'a, P: Partial, V: Drop, T: Trail<'a>>(
+    walk: &mut Walk<'a, P, V, T>,
+    node: &'a VersionedNode<P, V>,
+    part: Part,
+    rest: &[u8],
+    common: usize,
+) -> Result<(), AllocError>
+    requires walk { IsWalk P.bytes T.holds T.greatest walk.old }
+    requires pending { walk.old.pending ≡ None }
+    requires tree { IsTree (seen P.bytes node.now) }
+    requires short { AreShort T.greatest (behind_path (concat (standing P.bytes walk.old).segments)
+        (pairs_of (seen P.bytes node.now))) }
+    requires common { common ≡ common_length (prefix_of (seen P.bytes node.now)) rest.now }
+    requires ends { (common ≡ length rest.now) ⊎ (common < length (prefix_of (seen P.bytes node.now))) }
+    ensures walk { OnOk result (IsWalk P.bytes T.holds T.greatest walk.new) }
+    ensures pairs { OnOk result ((standing P.bytes walk.new).pairs
+        ≡ behind_path (concat (standing P.bytes walk.old).segments)
+            (filter (λ pair. keeps part rest.now pair.0) (pairs_of (seen P.bytes node.now)))
+            ++ (standing P.bytes walk.old).pairs) }
+    ensures nodes { OnOk result ((standing P.bytes walk.new).nodes ≤ (standing P.bytes walk.old).nodes
+        + count_by (reaches part rest.now) (paths_of (seen P.bytes node.now))) }
+{
+    if common == rest.len() {
+        let is_passed = passes_own(part, common == node.prefix().len());
+        return enter_end(walk, node, is_passed);
+    }
+    if !part.goes_on() {
+        return Ok(());
+    }
+    if rest[common] < node.prefix().at(common) {
+        return enter_end(walk, node, false);
+    }
+    Ok(())
+}
+
+// Whether the value of a node is passed, whose prefix the string begins, or is.
+fn passes_own(part: Part, is_whole: bool) -> bool
+    ensures { result ≡ (is_strict part && is_whole) }
+{
+    part.is_strict() && is_whole
 }
 
 // Enters the node at the end of a way. Its children are left then, and its value, unless that is
@@ -197,7 +234,7 @@ fn later_children<'a, P: Partial, V: Drop>(
         return no_more(node.iter_from(u8::MAX));
     }
     let mut children = node.iter_from(byte);
-    if node.seek_child(byte).is_some() {
+    if let Some(_child) = node.seek_child(byte) {
         children.next();
     }
     children

@@ -1,7 +1,3 @@
-use Rattle.rart_walks.proofs.Ways.{way-start}
-use Rattle.rart_walks.proofs.Places.{nodes-paths}
-use Rattle.rart_walks.proofs.Parting.{keeps-goes}
-use Rattle.rart_walks.proofs.Gathers.{pairs-gathered}
 use Rattle.std.proofs.Common.{◌≡◌, ◌++◌, ◌∷◌, [], None, refl, sym, ap, ◌∙◌}
 use Rattle.std.proofs.lemmas.List.{append-nil}
 use Rattle.std.specs.List.{concat}

@@ -4,6 +4,7 @@ pub mod Lasts
 pub mod Parting
 pub mod Places
 pub mod Skips
+pub mod Steps
 pub mod Sublists
 pub mod Trails
 pub mod Walking

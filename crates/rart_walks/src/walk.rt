@@ -122,6 +122,16 @@ impl<'a, P: Partial, V: Drop, T: Trail<'a>> Walk<'a, P, V, T> {
         &self.trail
     }
 
+    /// Ends the walk: nothing is left.
+    pub fn end(&mut self)
+        requires walk { IsWalk P.bytes T.holds T.greatest self.old }
+        ensures walk { IsWalk P.bytes T.holds T.greatest self.new }
+        ensures ended { standing P.bytes self.new ≡ ended }
+    {
+        self.pending = None;
+        leave_all(&mut self.frames, &mut self.trail);
+    }
+
     /// Gives the next value, or `None` where there is none left.
     #[inline]
     pub fn next_value(&mut self, work: &mut Work) -> Result<Option<&'a V>, AllocError>
@@ -146,7 +156,7 @@ impl<'a, P: Partial, V: Drop, T: Trail<'a>> Walk<'a, P, V, T> {
             };
             let node = child.open(work);
             if let Err(refused) = enter(&mut self.frames, &mut self.trail, node) {
-                end(&mut self.frames, &mut self.trail);
+                leave_all(&mut self.frames, &mut self.trail);
                 return Err(refused);
             }
             if let Some(value) = node.value() {
@@ -231,7 +241,7 @@ fn leave<'a, P: Partial, V: Drop, T: Trail<'a>>(frames: &mut Vec<Frame<'a, P, V>
 
 /// Leaves every node.
 #[cold]
-fn end<'a, P: Partial, V: Drop, T: Trail<'a>>(frames: &mut Vec<Frame<'a, P, V>>, trail: &mut T)
+fn leave_all<'a, P: Partial, V: Drop, T: Trail<'a>>(frames: &mut Vec<Frame<'a, P, V>>, trail: &mut T)
     requires holds { T.holds trail.old (segments_of (opened P.bytes frames.old.items)) }
     ensures left { opened P.bytes frames.new.items ≡ [] }
     ensures holds { T.holds trail.new [] }

@@ -1,6 +1,6 @@
 use Rattle.rart_walks.specs.Frames.{segments_of}
 use Rattle.rart_walks.specs.Opened.{opened}
-use Rattle.rart_walks.proofs.walk.end.Given as goal
+use Rattle.rart_walks.proofs.walk.leave_all.Given as goal
 
 abbrev pub invariant-leaving : goal.invariant-leaving
 invariant-leaving g l = g.T.Trail.holds l.trail (segments_of (opened g.P.Partial.bytes l.frames.items))

@@ -5,6 +5,8 @@
 //! no key type.
 #![tactic(auto)]
 
+#[cfg(test)]
+mod tests;
 mod trail;
 mod walk;
 

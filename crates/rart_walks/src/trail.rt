@@ -1,7 +1,8 @@
 //! Where a walk keeps the way to the node that it stands at.
-ghost use Rattle.std.specs.Prelude.{◌≡◌, ◌-◌, ℕ, ◌^◌, List, [], ◌∷◌, ◌++◌, Option, Some, None, length, map, is_ok, if◌then◌else◌, ⊤};
+ghost use Rattle.std.specs.Prelude.{◌≡◌, ◌-◌, ℕ, ◌^◌, List, [], ◌∷◌, ◌++◌, Option, Some, None, length, map, is_ok, if◌then◌else◌};
 ghost use Rattle.std.specs.List.{concat};
 ghost use Rattle.rart_below.specs.Bytes.{IsAdmitted};
+ghost use Rattle.rart_walks.specs.Trails.{HoldsBytes, HoldsSegments, HoldsNothing};
 
 use std::alloc::{AllocError, Global};
 use std::marker::Model;
@@ -58,7 +59,7 @@ impl KeyTrail {
 }
 
 impl<'a> Trail<'a> for KeyTrail {
-    ghost holds = { λ trail segments. trail ≡ concat segments };
+    ghost holds = { HoldsBytes };
 
     ghost greatest = { None };
 
@@ -115,7 +116,7 @@ impl<'a> SegmentTrail<'a> {
 }
 
 impl<'a> Trail<'a> for SegmentTrail<'a> {
-    ghost holds = { λ trail segments. trail ≡ segments };
+    ghost holds = { HoldsSegments };
 
     ghost greatest = { Some (2 ^ 64 - 1) };
 
@@ -145,7 +146,7 @@ impl<'a> Trail<'a> for SegmentTrail<'a> {
 pub struct NoTrail;
 
 impl<'a> Trail<'a> for NoTrail {
-    ghost holds = { λ trail segments. ⊤ };
+    ghost holds = { HoldsNothing };
 
     ghost greatest = { None };
 

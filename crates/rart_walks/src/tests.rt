@@ -1,10 +1,10 @@
 ghost use Rattle.std.specs.Prelude.{◌≡◌, ◌≤◌, ◌^◌, ◌-◌, [], List, ◌∷◌, length, slice_get, Some, None, IfOk};
 ghost use Rattle.std.specs.Option.{option_map};
 ghost use Rattle.rart_node.specs.Seen.{shown};
-ghost use Rattle.rart_node.specs.Shape.{node_of};
+ghost use Rattle.rart_node.specs.Shape.{node, node_of, bare, grown};
 ghost use Rattle.rart_shape.specs.Trees.{IsTree, pairs_of};
 ghost use Rattle.rart_walks.specs.Walks.{AreShort};
-ghost use Rattle.rart_walks.specs.Opened.{IsWalk};
+ghost use Rattle.rart_walks.specs.Opened.{IsWalk, standing};
 ghost use Rattle.rart_walks.specs.Trails.{HoldsBytes, HoldsSegments};
 
 use crate::{KeyTrail, NoTrail, SegmentTrail, Trail, Walk};
@@ -26,6 +26,36 @@ fn leaf(
     let key: ArrayKey<16> = ArrayKey::new_from_slice(alloc, bytes)?;
     let prefix = key.to_partial(alloc, 0)?;
     NodeRef::new(alloc, VersionedNode::new_leaf(alloc, prefix, value, 0), work)
+}
+
+// The keys "a", "abc" and "ad" with the values 0, 1 and 2.
+fn branching(alloc: Global, work: &mut Work) -> Result<NodeRef<ArrPartial<16>, u64>, AllocError>
+    ensures { IfOk result (λ root. shown ⟦<ArrPartial<16> as Partial>⟧.bytes root
+        ≡ node (97 ∷ []) (Some 0) 4 (grown 98 (node (98 ∷ 99 ∷ []) (Some 1) 0 bare)
+            (grown 100 (node (100 ∷ []) (Some 2) 0 bare) bare))) }
+{
+    let key: ArrayKey<16> = ArrayKey::new_from_slice(alloc, b"a")?;
+    let mut root = VersionedNode::new_leaf(alloc, key.to_partial(alloc, 0)?, 0, 0);
+    let first = leaf(alloc, b"bc", 1, work)?;
+    root.add_child(alloc, b'b', first, work)?;
+    let second = leaf(alloc, b"d", 2, work)?;
+    root.add_child(alloc, b'd', second, work)?;
+    NodeRef::new(alloc, root, work)
+}
+
+// The values that a walk has left.
+fn values_left<'a, P: Partial, T: Trail<'a>>(
+    alloc: Global,
+    mut walk: Walk<'a, P, u64, T>,
+    work: &mut Work,
+) -> Result<Vec<u64>, AllocError>
+    requires { IsWalk P.bytes T.holds T.greatest walk }
+{
+    let mut values = Vec::new(alloc);
+    'walking: while let Some(value) = walk.next_value(work)? {
+        values.push(*value)?;
+    }
+    Ok(values)
 }
 
 // The first key of a tree, copied.
@@ -71,5 +101,38 @@ fn leaf_has_its_key_and_value(rt: HostRuntime) -> Result<(), Fail> {
         None => assert!(rt; false),
     }
     assert_eq!(rt; first_length(rt.alloc(), &root, &mut work)?, 3);
+    Ok(())
+}
+
+#[test]
+fn whole_walk_gives_values_in_key_order(rt: HostRuntime) -> Result<(), Fail> {
+    let mut work = Work::new();
+    let root = branching(rt.alloc(), &mut work)?;
+    let walk: Walk<'_, ArrPartial<16>, u64, NoTrail> = Walk::whole(rt.alloc(), &root, &mut work)?;
+    let values = values_left(rt.alloc(), walk, &mut work)?;
+    assert_eq!(rt; values.as_slice(), [0, 1, 2].as_slice());
+    Ok(())
+}
+
+#[test]
+fn prefix_may_end_inside_a_node(rt: HostRuntime) -> Result<(), Fail> {
+    let mut work = Work::new();
+    let root = branching(rt.alloc(), &mut work)?;
+    let walk: Walk<'_, ArrPartial<16>, u64, NoTrail> =
+        Walk::under(rt.alloc(), &root, b"ab", &mut work)?;
+    let values = values_left(rt.alloc(), walk, &mut work)?;
+    assert_eq!(rt; values.as_slice(), [1].as_slice());
+    Ok(())
+}
+
+#[test]
+fn excluded_start_is_passed(rt: HostRuntime) -> Result<(), Fail> {
+    let mut work = Work::new();
+    let root = branching(rt.alloc(), &mut work)?;
+    let low: &[u8] = b"abc";
+    let walk: Walk<'_, ArrPartial<16>, u64, KeyTrail> =
+        Walk::from(rt.alloc(), &root, Bound::Excluded(low), &mut work)?;
+    let values = values_left(rt.alloc(), walk, &mut work)?;
+    assert_eq!(rt; values.as_slice(), [2].as_slice());
     Ok(())
 }

@@ -48,7 +48,7 @@ common-parts [] rest short also = absurd (omega (arith, short))
 common-parts (b ∷ prefix) [] short also = absurd (omega (arith, also))
 common-parts (b ∷ prefix) (c ∷ rest) short also =
     let P : Bool → Type 0 = λ t. (b == c) ≡ t → cond t (suc (common_length prefix rest)) 0 < suc (length prefix) → cond t (suc (common_length prefix rest)) 0 < suc (length rest)
-        → PartsAt (b ∷ prefix) (c ∷ rest) (slice_index_or (b ∷ prefix) (cond t (suc (common_length prefix rest)) 0) 0) (slice_index_or (c ∷ rest) (cond t (suc (common_length prefix rest)) 0) 0) in
+    → PartsAt (b ∷ prefix) (c ∷ rest) (slice_index_or (b ∷ prefix) (cond t (suc (common_length prefix rest)) 0) 0) (slice_index_or (c ∷ rest) (cond t (suc (common_length prefix rest)) 0) 0) in
     let both : (t : Bool) → P t = elim [
       | true ↦ (λ same s a.
           let parts = common-parts prefix rest (omega (arith, s)) (omega (arith, a)) in

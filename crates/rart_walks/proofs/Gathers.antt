@@ -21,7 +21,7 @@ module _ {A : Type 0} where
       let first : List ℕ × A = (path ++ pair.0, pair.1) in
       ap (λ rest. cond (test (path ++ pair.0)) (first ∷ rest) rest) (keeping-behind test path pairs)
       ∙ elim (test (path ++ pair.0)) as (λ t. cond t (first ∷ behind_path path (keeping (λ key. test (path ++ key)) pairs)) (behind_path path (keeping (λ key. test (path ++ key)) pairs))
-          ≡ behind_path path (cond t (pair ∷ keeping (λ key. test (path ++ key)) pairs) (keeping (λ key. test (path ++ key)) pairs))) [ true ↦ refl | false ↦ refl ]
+      ≡ behind_path path (cond t (pair ∷ keeping (λ key. test (path ++ key)) pairs) (keeping (λ key. test (path ++ key)) pairs))) [ true ↦ refl | false ↦ refl ]
 
   -- the test is the same for each key
   pub keeping-either : (test : List ℕ → Bool) (keep : Bool) (pairs : List (List ℕ × A)) → ((key : List ℕ) → test key ≡ keep) → keeping test pairs ≡ cond keep pairs []
@@ -134,7 +134,7 @@ module _ {V A : Type 0} (own : Option V → List (List ℕ × A)) where
               ∙ ap (λ rest. keeping test (gathered child.1) ++ rest) (keeping-above children (subst (λ z. IsBelow z children) same order.0) begun.1)
               ∙ ap (λ o. kept_at test o ++ cond keep (gathered_all children) []) (sym (child_at-here byte child.0 child.1 children same))
               ∙ ap (λ later. kept_at test (child_at byte (child ∷ children)) ++ cond keep (gathered_all later) [])
-                  (sym (children_from-passed (suc byte) child children (omega (arith, same)) ∙ children_from-below (suc byte) child.0 children (omega (arith, same)) order.0))
+              (sym (children_from-passed (suc byte) child children (omega (arith, same)) ∙ children_from-below (suc byte) child.0 children (omega (arith, same)) order.0))
           | inr (inl less) ↦
               parts
               ∙ ap (λ first. first ++ keeping test (gathered_all children)) (keeping-begun test false child.0 child.1 begun.0 (λ w. lower child.0 w less))

@@ -29,7 +29,7 @@ counted-kept : (test : List ℕ → Bool) (pairs : List (List ℕ × Unit {0})) 
 counted-kept test [] = refl
 counted-kept test (pair ∷ pairs) =
     let first : count_by test (map (λ (pair : List ℕ × Unit {0}). pair.0) (pair ∷ pairs)) ≡ cond (test pair.0) 1 0 + count_by test (map (λ (pair : List ℕ × Unit {0}). pair.0) pairs) =
-        sum_by-cons (λ (key : List ℕ). cond (test key) 1 0) pair.0 (map (λ (pair : List ℕ × Unit {0}). pair.0) pairs) in
+    sum_by-cons (λ (key : List ℕ). cond (test key) 1 0) pair.0 (map (λ (pair : List ℕ × Unit {0}). pair.0) pairs) in
     first ∙ ap (λ n. cond (test pair.0) 1 0 + n) (counted-kept test pairs)
     ∙ elim (test pair.0) as (λ t. cond t 1 0 + length (keeping test pairs) ≡ length (cond t (pair ∷ keeping test pairs) (keeping test pairs))) [ true ↦ omega arith | false ↦ omega arith ]
 

@@ -69,7 +69,7 @@ module _ {V : Type 0} (part : Part) (greatest : Option ℕ) (probe : List ℕ) (
         pub step-child : (child : Shape V) → Some child ≡ child_at byte (children_of o) → IsOnWay part greatest probe root start child left inner after
         step-child child here =
             let at : IsSearchAt root probe start child (byte ∷ goes.more) after =
-                subst (λ z. IsSearchAt root probe start child z after) goes.is (search-child root probe start s o rest now after way.at opens same (prefix_of o) refl left goes.strips byte goes.next child here) in
+            subst (λ z. IsSearchAt root probe start child z after) goes.is (search-child root probe start s o rest now after way.at opens same (prefix_of o) refl left goes.strips byte goes.next child here) in
             let below : child_at byte (children_of s) ≡ Some child = sym (here ∙ ap (λ z. child_at byte (children_of z)) same) in
             let there = way-child part greatest probe root start s rest frames now way byte goes.more whole child after at below in
             subst (λ f. IsOnWay part greatest probe root start child left f after) (sym passed-is)

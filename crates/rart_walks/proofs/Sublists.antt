@@ -34,7 +34,7 @@ module _ {V : Type 0} where
         let parts = split child children short in
         let rest = from-short least children parts.1 in
         let more = subst (AreShort greatest) (sym (behind-append path (pairs_of child.1) (pairs_of_all (children_from least children))))
-            (short-append greatest (behind_path path (pairs_of child.1)) (behind_path path (pairs_of_all (children_from least children))) parts.0 rest) in
+        (short-append greatest (behind_path path (pairs_of child.1)) (behind_path path (pairs_of_all (children_from least children))) parts.0 rest) in
         elim (nat_le least child.0) as (λ t. AreShort greatest (behind_path path (pairs_of_all (cond t (child ∷ children_from least children) (children_from least children))))) [ true ↦ more | false ↦ rest ]
 
     pub later-short : (goes_on : Bool) (least : ℕ) (children : List (ℕ × Shape V)) → AreShort greatest (behind_path path (pairs_of_all children)) → AreShort greatest (behind_path path (pairs_of_all (cond goes_on (children_from least children) [])))

@@ -25,7 +25,6 @@ bytes-pop old segment segments kept is same =
 pub bytes-fit : (old segment : List ℕ) (segments : List (List ℕ)) → old ≡ concat (segments ++ segment ∷ []) → length segment ≤ length old
 bytes-fit old segment segments same = let l = ap length same ∙ length-push segments segment in omega (arith, l)
 
-
 pub shown-push : (items : List (Bor (List ℕ))) (segment : Bor (List ℕ)) → map (λ segment. segment.now) (items ++ segment ∷ []) ≡ map (λ segment. segment.now) items ++ segment.now ∷ []
 shown-push [] segment = refl
 shown-push (item ∷ items) segment = ap (λ rest. item.now ∷ rest) (shown-push items segment)
@@ -39,6 +38,6 @@ pub shown-pop : (old new : List (Bor (List ℕ))) (count : ℕ) (segments : List
     → map (λ segment. segment.now) new ≡ segments
 shown-pop old new count segments segment is long same =
     let few : count - 1 ≡ length segments =
-        let l = sym (shown-length old) ∙ ap length same ∙ length-append segments (segment ∷ []) in omega (arith, l, long) in
+    let l = sym (shown-length old) ∙ ap length same ∙ length-append segments (segment ∷ []) in omega (arith, l, long) in
     ap (map (λ (segment : Bor (List ℕ)). segment.now)) is ∙ sym (take-map (λ (segment : Bor (List ℕ)). segment.now) (count - 1) old) ∙ ap (take (count - 1)) same
     ∙ ap (λ n. take n (segments ++ segment ∷ [])) few ∙ take-append_seam segments (segment ∷ [])

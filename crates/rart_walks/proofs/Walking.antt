@@ -172,7 +172,7 @@ module _ {V : Type 0} where
         let path = concat (segments_of frames) in
         let has = tree-has-pair s tree in
         let is-first : behind_path path (pairs_of s) ≡ ((path ++ prefix_of s) ++ has.behind, has.value) ∷ behind_path path has.others =
-            ap (behind_path path) has.first ∙ ap (λ key. (key, has.value) ∷ behind_path path has.others) (sym (append_assoc path (prefix_of s) has.behind)) in
+        ap (behind_path path) has.first ∙ ap (λ key. (key, has.value) ∷ behind_path path has.others) (sym (append_assoc path (prefix_of s) has.behind)) in
         let joined : concat (segments_of frames ++ prefix_of s ∷ []) ≡ path ++ prefix_of s = ap concat (sym (segments-push frames (prefix_of s, children_of s))) ∙ path-whole in
         subst (λ path. IsAdmitted greatest (length path)) (sym joined)
         (short-first greatest (path ++ prefix_of s) has.behind has.value _ (subst (AreShort greatest) is-first short))

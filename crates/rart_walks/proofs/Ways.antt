@@ -88,9 +88,9 @@ module _ {V : Type 0} where
           let below = kept_at own_place (reaches part (byte ∷ left)) (child_at byte (children_of s)) in
           let behind = cond (goes_on part) (gathered_all own_place (children_from (suc byte) (children_of s))) [] in
           let whole : length (keeping (reaches part rest) (gathered own_place s)) ≡ length below + length behind =
-              ap (λ r. length (keeping (reaches part r) (gathered own_place s))) is
-              ∙ ap length (parted-below own_place own_place-ends (reaches part) (goes_on part) (reaches-goes part) s byte left way.at.tree)
-              ∙ length-behind (prefix_of s) (below ++ behind) ∙ length-append below behind in
+          ap (λ r. length (keeping (reaches part r) (gathered own_place s))) is
+          ∙ ap length (parted-below own_place own_place-ends (reaches part) (goes_on part) (reaches-goes part) s byte left way.at.tree)
+          ∙ length-behind (prefix_of s) (below ++ behind) ∙ length-append below behind in
           let before = way.counted in
           let after = nodes-push frames (prefix_of s, later) in
           let more = later-nodes in
@@ -110,8 +110,8 @@ module _ {V : Type 0} where
       passed-short =
           subst (AreShort greatest) (sym (ahead-push frames (prefix_of s, later)))
           (short-append greatest _ (pairs_ahead frames)
-            (subst (λ p. AreShort greatest (behind_path p (pairs_of_all later))) path-passed (later-short greatest (concat (segments_of passed)) (goes_on part) (suc byte) (children_of s) children-short))
-            way.short_ahead)
+          (subst (λ p. AreShort greatest (behind_path p (pairs_of_all later))) path-passed (later-short greatest (concat (segments_of passed)) (goes_on part) (suc byte) (children_of s) children-short))
+          way.short_ahead)
 
       -- the way goes on at the child under the byte
       pub way-child : (child : Shape V) (after : Counts) → IsSearchAt root probe start child (byte ∷ left) after → child_at byte (children_of s) ≡ Some child
@@ -129,8 +129,7 @@ module _ {V : Type 0} where
       pub way-missing : child_at byte (children_of s) ≡ None → (keeping (keeps part probe) (pairs_of root) ≡ pairs_ahead passed) × (nodes_ahead passed ≤ count_by (reaches part probe) (paths_of root))
       way-missing none =
           let counted = passed-counted in
-          let paths = paths-counted (reaches part probe) root in
-          (
+          let paths = paths-counted (reaches part probe) root in (
             passed-kept ∙ ap (λ o. behind_path (concat (segments_of passed)) (kept_at own_pair (keeps part (byte ∷ left)) o) ++ pairs_ahead passed) none,
             omega (arith, counted, paths),
           )

@@ -25,14 +25,18 @@ fn leaf(
 {
     let key: ArrayKey<16> = ArrayKey::new_from_slice(alloc, bytes)?;
     let prefix = key.to_partial(alloc, 0)?;
-    NodeRef::new(alloc, VersionedNode::new_leaf(alloc, prefix, value, 0), work)
+    NodeRef::new(
+        alloc,
+        VersionedNode::new_leaf(alloc, prefix, value, 0),
+        work,
+    )
 }
 
 // The keys "a", "abc" and "ad" with the values 0, 1 and 2.
 fn branching(alloc: Global, work: &mut Work) -> Result<NodeRef<ArrPartial<16>, u64>, AllocError>
     ensures { IfOk result (λ root. shown ⟦<ArrPartial<16> as Partial>⟧.bytes root
         ≡ node (97 ∷ []) (Some 0) 4 (grown 98 (node (98 ∷ 99 ∷ []) (Some 1) 0 bare)
-            (grown 100 (node (100 ∷ []) (Some 2) 0 bare) bare))) }
+        (grown 100 (node (100 ∷ []) (Some 2) 0 bare) bare))) }
 {
     let key: ArrayKey<16> = ArrayKey::new_from_slice(alloc, b"a")?;
     let mut root = VersionedNode::new_leaf(alloc, key.to_partial(alloc, 0)?, 0, 0);
@@ -118,8 +122,12 @@ fn whole_walk_gives_values_in_key_order(rt: HostRuntime) -> Result<(), Fail> {
 fn prefix_may_end_inside_a_node(rt: HostRuntime) -> Result<(), Fail> {
     let mut work = Work::new();
     let root = branching(rt.alloc(), &mut work)?;
-    let walk: Walk<'_, ArrPartial<16>, u64, NoTrail> =
-        Walk::under(rt.alloc(), &root, b"ab", &mut work)?;
+    let walk: Walk<'_, ArrPartial<16>, u64, NoTrail> = Walk::under(
+        rt.alloc(),
+        &root,
+        b"ab",
+        &mut work,
+    )?;
     let values = values_left(rt.alloc(), walk, &mut work)?;
     assert_eq!(rt; values.as_slice(), [1].as_slice());
     Ok(())
@@ -130,8 +138,12 @@ fn excluded_start_is_passed(rt: HostRuntime) -> Result<(), Fail> {
     let mut work = Work::new();
     let root = branching(rt.alloc(), &mut work)?;
     let low: &[u8] = b"abc";
-    let walk: Walk<'_, ArrPartial<16>, u64, KeyTrail> =
-        Walk::from(rt.alloc(), &root, Bound::Excluded(low), &mut work)?;
+    let walk: Walk<'_, ArrPartial<16>, u64, KeyTrail> = Walk::from(
+        rt.alloc(),
+        &root,
+        Bound::Excluded(low),
+        &mut work,
+    )?;
     let values = values_left(rt.alloc(), walk, &mut work)?;
     assert_eq!(rt; values.as_slice(), [2].as_slice());
     Ok(())

@@ -61,12 +61,12 @@ impl<'a, P: Partial, V: Drop, T: Trail<'a>> Walk<'a, P, V, T> {
         ensures walk { OnOk result (IsWalk P.bytes T.holds T.greatest self.new) }
         ensures pairs { OnOk result ((standing P.bytes self.new).pairs
             ≡ behind_path (concat (standing P.bytes self.old).segments) (pairs_of (seen P.bytes node.now))
-                ++ (standing P.bytes self.old).pairs) }
+            ++ (standing P.bytes self.old).pairs) }
         ensures nodes { OnOk result ((standing P.bytes self.new).nodes + 1
             ≡ (standing P.bytes self.old).nodes + nodes_of (seen P.bytes node.now)) }
         ensures frames { OnOk result (opened P.bytes self.new.frames.items
             ≡ opened P.bytes self.old.frames.items
-                ++ (prefix_of (seen P.bytes node.now), children_of (seen P.bytes node.now)) ∷ []) }
+            ++ (prefix_of (seen P.bytes node.now), children_of (seen P.bytes node.now)) ∷ []) }
         ensures pending { OnOk result (option_copied self.new.pending ≡ value_of (seen P.bytes node.now)) }
     {
         enter(&mut self.frames, &mut self.trail, node)?;
@@ -86,7 +86,7 @@ impl<'a, P: Partial, V: Drop, T: Trail<'a>> Walk<'a, P, V, T> {
         ensures holds { T.holds self.new.trail (segments_of (opened P.bytes self.new.frames.items)) }
         ensures frames { OnOk result (opened P.bytes self.new.frames.items
             ≡ opened P.bytes self.old.frames.items
-                ++ (segment.now, children_left P.bytes children.entry) ∷ []) }
+            ++ (segment.now, children_left P.bytes children.entry) ∷ []) }
         ensures pending { self.new.pending ≡ self.old.pending }
     {
         enter_for(&mut self.frames, &mut self.trail, segment, children)
@@ -197,7 +197,7 @@ fn enter<'a, P: Partial, V: Drop, T: Trail<'a>>(
         (segments_of (opened P.bytes frames.old.items) ++ prefix_of (seen P.bytes node.now) ∷ []))) }
     ensures opened { opened P.bytes frames.new.items ≡ (if is_ok result
         then opened P.bytes frames.old.items
-            ++ (prefix_of (seen P.bytes node.now), children_of (seen P.bytes node.now)) ∷ []
+        ++ (prefix_of (seen P.bytes node.now), children_of (seen P.bytes node.now)) ∷ []
         else opened P.bytes frames.old.items) }
     ensures holds { T.holds trail.new (segments_of (opened P.bytes frames.new.items)) }
 {
@@ -231,7 +231,9 @@ fn enter_for<'a, P: Partial, V: Drop, T: Trail<'a>>(
 /// Leaves the innermost node, if there is one.
 fn leave<'a, P: Partial, V: Drop, T: Trail<'a>>(frames: &mut Vec<Frame<'a, P, V>>, trail: &mut T)
     requires holds { T.holds trail.old (segments_of (opened P.bytes frames.old.items)) }
-    ensures left { (front : List (Opened V)) (last : Opened V) → opened P.bytes frames.old.items ≡ front ++ last ∷ [] → opened P.bytes frames.new.items ≡ front }
+    ensures left { (front : List (Opened V)) (last : Opened V) →
+        opened P.bytes frames.old.items ≡ front ++ last ∷ [] →
+        opened P.bytes frames.new.items ≡ front }
     ensures holds { T.holds trail.new (segments_of (opened P.bytes frames.new.items)) }
 {
     if let Some(frame) = frames.pop() {
@@ -241,7 +243,10 @@ fn leave<'a, P: Partial, V: Drop, T: Trail<'a>>(frames: &mut Vec<Frame<'a, P, V>
 
 /// Leaves every node.
 #[cold]
-fn leave_all<'a, P: Partial, V: Drop, T: Trail<'a>>(frames: &mut Vec<Frame<'a, P, V>>, trail: &mut T)
+fn leave_all<'a, P: Partial, V: Drop, T: Trail<'a>>(
+    frames: &mut Vec<Frame<'a, P, V>>,
+    trail: &mut T,
+)
     requires holds { T.holds trail.old (segments_of (opened P.bytes frames.old.items)) }
     ensures left { opened P.bytes frames.new.items ≡ [] }
     ensures holds { T.holds trail.new [] }

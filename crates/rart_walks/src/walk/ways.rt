@@ -16,8 +16,8 @@ ghost use Rattle.rart_walks.specs.Opened.{opened, standing, IsWalk};
 ghost use Rattle.rart_walks.specs.Parts.{keeps, reaches, goes_on, is_strict, start_of};
 ghost use Rattle.rart_walks.specs.Walks.{AreShort, nodes_of, paths_of};
 
-use crate::trail::Trail;
 use super::Walk;
+use crate::trail::Trail;
 use rart_below::Partial;
 use rart_node::{NodeRef, VersionedNode, VersionedNodeIter, Work};
 use rart_shape::rest_of;
@@ -95,10 +95,10 @@ impl<'a, P: Partial, V: Drop, T: Trail<'a>> Walk<'a, P, V, T> {
         ensures walk { IfOk result (IsWalk P.bytes T.holds T.greatest) }
         ensures pairs { IfOk result (λ walk. (standing P.bytes walk).pairs
             ≡ filter (λ pair. is_from_start (as_partial_cmp byte_order)
-                (bound_map (λ low. low.now) low.entry) pair.0) (pairs_of (shown P.bytes root.now))) }
+            (bound_map (λ low. low.now) low.entry) pair.0) (pairs_of (shown P.bytes root.now))) }
         ensures nodes { IfOk result (λ walk. (standing P.bytes walk).nodes
             ≤ count_by (λ path. is_le (byte_order (start_of (bound_map (λ low. low.now) low.entry)) path))
-                (paths_of (shown P.bytes root.now))) }
+            (paths_of (shown P.bytes root.now))) }
         ensures counted { CountsUpTo (length (start_of (bound_map (λ low. low.now) low.entry)) + 1) 0
             work.old work.new }
     {
@@ -168,8 +168,8 @@ fn finish<'a, P: Partial, V: Drop, T: Trail<'a>>(
     ensures walk { OnOk result (IsWalk P.bytes T.holds T.greatest walk.new) }
     ensures pairs { OnOk result ((standing P.bytes walk.new).pairs
         ≡ behind_path (concat (standing P.bytes walk.old).segments)
-            (filter (λ pair. keeps part rest.now pair.0) (pairs_of (seen P.bytes node.now)))
-            ++ (standing P.bytes walk.old).pairs) }
+        (filter (λ pair. keeps part rest.now pair.0) (pairs_of (seen P.bytes node.now)))
+        ++ (standing P.bytes walk.old).pairs) }
     ensures nodes { OnOk result ((standing P.bytes walk.new).nodes ≤ (standing P.bytes walk.old).nodes
         + count_by (reaches part rest.now) (paths_of (seen P.bytes node.now))) }
 {
@@ -208,8 +208,8 @@ fn enter_end<'a, P: Partial, V: Drop, T: Trail<'a>>(
     ensures walk { OnOk result (IsWalk P.bytes T.holds T.greatest walk.new) }
     ensures pairs { OnOk result ((standing P.bytes walk.new).pairs
         ≡ behind_path (concat (standing P.bytes walk.old).segments)
-            (if is_passed then pairs_inside (seen P.bytes node.now) else pairs_of (seen P.bytes node.now))
-            ++ (standing P.bytes walk.old).pairs) }
+        (if is_passed then pairs_inside (seen P.bytes node.now) else pairs_of (seen P.bytes node.now))
+        ++ (standing P.bytes walk.old).pairs) }
     ensures nodes { OnOk result ((standing P.bytes walk.new).nodes + 1
         ≡ (standing P.bytes walk.old).nodes + nodes_of (seen P.bytes node.now)) }
 {

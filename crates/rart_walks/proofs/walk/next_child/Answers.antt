@@ -25,11 +25,11 @@ returns-in-None g c =
     let frame = c.in_ok-frame.frame.now in
     let last = ends-with c.args.frames.now.items (vec_len c.args.frames.now) frame c.args.frames.now.ok.0 (c.in_ok-frame.ensures.variant.0 refl) c.in_ok-frame.ensures.value in
     let before : opened bytes c.args.frames.now.items ≡ opened bytes last.front ++ (frame.segment.now, []) ∷ [] =
-        ap (opened bytes) last.is ∙ map-push _ last.front frame ∙ ap (λ children. opened bytes last.front ++ (frame.segment.now, children) ∷ []) c.in-None.ensures.steps.0 in (
+    ap (opened bytes) last.is ∙ map-push _ last.front frame ∙ ap (λ children. opened bytes last.front ++ (frame.segment.now, children) ∷ []) c.in-None.ensures.steps.0 in (
       ap (opened bytes) (last.put (record { segment = frame.segment; children = c.next.new.self }))
-      ∙ map-push _ last.front (record { segment = frame.segment; children = c.next.new.self })
-      ∙ ap (λ children. opened bytes last.front ++ (frame.segment.now, children) ∷ []) c.in-None.ensures.steps.1
-      ∙ sym before,
+          ∙ map-push _ last.front (record { segment = frame.segment; children = c.next.new.self })
+          ∙ ap (λ children. opened bytes last.front ++ (frame.segment.now, children) ∷ []) c.in-None.ensures.steps.1
+          ∙ sym before,
       opened bytes last.front,
       frame.segment.now,
       before,

@@ -22,7 +22,7 @@ enter-requires g c =
     let s = shown bytes c.in-Some-next.child.now in
     let same : seen bytes c.open-node.result.now ≡ s = c.open-node.ensures.shown in
     let took : TookChild (opened bytes c.step.self.frames.items) s (opened bytes c.next_child.new.frames.items) =
-        took-child _ _ _ s (ap (option_map (λ child. shown bytes child.now)) c.in-Some-next.is) c.in-Some-next_child.ensures in
+    took-child _ _ _ s (ap (option_map (λ child. shown bytes child.now)) c.in-Some-next.is) c.in-Some-next_child.ensures in
     let tree = took-tree _ _ _ _ _ c.step.invariant.going s _ took in
     λ _. (
       (refl, tt),
@@ -41,7 +41,7 @@ returns-in-Err-clause-at_most g c =
     let s = shown bytes c.in-Some-next.child.now in
     let same : seen bytes c.open-node.result.now ≡ s = c.open-node.ensures.shown in
     let took : TookChild (opened bytes c.step.self.frames.items) s (opened bytes c.next_child.new.frames.items) =
-        took-child _ _ _ s (ap (option_map (λ child. shown bytes child.now)) c.in-Some-next.is) c.in-Some-next_child.ensures in
+    took-child _ _ _ s (ap (option_map (λ child. shown bytes child.now)) c.in-Some-next.is) c.in-Some-next_child.ensures in
     took-counted _ _ _ _ _ c.step.invariant.going s _ took _ (ap (λ w. w.entered) c.open-node.ensures.work)
 
 pub returns-in-Some-value-clause-walk : goal.returns-in-Some-value-clause-walk
@@ -50,9 +50,9 @@ returns-in-Some-value-clause-walk g c =
     let s = shown bytes c.in-Some-next.child.now in
     let same : seen bytes c.open-node.result.now ≡ s = c.open-node.ensures.shown in
     let took : TookChild (opened bytes c.step.self.frames.items) s (opened bytes c.next_child.new.frames.items) =
-        took-child _ _ _ s (ap (option_map (λ child. shown bytes child.now)) c.in-Some-next.is) c.in-Some-next_child.ensures in
+    took-child _ _ _ s (ap (option_map (λ child. shown bytes child.now)) c.in-Some-next.is) c.in-Some-next_child.ensures in
     let entered = took-entered _ _ _ _ _ c.step.invariant.going s _ took (opened bytes c.enter.new.frames.items) c.open-node.new.work.entered
-        (c.in_default-enter.ensures.opened ∙ ap (λ z. opened bytes c.next_child.new.frames.items ++ (prefix_of z, children_of z) ∷ []) same) (ap (λ w. w.entered) c.open-node.ensures.work) in
+    (c.in_default-enter.ensures.opened ∙ ap (λ z. opened bytes c.next_child.new.frames.items ++ (prefix_of z, children_of z) ∷ []) same) (ap (λ w. w.entered) c.open-node.ensures.work) in
     let some : value_of s ≡ Some c.in-Some-value.value.now = sym (c.in-Some-value.ensures ∙ ap value_of same) in
     record { holds_way = c.in_default-enter.ensures.holds; trees = entered.trees; short = entered.short _ some }
 
@@ -62,9 +62,9 @@ returns-in-Some-value-clause-gives g c =
     let s = shown bytes c.in-Some-next.child.now in
     let same : seen bytes c.open-node.result.now ≡ s = c.open-node.ensures.shown in
     let took : TookChild (opened bytes c.step.self.frames.items) s (opened bytes c.next_child.new.frames.items) =
-        took-child _ _ _ s (ap (option_map (λ child. shown bytes child.now)) c.in-Some-next.is) c.in-Some-next_child.ensures in
+    took-child _ _ _ s (ap (option_map (λ child. shown bytes child.now)) c.in-Some-next.is) c.in-Some-next_child.ensures in
     let entered = took-entered _ _ _ _ _ c.step.invariant.going s _ took (opened bytes c.enter.new.frames.items) c.open-node.new.work.entered
-        (c.in_default-enter.ensures.opened ∙ ap (λ z. opened bytes c.next_child.new.frames.items ++ (prefix_of z, children_of z) ∷ []) same) (ap (λ w. w.entered) c.open-node.ensures.work) in
+    (c.in_default-enter.ensures.opened ∙ ap (λ z. opened bytes c.next_child.new.frames.items ++ (prefix_of z, children_of z) ∷ []) same) (ap (λ w. w.entered) c.open-node.ensures.work) in
     let some : value_of s ≡ Some c.in-Some-value.value.now = sym (c.in-Some-value.ensures ∙ ap value_of same) in
     rw (c.in_default.is, c.step.invariant.none) (entered.given _ some)
 
@@ -74,9 +74,9 @@ returns-in-Some-value-clause-entered g c =
     let s = shown bytes c.in-Some-next.child.now in
     let same : seen bytes c.open-node.result.now ≡ s = c.open-node.ensures.shown in
     let took : TookChild (opened bytes c.step.self.frames.items) s (opened bytes c.next_child.new.frames.items) =
-        took-child _ _ _ s (ap (option_map (λ child. shown bytes child.now)) c.in-Some-next.is) c.in-Some-next_child.ensures in
+    took-child _ _ _ s (ap (option_map (λ child. shown bytes child.now)) c.in-Some-next.is) c.in-Some-next_child.ensures in
     let entered = took-entered _ _ _ _ _ c.step.invariant.going s _ took (opened bytes c.enter.new.frames.items) c.open-node.new.work.entered
-        (c.in_default-enter.ensures.opened ∙ ap (λ z. opened bytes c.next_child.new.frames.items ++ (prefix_of z, children_of z) ∷ []) same) (ap (λ w. w.entered) c.open-node.ensures.work) in
+    (c.in_default-enter.ensures.opened ∙ ap (λ z. opened bytes c.next_child.new.frames.items ++ (prefix_of z, children_of z) ∷ []) same) (ap (λ w. w.entered) c.open-node.ensures.work) in
     entered.counted
 
 pub returns-in-Some-value-clause-at_most : goal.returns-in-Some-value-clause-at_most
@@ -85,14 +85,14 @@ returns-in-Some-value-clause-at_most g c =
     let s = shown bytes c.in-Some-next.child.now in
     let same : seen bytes c.open-node.result.now ≡ s = c.open-node.ensures.shown in
     let took : TookChild (opened bytes c.step.self.frames.items) s (opened bytes c.next_child.new.frames.items) =
-        took-child _ _ _ s (ap (option_map (λ child. shown bytes child.now)) c.in-Some-next.is) c.in-Some-next_child.ensures in
+    took-child _ _ _ s (ap (option_map (λ child. shown bytes child.now)) c.in-Some-next.is) c.in-Some-next_child.ensures in
     took-counted _ _ _ _ _ c.step.invariant.going s _ took _ (ap (λ w. w.entered) c.open-node.ensures.work)
 
 pub step-smaller-in_default-next : goal.step-smaller-in_default-next
 step-smaller-in_default-next g c =
     let bytes = g.P.Partial.bytes in
     let took : TookNone (opened bytes c.step.self.frames.items) (opened bytes c.next_child.new.frames.items) =
-        took-none _ _ _ (ap (option_map (λ child. shown bytes child.now)) c.in_default-next.is) c.in-Some-next_child.ensures in
+    took-none _ _ _ (ap (option_map (λ child. shown bytes child.now)) c.in_default-next.is) c.in-Some-next_child.ensures in
     let left = took-left _ _ _ _ _ c.step.invariant.going _ took (opened bytes c.leave.new.frames.items) c.leave.ensures.left in
     left.1
 
@@ -100,7 +100,7 @@ pub step-preserved-in_default-next : goal.step-preserved-in_default-next
 step-preserved-in_default-next g c =
     let bytes = g.P.Partial.bytes in
     let took : TookNone (opened bytes c.step.self.frames.items) (opened bytes c.next_child.new.frames.items) =
-        took-none _ _ _ (ap (option_map (λ child. shown bytes child.now)) c.in_default-next.is) c.in-Some-next_child.ensures in
+    took-none _ _ _ (ap (option_map (λ child. shown bytes child.now)) c.in_default-next.is) c.in-Some-next_child.ensures in
     let left = took-left _ _ _ _ _ c.step.invariant.going _ took (opened bytes c.leave.new.frames.items) c.leave.ensures.left in
     record { holds_way = c.leave.ensures.holds; going = left.0; none = c.step.invariant.none; made = c.step.invariant.made }
 
@@ -110,9 +110,9 @@ step-smaller g c =
     let s = shown bytes c.in-Some-next.child.now in
     let same : seen bytes c.open-node.result.now ≡ s = c.open-node.ensures.shown in
     let took : TookChild (opened bytes c.step.self.frames.items) s (opened bytes c.next_child.new.frames.items) =
-        took-child _ _ _ s (ap (option_map (λ child. shown bytes child.now)) c.in-Some-next.is) c.in-Some-next_child.ensures in
+    took-child _ _ _ s (ap (option_map (λ child. shown bytes child.now)) c.in-Some-next.is) c.in-Some-next_child.ensures in
     let entered = took-entered _ _ _ _ _ c.step.invariant.going s _ took (opened bytes c.enter.new.frames.items) c.open-node.new.work.entered
-        (c.in_default-enter.ensures.opened ∙ ap (λ z. opened bytes c.next_child.new.frames.items ++ (prefix_of z, children_of z) ∷ []) same) (ap (λ w. w.entered) c.open-node.ensures.work) in
+    (c.in_default-enter.ensures.opened ∙ ap (λ z. opened bytes c.next_child.new.frames.items ++ (prefix_of z, children_of z) ∷ []) same) (ap (λ w. w.entered) c.open-node.ensures.work) in
     entered.smaller
 
 pub step-preserved : goal.step-preserved
@@ -121,8 +121,8 @@ step-preserved g c =
     let s = shown bytes c.in-Some-next.child.now in
     let same : seen bytes c.open-node.result.now ≡ s = c.open-node.ensures.shown in
     let took : TookChild (opened bytes c.step.self.frames.items) s (opened bytes c.next_child.new.frames.items) =
-        took-child _ _ _ s (ap (option_map (λ child. shown bytes child.now)) c.in-Some-next.is) c.in-Some-next_child.ensures in
+    took-child _ _ _ s (ap (option_map (λ child. shown bytes child.now)) c.in-Some-next.is) c.in-Some-next_child.ensures in
     let entered = took-entered _ _ _ _ _ c.step.invariant.going s _ took (opened bytes c.enter.new.frames.items) c.open-node.new.work.entered
-        (c.in_default-enter.ensures.opened ∙ ap (λ z. opened bytes c.next_child.new.frames.items ++ (prefix_of z, children_of z) ∷ []) same) (ap (λ w. w.entered) c.open-node.ensures.work) in
+    (c.in_default-enter.ensures.opened ∙ ap (λ z. opened bytes c.next_child.new.frames.items ++ (prefix_of z, children_of z) ∷ []) same) (ap (λ w. w.entered) c.open-node.ensures.work) in
     let none : value_of s ≡ None = sym (c.in_default-value.ensures ∙ ap value_of same) in
     record { holds_way = c.in_default-enter.ensures.holds; going = entered.passed none; none = c.step.invariant.none; made = ap (λ w. w.made) c.open-node.ensures.work ∙ c.step.invariant.made }

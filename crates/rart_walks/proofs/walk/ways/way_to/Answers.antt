@@ -95,7 +95,7 @@ returns-in-None-clause-walk g c =
     let long : c.len.result ≡ length (prefix_of o) = c.len.ensures ∙ ap length c.prefix-else-common-rest.ensures in
     let goes = goes-on (prefix_of o) c.down.rest.now c.rest_of-rest.result.now c.prefix_length_slice-common.result c.rest_of-rest.ensures matched c.if-common-rest.false (let most = c.if-common-len.false in omega (arith, long, most)) in
     let leaves : children_left bytes c.later_children-later.result ≡ cond (goes_on c.args.part) (children_from (slice_index_or c.rest_of-rest.result.now 0 0 + 1) (children_of o)) [] =
-        c.later_children-later.ensures ∙ ap (λ t. cond t (children_from (slice_index_or c.rest_of-rest.result.now 0 0 + 1) (children_of o)) []) c.goes_on.ensures in
+    c.later_children-later.ensures ∙ ap (λ t. cond t (children_from (slice_index_or c.rest_of-rest.result.now 0 0 + 1) (children_of o)) []) c.goes_on.ensures in
     let inner = opened bytes c.enter_part.new.self.frames.items in
     let segment = c.as_ref.ensures ∙ c.prefix-in-down.ensures in
     record {
@@ -114,7 +114,7 @@ returns-in-None-clause-pairs g c =
     let long : c.len.result ≡ length (prefix_of o) = c.len.ensures ∙ ap length c.prefix-else-common-rest.ensures in
     let goes = goes-on (prefix_of o) c.down.rest.now c.rest_of-rest.result.now c.prefix_length_slice-common.result c.rest_of-rest.ensures matched c.if-common-rest.false (let most = c.if-common-len.false in omega (arith, long, most)) in
     let leaves : children_left bytes c.later_children-later.result ≡ cond (goes_on c.args.part) (children_from (slice_index_or c.rest_of-rest.result.now 0 0 + 1) (children_of o)) [] =
-        c.later_children-later.ensures ∙ ap (λ t. cond t (children_from (slice_index_or c.rest_of-rest.result.now 0 0 + 1) (children_of o)) []) c.goes_on.ensures in
+    c.later_children-later.ensures ∙ ap (λ t. cond t (children_from (slice_index_or c.rest_of-rest.result.now 0 0 + 1) (children_of o)) []) c.goes_on.ensures in
     let inner = opened bytes c.enter_part.new.self.frames.items in
     let segment = c.as_ref.ensures ∙ c.prefix-in-down.ensures in
     let missing = step-missing _ _ _ _ _ _ _ _ _ c.down.invariant.way o c.open-node.new.work c.open-node.ensures.work same _ _ goes inner _ _ c.in_ok-enter_part.ensures.frames segment leaves c.in-None.ensures in
@@ -130,7 +130,7 @@ returns-in-None-clause-nodes g c =
     let long : c.len.result ≡ length (prefix_of o) = c.len.ensures ∙ ap length c.prefix-else-common-rest.ensures in
     let goes = goes-on (prefix_of o) c.down.rest.now c.rest_of-rest.result.now c.prefix_length_slice-common.result c.rest_of-rest.ensures matched c.if-common-rest.false (let most = c.if-common-len.false in omega (arith, long, most)) in
     let leaves : children_left bytes c.later_children-later.result ≡ cond (goes_on c.args.part) (children_from (slice_index_or c.rest_of-rest.result.now 0 0 + 1) (children_of o)) [] =
-        c.later_children-later.ensures ∙ ap (λ t. cond t (children_from (slice_index_or c.rest_of-rest.result.now 0 0 + 1) (children_of o)) []) c.goes_on.ensures in
+    c.later_children-later.ensures ∙ ap (λ t. cond t (children_from (slice_index_or c.rest_of-rest.result.now 0 0 + 1) (children_of o)) []) c.goes_on.ensures in
     let inner = opened bytes c.enter_part.new.self.frames.items in
     let segment = c.as_ref.ensures ∙ c.prefix-in-down.ensures in
     (step-missing _ _ _ _ _ _ _ _ _ c.down.invariant.way o c.open-node.new.work c.open-node.ensures.work same _ _ goes inner _ _ c.in_ok-enter_part.ensures.frames segment leaves c.in-None.ensures).1
@@ -164,7 +164,7 @@ down-preserved g c =
     let long : c.len.result ≡ length (prefix_of o) = c.len.ensures ∙ ap length c.prefix-else-common-rest.ensures in
     let goes = goes-on (prefix_of o) c.down.rest.now c.rest_of-rest.result.now c.prefix_length_slice-common.result c.rest_of-rest.ensures matched c.if-common-rest.false (let most = c.if-common-len.false in omega (arith, long, most)) in
     let leaves : children_left bytes c.later_children-later.result ≡ cond (goes_on c.args.part) (children_from (slice_index_or c.rest_of-rest.result.now 0 0 + 1) (children_of o)) [] =
-        c.later_children-later.ensures ∙ ap (λ t. cond t (children_from (slice_index_or c.rest_of-rest.result.now 0 0 + 1) (children_of o)) []) c.goes_on.ensures in
+    c.later_children-later.ensures ∙ ap (λ t. cond t (children_from (slice_index_or c.rest_of-rest.result.now 0 0 + 1) (children_of o)) []) c.goes_on.ensures in
     let inner = opened bytes c.enter_part.new.self.frames.items in
     let segment = c.as_ref.ensures ∙ c.prefix-in-down.ensures in
     record {

@@ -1,0 +1,11 @@
+pub mod Ends
+pub mod Gathers
+pub mod Lasts
+pub mod Parting
+pub mod Places
+pub mod Skips
+pub mod Steps
+pub mod Sublists
+pub mod Trails
+pub mod Walking
+pub mod Ways

@@ -1,0 +1,32 @@
+use Rattle.std.proofs.Common.{◌≡◌, ◌++◌, ◌∷◌, [], None, refl, sym, ap, ◌∙◌}
+use Rattle.std.proofs.lemmas.List.{append-nil}
+use Rattle.std.specs.List.{concat}
+use Rattle.rart_node.specs.Seen.{seen, shown}
+use Rattle.rart_shape.specs.Trees.{pairs_of, IsTree}
+use Rattle.rart_walks.specs.Frames.{segments_of, behind_path}
+use Rattle.rart_walks.specs.Walks.{Standing, AreShort, nodes_of}
+use Rattle.rart_walks.specs.Opened.{opened}
+use Rattle.rart_walks.proofs.Walking.{behind-none}
+use Rattle.rart_walks.proofs.walk.Walk.whole.Goals as goal
+
+pub enter_whole-requires : goal.enter_whole-requires
+enter_whole-requires g c =
+    let s = shown g.P.Partial.bytes c.args.root.now in
+    λ _. (
+      (refl, tt),
+      (
+        c.new-walk.ensures.walk,
+        (
+          c.new-walk.ensures.pending,
+          (rw c.open.ensures.shown c.requires.tree, rw (c.open.ensures.shown, c.new-walk.ensures.frames, behind-none (pairs_of s)) c.requires.short),
+        ),
+      ),
+    )
+
+pub returns-clause-pairs : goal.returns-clause-pairs
+returns-clause-pairs g c =
+    let s = shown g.P.Partial.bytes c.args.root.now in
+    let start = c.new-walk.ensures.ended in
+    c.in_ok-enter_whole.ensures.pairs
+    ∙ ap (λ (at : Standing g.row.V.Denot). behind_path (concat at.segments) (pairs_of (seen g.P.Partial.bytes c.open.result.now)) ++ at.pairs) start
+    ∙ append-nil _ ∙ ap (λ z. behind_path [] (pairs_of z)) c.open.ensures.shown ∙ behind-none (pairs_of s)

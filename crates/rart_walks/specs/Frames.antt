@@ -1,0 +1,68 @@
+-- The nodes that a walk has open, from the root down: each with its prefix and the children that are left.
+use Rattle.std.specs.Prelude.{◌≡◌, ℕ, ◌+◌, List, [], ◌∷◌, ◌++◌, Option, Some, None, map, ⊤}
+use Rattle.std.specs.List.{concat}
+use Rattle.rart_node.specs.Shape.{Shape, prefix_of, children_of}
+use Rattle.rart_shape.specs.Trees.{IsTree, pairs_of}
+use Rattle.rart_walks.specs.Walks.{Standing, nodes_of}
+
+abbrev pub Opened : Type 0 → Type 0
+Opened V = List ℕ × List (ℕ × Shape V)
+
+module _ {V : Type 0} where
+  -- the pairs with this string before each key
+  abbrev pub behind_path : List ℕ → List (List ℕ × V) → List (List ℕ × V)
+  behind_path path pairs = map (λ pair. (path ++ pair.0, pair.1)) pairs
+
+  -- the pairs of children, one child after the other, and how many nodes they have
+  abbrev pub pairs_of_all : List (ℕ × Shape V) → List (List ℕ × V)
+  pairs_of_all [] = []
+  pairs_of_all (child ∷ children) = pairs_of child.1 ++ pairs_of_all children
+
+  abbrev pub nodes_of_all : List (ℕ × Shape V) → ℕ
+  nodes_of_all [] = 0
+  nodes_of_all (child ∷ children) = nodes_of child.1 + nodes_of_all children
+
+  -- the pairs of a node but its own
+  abbrev pub pairs_inside : Shape V → List (List ℕ × V)
+  pairs_inside s = behind_path (prefix_of s) (pairs_of_all (children_of s))
+
+  abbrev pub AreTrees : List (ℕ × Shape V) → Type 0
+  AreTrees [] = ⊤
+  AreTrees (child ∷ children) = IsTree child.1 × AreTrees children
+
+  abbrev pub segments_of : List (Opened V) → List (List ℕ)
+  segments_of frames = map (λ frame. frame.0) frames
+
+  -- the pairs of the children that are left: those of the innermost node first
+  abbrev pub pairs_ahead : List (Opened V) → List (List ℕ × V)
+  pairs_ahead [] = []
+  pairs_ahead (frame ∷ frames) = behind_path frame.0 (pairs_ahead frames ++ pairs_of_all frame.1)
+
+  abbrev pub nodes_ahead : List (Opened V) → ℕ
+  nodes_ahead [] = 0
+  nodes_ahead (frame ∷ frames) = nodes_of_all frame.1 + nodes_ahead frames
+
+  abbrev pub TreesAhead : List (Opened V) → Type 0
+  TreesAhead [] = ⊤
+  TreesAhead (frame ∷ frames) = AreTrees frame.1 × TreesAhead frames
+
+  -- the pair of a value that is still to be given
+  abbrev pub pending_pair : List ℕ → Option V → List (List ℕ × V)
+  pending_pair path None = []
+  pending_pair path (Some value) = (path, value) ∷ []
+
+  -- where a walk stands that has these nodes open and this value still to give
+  abbrev pub standing_of : List (Opened V) → Option V → Standing V
+  standing_of frames pending = record {
+    segments = segments_of frames;
+    pairs = pending_pair (concat (segments_of frames)) pending ++ pairs_ahead frames;
+    nodes = nodes_ahead frames;
+  }
+
+  -- The next child of the innermost node was taken, or it had none left, or no node was open.
+  abbrev pub TakesChild : List (Opened V) → Option (Option (Shape V)) → List (Opened V) → Type 0
+  TakesChild before None after = (before ≡ []) × (after ≡ [])
+  TakesChild before (Some None) after = (after ≡ before) × (front : List (Opened V)) × (segment : List ℕ) × (before ≡ front ++ (segment, []) ∷ [])
+  TakesChild before (Some (Some child)) after =
+      (front : List (Opened V)) × (segment : List ℕ) × (byte : ℕ) × (rest : List (ℕ × Shape V))
+      × (before ≡ front ++ (segment, (byte, child) ∷ rest) ∷ []) × (after ≡ front ++ (segment, rest) ∷ [])

@@ -1,0 +1,48 @@
+-- What a walk over a tree has left, and how long the keys of what it goes over may be.
+use Rattle.std.specs.Prelude.{◌≡◌, ◌+◌, ◌≤◌, ℕ, suc, List, [], ◌∷◌, ◌++◌, map, Option, Some, None, All, length, ⊤}
+use Rattle.std.specs.List.{concat}
+use Rattle.std.specs.Borrow.{Bor}
+use Rattle.rart_node.specs.Shape.{Shape, Forest, node, bare, grown}
+
+module _ {V : Type 0} where
+  abbrev mutual
+    -- how many nodes a tree has
+    pub nodes_of : Shape V → ℕ
+    nodes_of (node prefix value width forest) = suc (nodes_below forest)
+
+    pub nodes_below : Forest V → ℕ
+    nodes_below bare = 0
+    nodes_below (grown byte child forest) = nodes_of child + nodes_below forest
+
+  abbrev mutual
+    -- the path of each node: the prefixes from the root down to it, joined
+    pub paths_of : Shape V → List (List ℕ)
+    paths_of (node prefix value width forest) = map (λ path. prefix ++ path) ([] ∷ paths_below forest)
+
+    pub paths_below : Forest V → List (List ℕ)
+    paths_below bare = []
+    paths_below (grown byte child forest) = paths_of child ++ paths_below forest
+
+  -- No key is longer than this, where there is a greatest length.
+  abbrev pub AreShort : Option ℕ → List (List ℕ × V) → Type 0
+  AreShort None pairs = ⊤
+  AreShort (Some most) pairs = All (λ pair. length pair.0 ≤ most) pairs
+
+-- Where a walk stands, and what it has left.
+pub record Standing (V : Type 0) : Type 0 where
+  -- the prefixes of the nodes from the root to the one that the walk stands at
+  pub segments : List (List ℕ)
+  -- the pairs that are to be given
+  pub pairs : List (List ℕ × V)
+  -- how many nodes are to be entered
+  pub nodes : ℕ
+
+module _ {V : Type 0} where
+  -- a walk behind its end
+  abbrev pub ended : Standing V
+  ended = record { segments = []; pairs = []; nodes = 0 }
+
+  -- The walk gave the first pair of what was left, and stands at its node, or there was none, and it has ended.
+  abbrev pub Gives : Standing V → Option (Bor V) → Standing V → Type 0
+  Gives before None after = (before.pairs ≡ []) × (after ≡ ended)
+  Gives before (Some value) after = before.pairs ≡ (concat after.segments, value.now) ∷ after.pairs

@@ -1,0 +1,14 @@
+//! The ordered walk over a tree of nodes.
+//!
+//! A walk goes from node to node with a stack on the heap, gives the values in the order of their
+//! keys, and keeps the way to where it stands on a trail. It knows prefixes and pointers alone, and
+//! no key type.
+#![tactic(auto)]
+
+#[cfg(test)]
+mod tests;
+mod trail;
+mod walk;
+
+pub use trail::{KeyTrail, NoTrail, SegmentTrail, Trail};
+pub use walk::Walk;

@@ -1,0 +1,164 @@
+//! Where a walk keeps the way to the node that it stands at.
+ghost use Rattle.std.specs.Prelude.{◌≡◌, ◌-◌, ℕ, ◌^◌, List, [], ◌∷◌, ◌++◌, Option, Some, None, length, map, is_ok, if◌then◌else◌};
+ghost use Rattle.std.specs.List.{concat};
+ghost use Rattle.rart_below.specs.Bytes.{IsAdmitted};
+ghost use Rattle.rart_walks.specs.Trails.{HoldsBytes, HoldsSegments, HoldsNothing};
+
+use std::alloc::{AllocError, Global};
+use std::marker::Model;
+
+/// Where a walk keeps the prefixes of the nodes from the root to the one that it stands at: its
+/// segments.
+///
+/// Contracts see by `holds` which segments a trail keeps, the root's first, and by `greatest` how
+/// long they may be, joined, or `None` where each length will do.
+pub trait Trail<'a>: Drop {
+    ghost holds: { Self → List (List ℕ) → Type 0 };
+
+    ghost greatest: { Option ℕ };
+
+    /// A trail with no segment.
+    fn new(alloc: Global) -> Self
+        ensures { holds result [] };
+
+    /// Puts a segment at the end. Refused for memory, the trail is as it was.
+    fn push(&mut self, segment: &'a [u8]) -> Result<(), AllocError>
+        requires { (segments : List (List ℕ)) × holds self.old segments
+            × IsAdmitted greatest (length (concat (segments ++ segment.now ∷ []))) }
+        ensures { (segments : List (List ℕ)) → holds self.old segments
+            → holds self.new (if is_ok result then segments ++ segment.now ∷ [] else segments) };
+
+    /// Takes the last segment off, which is this one.
+    fn pop(&mut self, segment: &'a [u8])
+        requires { (segments : List (List ℕ)) × holds self.old (segments ++ segment.now ∷ []) }
+        ensures { (segments : List (List ℕ)) → holds self.old (segments ++ segment.now ∷ [])
+            → holds self.new segments };
+}
+
+/// The segments joined: the bytes of a key, in one buffer that grows and shrinks.
+///
+/// Contracts see a trail as these bytes.
+#[derive(Drop)]
+pub struct KeyTrail {
+    bytes: Vec<u8>,
+}
+
+impl Model for KeyTrail {
+    ghost Value = { List ℕ };
+
+    ghost view = { λ trail. trail.bytes.items };
+}
+
+impl KeyTrail {
+    /// The bytes.
+    pub fn as_slice(&self) -> &[u8]
+        ensures { result.now ≡ self.now }
+    {
+        self.bytes.as_slice()
+    }
+}
+
+impl<'a> Trail<'a> for KeyTrail {
+    ghost holds = { HoldsBytes };
+
+    ghost greatest = { None };
+
+    fn new(alloc: Global) -> KeyTrail {
+        KeyTrail {
+            bytes: Vec::new(alloc),
+        }
+    }
+
+    #[inline]
+    fn push(&mut self, segment: &'a [u8]) -> Result<(), AllocError> {
+        self.bytes.extend_from_slice(segment)
+    }
+
+    #[inline]
+    fn pop(&mut self, segment: &'a [u8]) {
+        let kept = self.bytes.len() - segment.len();
+        self.bytes.truncate(kept);
+    }
+}
+
+/// The segments as they stand in the nodes, and how many bytes they are, joined.
+///
+/// Contracts see a trail as its segments.
+#[derive(Drop)]
+pub struct SegmentTrail<'a> {
+    segments: Vec<&'a [u8]>,
+    len: usize,
+}
+
+impl<'a> Model for SegmentTrail<'a> {
+    ghost Value = { List (List ℕ) };
+
+    ghost view = { λ trail. map (λ segment. segment.now) trail.segments.items };
+
+    ghost invariant = { λ trail.
+        trail.len ≡ length (concat (map (λ segment. segment.now) trail.segments.items)) };
+}
+
+impl<'a> SegmentTrail<'a> {
+    /// The segments, the root's first.
+    pub fn segments(&self) -> &[&'a [u8]]
+        ensures { map (λ segment. segment.now) result.now ≡ self.now }
+    {
+        self.segments.as_slice()
+    }
+
+    /// How many bytes they are, joined.
+    pub fn len(&self) -> usize
+        ensures { result ≡ length (concat self.now) }
+    {
+        self.len
+    }
+}
+
+impl<'a> Trail<'a> for SegmentTrail<'a> {
+    ghost holds = { HoldsSegments };
+
+    ghost greatest = { Some (2 ^ 64 - 1) };
+
+    fn new(alloc: Global) -> SegmentTrail<'a> {
+        SegmentTrail {
+            segments: Vec::new(alloc),
+            len: 0,
+        }
+    }
+
+    #[inline]
+    fn push(&mut self, segment: &'a [u8]) -> Result<(), AllocError> {
+        self.segments.push(segment)?;
+        self.len += segment.len();
+        Ok(())
+    }
+
+    #[inline]
+    fn pop(&mut self, segment: &'a [u8]) {
+        self.segments.pop();
+        self.len -= segment.len();
+    }
+}
+
+/// Nothing: for a walk whose keys nobody asks for.
+#[derive(Drop)]
+pub struct NoTrail;
+
+impl<'a> Trail<'a> for NoTrail {
+    ghost holds = { HoldsNothing };
+
+    ghost greatest = { None };
+
+    fn new(_alloc: Global) -> NoTrail {
+        NoTrail
+    }
+
+    #[inline]
+    fn push(&mut self, _segment: &'a [u8]) -> Result<(), AllocError> {
+        Ok(())
+    }
+
+    #[inline]
+    fn pop(&mut self, _segment: &'a [u8]) {}
+}

@@ -1,0 +1,257 @@
+//! The walk itself.
+ghost use Rattle.std.specs.Prelude.{◌≡◌, ◌+◌, ◌≤◌, ◌++◌, ◌∷◌, [], List, length, is_ok, if◌then◌else◌, None, IfOk, OnOk, OnErr};
+ghost use Rattle.std.specs.List.{concat};
+ghost use Rattle.std.specs.Option.{option_map, option_copied};
+ghost use Rattle.rart_below.specs.Bytes.{IsAdmitted};
+ghost use Rattle.rart_node.specs.Seen.{seen, shown};
+ghost use Rattle.rart_node.specs.VersionedNodeIter.{children_left};
+ghost use Rattle.rart_node.specs.Shape.{IsAscending, prefix_of, value_of, children_of};
+ghost use Rattle.rart_shape.specs.Trees.{IsTree, pairs_of};
+ghost use Rattle.rart_walks.specs.Walks.{Gives, AreShort, ended, nodes_of};
+ghost use Rattle.rart_walks.specs.Frames.{Opened, TakesChild, segments_of, behind_path};
+ghost use Rattle.rart_walks.specs.Opened.{opened, standing, IsWalk};
+
+mod ways;
+
+use crate::trail::Trail;
+use rart_below::Partial;
+use rart_node::{NodeRef, VersionedNode, VersionedNodeIter, Work};
+use std::alloc::{AllocError, Global};
+
+// A node that is open: its prefix, and the children that are left.
+#[derive(Drop)]
+struct Frame<'a, P: Partial, V> {
+    segment: &'a [u8],
+    children: VersionedNodeIter<'a, P, V>,
+}
+
+/// A walk over a tree, from node to node.
+///
+/// Contracts see a walk as the prefixes of the nodes down to the one that it stands at, the pairs
+/// that it has left, and how many nodes it has left to enter.
+#[derive(Drop)]
+pub struct Walk<'a, P: Partial, V, T> {
+    trail: T,
+    frames: Vec<Frame<'a, P, V>>,
+    pending: Option<&'a V>,
+}
+
+impl<'a, P: Partial, V: Drop, T: Trail<'a>> Walk<'a, P, V, T> {
+    /// A walk with nothing left.
+    fn new(alloc: Global) -> Walk<'a, P, V, T>
+        ensures walk { IsWalk P.bytes T.holds T.greatest result }
+        ensures ended { standing P.bytes result ≡ ended }
+        ensures frames { opened P.bytes result.frames.items ≡ [] }
+        ensures pending { result.pending ≡ None }
+    {
+        Walk {
+            trail: T::new(alloc),
+            frames: Vec::new(alloc),
+            pending: None,
+        }
+    }
+
+    /// Enters a node below the innermost one, whose value and children are all left then.
+    fn enter_whole(&mut self, node: &'a VersionedNode<P, V>) -> Result<(), AllocError>
+        requires walk { IsWalk P.bytes T.holds T.greatest self.old }
+        requires pending { self.old.pending ≡ None }
+        requires tree { IsTree (seen P.bytes node.now) }
+        requires short { AreShort T.greatest (behind_path (concat (standing P.bytes self.old).segments)
+            (pairs_of (seen P.bytes node.now))) }
+        ensures walk { OnOk result (IsWalk P.bytes T.holds T.greatest self.new) }
+        ensures pairs { OnOk result ((standing P.bytes self.new).pairs
+            ≡ behind_path (concat (standing P.bytes self.old).segments) (pairs_of (seen P.bytes node.now))
+            ++ (standing P.bytes self.old).pairs) }
+        ensures nodes { OnOk result ((standing P.bytes self.new).nodes + 1
+            ≡ (standing P.bytes self.old).nodes + nodes_of (seen P.bytes node.now)) }
+        ensures frames { OnOk result (opened P.bytes self.new.frames.items
+            ≡ opened P.bytes self.old.frames.items
+            ++ (prefix_of (seen P.bytes node.now), children_of (seen P.bytes node.now)) ∷ []) }
+        ensures pending { OnOk result (option_copied self.new.pending ≡ value_of (seen P.bytes node.now)) }
+    {
+        enter(&mut self.frames, &mut self.trail, node)?;
+        self.pending = node.value();
+        Ok(())
+    }
+
+    /// Enters a node for these of its children; its value is passed.
+    fn enter_part(
+        &mut self,
+        segment: &'a [u8],
+        children: VersionedNodeIter<'a, P, V>,
+    ) -> Result<(), AllocError>
+        requires holds { T.holds self.old.trail (segments_of (opened P.bytes self.old.frames.items)) }
+        requires short { IsAdmitted T.greatest (length (concat
+            (segments_of (opened P.bytes self.old.frames.items) ++ segment.now ∷ []))) }
+        ensures holds { T.holds self.new.trail (segments_of (opened P.bytes self.new.frames.items)) }
+        ensures frames { OnOk result (opened P.bytes self.new.frames.items
+            ≡ opened P.bytes self.old.frames.items
+            ++ (segment.now, children_left P.bytes children.entry) ∷ []) }
+        ensures pending { self.new.pending ≡ self.old.pending }
+    {
+        enter_for(&mut self.frames, &mut self.trail, segment, children)
+    }
+
+    /// A walk over the whole tree: all its pairs are left. It enters the root.
+    ///
+    /// Refused for memory, there is none.
+    pub fn whole(
+        alloc: Global,
+        root: &'a NodeRef<P, V>,
+        work: &mut Work,
+    ) -> Result<Walk<'a, P, V, T>, AllocError>
+        requires tree { IsTree (shown P.bytes root.now) }
+        requires short { AreShort T.greatest (pairs_of (shown P.bytes root.now)) }
+        ensures walk { IfOk result (IsWalk P.bytes T.holds T.greatest) }
+        ensures pairs { IfOk result (λ walk. (standing P.bytes walk).pairs
+            ≡ pairs_of (shown P.bytes root.now)) }
+        ensures nodes { IfOk result (λ walk. (standing P.bytes walk).nodes + 1
+            ≡ nodes_of (shown P.bytes root.now)) }
+        ensures work { work.new ≡ record work.old { entered = work.old.entered + 1 } }
+    {
+        let mut walk = Walk::new(alloc);
+        walk.enter_whole(root.open(work))?;
+        Ok(walk)
+    }
+
+    /// The trail, which keeps the way to the node that the walk stands at.
+    pub fn trail(&self) -> &T
+        requires walk { IsWalk P.bytes T.holds T.greatest self.now }
+        ensures { T.holds result.now (standing P.bytes self.now).segments }
+    {
+        &self.trail
+    }
+
+    /// Ends the walk: nothing is left.
+    pub fn end(&mut self)
+        requires walk { IsWalk P.bytes T.holds T.greatest self.old }
+        ensures walk { IsWalk P.bytes T.holds T.greatest self.new }
+        ensures ended { standing P.bytes self.new ≡ ended }
+    {
+        self.pending = None;
+        leave_all(&mut self.frames, &mut self.trail);
+    }
+
+    /// Gives the next value, or `None` where there is none left.
+    #[inline]
+    pub fn next_value(&mut self, work: &mut Work) -> Result<Option<&'a V>, AllocError>
+        requires walk { IsWalk P.bytes T.holds T.greatest self.old }
+        ensures walk { IsWalk P.bytes T.holds T.greatest self.new }
+        ensures gives { IfOk result (λ value. Gives (standing P.bytes self.old) value
+            (standing P.bytes self.new)) }
+        ensures refused { OnErr result (standing P.bytes self.new ≡ ended) }
+        ensures entered { OnOk result (work.new.entered + (standing P.bytes self.new).nodes
+            ≡ work.old.entered + (standing P.bytes self.old).nodes) }
+        ensures at_most { work.new.entered ≤ work.old.entered + (standing P.bytes self.old).nodes }
+        ensures made { work.new.made ≡ work.old.made }
+    {
+        if let Some(value) = self.pending {
+            self.pending = None;
+            return Ok(Some(value));
+        }
+        'step: while let Some(next) = next_child(&mut self.frames) {
+            let Some(child) = next else {
+                leave(&mut self.frames, &mut self.trail);
+                continue;
+            };
+            let node = child.open(work);
+            if let Err(refused) = enter(&mut self.frames, &mut self.trail, node) {
+                leave_all(&mut self.frames, &mut self.trail);
+                return Err(refused);
+            }
+            if let Some(value) = node.value() {
+                return Ok(Some(value));
+            }
+        }
+        Ok(None)
+    }
+}
+
+/// Takes the next child of the innermost node: `Some(None)` where it has none left, `None` where no
+/// node is open.
+#[inline]
+fn next_child<'a, P: Partial, V: Drop>(
+    frames: &mut Vec<Frame<'a, P, V>>,
+) -> Option<Option<&'a NodeRef<P, V>>>
+    ensures { TakesChild (opened P.bytes frames.old.items)
+        (option_map (option_map (λ child. shown P.bytes child.now)) result)
+        (opened P.bytes frames.new.items) }
+{
+    let frame = frames.last_mut()?;
+    match frame.children.next() {
+        Some((_byte, child)) => Some(Some(child)),
+        None => Some(None),
+    }
+}
+
+/// Opens a node below the innermost one. Refused for memory, none is opened.
+#[inline]
+fn enter<'a, P: Partial, V: Drop, T: Trail<'a>>(
+    frames: &mut Vec<Frame<'a, P, V>>,
+    trail: &mut T,
+    node: &'a VersionedNode<P, V>,
+) -> Result<(), AllocError>
+    requires order { IsAscending (seen P.bytes node.now) }
+    requires holds { T.holds trail.old (segments_of (opened P.bytes frames.old.items)) }
+    requires short { IsAdmitted T.greatest (length (concat
+        (segments_of (opened P.bytes frames.old.items) ++ prefix_of (seen P.bytes node.now) ∷ []))) }
+    ensures opened { opened P.bytes frames.new.items ≡ (if is_ok result
+        then opened P.bytes frames.old.items
+        ++ (prefix_of (seen P.bytes node.now), children_of (seen P.bytes node.now)) ∷ []
+        else opened P.bytes frames.old.items) }
+    ensures holds { T.holds trail.new (segments_of (opened P.bytes frames.new.items)) }
+{
+    enter_for(frames, trail, node.prefix().as_ref(), node.iter())
+}
+
+/// Opens a node with this prefix, for these of its children. Refused for memory, none is opened.
+#[inline]
+fn enter_for<'a, P: Partial, V: Drop, T: Trail<'a>>(
+    frames: &mut Vec<Frame<'a, P, V>>,
+    trail: &mut T,
+    segment: &'a [u8],
+    children: VersionedNodeIter<'a, P, V>,
+) -> Result<(), AllocError>
+    requires holds { T.holds trail.old (segments_of (opened P.bytes frames.old.items)) }
+    requires short { IsAdmitted T.greatest (length (concat
+        (segments_of (opened P.bytes frames.old.items) ++ segment.now ∷ []))) }
+    ensures opened { opened P.bytes frames.new.items ≡ (if is_ok result
+        then opened P.bytes frames.old.items ++ (segment.now, children_left P.bytes children.entry) ∷ []
+        else opened P.bytes frames.old.items) }
+    ensures holds { T.holds trail.new (segments_of (opened P.bytes frames.new.items)) }
+{
+    trail.push(segment)?;
+    if let Err(refused) = frames.push(Frame { segment, children }) {
+        trail.pop(segment);
+        return Err(refused.into());
+    }
+    Ok(())
+}
+
+/// Leaves the innermost node, if there is one.
+fn leave<'a, P: Partial, V: Drop, T: Trail<'a>>(frames: &mut Vec<Frame<'a, P, V>>, trail: &mut T)
+    requires holds { T.holds trail.old (segments_of (opened P.bytes frames.old.items)) }
+    ensures left { (front : List (Opened V)) (last : Opened V) →
+        opened P.bytes frames.old.items ≡ front ++ last ∷ [] →
+        opened P.bytes frames.new.items ≡ front }
+    ensures holds { T.holds trail.new (segments_of (opened P.bytes frames.new.items)) }
+{
+    if let Some(frame) = frames.pop() {
+        trail.pop(frame.segment);
+    }
+}
+
+/// Leaves every node.
+#[cold]
+fn leave_all<'a, P: Partial, V: Drop, T: Trail<'a>>(
+    frames: &mut Vec<Frame<'a, P, V>>,
+    trail: &mut T,
+)
+    requires holds { T.holds trail.old (segments_of (opened P.bytes frames.old.items)) }
+    ensures left { opened P.bytes frames.new.items ≡ [] }
+    ensures holds { T.holds trail.new [] }
+{
+    'leaving: while let Some(frame) = frames.pop() {
+        trail.pop(frame.segment);
+    }
+}

@@ -1,0 +1,251 @@
+//! The ways down to where a walk starts.
+ghost use Rattle.std.specs.Prelude.{◌≡◌, ◌+◌, ◌<◌, ◌≤◌, ◌⊎◌, ◌&&◌, [], ◌∷◌, ◌++◌, List, length, filter, count_by, if◌then◌else◌, IfOk, OnOk, None};
+ghost use Rattle.std.specs.Option.{option_copied};
+ghost use Rattle.std.specs.Ordering.{as_partial_cmp, is_le};
+ghost use Rattle.std.specs.Range.Bound.{is_from_start, bound_map};
+ghost use Rattle.rart_below.specs.Bytes.{begins, byte_order, common_length};
+ghost use Rattle.rart_below.specs.Children.{children_from};
+ghost use Rattle.rart_node.specs.Counts.{CountsUpTo};
+ghost use Rattle.rart_node.specs.Seen.{seen, shown};
+ghost use Rattle.rart_node.specs.Shape.{IsAscending, prefix_of, children_of};
+ghost use Rattle.rart_node.specs.VersionedNodeIter.{children_left};
+ghost use Rattle.rart_shape.specs.Trees.{IsTree, pairs_of, path_bound};
+ghost use Rattle.std.specs.List.{concat};
+ghost use Rattle.rart_walks.specs.Frames.{behind_path, pairs_inside};
+ghost use Rattle.rart_walks.specs.Opened.{opened, standing, IsWalk};
+ghost use Rattle.rart_walks.specs.Parts.{keeps, reaches, goes_on, is_strict, start_of};
+ghost use Rattle.rart_walks.specs.Walks.{AreShort, nodes_of, paths_of};
+
+use super::Walk;
+use crate::trail::Trail;
+use rart_below::Partial;
+use rart_node::{NodeRef, VersionedNode, VersionedNodeIter, Work};
+use rart_shape::rest_of;
+use std::alloc::{AllocError, Global};
+use std::ops::Bound;
+
+// The part of a tree that a string picks: the keys that it begins, those from it on, or those
+// behind it.
+#[derive(Clone, Copy, PartialEq, Eq)]
+enum Part {
+    Under,
+    From,
+    Behind,
+}
+
+impl Part {
+    // Whether it goes on behind the keys that begin as the string does.
+    fn goes_on(self) -> bool
+        ensures { result ≡ goes_on self }
+    {
+        match self {
+            Part::Under => false,
+            Part::From => true,
+            Part::Behind => true,
+        }
+    }
+
+    // Whether it lacks the string itself.
+    fn is_strict(self) -> bool
+        ensures { result ≡ is_strict self }
+    {
+        match self {
+            Part::Under => false,
+            Part::From => false,
+            Part::Behind => true,
+        }
+    }
+}
+
+impl<'a, P: Partial, V: Drop, T: Trail<'a>> Walk<'a, P, V, T> {
+    /// A walk over the keys that a prefix begins. It enters the nodes on the way down to them: at
+    /// most one for each byte of the prefix, and one.
+    ///
+    /// Refused for memory, there is none.
+    pub fn under(
+        alloc: Global,
+        root: &'a NodeRef<P, V>,
+        prefix: &[u8],
+        work: &mut Work,
+    ) -> Result<Walk<'a, P, V, T>, AllocError>
+        requires tree { IsTree (shown P.bytes root.now) }
+        requires short { AreShort T.greatest (pairs_of (shown P.bytes root.now)) }
+        ensures walk { IfOk result (IsWalk P.bytes T.holds T.greatest) }
+        ensures pairs { IfOk result (λ walk. (standing P.bytes walk).pairs
+            ≡ filter (λ pair. begins prefix.now pair.0) (pairs_of (shown P.bytes root.now))) }
+        ensures nodes { IfOk result (λ walk. (standing P.bytes walk).nodes
+            ≤ count_by (begins prefix.now) (paths_of (shown P.bytes root.now))) }
+        ensures counted { CountsUpTo (length prefix.now + 1) 0 work.old work.new }
+    {
+        way_to(alloc, root, Part::Under, prefix, work)
+    }
+
+    /// A walk over the keys that meet a lower bound. It enters the nodes on the way down to the
+    /// first of them: at most one for each byte of the bound, and one.
+    ///
+    /// Refused for memory, there is none.
+    pub fn from(
+        alloc: Global,
+        root: &'a NodeRef<P, V>,
+        low: Bound<&[u8]>,
+        work: &mut Work,
+    ) -> Result<Walk<'a, P, V, T>, AllocError>
+        requires tree { IsTree (shown P.bytes root.now) }
+        requires short { AreShort T.greatest (pairs_of (shown P.bytes root.now)) }
+        ensures walk { IfOk result (IsWalk P.bytes T.holds T.greatest) }
+        ensures pairs { IfOk result (λ walk. (standing P.bytes walk).pairs
+            ≡ filter (λ pair. is_from_start (as_partial_cmp byte_order)
+            (bound_map (λ low. low.now) low.entry) pair.0) (pairs_of (shown P.bytes root.now))) }
+        ensures nodes { IfOk result (λ walk. (standing P.bytes walk).nodes
+            ≤ count_by (λ path. is_le (byte_order (start_of (bound_map (λ low. low.now) low.entry)) path))
+            (paths_of (shown P.bytes root.now))) }
+        ensures counted { CountsUpTo (length (start_of (bound_map (λ low. low.now) low.entry)) + 1) 0
+            work.old work.new }
+    {
+        match low {
+            Bound::Included(low) => way_to(alloc, root, Part::From, low, work),
+            Bound::Excluded(low) => way_to(alloc, root, Part::Behind, low, work),
+            Bound::Unbounded => way_to(alloc, root, Part::From, &[], work),
+        }
+    }
+}
+
+// The way down to the part of a tree that a string picks.
+fn way_to<'a, P: Partial, V: Drop, T: Trail<'a>>(
+    alloc: Global,
+    root: &'a NodeRef<P, V>,
+    part: Part,
+    probe: &[u8],
+    work: &mut Work,
+) -> Result<Walk<'a, P, V, T>, AllocError>
+    requires tree { IsTree (shown P.bytes root.now) }
+    requires short { AreShort T.greatest (pairs_of (shown P.bytes root.now)) }
+    ensures walk { IfOk result (IsWalk P.bytes T.holds T.greatest) }
+    ensures pairs { IfOk result (λ walk. (standing P.bytes walk).pairs
+        ≡ filter (λ pair. keeps part probe.now pair.0) (pairs_of (shown P.bytes root.now))) }
+    ensures nodes { IfOk result (λ walk. (standing P.bytes walk).nodes
+        ≤ count_by (reaches part probe.now) (paths_of (shown P.bytes root.now))) }
+    ensures counted { CountsUpTo (path_bound (shown P.bytes root.now) probe.now) 0
+        work.old work.new }
+{
+    let mut walk = Walk::new(alloc);
+    let mut at = root;
+    let mut rest = probe;
+    'down: loop {
+        let node = at.open(work);
+        let common = node.prefix().prefix_length_slice(rest);
+        if common == rest.len() || common < node.prefix().len() {
+            finish(&mut walk, node, part, rest, common)?;
+            return Ok(walk);
+        }
+        rest = rest_of(rest, common);
+        let byte = rest[0];
+        let later = later_children(node, byte, part.goes_on());
+        walk.enter_part(node.prefix().as_ref(), later)?;
+        at = match node.seek_child(byte) {
+            Some(child) => child,
+            None => return Ok(walk),
+        };
+    }
+}
+
+// Ends a way at a node, of whose prefix the string has not the whole, or has no more: what is in
+// the part of its pairs is left then.
+fn finish<'a, P: Partial, V: Drop, T: Trail<'a>>(
+    walk: &mut Walk<'a, P, V, T>,
+    node: &'a VersionedNode<P, V>,
+    part: Part,
+    rest: &[u8],
+    common: usize,
+) -> Result<(), AllocError>
+    requires walk { IsWalk P.bytes T.holds T.greatest walk.old }
+    requires pending { walk.old.pending ≡ None }
+    requires tree { IsTree (seen P.bytes node.now) }
+    requires short { AreShort T.greatest (behind_path (concat (standing P.bytes walk.old).segments)
+        (pairs_of (seen P.bytes node.now))) }
+    requires common { common ≡ common_length (prefix_of (seen P.bytes node.now)) rest.now }
+    requires ends { (common ≡ length rest.now) ⊎ (common < length (prefix_of (seen P.bytes node.now))) }
+    ensures walk { OnOk result (IsWalk P.bytes T.holds T.greatest walk.new) }
+    ensures pairs { OnOk result ((standing P.bytes walk.new).pairs
+        ≡ behind_path (concat (standing P.bytes walk.old).segments)
+        (filter (λ pair. keeps part rest.now pair.0) (pairs_of (seen P.bytes node.now)))
+        ++ (standing P.bytes walk.old).pairs) }
+    ensures nodes { OnOk result ((standing P.bytes walk.new).nodes ≤ (standing P.bytes walk.old).nodes
+        + count_by (reaches part rest.now) (paths_of (seen P.bytes node.now))) }
+{
+    if common == rest.len() {
+        let is_passed = passes_own(part, common == node.prefix().len());
+        return enter_end(walk, node, is_passed);
+    }
+    if !part.goes_on() {
+        return Ok(());
+    }
+    if rest[common] < node.prefix().at(common) {
+        return enter_end(walk, node, false);
+    }
+    Ok(())
+}
+
+// Whether the value of a node is passed, whose prefix the string begins, or is.
+fn passes_own(part: Part, is_whole: bool) -> bool
+    ensures { result ≡ (is_strict part && is_whole) }
+{
+    part.is_strict() && is_whole
+}
+
+// Enters the node at the end of a way. Its children are left then, and its value, unless that is
+// passed.
+fn enter_end<'a, P: Partial, V: Drop, T: Trail<'a>>(
+    walk: &mut Walk<'a, P, V, T>,
+    node: &'a VersionedNode<P, V>,
+    is_passed: bool,
+) -> Result<(), AllocError>
+    requires walk { IsWalk P.bytes T.holds T.greatest walk.old }
+    requires pending { walk.old.pending ≡ None }
+    requires tree { IsTree (seen P.bytes node.now) }
+    requires short { AreShort T.greatest (behind_path (concat (standing P.bytes walk.old).segments)
+        (pairs_of (seen P.bytes node.now))) }
+    ensures walk { OnOk result (IsWalk P.bytes T.holds T.greatest walk.new) }
+    ensures pairs { OnOk result ((standing P.bytes walk.new).pairs
+        ≡ behind_path (concat (standing P.bytes walk.old).segments)
+        (if is_passed then pairs_inside (seen P.bytes node.now) else pairs_of (seen P.bytes node.now))
+        ++ (standing P.bytes walk.old).pairs) }
+    ensures nodes { OnOk result ((standing P.bytes walk.new).nodes + 1
+        ≡ (standing P.bytes walk.old).nodes + nodes_of (seen P.bytes node.now)) }
+{
+    walk.enter_whole(node)?;
+    if is_passed {
+        walk.pending = None;
+    }
+    Ok(())
+}
+
+// The children of a node behind a byte, or none.
+fn later_children<'a, P: Partial, V: Drop>(
+    node: &'a VersionedNode<P, V>,
+    byte: u8,
+    goes_on: bool,
+) -> VersionedNodeIter<'a, P, V>
+    requires { IsAscending (seen P.bytes node.now) }
+    ensures { children_left P.bytes result
+        ≡ (if goes_on then children_from (byte + 1) (children_of (seen P.bytes node.now)) else []) }
+{
+    if !goes_on {
+        return no_more(node.iter_from(u8::MAX));
+    }
+    let mut children = node.iter_from(byte);
+    if let Some(_child) = node.seek_child(byte) {
+        children.next();
+    }
+    children
+}
+
+// The children behind the last one: none.
+fn no_more<'a, P: Partial, V: Drop>(
+    mut children: VersionedNodeIter<'a, P, V>,
+) -> VersionedNodeIter<'a, P, V>
+    ensures { children_left P.bytes result ≡ [] }
+{
+    'passing: while children.next().is_some() {}
+    children
+}

@@ -36,7 +36,10 @@ counted-kept test (pair ∷ pairs) =
 module _ {V : Type 0} where
   mutual
     pub places-counted : (s : Shape V) → length (gathered own_place s) ≡ nodes_of s
-    places-counted (node prefix value width forest) = length-behind prefix (([], tt) ∷ gathered_below own_place forest) ∙ ap suc (below-counted forest)
+    places-counted (node prefix value width forest) =
+        let behind = length-behind prefix (([], tt) ∷ gathered_below own_place forest) in
+        let below = below-counted forest in
+        omega (arith, behind, below)
 
     below-counted : (forest : Forest V) → length (gathered_below own_place forest) ≡ nodes_below forest
     below-counted bare = refl

@@ -1,19 +1,11 @@
 -- What a walk over a tree has left, and how long the keys of what it goes over may be.
-use Rattle.std.specs.Prelude.{◌≡◌, ◌+◌, ◌≤◌, ℕ, suc, List, [], ◌∷◌, ◌++◌, map, Option, Some, None, All, length, ⊤}
+use Rattle.std.specs.Prelude.{◌≡◌, ◌≤◌, ℕ, List, [], ◌∷◌, ◌++◌, map, Option, Some, None, All, length, ⊤}
 use Rattle.std.specs.List.{concat}
 use Rattle.std.specs.Borrow.{Bor}
 use Rattle.rart_node.specs.Shape.{Shape, Forest, node, bare, grown}
+pub use Rattle.rart_shape.specs.Nodes.{nodes_of, nodes_below}
 
 module _ {V : Type 0} where
-  abbrev mutual
-    -- how many nodes a tree has
-    pub nodes_of : Shape V → ℕ
-    nodes_of (node prefix value width forest) = suc (nodes_below forest)
-
-    pub nodes_below : Forest V → ℕ
-    nodes_below bare = 0
-    nodes_below (grown byte child forest) = nodes_of child + nodes_below forest
-
   abbrev mutual
     -- the path of each node: the prefixes from the root down to it, joined
     pub paths_of : Shape V → List (List ℕ)

@@ -50,7 +50,7 @@ module _ {V : Type 0} where
   set-same (x ∷ f) (suc place) read v is = ap (λ rest. x ∷ rest) (set-same f place read v is)
 
   pub changes_at : {A E : Type 0} (f : Family V) (place : ℕ) (read : Option (Version V)) (v after : Version V) (answer : Result A E) (outcome : Version V → A × Version V) → get_or f place read ≡ Some v → Changes answer v after (outcome v)
-    → ChangesAt place answer f (slice_set f place (Some after)) outcome
+      → ChangesAt place answer f (slice_set f place (Some after)) outcome
   changes_at f place read v after (Ok answer) outcome is changed =
       if_some_at f place read v (λ w. (answer ≡ (outcome w).0) × (slice_set f place (Some after) ≡ slice_set f place (Some (outcome w).1))) is (changed.0, ap (λ w. slice_set f place (Some w)) changed.1)
   changes_at f place read v after (Err refusal) outcome is changed = ap (λ w. slice_set f place (Some w)) changed ∙ set-same f place read v is

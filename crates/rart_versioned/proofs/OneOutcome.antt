@@ -10,7 +10,7 @@ use Rattle.rart_versioned.specs.Updates.{Tells, Updates}
 
 module _ {F V E : Type 0} (callback : Once F (MutBor (Slot V) × Unit {0}) (SlotUpdate V × (MutBor (Slot V) × Unit {0}))) (f : F) where
   pub one-update : (v after : Version V) (w : List ℕ) (slot : Slot V) (told : SlotUpdate V) (answer : Result Bool E) → ((left : Slot V) (t : SlotUpdate V) → Tells callback f v w left t → (left ≡ slot) × (t ≡ told))
-    → Updates callback f v w answer after → Changes answer v after (updated v w slot told)
+      → Updates callback f v w answer after → Changes answer v after (updated v w slot told)
   one-update v after w slot told (Ok answer) one updates =
       let same = one updates.0 updates.1 updates.2 in
       let is = updates.3 ∙ ap (λ left. updated v w left updates.1) same.0 ∙ ap (λ t. updated v w slot t) same.1 in

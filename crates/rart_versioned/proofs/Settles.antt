@@ -103,7 +103,7 @@ module _ {F V : Type 0} (callback : Once F (MutBor (Slot V) × Unit {0}) (SlotUp
   updates-there E left told after tell there is = (left, told, tell, ap (λ z. (true, z)) is ∙ there-updated v w left told there)
 
   pub updates-absent : {E : Type 0} (left : Slot V) (told : SlotUpdate V) (answer : Result Bool E) (after : Version V) → Tells callback f v w left told → has_key v w ≡ false → Changes answer v after (settled_absent v w told) → OnErr answer (AsksMemory told)
-    → Updates callback f v w answer after
+      → Updates callback f v w answer after
   updates-absent left told (Ok answer) after tell absent is asks =
       (left, told, tell, ap (λ z. (z, after)) is.0 ∙ ap (λ z. ((settled_absent v w told).0, z)) is.1 ∙ absent-updated v w left told absent)
   updates-absent left told (Err refusal) after tell absent is asks = (is, inr (left, asks.0, subst (λ t. Tells callback f v w left t) asks.1 tell))

@@ -122,7 +122,7 @@ fn rewrite_at<K: KeyTrait, V: Clone + Drop>(
 ) -> Result<bool, AllocError>
     requires clones { ClonesEqual V.is_clone }
     requires there { IsSomeAnd (version_at versions.old place) (λ v. HasRoom v 1) }
-    ensures changes { ChangesAt place result versions.old versions.new (λ v. 
+    ensures changes { ChangesAt place result versions.old versions.new (λ v.
         writing v (K.bytes key.now) value) }
     ensures present { OnErr result (IfSome (version_at versions.old place) (λ v.
         IsTrue (has_key v (K.bytes key.now)))) }
@@ -144,7 +144,7 @@ fn insert_at<K: KeyTrait, V: Clone + Drop>(
 ) -> Result<bool, AllocError>
     requires clones { ClonesEqual V.is_clone }
     requires there { IsSomeAnd (version_at versions.old place) (λ v. HasRoom v 1) }
-    ensures changes { ChangesAt place result versions.old versions.new (λ v. 
+    ensures changes { ChangesAt place result versions.old versions.new (λ v.
         insertion v (K.bytes key.now) value) }
     ensures counted { CountsChangeAt (lookup_bound (K.bytes key.now)) versions.old place
         (K.bytes key.now) changes.old changes.new }
@@ -165,7 +165,7 @@ fn replace_at<K: KeyTrait, V: Clone + Drop>(
 ) -> Result<Option<V>, AllocError>
     requires clones { ClonesEqual V.is_clone }
     requires there { IsSomeAnd (version_at versions.old place) (λ v. HasRoom v 1) }
-    ensures changes { ChangesAt place result versions.old versions.new (λ v. 
+    ensures changes { ChangesAt place result versions.old versions.new (λ v.
         replacement v (K.bytes key.now) value) }
     ensures counted { CountsChangeAt (lookup_bound (K.bytes key.now)) versions.old place
         (K.bytes key.now) changes.old changes.new }
@@ -185,7 +185,7 @@ fn remove_at<K: KeyTrait, V: Clone + Drop>(
 ) -> Result<Option<V>, AllocError>
     requires clones { ClonesEqual V.is_clone }
     requires there { IsSomeAnd (version_at versions.old place) (λ v. HasRoom v 1) }
-    ensures changes { ChangesAt place result versions.old versions.new (λ v. 
+    ensures changes { ChangesAt place result versions.old versions.new (λ v.
         removal v (K.bytes key.now)) }
     ensures present { OnErr result (IfSome (version_at versions.old place) (λ v.
         IsTrue (has_key v (K.bytes key.now)))) }
@@ -206,7 +206,7 @@ fn delete_at<K: KeyTrait, V: Clone + Drop>(
 ) -> Result<bool, AllocError>
     requires clones { ClonesEqual V.is_clone }
     requires there { IsSomeAnd (version_at versions.old place) (λ v. HasRoom v 1) }
-    ensures changes { ChangesAt place result versions.old versions.new (λ v. 
+    ensures changes { ChangesAt place result versions.old versions.new (λ v.
         deletion v (K.bytes key.now)) }
     ensures present { OnErr result (IfSome (version_at versions.old place) (λ v.
         IsTrue (has_key v (K.bytes key.now)))) }

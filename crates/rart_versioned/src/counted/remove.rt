@@ -58,8 +58,10 @@ impl<K: KeyTrait, V: Clone + Drop> VersionedAdaptiveRadixTree<K, V> {
         requires clones { ClonesEqual V.is_clone }
         requires room { HasRoom self.old more }
         requires present { IsTrue (has_key self.old (K.bytes key.now)) }
-        ensures changes { Changes result self.old self.new (value_at self.old (K.bytes key.now),
-            without_key self.old (K.bytes key.now) more) }
+        ensures changes { Changes result self.old self.new (
+          value_at self.old (K.bytes key.now),
+          without_key self.old (K.bytes key.now) more,
+        ) }
         ensures counted { CountsUpTo (lookup_bound (K.bytes key.now))
             (lookup_bound (K.bytes key.now)) work.old work.new }
     {

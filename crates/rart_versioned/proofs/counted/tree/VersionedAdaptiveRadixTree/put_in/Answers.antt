@@ -37,10 +37,11 @@ returns-in_ok-old-in-Some-clause-changes g c =
     let w = g.K.KeyTrait.bytes c.args.key.now in
     let n = c.self.inside.version in
     let o = option_map f c.self.inside.root in
-    let sound : IsSound g.K.KeyTrait.MAXIMUM_SIZE n (Some (f c.in-Some.root)) = subst (λ z. IsSound g.K.KeyTrait.MAXIMUM_SIZE n (option_map f z)) c.in-Some.is c.self.invariant in
-    (rw (← c.self.view_is) (c.in_ok-old-in-Some.ensures.replaced ∙ sym (value-in g.K.KeyTrait.MAXIMUM_SIZE n o n w c.self.invariant ∙ ap (λ z. found_in (option_map f z) w) c.in-Some.is)),
-    rw (← c.self.view_is, c.in-Some.is)
-    (ap (λ m. record { content = m; number = n + c.args.more }) (map-put (Some (f c.in-Some.root)) (f c.insert_below.new.at) w c.args.value sound.0 (root-put w c.args.value (f c.in-Some.root) (f c.insert_below.new.at) c.in_ok-old-in-Some.ensures.put))))
+    let sound : IsSound g.K.KeyTrait.MAXIMUM_SIZE n (Some (f c.in-Some.root)) = subst (λ z. IsSound g.K.KeyTrait.MAXIMUM_SIZE n (option_map f z)) c.in-Some.is c.self.invariant in (
+      rw (← c.self.view_is) (c.in_ok-old-in-Some.ensures.replaced ∙ sym (value-in g.K.KeyTrait.MAXIMUM_SIZE n o n w c.self.invariant ∙ ap (λ z. found_in (option_map f z) w) c.in-Some.is)),
+      rw (← c.self.view_is, c.in-Some.is)
+          (ap (λ m. record { content = m; number = n + c.args.more }) (map-put (Some (f c.in-Some.root)) (f c.insert_below.new.at) w c.args.value sound.0 (root-put w c.args.value (f c.in-Some.root) (f c.insert_below.new.at) c.in_ok-old-in-Some.ensures.put))),
+    )
 
 pub returns-in_err-leaf-in-None-clause-counted : goal.returns-in_err-leaf-in-None-clause-counted
 returns-in_err-leaf-in-None-clause-counted g c =

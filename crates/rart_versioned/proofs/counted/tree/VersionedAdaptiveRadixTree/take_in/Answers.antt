@@ -62,11 +62,12 @@ returns-clause-changes g c =
       | else-removed b ↦ ap (λ (i : _). option_map f i.root) b.self-inside-is ∙ ap (λ t. kept t (f c.remove_below.new.at)) (sym b.if-removed.false)
     ] in
     let at_root : IsTaken w (f c.in-Some.root) (f c.remove_below.new.at) = subst (λ k. IsTaken k (f c.in-Some.root) (f c.remove_below.new.at)) c.as_ref.ensures c.in_ok-removed.ensures.taken in
-    let taken : IsTakenIn w before after = subst (λ o. IsTakenIn w (option_map f o) after) (sym c.in-Some.is) (root-taken w (f c.in-Some.root) (f c.remove_below.new.at) left after at_root c.in_ok-removed.ensures.unused root_is) in
-    (c.in_ok-removed.ensures.value ∙ ap (found (f c.in-Some.root)) c.as_ref.ensures ∙ ap (λ o. found_in (option_map f o) w) (sym c.in-Some.is) ∙ sym (get-found before w tree)
-    ∙ ap (λ (v : Version g.row.V.Denot). value_at v w) c.self.view_is,
-    ap (λ m. record { content = m; number = c.self.inside.version + c.args.more }) (map-taken before after w tree taken)
-    ∙ ap (λ (v : Version g.row.V.Denot). without_key v w c.args.more) c.self.view_is)
+    let taken : IsTakenIn w before after = subst (λ o. IsTakenIn w (option_map f o) after) (sym c.in-Some.is) (root-taken w (f c.in-Some.root) (f c.remove_below.new.at) left after at_root c.in_ok-removed.ensures.unused root_is) in (
+      c.in_ok-removed.ensures.value ∙ ap (found (f c.in-Some.root)) c.as_ref.ensures ∙ ap (λ o. found_in (option_map f o) w) (sym c.in-Some.is) ∙ sym (get-found before w tree)
+          ∙ ap (λ (v : Version g.row.V.Denot). value_at v w) c.self.view_is,
+      ap (λ m. record { content = m; number = c.self.inside.version + c.args.more }) (map-taken before after w tree taken)
+          ∙ ap (λ (v : Version g.row.V.Denot). without_key v w c.args.more) c.self.view_is,
+    )
 
 pub returns-in_err-removed-clause-counted : goal.returns-in_err-removed-clause-counted
 returns-in_err-removed-clause-counted g c =

@@ -41,15 +41,19 @@ module _ {V : Type 0} where
   abbrev pub IsSound : Option ℕ → ℕ → Option (Shape V) → Type 0
   IsSound most count None = ⊤
   IsSound most count (Some root) =
-      IsTree root × ((key : List ℕ) → IsSome (found root key) → IsKeyLength most (length key)) × (finite.len (map_of (Some root)) ≤ count)
+      IsTree root
+      × ((key : List ℕ) → IsSome (found root key) → IsKeyLength most (length key))
+      × (finite.len (map_of (Some root)) ≤ count)
 
   -- After, the key has the value below the root, and every other string has what it had.
   abbrev pub IsPutBelow : List ℕ → V → Option (Shape V) → Option (Shape V) → Type 0
-  IsPutBelow key value before after = (q : List ℕ) → found_in after q ≡ (if bytes_eq q key then Some value else found_in before q)
+  IsPutBelow key value before after = (q : List ℕ) →
+      found_in after q ≡ (if bytes_eq q key then Some value else found_in before q)
 
   -- Sound as it was: for keys of that length, and for as many of them.
   abbrev pub StaysSound : Option (Shape V) → Option (Shape V) → Type 0
-  StaysSound before after = (most : Option ℕ) (count : ℕ) → IsSound most count before → IsSound most count after
+  StaysSound before after =
+      (most : Option ℕ) (count : ℕ) → IsSound most count before → IsSound most count after
 
 module _ (P V : RattleType) (bytes : P.Denot → List ℕ) where
   -- what is below a root
@@ -58,8 +62,12 @@ module _ (P V : RattleType) (bytes : P.Denot → List ℕ) where
 
   -- The root has the key set to the value as it was left behind the result, and refused, what it had.
   -- It stays sound.
-  abbrev pub LendsBelow : {E : Type 0} → MutBor (Option (NodeRef P.Denot V.Denot)) → List ℕ → Result (MutBor V.Denot) E → Fml
+  abbrev pub LendsBelow : {E : Type 0} →
+      MutBor (Option (NodeRef P.Denot V.Denot)) → List ℕ → Result (MutBor V.Denot) E → Fml
   LendsBelow lender key result =
-      follows_so (option.the_row (pointer.the_row P V)) V lender.ghost_name (name_if_ok (λ value. value.ghost_name) result)
-      (λ left after. (IsOk result → IsPutBelow key left (below_root lender.now) (below_root after)) × StaysSound (below_root lender.now) (below_root after))
-      (λ after. OnErr result (below_root after ≡ below_root lender.now) × StaysSound (below_root lender.now) (below_root after))
+      follows_so (option.the_row (pointer.the_row P V)) V lender.ghost_name
+      (name_if_ok (λ value. value.ghost_name) result)
+      (λ left after. (IsOk result → IsPutBelow key left (below_root lender.now) (below_root after))
+      × StaysSound (below_root lender.now) (below_root after))
+      (λ after. OnErr result (below_root after ≡ below_root lender.now)
+      × StaysSound (below_root lender.now) (below_root after))

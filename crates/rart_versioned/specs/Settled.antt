@@ -49,7 +49,8 @@ module _ {V : Type 0} where
   abbrev pub TriesToInsert : {E : Type 0} → Result (SlotUpdate V) E → Type 0
   TriesToInsert told = (x : V) × (told ≡ Ok (Insert x))
 
-  -- What a callback that may fail left in the slot and answered leads to this answer and this version.
+  -- What a callback that may fail left in the slot and answered leads to this answer and this
+  -- version.
   abbrev pub IsTried : {E : Type 0} →
       Version V → List ℕ → Slot V → Result (SlotUpdate V) E → Result Bool E → Version V → Type 0
   IsTried before w left told answer after = (answer, after) ≡ tried before w left told

@@ -1,4 +1,5 @@
--- The nodes that a walk has open, from the root down: each with its prefix and the children that are left.
+-- The nodes that a walk has open, from the root down: each with its prefix and the children that are
+-- left.
 use Rattle.std.specs.Prelude.{◌≡◌, ℕ, ◌+◌, List, [], ◌∷◌, ◌++◌, Option, Some, None, map, ⊤}
 use Rattle.std.specs.List.{concat}
 use Rattle.rart_node.specs.Shape.{Shape, prefix_of, children_of}
@@ -62,7 +63,10 @@ module _ {V : Type 0} where
   -- The next child of the innermost node was taken, or it had none left, or no node was open.
   abbrev pub TakesChild : List (Opened V) → Option (Option (Shape V)) → List (Opened V) → Type 0
   TakesChild before None after = (before ≡ []) × (after ≡ [])
-  TakesChild before (Some None) after = (after ≡ before) × (front : List (Opened V)) × (segment : List ℕ) × (before ≡ front ++ (segment, []) ∷ [])
+  TakesChild before (Some None) after =
+      (after ≡ before) × (front : List (Opened V)) × (segment : List ℕ)
+      × (before ≡ front ++ (segment, []) ∷ [])
   TakesChild before (Some (Some child)) after =
       (front : List (Opened V)) × (segment : List ℕ) × (byte : ℕ) × (rest : List (ℕ × Shape V))
-      × (before ≡ front ++ (segment, (byte, child) ∷ rest) ∷ []) × (after ≡ front ++ (segment, rest) ∷ [])
+      × (before ≡ front ++ (segment, (byte, child) ∷ rest) ∷ [])
+      × (after ≡ front ++ (segment, rest) ∷ [])

@@ -18,8 +18,10 @@ module _ {P V : Type 0} {partial : _} (bytes : P → List ℕ) where
     abbrev pub standing : Walk P V T partial → Standing V
     standing walk = standing_of (opened walk.frames.items) (option_copied walk.pending)
 
-    -- What is left of a walk are trees, no key of which is too long for the trail, and the trail keeps the way to where the walk stands.
-    pub record IsWalk (holds : T → List (List ℕ) → Type 0) (greatest : Option ℕ) (walk : Walk P V T partial) : Type 0 where
+    -- What is left of a walk are trees, no key of which is too long for the trail, and the trail keeps
+    -- the way to where the walk stands.
+    pub record IsWalk (holds : T → List (List ℕ) → Type 0) (greatest : Option ℕ)
+        (walk : Walk P V T partial) : Type 0 where
       pub holds_way : holds walk.trail (segments_of (opened walk.frames.items))
       pub trees : TreesAhead (opened walk.frames.items)
       pub short : AreShort greatest (pairs_ahead (opened walk.frames.items))

@@ -9,7 +9,8 @@ module _ {V : Type 0} where
   abbrev mutual
     -- the path of each node: the prefixes from the root down to it, joined
     pub paths_of : Shape V → List (List ℕ)
-    paths_of (node prefix value width forest) = map (λ path. prefix ++ path) ([] ∷ paths_below forest)
+    paths_of (node prefix value width forest) =
+        map (λ path. prefix ++ path) ([] ∷ paths_below forest)
 
     pub paths_below : Forest V → List (List ℕ)
     paths_below bare = []
@@ -34,7 +35,8 @@ module _ {V : Type 0} where
   abbrev pub ended : Standing V
   ended = record { segments = []; pairs = []; nodes = 0 }
 
-  -- The walk gave the first pair of what was left, and stands at its node, or there was none, and it has ended.
+  -- The walk gave the first pair of what was left, and stands at its node, or there was none, and it
+  -- has ended.
   abbrev pub Gives : Standing V → Option (Bor V) → Standing V → Type 0
   Gives before None after = (before.pairs ≡ []) × (after ≡ ended)
   Gives before (Some value) after = before.pairs ≡ (concat after.segments, value.now) ∷ after.pairs

@@ -73,11 +73,14 @@ module _ {K V : Type 0} (bytes : K → List ℕ) where
   outcome f (NumberOf place) = reads f place (λ v. Number v.number)
   outcome f (IsEmpty place) = reads f place (λ v. Flag (has_no_key v))
   outcome f (Get place key) = reads f place (λ v. Value (value_at v (bytes key)))
-  outcome f (GetMut place key value) = changes f place 1 (λ v. (Flag (has_key v (bytes key)), after_writing v (bytes key) value))
+  outcome f (GetMut place key value) =
+      changes f place 1 (λ v. (Flag (has_key v (bytes key)), after_writing v (bytes key) value))
   outcome f (Insert place key value) = changes f place 1 (λ v. (Flag (has_key v (bytes key)), with_key v (bytes key) value 1))
   outcome f (Replace place key value) = changes f place 1 (λ v. (Value (value_at v (bytes key)), with_key v (bytes key) value 1))
-  outcome f (Remove place key) = changes f place 1 (λ v. (Value (value_at v (bytes key)), after_removal v (bytes key)))
-  outcome f (Delete place key) = changes f place 1 (λ v. (Flag (has_key v (bytes key)), after_removal v (bytes key)))
+  outcome f (Remove place key) =
+      changes f place 1 (λ v. (Value (value_at v (bytes key)), after_removal v (bytes key)))
+  outcome f (Delete place key) =
+      changes f place 1 (λ v. (Flag (has_key v (bytes key)), after_removal v (bytes key)))
   outcome f (Update place key write answer) = changes f place 1 (λ v.
       let after = updated v (bytes key) (slot_of (written (value_at v (bytes key)) write)) answer in (Flag after.0, after.1))
   outcome f (TryUpdate place key write answer) = changes f place 2 (λ v.

@@ -21,7 +21,8 @@ fn leaf(
     work: &mut Work,
 ) -> Result<NodeRef<ArrPartial<16>, u64>, AllocError>
     requires { length bytes.now ≤ 16 }
-    ensures { IfOk result (λ leaf. shown ⟦<ArrPartial<16> as Partial>⟧.bytes leaf ≡ node_of bytes.now (Some value) 0 []) }
+    ensures { IfOk result (λ leaf. shown ⟦<ArrPartial<16> as Partial>⟧.bytes leaf
+        ≡ node_of bytes.now (Some value) 0 []) }
 {
     let key: ArrayKey<16> = ArrayKey::new_from_slice(alloc, bytes)?;
     let prefix = key.to_partial(alloc, 0)?;

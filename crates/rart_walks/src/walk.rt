@@ -56,18 +56,20 @@ impl<'a, P: Partial, V: Drop, T: Trail<'a>> Walk<'a, P, V, T> {
         requires walk { IsWalk P.bytes T.holds T.greatest self.old }
         requires pending { self.old.pending ≡ None }
         requires tree { IsTree (seen P.bytes node.now) }
-        requires short { AreShort T.greatest (behind_path (concat (standing P.bytes self.old).segments)
-            (pairs_of (seen P.bytes node.now))) }
+        requires short { AreShort T.greatest (behind_path
+            (concat (standing P.bytes self.old).segments) (pairs_of (seen P.bytes node.now))) }
         ensures walk { OnOk result (IsWalk P.bytes T.holds T.greatest self.new) }
         ensures pairs { OnOk result ((standing P.bytes self.new).pairs
-            ≡ behind_path (concat (standing P.bytes self.old).segments) (pairs_of (seen P.bytes node.now))
+            ≡ behind_path (concat (standing P.bytes self.old).segments)
+            (pairs_of (seen P.bytes node.now))
             ++ (standing P.bytes self.old).pairs) }
         ensures nodes { OnOk result ((standing P.bytes self.new).nodes + 1
             ≡ (standing P.bytes self.old).nodes + nodes_of (seen P.bytes node.now)) }
         ensures frames { OnOk result (opened P.bytes self.new.frames.items
             ≡ opened P.bytes self.old.frames.items
             ++ (prefix_of (seen P.bytes node.now), children_of (seen P.bytes node.now)) ∷ []) }
-        ensures pending { OnOk result (option_copied self.new.pending ≡ value_of (seen P.bytes node.now)) }
+        ensures pending { OnOk result (option_copied self.new.pending
+            ≡ value_of (seen P.bytes node.now)) }
     {
         enter(&mut self.frames, &mut self.trail, node)?;
         self.pending = node.value();
@@ -80,10 +82,12 @@ impl<'a, P: Partial, V: Drop, T: Trail<'a>> Walk<'a, P, V, T> {
         segment: &'a [u8],
         children: VersionedNodeIter<'a, P, V>,
     ) -> Result<(), AllocError>
-        requires holds { T.holds self.old.trail (segments_of (opened P.bytes self.old.frames.items)) }
+        requires holds { T.holds self.old.trail
+            (segments_of (opened P.bytes self.old.frames.items)) }
         requires short { IsAdmitted T.greatest (length (concat
             (segments_of (opened P.bytes self.old.frames.items) ++ segment.now ∷ []))) }
-        ensures holds { T.holds self.new.trail (segments_of (opened P.bytes self.new.frames.items)) }
+        ensures holds { T.holds self.new.trail
+            (segments_of (opened P.bytes self.new.frames.items)) }
         ensures frames { OnOk result (opened P.bytes self.new.frames.items
             ≡ opened P.bytes self.old.frames.items
             ++ (segment.now, children_left P.bytes children.entry) ∷ []) }
@@ -194,7 +198,8 @@ fn enter<'a, P: Partial, V: Drop, T: Trail<'a>>(
     requires order { IsAscending (seen P.bytes node.now) }
     requires holds { T.holds trail.old (segments_of (opened P.bytes frames.old.items)) }
     requires short { IsAdmitted T.greatest (length (concat
-        (segments_of (opened P.bytes frames.old.items) ++ prefix_of (seen P.bytes node.now) ∷ []))) }
+        (segments_of (opened P.bytes frames.old.items)
+        ++ prefix_of (seen P.bytes node.now) ∷ []))) }
     ensures opened { opened P.bytes frames.new.items ≡ (if is_ok result
         then opened P.bytes frames.old.items
         ++ (prefix_of (seen P.bytes node.now), children_of (seen P.bytes node.now)) ∷ []
@@ -216,7 +221,8 @@ fn enter_for<'a, P: Partial, V: Drop, T: Trail<'a>>(
     requires short { IsAdmitted T.greatest (length (concat
         (segments_of (opened P.bytes frames.old.items) ++ segment.now ∷ []))) }
     ensures opened { opened P.bytes frames.new.items ≡ (if is_ok result
-        then opened P.bytes frames.old.items ++ (segment.now, children_left P.bytes children.entry) ∷ []
+        then opened P.bytes frames.old.items
+        ++ (segment.now, children_left P.bytes children.entry) ∷ []
         else opened P.bytes frames.old.items) }
     ensures holds { T.holds trail.new (segments_of (opened P.bytes frames.new.items)) }
 {

@@ -97,10 +97,11 @@ impl<'a, P: Partial, V: Drop, T: Trail<'a>> Walk<'a, P, V, T> {
             ≡ filter (λ pair. is_from_start (as_partial_cmp byte_order)
             (bound_map (λ low. low.now) low.entry) pair.0) (pairs_of (shown P.bytes root.now))) }
         ensures nodes { IfOk result (λ walk. (standing P.bytes walk).nodes
-            ≤ count_by (λ path. is_le (byte_order (start_of (bound_map (λ low. low.now) low.entry)) path))
+            ≤ count_by (λ path. is_le (byte_order
+            (start_of (bound_map (λ low. low.now) low.entry)) path))
             (paths_of (shown P.bytes root.now))) }
-        ensures counted { CountsUpTo (length (start_of (bound_map (λ low. low.now) low.entry)) + 1) 0
-            work.old work.new }
+        ensures counted { CountsUpTo
+            (length (start_of (bound_map (λ low. low.now) low.entry)) + 1) 0 work.old work.new }
     {
         match low {
             Bound::Included(low) => way_to(alloc, root, Part::From, low, work),
@@ -164,13 +165,15 @@ fn finish<'a, P: Partial, V: Drop, T: Trail<'a>>(
     requires short { AreShort T.greatest (behind_path (concat (standing P.bytes walk.old).segments)
         (pairs_of (seen P.bytes node.now))) }
     requires common { common ≡ common_length (prefix_of (seen P.bytes node.now)) rest.now }
-    requires ends { (common ≡ length rest.now) ⊎ (common < length (prefix_of (seen P.bytes node.now))) }
+    requires ends { (common ≡ length rest.now)
+        ⊎ (common < length (prefix_of (seen P.bytes node.now))) }
     ensures walk { OnOk result (IsWalk P.bytes T.holds T.greatest walk.new) }
     ensures pairs { OnOk result ((standing P.bytes walk.new).pairs
         ≡ behind_path (concat (standing P.bytes walk.old).segments)
         (filter (λ pair. keeps part rest.now pair.0) (pairs_of (seen P.bytes node.now)))
         ++ (standing P.bytes walk.old).pairs) }
-    ensures nodes { OnOk result ((standing P.bytes walk.new).nodes ≤ (standing P.bytes walk.old).nodes
+    ensures nodes { OnOk result ((standing P.bytes walk.new).nodes
+        ≤ (standing P.bytes walk.old).nodes
         + count_by (reaches part rest.now) (paths_of (seen P.bytes node.now))) }
 {
     if common == rest.len() {
@@ -208,7 +211,8 @@ fn enter_end<'a, P: Partial, V: Drop, T: Trail<'a>>(
     ensures walk { OnOk result (IsWalk P.bytes T.holds T.greatest walk.new) }
     ensures pairs { OnOk result ((standing P.bytes walk.new).pairs
         ≡ behind_path (concat (standing P.bytes walk.old).segments)
-        (if is_passed then pairs_inside (seen P.bytes node.now) else pairs_of (seen P.bytes node.now))
+        (if is_passed then pairs_inside (seen P.bytes node.now)
+        else pairs_of (seen P.bytes node.now))
         ++ (standing P.bytes walk.old).pairs) }
     ensures nodes { OnOk result ((standing P.bytes walk.new).nodes + 1
         ≡ (standing P.bytes walk.old).nodes + nodes_of (seen P.bytes node.now)) }

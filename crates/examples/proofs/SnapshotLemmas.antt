@@ -5,7 +5,7 @@ use Rattle.std.specs.FinMap as finite
 use Rattle.std.specs.Ordering.{is_eq}
 use Rattle.std.specs.Cmp.{tied_itself}
 use Rattle.std.proofs.lemmas.Cmp.{nat_list_cmp_total}
-use Rattle.rart_family.specs.Given.{byte_order, empty_at, raised, with_key}
+use Rattle.rart_family.specs.Given.{byte_order, empty_at, with_rise, with_key}
 use Rattle.rart_family.specs.declared.family.command.Command.{Command}
 use Rattle.rart_family.specs.declared.family.command.Command.TheVariants.{New, Snapshot, Insert, Get}
 use Rattle.rart_family.specs.Replies.{Reply, Value, NoMemory}
@@ -45,8 +45,8 @@ module _ {K V : Type 0} (bytes : K → List ℕ) where
         let own4 = own run.2.2.2.0 run.2.2.2.2.0 (Get 1 d) r4 run.2.2.2.2.1 (told 4 r0 (omega arith)) in
         let made : run.0 ≡ Some (empty_at 0) ∷ [] = own0.1 in
         let inserted : run.2.0 ≡ Some (with_key (empty_at 0) (bytes a) first 1) ∷ [] = own1.1 ∙ ap (λ f. after bytes f (Insert 0 a first)) made in
-        let copied : run.2.2.0 ≡ Some (with_key (empty_at 0) (bytes a) first 1) ∷ Some (raised (with_key (empty_at 0) (bytes a) first 1) 1) ∷ [] = own2.1 ∙ ap (λ f. after bytes f (Snapshot 0)) inserted in
-        let changed : run.2.2.2.0 ≡ Some (with_key (with_key (empty_at 0) (bytes a) first 1) (bytes b) second 1) ∷ Some (raised (with_key (empty_at 0) (bytes a) first 1) 1) ∷ [] = own3.1 ∙ ap (λ f. after bytes f (Insert 0 b second)) copied in
+        let copied : run.2.2.0 ≡ Some (with_key (empty_at 0) (bytes a) first 1) ∷ Some (with_rise (with_key (empty_at 0) (bytes a) first 1) 1) ∷ [] = own2.1 ∙ ap (λ f. after bytes f (Snapshot 0)) inserted in
+        let changed : run.2.2.2.0 ≡ Some (with_key (with_key (empty_at 0) (bytes a) first 1) (bytes b) second 1) ∷ Some (with_rise (with_key (empty_at 0) (bytes a) first 1) 1) ∷ [] = own3.1 ∙ ap (λ f. after bytes f (Insert 0 b second)) copied in
         ap Some (own4.0 ∙ ap (λ f. reply_to bytes f (Get 1 d)) changed ∙ ap Value value_there)
     snapshot_replies [] new run told = absurd run
     snapshot_replies (r0 ∷ []) new run told = absurd run.2

@@ -2,7 +2,7 @@
 //! is told afterwards.
 ghost use Rattle.std.specs.Prelude.{◌≡◌, ◌≢◌, Some, IfOk, All, map, length, slice_get};
 ghost use Rattle.rart_family.specs.Given.{ClonesEqual};
-ghost use Rattle.rart_family.specs.Replies.{Value, NoMemory, seen};
+ghost use Rattle.rart_family.specs.Replies.{Value, NoMemory, reply_value};
 
 use rart_family::{Command, Family, KeyTrait, Reply, Work};
 use std::alloc::{AllocError, Global};
@@ -20,8 +20,8 @@ pub fn replies_beside_a_snapshot<K: KeyTrait, V: Clone + Drop>(
     requires clones { ClonesEqual V.is_clone }
     ensures one_each { IfOk result (λ replies. length replies.items ≡ 5) }
     ensures snapshot_keeps_value { IfOk result (λ replies.
-        All (λ reply. reply ≢ NoMemory) (map (seen K.bytes) replies.items)
-        → slice_get (map (seen K.bytes) replies.items) 4 ≡ Some (Value (Some first))) }
+        All (λ reply. reply ≢ NoMemory) (map (reply_value K.bytes) replies.items)
+        → slice_get (map (reply_value K.bytes) replies.items) 4 ≡ Some (Value (Some first))) }
 {
     let mut commands = Vec::new(alloc);
     commands.push(Command::New)?;

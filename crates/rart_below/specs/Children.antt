@@ -1,5 +1,5 @@
 -- Children: a list of things, each under its byte. A mapping or a node shows one.
-use Rattle.std.specs.Prelude.{ℕ, List, [], ◌∷◌, Option, Some, None, IsTrue, not, ◌==◌, nat_le}
+use Rattle.std.specs.Prelude.{ℕ, List, [], ◌∷◌, Option, Some, None, IsTrue, not, ◌==◌, nat_le, map}
 use Rattle.std.specs.Ordering.{nat_cmp}
 use Rattle.std.specs.FinMap.Entries.{find, put, where_key, is_sorted}
 
@@ -27,3 +27,7 @@ module _ {C : Type 0} where
   -- The bytes strictly rise.
   abbrev pub IsAscending : List (ℕ × C) → Type 0
   IsAscending children = IsTrue (is_sorted nat_cmp children)
+
+-- the children, this done to each
+abbrev pub map_children : {A B : Type 0} → (A → B) → List (ℕ × A) → List (ℕ × B)
+map_children f children = map (λ child. (child.0, f child.1)) children

@@ -4,7 +4,7 @@ use Rattle.std.specs.Prelude.{◌==◌}
 use Rattle.std.specs.List.{sum_by}
 use Rattle.std.proofs.lemmas.List.Sums.{sum_by-cons}
 use Rattle.std.proofs.lemmas.Bool.{and_parts, eqb-true, eq-eqb, ne_eqb}
-use Rattle.rart_below.specs.Layouts.{one_if_held, slot_children, named_slots, names_of, is_named_once}
+use Rattle.rart_below.specs.Layouts.{one_if_some, slot_children, named_slots, names_of, is_named_once}
 
 nothing : (test : Bool) (n : ℕ) → cond test 0 0 + n ≡ n
 nothing true n = omega arith
@@ -18,7 +18,7 @@ module _ {C : Type 0} where
   -- what the slots hold at this number, where the first has the number first
   abbrev weight : ℕ → List (Option C) → ℕ → ℕ
   weight first [] place = 0
-  weight first (slot ∷ slots) place = cond (place == first) (one_if_held slot) 0 + weight (suc first) slots place
+  weight first (slot ∷ slots) place = cond (place == first) (one_if_some slot) 0 + weight (suc first) slots place
 
   weight-below : (first : ℕ) (slots : List (Option C)) (place : ℕ) → place < first → weight first slots place ≡ 0
   weight-below first [] place lt = refl
@@ -26,7 +26,7 @@ module _ {C : Type 0} where
       let differs : (place == first) ≡ false = ne_eqb place first (omega arith) in
       rw (differs, weight-below (suc first) slots place (omega arith)) refl
 
-  weight-at : (first : ℕ) (slots : List (Option C)) (place : ℕ) → weight first slots (first + place) ≡ one_if_held (get_or slots place None)
+  weight-at : (first : ℕ) (slots : List (Option C)) (place : ℕ) → weight first slots (first + place) ≡ one_if_some (get_or slots place None)
   weight-at first [] place = refl
   weight-at first (slot ∷ slots) zero =
       let same : ((first + 0) == first) ≡ true = eq-eqb (first + 0) first (omega arith) in
@@ -56,7 +56,7 @@ module _ {C : Type 0} where
       let parts = and_parts (names_of first index == 1) (is_named_once (suc first) slots index) named in
       omega (arith, total-some first child slots index, eqb-true (names_of first index) 1 parts.0, total-named (suc first) (suc byte) slots index parts.1)
 
-  length-slots-cons : (byte : ℕ) (slot : Option C) (slots : List (Option C)) → length (slot_children byte (slot ∷ slots)) ≡ one_if_held slot + length (slot_children (suc byte) slots)
+  length-slots-cons : (byte : ℕ) (slot : Option C) (slots : List (Option C)) → length (slot_children byte (slot ∷ slots)) ≡ one_if_some slot + length (slot_children (suc byte) slots)
   length-slots-cons byte None slots = omega arith
   length-slots-cons byte (Some child) slots = omega arith
 

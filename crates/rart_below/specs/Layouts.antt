@@ -26,9 +26,9 @@ pub record IsPlaceOf (byte : ℕ) (keys : List ℕ) (place : ℕ) : Type 0 where
 abbrev pub IsAbsent : ℕ → List ℕ → Type 0
 IsAbsent byte keys = rank byte keys < length keys → slice_index keys (rank byte keys) ≢ byte
 
-abbrev pub one_if_held : {C : Type 0} → Option C → ℕ
-one_if_held None = 0
-one_if_held (Some child) = 1
+abbrev pub one_if_some : {C : Type 0} → Option C → ℕ
+one_if_some None = 0
+one_if_some (Some child) = 1
 
 -- the children in slots that stand beside their keys
 abbrev pub keyed_children : {C : Type 0} → List ℕ → List (Option C) → List (ℕ × C)
@@ -57,7 +57,7 @@ named_slots slots index = map (λ place. slice_index_or slots place None) index
 -- the number whose bits mark the slots in use
 abbrev pub marks_of : {C : Type 0} → List (Option C) → ℕ
 marks_of [] = 0
-marks_of (slot ∷ slots) = one_if_held slot + 2 * marks_of slots
+marks_of (slot ∷ slots) = one_if_some slot + 2 * marks_of slots
 
 -- how many entries of the index name this place
 abbrev pub names_of : ℕ → List ℕ → ℕ
@@ -66,4 +66,4 @@ names_of place index = count_by (λ entry. entry == place) index
 -- whether the index names each slot that is in use once and the others never, where the first slot has this number
 abbrev pub is_named_once : {C : Type 0} → ℕ → List (Option C) → List ℕ → Bool
 is_named_once first [] index = true
-is_named_once first (slot ∷ slots) index = names_of first index == one_if_held slot && is_named_once (suc first) slots index
+is_named_once first (slot ∷ slots) index = names_of first index == one_if_some slot && is_named_once (suc first) slots index

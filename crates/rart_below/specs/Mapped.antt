@@ -5,7 +5,8 @@ use Rattle.std.proofs.Math.ListN.{get_or-map}
 use Rattle.std.proofs.lemmas.List.{length-map}
 use Rattle.std.specs.Ordering.{nat_cmp, is_lt}
 use Rattle.std.specs.FinMap.Entries.{is_sorted, below_all}
-use Rattle.rart_below.specs.Layouts.{one_if_held, keyed_children, is_filled, slot_children, named_slots, names_of, marks_of, is_named_once}
+use Rattle.rart_below.specs.Children.{map_children}
+use Rattle.rart_below.specs.Layouts.{one_if_some, keyed_children, is_filled, slot_children, named_slots, names_of, marks_of, is_named_once}
 use Rattle.rart_below.specs.SortedKeyedMapping.{sorted_children, sorted_in_order}
 use Rattle.rart_below.specs.IndexedMapping.{indexed_children, indexed_in_order}
 use Rattle.rart_below.specs.DirectMapping.{direct_children, direct_in_order}
@@ -13,24 +14,24 @@ use Rattle.rart_below.specs.declared.mapping.sorted.SortedKeyedMapping.{SortedKe
 use Rattle.rart_below.specs.declared.mapping.indexed.IndexedMapping.{IndexedMapping}
 use Rattle.rart_below.specs.declared.mapping.direct.DirectMapping.{DirectMapping}
 
--- `f` maps a child, and `g` is `f` on slots
-module _ {A B : Type 0} (f : A → B) (g : Option A → Option B) (none : g None ≡ None) (some : (child : A) → g (Some child) ≡ Some (f child)) where
-  abbrev pub at_children : List (ℕ × A) → List (ℕ × B)
-  at_children = map (λ child. (child.0, f child.1))
+-- `f` maps a child
+module _ {A B : Type 0} (f : A → B) where
+  pub length-map_children : (children : List (ℕ × A)) → length (map_children f children) ≡ length children
+  length-map_children children = length-map children (λ child. (child.0, f child.1))
 
-  pub length-at_children : (children : List (ℕ × A)) → length (at_children children) ≡ length children
-  length-at_children children = length-map children (λ child. (child.0, f child.1))
+  below_all-map_children : (byte : ℕ) (children : List (ℕ × A)) → below_all nat_cmp byte (map_children f children) ≡ below_all nat_cmp byte children
+  below_all-map_children byte [] = refl
+  below_all-map_children byte (child ∷ children) = ap (λ (rest : Bool). is_lt (nat_cmp byte child.0) && rest) (below_all-map_children byte children)
 
-  below_all-at_children : (byte : ℕ) (children : List (ℕ × A)) → below_all nat_cmp byte (at_children children) ≡ below_all nat_cmp byte children
-  below_all-at_children byte [] = refl
-  below_all-at_children byte (child ∷ children) = ap (λ (rest : Bool). is_lt (nat_cmp byte child.0) && rest) (below_all-at_children byte children)
+  pub is_sorted-map_children : (children : List (ℕ × A)) → is_sorted nat_cmp (map_children f children) ≡ is_sorted nat_cmp children
+  is_sorted-map_children [] = refl
+  is_sorted-map_children (child ∷ children) = λ i. below_all-map_children child.0 children i && is_sorted-map_children children i
 
-  pub is_sorted-at_children : (children : List (ℕ × A)) → is_sorted nat_cmp (at_children children) ≡ is_sorted nat_cmp children
-  is_sorted-at_children [] = refl
-  is_sorted-at_children (child ∷ children) = λ i. below_all-at_children child.0 children i && is_sorted-at_children children i
-
+-- and `g` is `f` on slots
+module _ {A B : Type 0} (f : A → B) (g : Option A → Option B) (none : g None ≡ None)
+    (some : (child : A) → g (Some child) ≡ Some (f child)) where
   -- ---- slots beside their keys
-  pub keyed_children-map : (keys : List ℕ) (slots : List (Option A)) → keyed_children keys (map g slots) ≡ at_children (keyed_children keys slots)
+  pub keyed_children-map : (keys : List ℕ) (slots : List (Option A)) → keyed_children keys (map g slots) ≡ map_children f (keyed_children keys slots)
   keyed_children-map [] slots = refl
   keyed_children-map (key ∷ keys) [] = refl
   keyed_children-map (key ∷ keys) (None ∷ slots) =
@@ -47,7 +48,7 @@ module _ {A B : Type 0} (f : A → B) (g : Option A → Option B) (none : g None
       ap (λ (slot : Option B). is_filled (key ∷ keys) (slot ∷ map g slots)) (some child) ∙ is_filled-map keys slots
 
   -- ---- slots by bytes
-  pub slot_children-map : (byte : ℕ) (slots : List (Option A)) → slot_children byte (map g slots) ≡ at_children (slot_children byte slots)
+  pub slot_children-map : (byte : ℕ) (slots : List (Option A)) → slot_children byte (map g slots) ≡ map_children f (slot_children byte slots)
   slot_children-map byte [] = refl
   slot_children-map byte (None ∷ slots) =
       ap (λ (slot : Option B). slot_children byte (slot ∷ map g slots)) none ∙ slot_children-map (suc byte) slots
@@ -56,9 +57,9 @@ module _ {A B : Type 0} (f : A → B) (g : Option A → Option B) (none : g None
       ∙ ap (λ (rest : List (ℕ × B)). (byte, f child) ∷ rest) (slot_children-map (suc byte) slots)
 
   -- ---- slots that an index names
-  one_if_held-map : (slot : Option A) → one_if_held (g slot) ≡ one_if_held slot
-  one_if_held-map None = ap one_if_held none
-  one_if_held-map (Some child) = ap one_if_held (some child)
+  one_if_some-map : (slot : Option A) → one_if_some (g slot) ≡ one_if_some slot
+  one_if_some-map None = ap one_if_some none
+  one_if_some-map (Some child) = ap one_if_some (some child)
 
   slot_at-map : (slots : List (Option A)) (place : ℕ) → slice_index_or (map g slots) place None ≡ g (slice_index_or slots place None)
   slot_at-map slots place = ap (λ (past : Option B). slice_index_or (map g slots) place past) (sym none) ∙ get_or-map g slots place None
@@ -69,32 +70,32 @@ module _ {A B : Type 0} (f : A → B) (g : Option A → Option B) (none : g None
 
   pub marks_of-map : (slots : List (Option A)) → marks_of (map g slots) ≡ marks_of slots
   marks_of-map [] = refl
-  marks_of-map (slot ∷ slots) = λ i. one_if_held-map slot i + 2 * marks_of-map slots i
+  marks_of-map (slot ∷ slots) = λ i. one_if_some-map slot i + 2 * marks_of-map slots i
 
   pub is_named_once-map : (first : ℕ) (slots : List (Option A)) (index : List ℕ) → is_named_once first (map g slots) index ≡ is_named_once first slots index
   is_named_once-map first [] index = refl
-  is_named_once-map first (slot ∷ slots) index = λ i. (names_of first index == one_if_held-map slot i) && is_named_once-map (suc first) slots index i
+  is_named_once-map first (slot ∷ slots) index = λ i. (names_of first index == one_if_some-map slot i) && is_named_once-map (suc first) slots index i
 
   -- ---- the mappings, where the second has the lists of the first, its slots mapped
-  pub sorted_children-map : {WIDTH : ℕ} (mapping : SortedKeyedMapping A WIDTH) (mapped : SortedKeyedMapping B WIDTH) → mapped.keys.items ≡ mapping.keys.items → mapped.children.slots ≡ map g mapping.children.slots → sorted_children mapped ≡ at_children (sorted_children mapping)
+  pub sorted_children-map : {WIDTH : ℕ} (mapping : SortedKeyedMapping A WIDTH) (mapped : SortedKeyedMapping B WIDTH) → mapped.keys.items ≡ mapping.keys.items → mapped.children.slots ≡ map g mapping.children.slots → sorted_children mapped ≡ map_children f (sorted_children mapping)
   sorted_children-map mapping mapped keys slots = (λ i. keyed_children (keys i) (slots i)) ∙ keyed_children-map mapping.keys.items mapping.children.slots
 
   pub sorted_in_order-map : {WIDTH : ℕ} (mapping : SortedKeyedMapping A WIDTH) (mapped : SortedKeyedMapping B WIDTH) → mapped.keys.items ≡ mapping.keys.items → mapped.children.slots ≡ map g mapping.children.slots → sorted_in_order mapped ≡ sorted_in_order mapping
   sorted_in_order-map {WIDTH} mapping mapped keys slots =
-      let shown = ap (is_sorted nat_cmp) (sorted_children-map mapping mapped keys slots) ∙ is_sorted-at_children (sorted_children mapping) in
+      let shown = ap (is_sorted nat_cmp) (sorted_children-map mapping mapped keys slots) ∙ is_sorted-map_children f (sorted_children mapping) in
       let filled = (λ i. is_filled (keys i) (slots i)) ∙ is_filled-map mapping.keys.items mapping.children.slots in
       λ i. nat_le (length (keys i)) WIDTH && filled i && shown i
 
-  pub direct_children-map : (mapping : DirectMapping A) (mapped : DirectMapping B) → mapped.children.slots ≡ map g mapping.children.slots → direct_children mapped ≡ at_children (direct_children mapping)
+  pub direct_children-map : (mapping : DirectMapping A) (mapped : DirectMapping B) → mapped.children.slots ≡ map g mapping.children.slots → direct_children mapped ≡ map_children f (direct_children mapping)
   direct_children-map mapping mapped slots = ap (slot_children 0) slots ∙ slot_children-map 0 mapping.children.slots
 
   pub direct_in_order-map : (mapping : DirectMapping A) (mapped : DirectMapping B) → mapped.children.slots ≡ map g mapping.children.slots → mapped.count ≡ mapping.count → direct_in_order mapped ≡ direct_in_order mapping
   direct_in_order-map mapping mapped slots count =
       let wide = ap length slots ∙ length-map mapping.children.slots g in
-      let counted = ap length (direct_children-map mapping mapped slots) ∙ length-at_children (direct_children mapping) in
+      let counted = ap length (direct_children-map mapping mapped slots) ∙ length-map_children f (direct_children mapping) in
       λ i. (wide i == 256) && (count i == counted i)
 
-  pub indexed_children-map : (mapping : IndexedMapping A) (mapped : IndexedMapping B) → mapped.index ≡ mapping.index → mapped.children.slots ≡ map g mapping.children.slots → indexed_children mapped ≡ at_children (indexed_children mapping)
+  pub indexed_children-map : (mapping : IndexedMapping A) (mapped : IndexedMapping B) → mapped.index ≡ mapping.index → mapped.children.slots ≡ map g mapping.children.slots → indexed_children mapped ≡ map_children f (indexed_children mapping)
   indexed_children-map mapping mapped index slots =
       (λ i. slot_children 0 (named_slots (slots i) (index i)))
       ∙ (ap (slot_children 0) (named_slots-map mapping.children.slots mapping.index) ∙ slot_children-map 0 (named_slots mapping.children.slots mapping.index))

@@ -8,8 +8,6 @@ mod mapping;
 mod partial;
 mod prefix_length;
 mod slot;
-#[cfg(test)]
-mod tests;
 mod vector;
 mod view;
 mod visit;

@@ -1,6 +1,6 @@
 ghost use Rattle.std.specs.Prelude.{◌≡◌, ◌==◌, ◌≤◌, ℕ, List, length, vec_capacity, IsOk, IfOk, OnOk, OnErr};
 ghost use Rattle.rart_below.specs.Bytes.{byte_order, IsAdmitted};
-ghost use Rattle.rart_below.specs.LendingKeyView.{joined};
+ghost use Rattle.rart_below.specs.LendingKeyView.{joined_bytes};
 
 use crate::key::KeyTrait;
 use arrayvec::ArrayVec;
@@ -25,9 +25,9 @@ pub struct LendingKeyView<'a, 'view> {
 impl<'a, 'view> Model for LendingKeyView<'a, 'view> {
     ghost Value = { List ℕ };
 
-    ghost view = { λ view. joined view.parts.now };
+    ghost view = { λ view. joined_bytes view.parts.now };
 
-    ghost invariant = { λ view. view.byte_count ≡ length (joined view.parts.now) };
+    ghost invariant = { λ view. view.byte_count ≡ length (joined_bytes view.parts.now) };
 }
 
 impl<'a, 'view> LendingKeyView<'a, 'view> {
@@ -38,8 +38,8 @@ impl<'a, 'view> LendingKeyView<'a, 'view> {
     /// let view = LendingKeyView::new(&segments, 3);
     /// ```
     pub fn new(segments: &'view [&'a [u8]], len: usize) -> Self
-        requires { len ≡ length (joined segments.now) }
-        ensures { result ≡ joined segments.now }
+        requires { len ≡ length (joined_bytes segments.now) }
+        ensures { result ≡ joined_bytes segments.now }
     {
         LendingKeyView {
             parts: segments,
@@ -79,7 +79,7 @@ impl<'a, 'view> LendingKeyView<'a, 'view> {
     /// }
     /// ```
     pub fn segments(&self) -> &'view [&'a [u8]]
-        ensures { joined result.now ≡ self.now }
+        ensures { joined_bytes result.now ≡ self.now }
     {
         self.parts
     }

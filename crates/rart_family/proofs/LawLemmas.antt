@@ -2,11 +2,11 @@
 use Rattle.std.proofs.Common.{◌≡◌, ◌≢◌, ℕ, zero, suc, ◌<◌, ◌≤◌, ◌+◌, ◌^◌, Bool, true, false, nat_lt, cond, List, [], ◌∷◌, ◌++◌, length, refl, sym, ap, ◌∙◌, subst, ⊎_elim, arith}
 use Rattle.std.proofs.lemmas.List.{length-append}
 use Rattle.std.specs.Prelude.{Option, Some, None, slice_get, slice_set}
-use Rattle.rart_maps.specs.Versions.{Version, raised}
+use Rattle.rart_maps.specs.Versions.{Version, with_rise}
 use Rattle.rart_family.specs.declared.family.command.Command.{Command}
 use Rattle.rart_family.specs.declared.family.command.Command.TheVariants.{New, NewAt, Snapshot, Duplicate, Discard, Version as NumberOf, IsEmpty, Get, GetMut, Insert, Replace, Remove, Delete, Update, TryUpdate}
 use Rattle.rart_family.specs.Replies.{Reply, NoRoom}
-use Rattle.rart_family.specs.Families.{Family, Outcome, called, placed, changes, version_at, after}
+use Rattle.rart_family.specs.Families.{Family, Outcome, call_outcome, placement, change_outcome, version_at, after}
 use Rattle.rart_family.specs.Runs.{Step, Run}
 use Rattle.rart_family.specs.Laws.{place_changed, StepsAreIsolated, PlacesStay, RepliesFixSteps, RepliesFixRuns, NoReplyIsWant}
 use Rattle.rart_family.proofs.RunLemmas.{is_no_memory, reply_is_no_want, step_next}
@@ -30,7 +30,7 @@ length-slice_set (y ∷ xs) (suc q) x = ap suc (length-slice_set xs q x)
 
 module _ {V : Type 0} (f : Family V) (P : Family V → Type 0) (same : P f) where
   -- A fact of the family that holds where a call is made holds of what is left in every case.
-  kept_called : (call : Version V → Outcome V) → ((v : Version V) → P (call v).1) → (found : Option (Version V)) → P (called f call found).1
+  kept_called : (call : Version V → Outcome V) → ((v : Version V) → P (call v).1) → (found : Option (Version V)) → P (call_outcome f call found).1
   kept_called call kept None = same
   kept_called call kept (Some v) = kept v
 
@@ -38,7 +38,7 @@ module _ {V : Type 0} (f : Family V) (P : Family V → Type 0) (same : P f) wher
   kept_room true outcome kept = kept
   kept_room false outcome kept = same
 
-  kept_changes : (place room : ℕ) (call : Version V → Reply V × Version V) → ((v : Version V) → P (slice_set f place (Some v))) → P (changes f place room call).1
+  kept_changes : (place room : ℕ) (call : Version V → Reply V × Version V) → ((v : Version V) → P (slice_set f place (Some v))) → P (change_outcome f place room call).1
   kept_changes place room call kept = kept_called _ (λ v. kept_room (nat_lt (v.number + room) (2 ^ 64)) ((call v).0, slice_set f place (Some (call v).1)) (kept (call v).1)) (version_at f place)
 
 module _ {K V : Type 0} (bytes : K → List ℕ) where
@@ -47,7 +47,7 @@ module _ {K V : Type 0} (bytes : K → List ℕ) where
   kept_after : (f : Family V) (P : Family V → Type 0) → P f → ((v : Option (Version V)) → P (f ++ v ∷ [])) → (c : Command K V) → ((place : ℕ) (v : Option (Version V)) → place_changed c ≡ Some place → P (slice_set f place v)) → P (after bytes f c)
   kept_after f P same push New set = push _
   kept_after f P same push (NewAt number) set = push _
-  kept_after f P same push (Snapshot place) set = kept_called f P same _ (λ v. kept_room f P same (nat_lt (v.number + 1) (2 ^ 64)) (placed f (raised v 1)) (push _)) (version_at f place)
+  kept_after f P same push (Snapshot place) set = kept_called f P same _ (λ v. kept_room f P same (nat_lt (v.number + 1) (2 ^ 64)) (placement f (with_rise v 1)) (push _)) (version_at f place)
   kept_after f P same push (Duplicate place) set = kept_called f P same _ (λ v. push _) (version_at f place)
   kept_after f P same push (Discard place) set = kept_called f P same _ (λ v. set place None refl) (version_at f place)
   kept_after f P same push (NumberOf place) set = kept_called f P same _ (λ v. same) (version_at f place)

@@ -7,7 +7,7 @@ use Rattle.rart_family.specs.declared.family.command.Failure.{Failure}
 use Rattle.rart_family.specs.declared.family.command.Command.{Command}
 use Rattle.rart_family.specs.declared.family.command.Command.TheVariants.{New, NewAt, Snapshot, Duplicate, Discard, Version as NumberOf, IsEmpty, Get, GetMut, Insert, Replace, Remove, Delete, Update, TryUpdate}
 use Rattle.rart_family.specs.Replies.{Reply, NoMemory}
-use Rattle.rart_family.specs.Families.{Family, Outcome, called, tried_reply, version_at, reply_to, after}
+use Rattle.rart_family.specs.Families.{Family, Outcome, call_outcome, tried_reply, version_at, reply_to, after}
 use Rattle.rart_family.specs.Runs.{Step, Run, next}
 use Rattle.rart_family.specs.Costs.{along}
 
@@ -16,7 +16,7 @@ is_no_memory NoMemory = true
 is_no_memory r = false
 
 module _ {V : Type 0} (f : Family V) where
-  called_tells : (call : Version V → Outcome V) → ((v : Version V) → is_no_memory (call v).0 ≡ false) → (found : Option (Version V)) → is_no_memory (called f call found).0 ≡ false
+  called_tells : (call : Version V → Outcome V) → ((v : Version V) → is_no_memory (call v).0 ≡ false) → (found : Option (Version V)) → is_no_memory (call_outcome f call found).0 ≡ false
   called_tells call tells None = refl
   called_tells call tells (Some v) = tells v
 

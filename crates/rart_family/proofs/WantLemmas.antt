@@ -6,14 +6,14 @@ use Rattle.rart_maps.specs.Changes.{after_removal}
 use Rattle.rart_family.specs.declared.family.command.Command.{Command}
 use Rattle.rart_family.specs.declared.family.command.Command.TheVariants.{Discard, Version as NumberOf, IsEmpty, Get, Remove, Delete}
 use Rattle.rart_family.specs.Replies.{Reply, Value, Flag, NoRoom, NoMemory}
-use Rattle.rart_family.specs.Families.{Family, Outcome, called, version_at, reply_to}
+use Rattle.rart_family.specs.Families.{Family, Outcome, call_outcome, version_at, reply_to}
 use Rattle.rart_family.specs.Runs.{Step, may_want_memory}
 use Rattle.rart_family.specs.Laws.{TakesNoMemory, NoWantWithoutMemory, NoWantBeforeLack}
 use Rattle.rart_family.proofs.LawLemmas.{no_want}
 
 module _ {K V : Type 0} (f : Family V) (c : Command K V) where
   -- what holds of a call's reply on each version holds of its reply at a place
-  called_not : (call : Version V → Outcome V) (found : Option (Version V)) → ((v : Version V) → found ≡ Some v → may_want_memory c (call v).0 ≡ false) → may_want_memory c (called f call found).0 ≡ false
+  called_not : (call : Version V → Outcome V) (found : Option (Version V)) → ((v : Version V) → found ≡ Some v → may_want_memory c (call v).0 ≡ false) → may_want_memory c (call_outcome f call found).0 ≡ false
   called_not call None tells = refl
   called_not call (Some v) tells = tells v refl
 

@@ -1,8 +1,8 @@
 -- A family of versions: what each command is replied, and what it leaves.
 use Rattle.std.specs.Prelude.{ℕ, ◌+◌, ◌^◌, Bool, if◌then◌else◌, nat_lt, List, [], ◌∷◌, ◌++◌, length, Option, Some, None, slice_get, slice_set, Result, Ok, Err}
 use Rattle.std.specs.Option.{unwrap_or}
-use Rattle.rart_maps.specs.Versions.{Version, empty_at, has_no_key, value_at, has_key, raised, with_key}
-use Rattle.rart_maps.specs.Changes.{after_removal, after_writing, slot_of, updated, tried}
+use Rattle.rart_maps.specs.Versions.{Version, empty_at, has_no_key, value_at, has_key, with_rise, with_key}
+use Rattle.rart_maps.specs.Changes.{after_removal, after_writing, slot_of, slot_update, slot_attempt}
 use Rattle.rart_family.specs.declared.family.command.Failure.{Failure}
 use Rattle.rart_family.specs.declared.family.command.Command.{Command}
 use Rattle.rart_family.specs.declared.family.command.Command.TheVariants.{New, NewAt, Snapshot, Duplicate, Discard, Version as NumberOf, IsEmpty, Get, GetMut, Insert, Replace, Remove, Delete, Update, TryUpdate}
@@ -22,36 +22,36 @@ Outcome V = Reply V × Family V
 
 module _ {V : Type 0} (family : Family V) where
   -- a call on a version; where there is none the family stays
-  abbrev pub called : (Version V → Outcome V) → Option (Version V) → Outcome V
-  called call None = (NoVersion, family)
-  called call (Some v) = call v
+  abbrev pub call_outcome : (Version V → Outcome V) → Option (Version V) → Outcome V
+  call_outcome call None = (NoVersion, family)
+  call_outcome call (Some v) = call v
 
   -- a call on the version at a place
   abbrev pub at_place : ℕ → (Version V → Outcome V) → Outcome V
-  at_place place call = called call (version_at family place)
+  at_place place call = call_outcome call (version_at family place)
 
   -- a call that asks for room; where the number lacks it the family stays
   abbrev pub with_room : Version V → ℕ → Outcome V → Outcome V
   with_room v room outcome = if nat_lt (v.number + room) (2 ^ 64) then outcome else (NoRoom, family)
 
   -- a version at a new last place
-  abbrev pub placed : Version V → Outcome V
-  placed v = (Place (length family), family ++ Some v ∷ [])
+  abbrev pub placement : Version V → Outcome V
+  placement v = (Place (length family), family ++ Some v ∷ [])
 
   -- a call that leaves the family
-  abbrev pub reads : ℕ → (Version V → Reply V) → Outcome V
-  reads place reply = at_place place (λ v. (reply v, family))
+  abbrev pub read_outcome : ℕ → (Version V → Reply V) → Outcome V
+  read_outcome place reply = at_place place (λ v. (reply v, family))
 
   -- a call that replaces the version at its place
-  abbrev pub changes : ℕ → ℕ → (Version V → Reply V × Version V) → Outcome V
-  changes place room call = at_place place (λ v. with_room v room ((call v).0, slice_set family place (Some (call v).1)))
+  abbrev pub change_outcome : ℕ → ℕ → (Version V → Reply V × Version V) → Outcome V
+  change_outcome place room call = at_place place (λ v. with_room v room ((call v).0, slice_set family place (Some (call v).1)))
 
 module _ {V : Type 0} where
   -- what a command's callback leaves of the value in its slot
-  abbrev pub written : Option V → Option V → Option V
-  written None write = None
-  written (Some old) None = Some old
-  written (Some old) (Some new) = Some new
+  abbrev pub value_after_write : Option V → Option V → Option V
+  value_after_write None write = None
+  value_after_write (Some old) None = Some old
+  value_after_write (Some old) (Some new) = Some new
 
   -- the reply to an update whose callback may fail
   abbrev pub tried_reply : Result Bool Failure → Reply V
@@ -59,32 +59,32 @@ module _ {V : Type 0} where
   tried_reply (Err failure) = Failed
 
 -- what a command's callback answers where it may fail
-abbrev pub told : {A : Type 0} → Option A → Result A Failure
-told None = Err (record {})
-told (Some answer) = Ok answer
+abbrev pub callback_answer : {A : Type 0} → Option A → Result A Failure
+callback_answer None = Err (record {})
+callback_answer (Some answer) = Ok answer
 
 module _ {K V : Type 0} (bytes : K → List ℕ) where
   abbrev pub outcome : Family V → Command K V → Outcome V
-  outcome f New = placed f (empty_at 0)
-  outcome f (NewAt number) = placed f (empty_at number)
-  outcome f (Snapshot place) = at_place f place (λ v. with_room f v 1 (placed f (raised v 1)))
-  outcome f (Duplicate place) = at_place f place (placed f)
+  outcome f New = placement f (empty_at 0)
+  outcome f (NewAt number) = placement f (empty_at number)
+  outcome f (Snapshot place) = at_place f place (λ v. with_room f v 1 (placement f (with_rise v 1)))
+  outcome f (Duplicate place) = at_place f place (placement f)
   outcome f (Discard place) = at_place f place (λ v. (Discarded, slice_set f place None))
-  outcome f (NumberOf place) = reads f place (λ v. Number v.number)
-  outcome f (IsEmpty place) = reads f place (λ v. Flag (has_no_key v))
-  outcome f (Get place key) = reads f place (λ v. Value (value_at v (bytes key)))
+  outcome f (NumberOf place) = read_outcome f place (λ v. Number v.number)
+  outcome f (IsEmpty place) = read_outcome f place (λ v. Flag (has_no_key v))
+  outcome f (Get place key) = read_outcome f place (λ v. Value (value_at v (bytes key)))
   outcome f (GetMut place key value) =
-      changes f place 1 (λ v. (Flag (has_key v (bytes key)), after_writing v (bytes key) value))
-  outcome f (Insert place key value) = changes f place 1 (λ v. (Flag (has_key v (bytes key)), with_key v (bytes key) value 1))
-  outcome f (Replace place key value) = changes f place 1 (λ v. (Value (value_at v (bytes key)), with_key v (bytes key) value 1))
+      change_outcome f place 1 (λ v. (Flag (has_key v (bytes key)), after_writing v (bytes key) value))
+  outcome f (Insert place key value) = change_outcome f place 1 (λ v. (Flag (has_key v (bytes key)), with_key v (bytes key) value 1))
+  outcome f (Replace place key value) = change_outcome f place 1 (λ v. (Value (value_at v (bytes key)), with_key v (bytes key) value 1))
   outcome f (Remove place key) =
-      changes f place 1 (λ v. (Value (value_at v (bytes key)), after_removal v (bytes key)))
+      change_outcome f place 1 (λ v. (Value (value_at v (bytes key)), after_removal v (bytes key)))
   outcome f (Delete place key) =
-      changes f place 1 (λ v. (Flag (has_key v (bytes key)), after_removal v (bytes key)))
-  outcome f (Update place key write answer) = changes f place 1 (λ v.
-      let after = updated v (bytes key) (slot_of (written (value_at v (bytes key)) write)) answer in (Flag after.0, after.1))
-  outcome f (TryUpdate place key write answer) = changes f place 2 (λ v.
-      let after = tried v (bytes key) (slot_of (written (value_at v (bytes key)) write)) (told answer) in (tried_reply after.0, after.1))
+      change_outcome f place 1 (λ v. (Flag (has_key v (bytes key)), after_removal v (bytes key)))
+  outcome f (Update place key write answer) = change_outcome f place 1 (λ v.
+      let after = slot_update v (bytes key) (slot_of (value_after_write (value_at v (bytes key)) write)) answer in (Flag after.0, after.1))
+  outcome f (TryUpdate place key write answer) = change_outcome f place 2 (λ v.
+      let after = slot_attempt v (bytes key) (slot_of (value_after_write (value_at v (bytes key)) write)) (callback_answer answer) in (tried_reply after.0, after.1))
 
   abbrev pub reply_to : Family V → Command K V → Reply V
   reply_to f c = (outcome f c).0

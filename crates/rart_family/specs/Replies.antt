@@ -16,14 +16,14 @@ pub data Reply (V : Type 0) : Type 0 where
   NoMemory : Reply V
 
 -- how the program's reply is seen
-abbrev pub seen : {K V : Type 0} → (K → List ℕ) → program.Reply K V → Reply V
-seen bytes (program_variants.Place p) = Place p
-seen bytes program_variants.Discarded = Discarded
-seen bytes (program_variants.Number n) = Number n
-seen bytes (program_variants.Flag b) = Flag b
-seen bytes (program_variants.Value v) = Value v
-seen bytes (program_variants.Entries es) = Entries (map (λ e. (bytes e.0, e.1)) es.items)
-seen bytes program_variants.Failed = Failed
-seen bytes program_variants.NoVersion = NoVersion
-seen bytes program_variants.NoRoom = NoRoom
-seen bytes program_variants.NoMemory = NoMemory
+abbrev pub reply_value : {K V : Type 0} → (K → List ℕ) → program.Reply K V → Reply V
+reply_value bytes (program_variants.Place p) = Place p
+reply_value bytes program_variants.Discarded = Discarded
+reply_value bytes (program_variants.Number n) = Number n
+reply_value bytes (program_variants.Flag b) = Flag b
+reply_value bytes (program_variants.Value v) = Value v
+reply_value bytes (program_variants.Entries es) = Entries (map (λ e. (bytes e.0, e.1)) es.items)
+reply_value bytes program_variants.Failed = Failed
+reply_value bytes program_variants.NoVersion = NoVersion
+reply_value bytes program_variants.NoRoom = NoRoom
+reply_value bytes program_variants.NoMemory = NoMemory

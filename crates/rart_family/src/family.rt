@@ -3,10 +3,10 @@ ghost use Rattle.std.specs.Prelude.{◌≡◌, ◌+◌, ◌*◌, ◌≤◌, [], 
 ghost use Rattle.std.specs.Option.{option_copied};
 ghost use Rattle.rart_versioned.specs.Given.{ClonesEqual};
 ghost use Rattle.rart_maps.specs.Versions.{HasRoom};
-ghost use Rattle.rart_family.specs.Attempts.{Tries, Gives, replied};
+ghost use Rattle.rart_family.specs.Attempts.{Tries, Gives, reply_or_want};
 ghost use Rattle.rart_family.specs.Costs.{read_cost, read_least, change_cost, change_least, touch_least, CountsReads, CountsChanges};
-ghost use Rattle.rart_family.specs.Families.{version_at, placed};
-ghost use Rattle.rart_family.specs.Replies.{seen};
+ghost use Rattle.rart_family.specs.Families.{version_at, placement};
+ghost use Rattle.rart_family.specs.Replies.{reply_value};
 ghost use Rattle.rart_family.specs.Runs.{Step, Run};
 ghost use Rattle.rart_family.specs.declared.family.reply.Reply.TheVariants.{NoVersion, NoRoom};
 
@@ -87,33 +87,33 @@ impl<K: KeyTrait, V: Clone + Drop> Family<K, V> {
     ) -> Result<Vec<Reply<K, V>>, AllocError>
         requires clones { ClonesEqual V.is_clone }
         ensures run { IfOk result (λ replies. Run K.bytes self.old commands.now (map
-            (seen K.bytes) replies.items) self.new) }
+            (reply_value K.bytes) replies.items) self.new) }
 
         ensures entered_to_read_at_least { IfOk result (λ replies.
             reads.old.entered
-            + read_least K.bytes self.old commands.now (map (seen K.bytes) replies.items)
+            + read_least K.bytes self.old commands.now (map (reply_value K.bytes) replies.items)
             ≤ reads.new.entered) }
         ensures entered_to_read_at_most { IfOk result (λ replies.
             reads.new.entered
             ≤ reads.old.entered
-            + read_cost K.bytes self.old commands.now (map (seen K.bytes) replies.items)) }
+            + read_cost K.bytes self.old commands.now (map (reply_value K.bytes) replies.items)) }
         ensures nothing_made_to_read { OnOk result (reads.new.made ≡ reads.old.made) }
         ensures made_at_least { IfOk result (λ replies.
             changes.old.made
-            + change_least K.bytes self.old commands.now (map (seen K.bytes) replies.items)
+            + change_least K.bytes self.old commands.now (map (reply_value K.bytes) replies.items)
             ≤ changes.new.made) }
         ensures made_at_most { IfOk result (λ replies.
             changes.new.made
             ≤ changes.old.made
-            + change_cost K.bytes self.old commands.now (map (seen K.bytes) replies.items)) }
+            + change_cost K.bytes self.old commands.now (map (reply_value K.bytes) replies.items)) }
         ensures entered_to_change_at_least { IfOk result (λ replies.
             changes.old.entered
-            + touch_least K.bytes self.old commands.now (map (seen K.bytes) replies.items)
+            + touch_least K.bytes self.old commands.now (map (reply_value K.bytes) replies.items)
             ≤ changes.new.entered) }
         ensures entered_to_change_at_most { IfOk result (λ replies.
             changes.new.entered
             ≤ changes.old.entered
-            + 3 * change_cost K.bytes self.old commands.now (map (seen K.bytes) replies.items)) }
+            + 3 * change_cost K.bytes self.old commands.now (map (reply_value K.bytes) replies.items)) }
 
         ensures refused { OnErr result (self.new ≡ self.old) }
         ensures refused_reads { OnErr result (reads.new ≡ reads.old) }
@@ -129,11 +129,11 @@ impl<K: KeyTrait, V: Clone + Drop> Family<K, V> {
 
     fn step(&mut self, command: &Command<K, V>, reads: &mut Work, changes: &mut Work) -> Reply<K, V>
         requires clones { ClonesEqual V.is_clone }
-        ensures step { Step K.bytes self.old command.now (seen K.bytes result) self.new }
+        ensures step { Step K.bytes self.old command.now (reply_value K.bytes result) self.new }
         ensures reads { CountsReads K.bytes self.old command.now
-            (seen K.bytes result) reads.old reads.new }
+            (reply_value K.bytes result) reads.old reads.new }
         ensures changes { CountsChanges K.bytes self.old command.now
-            (seen K.bytes result) changes.old changes.new }
+            (reply_value K.bytes result) changes.old changes.new }
     {
         match self.try_step(command, reads, changes) {
             Ok(reply) => reply,
@@ -150,9 +150,9 @@ impl<K: KeyTrait, V: Clone + Drop> Family<K, V> {
         requires clones { ClonesEqual V.is_clone }
         ensures tries { Tries K.bytes self.old command.now result self.new }
         ensures reads { CountsReads K.bytes self.old command.now
-            (replied K.bytes result) reads.old reads.new }
+            (reply_or_want K.bytes result) reads.old reads.new }
         ensures changes { CountsChanges K.bytes self.old command.now
-            (replied K.bytes result) changes.old changes.new }
+            (reply_or_want K.bytes result) changes.old changes.new }
     {
         match command {
             Command::New => self.place(VersionedAdaptiveRadixTree::new(self.alloc)),
@@ -190,7 +190,7 @@ impl<K: KeyTrait, V: Clone + Drop> Family<K, V> {
         &mut self,
         version: VersionedAdaptiveRadixTree<K, V>,
     ) -> Result<Reply<K, V>, AllocError>
-        ensures ok { IfOk result (λ reply. Gives K.bytes (placed self.old version) reply self.new) }
+        ensures ok { IfOk result (λ reply. Gives K.bytes (placement self.old version) reply self.new) }
         ensures refused { OnErr result (self.new ≡ self.old) }
     {
         let place = self.len();

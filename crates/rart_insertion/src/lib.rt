@@ -5,7 +5,7 @@ ghost use Rattle.std.specs.Prelude.{◌≡◌, ℕ, ◌+◌, ◌-◌, ◌<◌, �
 ghost use Rattle.rart_below.specs.Bytes.{common_length};
 ghost use Rattle.rart_below.specs.Children.{child_at};
 ghost use Rattle.rart_below.specs.Clones.{ClonesEqual};
-ghost use Rattle.rart_node.specs.Seen.{seen, shown};
+ghost use Rattle.rart_node.specs.NodeShapes.{node_shape, pointer_shape};
 ghost use Rattle.rart_node.specs.Shape.{node_of, prefix_of, children_of};
 ghost use Rattle.rart_node.specs.Counts.{CountsUpTo};
 ghost use Rattle.rart_shape.specs.Trees.{BeginsWith, IsTree, IsPut, found, cut_at, ending, path_bound};
@@ -30,19 +30,19 @@ pub fn insert_below<K: KeyTrait, V: Clone + Drop>(
 ) -> Result<Option<V>, AllocError>
     requires clones { ClonesEqual V.is_clone }
     requires depth { depth ≤ length (K.bytes key.now) }
-    requires tree { IsTree (shown K.PartialType.bytes at.old) }
+    requires tree { IsTree (pointer_shape K.PartialType.bytes at.old) }
     ensures put { OnOk result (IsPut (drop depth (K.bytes key.now)) value
-        (shown K.PartialType.bytes at.old) (shown K.PartialType.bytes at.new)) }
-    ensures replaced { IfOk result (λ old. old ≡ found (shown K.PartialType.bytes at.old)
+        (pointer_shape K.PartialType.bytes at.old) (pointer_shape K.PartialType.bytes at.new)) }
+    ensures replaced { IfOk result (λ old. old ≡ found (pointer_shape K.PartialType.bytes at.old)
         (drop depth (K.bytes key.now))) }
-    ensures refused { OnErr result (shown K.PartialType.bytes at.new ≡ shown K.PartialType.bytes
+    ensures refused { OnErr result (pointer_shape K.PartialType.bytes at.new ≡ pointer_shape K.PartialType.bytes
         at.old) }
-    ensures counted { CountsUpTo (path_bound (shown K.PartialType.bytes at.old)
+    ensures counted { CountsUpTo (path_bound (pointer_shape K.PartialType.bytes at.old)
         (drop depth (K.bytes key.now))) (length (drop depth (K.bytes key.now)) + 2) work.old
         work.new }
     ensures entered { work.old.entered < work.new.entered }
     ensures made { work.old.made < work.new.made }
-    ensures made_below { (byte : ℕ) → BeginsWith byte (prefix_of (shown K.PartialType.bytes at.old))
+    ensures made_below { (byte : ℕ) → BeginsWith byte (prefix_of (pointer_shape K.PartialType.bytes at.old))
         → BeginsWith byte (drop depth (K.bytes key.now)) → work.new.made ≤ work.old.made + length
         (drop depth (K.bytes key.now)) + 1 }
 {
@@ -74,16 +74,16 @@ fn split<K: KeyTrait, V: Clone + Drop>(
 ) -> Result<Option<V>, AllocError>
     requires clones { ClonesEqual V.is_clone }
     requires depth { depth ≤ length (K.bytes key.now) }
-    requires tree { IsTree (seen K.PartialType.bytes node.old) }
-    requires end { end ≡ depth + common_length (prefix_of (seen K.PartialType.bytes node.old))
+    requires tree { IsTree (node_shape K.PartialType.bytes node.old) }
+    requires end { end ≡ depth + common_length (prefix_of (node_shape K.PartialType.bytes node.old))
         (drop depth (K.bytes key.now)) }
     requires within { end ≤ length (K.bytes key.now) }
-    requires inside { end - depth < length (prefix_of (seen K.PartialType.bytes node.old)) }
+    requires inside { end - depth < length (prefix_of (node_shape K.PartialType.bytes node.old)) }
     ensures put { OnOk result (IsPut (drop depth (K.bytes key.now)) value
-        (seen K.PartialType.bytes node.old) (seen K.PartialType.bytes node.new)) }
-    ensures replaced { IfOk result (λ old. old ≡ found (seen K.PartialType.bytes node.old)
+        (node_shape K.PartialType.bytes node.old) (node_shape K.PartialType.bytes node.new)) }
+    ensures replaced { IfOk result (λ old. old ≡ found (node_shape K.PartialType.bytes node.old)
         (drop depth (K.bytes key.now))) }
-    ensures refused { OnErr result (seen K.PartialType.bytes node.new ≡ seen K.PartialType.bytes
+    ensures refused { OnErr result (node_shape K.PartialType.bytes node.new ≡ node_shape K.PartialType.bytes
         node.old) }
     ensures counted { CountsUpTo 0 (length (drop end (K.bytes key.now)) + 1) work.old work.new }
 {
@@ -105,17 +105,17 @@ fn finish<K: KeyTrait, V: Clone + Drop>(
     work: &mut Work,
 ) -> Result<Option<V>, AllocError>
     requires depth { depth ≤ length (K.bytes key.now) }
-    requires tree { IsTree (seen K.PartialType.bytes node.old) }
+    requires tree { IsTree (node_shape K.PartialType.bytes node.old) }
     requires absent { (byte : ℕ) → slice_get (drop depth (K.bytes key.now)) 0 ≡ Some byte
-        → child_at byte (children_of (seen K.PartialType.bytes node.old)) ≡ None }
+        → child_at byte (children_of (node_shape K.PartialType.bytes node.old)) ≡ None }
     ensures put { OnOk result
-        (IsPut (prefix_of (seen K.PartialType.bytes node.old) ++ drop depth (K.bytes key.now)) value
-        (seen K.PartialType.bytes node.old) (seen K.PartialType.bytes node.new)) }
-    ensures replaced { IfOk result (λ old. old ≡ found (seen K.PartialType.bytes node.old)
-        (prefix_of (seen K.PartialType.bytes node.old) ++ drop depth (K.bytes key.now))) }
-    ensures refused { OnErr result (seen K.PartialType.bytes node.new ≡ seen K.PartialType.bytes
+        (IsPut (prefix_of (node_shape K.PartialType.bytes node.old) ++ drop depth (K.bytes key.now)) value
+        (node_shape K.PartialType.bytes node.old) (node_shape K.PartialType.bytes node.new)) }
+    ensures replaced { IfOk result (λ old. old ≡ found (node_shape K.PartialType.bytes node.old)
+        (prefix_of (node_shape K.PartialType.bytes node.old) ++ drop depth (K.bytes key.now))) }
+    ensures refused { OnErr result (node_shape K.PartialType.bytes node.new ≡ node_shape K.PartialType.bytes
         node.old) }
-    ensures counted { CountsUpTo 0 (ending (seen K.PartialType.bytes node.old)
+    ensures counted { CountsUpTo 0 (ending (node_shape K.PartialType.bytes node.old)
         (drop depth (K.bytes key.now))) work.old work.new }
 {
     match byte_at(key, depth) {
@@ -137,8 +137,8 @@ fn cut<P: Partial, V: Clone + Drop>(
     work: &mut Work,
 ) -> Result<VersionedNode<P, V>, AllocError>
     requires clones { ClonesEqual V.is_clone }
-    requires inside { at < length (prefix_of (seen P.bytes node.now)) }
-    ensures cut { IfOk result (λ upper. seen P.bytes upper ≡ cut_at at (seen P.bytes node.now)) }
+    requires inside { at < length (prefix_of (node_shape P.bytes node.now)) }
+    ensures cut { IfOk result (λ upper. node_shape P.bytes upper ≡ cut_at at (node_shape P.bytes node.now)) }
     ensures counted { CountsUpTo 0 1 work.old work.new }
 {
     let prefix = node.prefix();
@@ -160,7 +160,7 @@ pub fn leaf_of<K: KeyTrait, V: Clone + Drop>(
     work: &mut Work,
 ) -> Result<NodeRef<K::PartialType, V>, AllocError>
     requires { depth ≤ length (K.bytes key.now) }
-    ensures leaf { IfOk result (λ leaf. shown K.PartialType.bytes leaf ≡ node_of
+    ensures leaf { IfOk result (λ leaf. pointer_shape K.PartialType.bytes leaf ≡ node_of
         (drop depth (K.bytes key.now)) (Some value) 0 []) }
     ensures counted { CountsUpTo 0 1 work.old work.new }
     ensures made { OnOk result (work.new.made ≡ work.old.made + 1) }

@@ -1,2 +1,2 @@
-pub mod Ways
-pub mod Searches
+pub mod PathLemmas
+pub mod SearchLemmas

@@ -8,9 +8,9 @@ use Rattle.rart_node.specs.contracts.node_ref.NodeRef as pointer
 use Rattle.rart_node.specs.contracts.node.VersionedNode as pointed
 use Rattle.rart_node.specs.declared.node.VersionedNode.{VersionedNode}
 use Rattle.rart_node.specs.declared.node_ref.NodeRef.{NodeRef}
-use Rattle.rart_node.specs.Seen.{seen, shown}
+use Rattle.rart_node.specs.NodeShapes.{node_shape, pointer_shape}
 use Rattle.rart_node.specs.Shape.{Shape, Forest, node, prefix_of, value_of, entries_of, with_replaced}
-use Rattle.rart_shape.specs.Trees.{behind, IsPut}
+use Rattle.rart_shape.specs.Trees.{strip_prefix, IsPut}
 
 -- the first byte, and 0 where there is none
 abbrev pub first_byte : List ℕ → ℕ
@@ -25,12 +25,12 @@ module _ {V : Type 0} where
 
   -- one node down: the child that the key goes on to, and what is left of the key from there
   abbrev pub step : List ℕ → Shape V → Option (Shape V × List ℕ)
-  step key (node prefix value width forest) = option_and_then (child_along forest) (behind prefix key)
+  step key (node prefix value width forest) = option_and_then (child_along forest) (strip_prefix prefix key)
 
   -- so many nodes down
-  abbrev pub descent : ℕ → List ℕ → Shape V → Option (Shape V × List ℕ)
-  descent zero key s = Some (s, key)
-  descent (suc steps) key s = option_and_then (λ below. descent steps below.1 below.0) (step key s)
+  abbrev pub path_end : ℕ → List ℕ → Shape V → Option (Shape V × List ℕ)
+  path_end zero key s = Some (s, key)
+  path_end (suc steps) key s = option_and_then (λ below. path_end steps below.1 below.0) (step key s)
 
   abbrev pub graft_at : (List ℕ → Shape V → Shape V) → Shape V → Option (Shape V × List ℕ) → Shape V
   graft_at graft s None = s
@@ -43,19 +43,19 @@ module _ {V : Type 0} where
 
   -- So many nodes down a key ends, at a node with a value.
   abbrev pub Arrives : ℕ → List ℕ → Shape V → Type 0
-  Arrives steps key s = (end : Shape V × List ℕ) × (descent steps key s ≡ Some end) × (behind (prefix_of end.0) end.1 ≡ Some []) × IsSome (value_of end.0)
+  Arrives steps key s = (end : Shape V × List ℕ) × (path_end steps key s ≡ Some end) × (strip_prefix (prefix_of end.0) end.1 ≡ Some []) × IsSome (value_of end.0)
 
 module _ (P V : RattleType) (bytes : P.Denot → List ℕ) where
   -- The pointer shows the tree with the node so many nodes down as it was left behind the result, and refused, what it showed.
-  abbrev pub LendsDescent : MutBor (NodeRef P.Denot V.Denot) → ℕ → List ℕ → Result (MutBor (VersionedNode P.Denot V.Denot)) AllocError → Fml
-  LendsDescent lender steps key result =
+  abbrev pub LendsPathEnd : MutBor (NodeRef P.Denot V.Denot) → ℕ → List ℕ → Result (MutBor (VersionedNode P.Denot V.Denot)) AllocError → Fml
+  LendsPathEnd lender steps key result =
       LendsSoOk (pointer.the_row P V) (pointed.the_row P V) lender result
-      (λ after left. shown bytes after ≡ graft steps (seen bytes left) key (shown bytes lender.now))
-      (λ after. shown bytes after ≡ shown bytes lender.now)
+      (λ after left. pointer_shape bytes after ≡ graft steps (node_shape bytes left) key (pointer_shape bytes lender.now))
+      (λ after. pointer_shape bytes after ≡ pointer_shape bytes lender.now)
 
   -- The pointer shows the tree with the key set to the value as it was left behind the result, and refused, what it showed.
   abbrev pub LendsAlong : MutBor (NodeRef P.Denot V.Denot) → List ℕ → Result (MutBor V.Denot) AllocError → Fml
   LendsAlong lender key result =
       LendsSoOk (pointer.the_row P V) V lender result
-      (λ after left. IsPut key left (shown bytes lender.now) (shown bytes after))
-      (λ after. shown bytes after ≡ shown bytes lender.now)
+      (λ after left. IsPut key left (pointer_shape bytes lender.now) (pointer_shape bytes after))
+      (λ after. pointer_shape bytes after ≡ pointer_shape bytes lender.now)

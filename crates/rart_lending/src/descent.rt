@@ -4,10 +4,10 @@ ghost use Rattle.std.specs.Borrow.{sem};
 ghost use Rattle.std.specs.Option.{option_map};
 ghost use Rattle.rart_below.specs.Children.{child_at};
 ghost use Rattle.rart_below.specs.Clones.{ClonesEqual};
-ghost use Rattle.rart_node.specs.Seen.{seen, shown};
+ghost use Rattle.rart_node.specs.NodeShapes.{node_shape, pointer_shape};
 ghost use Rattle.rart_node.specs.Shape.{children_of};
 ghost use Rattle.rart_node.specs.Counts.{CountsUpTo};
-ghost use Rattle.rart_lending.specs.Paths.{step, descent, first_byte, LendsDescent};
+ghost use Rattle.rart_lending.specs.Paths.{step, path_end, first_byte, LendsPathEnd};
 ghost use Rattle.rart_shape.specs.Trees.{IsTree};
 
 use rart_below::Partial;
@@ -34,13 +34,13 @@ pub(crate) trait Descent<P: Partial, V: Clone + Drop> {
     ) -> Result<&'a mut VersionedNode<P, V>, AllocError>
         requires clones { ClonesEqual V.is_clone }
         requires depth { depth.old ≤ length key.now }
-        requires tree { IsTree (shown P.bytes at.old) }
+        requires tree { IsTree (pointer_shape P.bytes at.old) }
         requires few { steps ≤ most }
-        requires there { IsSome (descent steps (drop depth.old key.now) (shown P.bytes at.old)) }
-        ensures* writes_back { sem 𝓛 (LendsDescent P.row V.row P.bytes at.entry steps
+        requires there { IsSome (path_end steps (drop depth.old key.now) (pointer_shape P.bytes at.old)) }
+        ensures* writes_back { sem 𝓛 (LendsPathEnd P.row V.row P.bytes at.entry steps
             (drop depth.entry.now key.now) result) }
-        ensures reached { IfOk result (λ end. descent steps (drop depth.old key.now)
-            (shown P.bytes at.old) ≡ Some (seen P.bytes end.now, drop depth.new key.now)) }
+        ensures reached { IfOk result (λ end. path_end steps (drop depth.old key.now)
+            (pointer_shape P.bytes at.old) ≡ Some (node_shape P.bytes end.now, drop depth.new key.now)) }
         ensures within { depth.new ≤ length key.now }
         ensures counted { CountsUpTo (steps + 1) (steps + 1) work.old work.new };
 }
@@ -94,10 +94,10 @@ impl<P: Partial, V: Clone + Drop, L: Descent<P, V>> Descent<P, V> for Twice<L> {
 /// and then above the child.
 fn next_byte<P: Partial, V: Drop>(node: &VersionedNode<P, V>, key: &[u8], depth: &mut usize) -> u8
     requires depth { depth.old ≤ length key.now }
-    requires there { IsSome (step (drop depth.old key.now) (seen P.bytes node.now)) }
-    ensures next { step (drop depth.old key.now) (seen P.bytes node.now) ≡ option_map
+    requires there { IsSome (step (drop depth.old key.now) (node_shape P.bytes node.now)) }
+    ensures next { step (drop depth.old key.now) (node_shape P.bytes node.now) ≡ option_map
         (λ child. (child, drop depth.new key.now))
-        (child_at result (children_of (seen P.bytes node.now))) }
+        (child_at result (children_of (node_shape P.bytes node.now))) }
     ensures first { first_byte (drop depth.new key.now) ≡ result }
     ensures within { depth.new ≤ length key.now }
 {

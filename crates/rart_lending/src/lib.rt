@@ -6,7 +6,7 @@ ghost use Rattle.std.specs.Borrow.{sem};
 ghost use Rattle.rart_below.specs.Clones.{ClonesEqual};
 ghost use Rattle.rart_lending.specs.Paths.{Arrives, LendsAlong};
 ghost use Rattle.rart_node.specs.Counts.{CountsUpTo};
-ghost use Rattle.rart_node.specs.Seen.{shown};
+ghost use Rattle.rart_node.specs.NodeShapes.{pointer_shape};
 ghost use Rattle.rart_shape.specs.Trees.{IsTree, found};
 
 mod descent;
@@ -29,10 +29,10 @@ pub fn lend_below<'a, P: Partial, V: Clone + Drop>(
     work: &mut Work,
 ) -> Result<&'a mut V, AllocError>
     requires clones { ClonesEqual V.is_clone }
-    requires tree { IsTree (shown P.bytes at.old) }
-    requires arrives { Arrives steps key.now (shown P.bytes at.old) }
+    requires tree { IsTree (pointer_shape P.bytes at.old) }
+    requires arrives { Arrives steps key.now (pointer_shape P.bytes at.old) }
     ensures* writes_back { sem 𝓛 (LendsAlong P.row V.row P.bytes at.entry key.now result) }
-    ensures value { IfOk result (λ value. found (shown P.bytes at.old) key.now ≡ Some value.now) }
+    ensures value { IfOk result (λ value. found (pointer_shape P.bytes at.old) key.now ≡ Some value.now) }
     ensures counted { CountsUpTo (steps + 1) (steps + 1) work.old work.new }
 {
     let mut depth = 0;

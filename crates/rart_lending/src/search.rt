@@ -2,7 +2,7 @@
 ghost use Rattle.std.specs.Prelude.{◌≡◌, ◌+◌, ◌<◌, ◌≤◌, IfSome, None};
 ghost use Rattle.rart_lending.specs.Paths.{Arrives};
 ghost use Rattle.rart_node.specs.Counts.{CountsUpTo};
-ghost use Rattle.rart_node.specs.Seen.{shown};
+ghost use Rattle.rart_node.specs.NodeShapes.{pointer_shape};
 ghost use Rattle.rart_shape.specs.Trees.{IsTree, found, path_bound};
 
 use rart_below::Partial;
@@ -16,11 +16,11 @@ pub fn steps_to<P: Partial, V: Drop>(
     key: &[u8],
     work: &mut Work,
 ) -> Option<usize>
-    requires tree { IsTree (shown P.bytes root.now) }
-    ensures arrives { IfSome result (λ steps. Arrives steps key.now (shown P.bytes root.now)) }
-    ensures absent { result ≡ None → found (shown P.bytes root.now) key.now ≡ None }
-    ensures few { IfSome result (λ steps. steps + 1 ≤ path_bound (shown P.bytes root.now) key.now) }
-    ensures counted { CountsUpTo (path_bound (shown P.bytes root.now) key.now) 0
+    requires tree { IsTree (pointer_shape P.bytes root.now) }
+    ensures arrives { IfSome result (λ steps. Arrives steps key.now (pointer_shape P.bytes root.now)) }
+    ensures absent { result ≡ None → found (pointer_shape P.bytes root.now) key.now ≡ None }
+    ensures few { IfSome result (λ steps. steps + 1 ≤ path_bound (pointer_shape P.bytes root.now) key.now) }
+    ensures counted { CountsUpTo (path_bound (pointer_shape P.bytes root.now) key.now) 0
         work.old work.new }
     ensures entered { work.old.entered < work.new.entered }
 {

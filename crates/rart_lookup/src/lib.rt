@@ -4,7 +4,7 @@
 ghost use Rattle.std.specs.Prelude.{◌≡◌, ◌+◌, ◌<◌};
 ghost use Rattle.std.specs.Option.{option_copied};
 ghost use Rattle.rart_node.specs.Counts.{CountsUpTo};
-ghost use Rattle.rart_node.specs.Seen.{shown};
+ghost use Rattle.rart_node.specs.NodeShapes.{pointer_shape};
 ghost use Rattle.rart_shape.specs.Trees.{IsTree, found, path_bound};
 
 use rart_below::Partial;
@@ -20,9 +20,9 @@ pub fn get_below<'a, P: Partial, V: Drop>(
     key: &[u8],
     work: &mut Work,
 ) -> Option<&'a V>
-    requires tree { IsTree (shown P.bytes root.now) }
-    ensures value { option_copied result ≡ found (shown P.bytes root.now) key.now }
-    ensures counted { CountsUpTo (path_bound (shown P.bytes root.now) key.now) 0
+    requires tree { IsTree (pointer_shape P.bytes root.now) }
+    ensures value { option_copied result ≡ found (pointer_shape P.bytes root.now) key.now }
+    ensures counted { CountsUpTo (path_bound (pointer_shape P.bytes root.now) key.now) 0
         work.old work.new }
     ensures entered { work.old.entered < work.new.entered }
 {

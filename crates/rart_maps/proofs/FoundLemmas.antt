@@ -15,7 +15,7 @@ use Rattle.rart_maps.specs.Versions.{Map}
 use Rattle.rart_maps.specs.Pairs.{pairs, common}
 use Rattle.rart_maps.specs.Order.{IsBefore}
 use Rattle.rart_maps.specs.FoundLaws.{PairsAscendByKey, WithinAscends, UnderAscends, BeginningsAscend, PairsAreFound, WithinIsFound, UnderIsFound, BeginningsAreFound, CommonIsFound, CommonAscends, KeysAscend, AscendingListsAreFixed}
-use Rattle.rart_maps.proofs.Elements.{Contains-nil, Contains-here, Contains-later, Contains-cases, All-from_contains, AllPairs-first, AllPairs-rest, Contains-filter, Contains-filter_map, Contains-entries, below-contains}
+use Rattle.rart_maps.proofs.ElementLemmas.{Contains-nil, Contains-here, Contains-later, Contains-cases, All-from_contains, AllPairs-first, AllPairs-rest, Contains-filter, Contains-filter_map, Contains-entries, below-contains}
 use Rattle.rart_maps.proofs.PairLawLemmas.{pairs_ascend}
 use Rattle.rart_maps.proofs.OrderLemmas.{byte_order-IsAntisymmetric, bounds_contain-is, lt-before, IsBefore-itself, IsBefore-back}
 

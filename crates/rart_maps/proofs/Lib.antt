@@ -1,6 +1,6 @@
-pub mod Elements
+pub mod ElementLemmas
 pub mod FoundLemmas
-pub mod MapRules
+pub mod MapLemmas
 pub mod OrderLemmas
 pub mod PairLawLemmas
 pub mod SetLemmas

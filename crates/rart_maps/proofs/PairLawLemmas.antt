@@ -16,7 +16,7 @@ use Rattle.std.proofs.lemmas.Map.Text.{is_eq-slice_cmp}
 use Rattle.rart_below.specs.Bytes.{byte_order, begins}
 use Rattle.rart_maps.specs.Versions.{Map}
 use Rattle.rart_maps.specs.Pairs.{pairs, beginnings_of, starts, shared}
-use Rattle.rart_maps.proofs.Elements.{T-true}
+use Rattle.rart_maps.proofs.ElementLemmas.{T-true}
 use Rattle.rart_maps.specs.PairLaws.{IsSublist, PairsAscend, WithinIsSublist, UnderIsSublist, BeginningsIsSublist, CommonSwaps, StartsShorten, SharedShorten, SharedIsEmpty}
 
 -- ---- sub-lists

@@ -6,7 +6,7 @@ use Rattle.std.specs.Ordering.{eq_by_cmp, is_eq}
 use Rattle.std.specs.Cmp.{IsTotalOrder, Equal-is, tied_itself}
 use Rattle.std.specs.FinSet as set
 use Rattle.std.proofs.lemmas.List.Sums.{sum_by-cons, sum_by-le-sum_by}
-use Rattle.rart_maps.proofs.Elements.{Contains-nil, Contains-cases}
+use Rattle.rart_maps.proofs.ElementLemmas.{Contains-nil, Contains-cases}
 
 -- what a test keeps of a set with one more element, as the set's own test says it
 kept_more : (tie there keeps first : Bool) → (tie ≡ true → keeps ≡ first) → ((tie || there) && keeps) ≡ cond first (tie || (there && keeps)) (there && keeps)

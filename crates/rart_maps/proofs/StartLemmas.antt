@@ -20,7 +20,7 @@ use Rattle.rart_below.specs.Bytes.{byte_order, begins}
 use Rattle.rart_maps.specs.Versions.{Map}
 use Rattle.rart_maps.specs.Pairs.{Strings, pairs, starts, shared}
 use Rattle.rart_maps.specs.StartLaws.{strings_under, with_byte, all_bytes, HasByteKeys, sum_of_parts, StringsUnderSplit, StringsUnderAreApart, StringsUnderAddUp, StartsBeginKeys, SharedAreInBoth, StartsAddUp, SharedAddUp}
-use Rattle.rart_maps.proofs.Elements.{Contains-here, Contains-later, list_any-is}
+use Rattle.rart_maps.proofs.ElementLemmas.{Contains-here, Contains-later, list_any-is}
 use Rattle.rart_maps.proofs.FoundLemmas.{Contains-pairs}
 use Rattle.rart_maps.proofs.OrderLemmas.{byte_order-IsAntisymmetric, lt-less, begins-append, begins-rest}
 use Rattle.rart_maps.proofs.PairLawLemmas.{begins-shorter, contains-starts, contains-shared}

@@ -1,7 +1,7 @@
 -- The worked values of the bounds, by computation.
 use Rattle.std.proofs.Common.{◌*◌, refl, ap, inl, inr}
 use Rattle.rart_maps.specs.WorkedBounds.{LookupOfNoByte, LookupOfThreeBytes, ChangeOfNoByte, ChangeOfThreeBytes, TouchOfNoByte, TouchOfThreeBytes, MeetOfTwo, MeetBelowOne, MeetWithItself, MeetOfEmpty, ReachOfTwo, ReachOfAll, ReachOfNone, MeetOfDistinct, MeetInsideKeys, ReachOfFive, ReachOfOne, ReachPastKeys}
-use Rattle.rart_maps.proofs.MapRules.{maps, sets}
+use Rattle.rart_maps.proofs.MapLemmas.{maps, sets}
 use Rattle.rart_maps.proofs.PairLawLemmas.{shared_is_empty}
 use Rattle.std.specs.FinMap as finite
 

@@ -1,7 +1,7 @@
 -- The worked values of what is read off maps, by computation.
 use Rattle.std.proofs.Common.{refl}
 use Rattle.rart_maps.specs.WorkedPairs.{WithinIncluded, WithinExcluded, WithinOtherKeys, WithinLowAlone, WithinHighAlone, WithinReversed, WithinOneKey, WithinNoKey, UnderTwo, UnderOne, UnderItself, UnderEmpty, UnderNone, BeginningsShortestFirst, BeginningsOfKey, BeginningsNone, CommonLeftFirst, CommonNone}
-use Rattle.rart_maps.proofs.MapRules.{maps}
+use Rattle.rart_maps.proofs.MapLemmas.{maps}
 
 pub within_included : WithinIncluded
 within_included = simp maps refl

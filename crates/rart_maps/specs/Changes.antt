@@ -4,7 +4,7 @@ use Rattle.rart_below.specs.declared.slot.Slot.{Slot}
 use Rattle.rart_below.specs.declared.slot.Slot.TheVariants.{Vacant, Occupied}
 use Rattle.rart_below.specs.declared.slot.SlotUpdate.{SlotUpdate}
 use Rattle.rart_below.specs.declared.slot.SlotUpdate.TheVariants.{Keep, Insert, Remove}
-use Rattle.rart_maps.specs.Versions.{Version, value_at, has_key, raised, with_key, without_key}
+use Rattle.rart_maps.specs.Versions.{Version, value_at, has_key, with_rise, with_key, without_key}
 
 module _ {V : Type 0} where
   -- The call answers so and leaves the version so. Refused, it leaves the version as it was.
@@ -55,28 +55,28 @@ module _ {V : Type 0} where
 
   -- An update, by the value at entry, what the callback left in the slot and what it answered: whether
   -- the key was there or is now, and the version after.
-  abbrev pub updated_by : Version V → List ℕ → Option V → Slot V → SlotUpdate V → Bool × Version V
-  updated_by v w None left Keep = (false, v)
-  updated_by v w None left (Insert x) = (true, with_key v w x 1)
-  updated_by v w None left Remove = (false, v)
-  updated_by v w (Some old) left Keep = (true, with_key v w (left_behind old left) 1)
-  updated_by v w (Some old) left (Insert x) = (true, with_key v w x 1)
-  updated_by v w (Some old) left Remove = (true, without_key v w 1)
+  abbrev pub slot_update_from : Version V → List ℕ → Option V → Slot V → SlotUpdate V → Bool × Version V
+  slot_update_from v w None left Keep = (false, v)
+  slot_update_from v w None left (Insert x) = (true, with_key v w x 1)
+  slot_update_from v w None left Remove = (false, v)
+  slot_update_from v w (Some old) left Keep = (true, with_key v w (left_behind old left) 1)
+  slot_update_from v w (Some old) left (Insert x) = (true, with_key v w x 1)
+  slot_update_from v w (Some old) left Remove = (true, without_key v w 1)
 
-  abbrev pub updated : Version V → List ℕ → Slot V → SlotUpdate V → Bool × Version V
-  updated v w left told = updated_by v w (value_at v w) left told
+  abbrev pub slot_update : Version V → List ℕ → Slot V → SlotUpdate V → Bool × Version V
+  slot_update v w left told = slot_update_from v w (value_at v w) left told
 
   -- The same for a callback that may answer an error. Where the key was there, the number is two greater
   -- for whatever else than `Keep` it answers.
-  abbrev pub tried_by : {E : Type 0} → Version V → List ℕ → Option V → Slot V → Result (SlotUpdate V) E → Result Bool E × Version V
-  tried_by v w None left (Ok Keep) = (Ok false, v)
-  tried_by v w None left (Ok (Insert x)) = (Ok true, with_key v w x 1)
-  tried_by v w None left (Ok Remove) = (Ok false, v)
-  tried_by v w None left (Err e) = (Err e, v)
-  tried_by v w (Some old) left (Ok Keep) = (Ok true, with_key v w (left_behind old left) 1)
-  tried_by v w (Some old) left (Ok (Insert x)) = (Ok true, with_key v w x 2)
-  tried_by v w (Some old) left (Ok Remove) = (Ok true, without_key v w 2)
-  tried_by v w (Some old) left (Err e) = (Err e, raised v 2)
+  abbrev pub slot_attempt_from : {E : Type 0} → Version V → List ℕ → Option V → Slot V → Result (SlotUpdate V) E → Result Bool E × Version V
+  slot_attempt_from v w None left (Ok Keep) = (Ok false, v)
+  slot_attempt_from v w None left (Ok (Insert x)) = (Ok true, with_key v w x 1)
+  slot_attempt_from v w None left (Ok Remove) = (Ok false, v)
+  slot_attempt_from v w None left (Err e) = (Err e, v)
+  slot_attempt_from v w (Some old) left (Ok Keep) = (Ok true, with_key v w (left_behind old left) 1)
+  slot_attempt_from v w (Some old) left (Ok (Insert x)) = (Ok true, with_key v w x 2)
+  slot_attempt_from v w (Some old) left (Ok Remove) = (Ok true, without_key v w 2)
+  slot_attempt_from v w (Some old) left (Err e) = (Err e, with_rise v 2)
 
-  abbrev pub tried : {E : Type 0} → Version V → List ℕ → Slot V → Result (SlotUpdate V) E → Result Bool E × Version V
-  tried v w left told = tried_by v w (value_at v w) left told
+  abbrev pub slot_attempt : {E : Type 0} → Version V → List ℕ → Slot V → Result (SlotUpdate V) E → Result Bool E × Version V
+  slot_attempt v w left told = slot_attempt_from v w (value_at v w) left told

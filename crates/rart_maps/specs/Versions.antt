@@ -34,8 +34,8 @@ module _ {V : Type 0} where
   has_key v w = finite.contains_key v.content w
 
   -- the same map, the number so much greater
-  abbrev pub raised : Version V → ℕ → Version V
-  raised v more = record { content = v.content; number = v.number + more }
+  abbrev pub with_rise : Version V → ℕ → Version V
+  with_rise v more = record { content = v.content; number = v.number + more }
 
   -- the map with the key set to the value, the number so much greater
   abbrev pub with_key : Version V → List ℕ → V → ℕ → Version V

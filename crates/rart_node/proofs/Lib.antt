@@ -1,8 +1,8 @@
-pub mod Contents
-pub mod Copies
-pub mod Entries
-pub mod Froms
-pub mod Orders
-pub mod Rooms
-pub mod Rules
-pub mod Widths
+pub mod ContentLemmas
+pub mod CopyLemmas
+pub mod ChildMapLemmas
+pub mod ChildrenFromLemmas
+pub mod ChildOrderLemmas
+pub mod RoomLemmas
+pub mod NodeLemmas
+pub mod WidthLemmas

@@ -11,13 +11,13 @@ use Rattle.rart_below.specs.contracts.mapping.indexed.IndexedMapping as indexed
 use Rattle.rart_below.specs.contracts.mapping.direct.DirectMapping as direct
 use Rattle.rart_node.specs.contracts.content.Layout as layout
 use Rattle.rart_node.specs.contracts.wide_box.WideBox as wide_box
-use Rattle.rart_node.specs.Contents.{Content, held, Holds}
+use Rattle.rart_node.specs.Contents.{Content, content_shape, Holds}
 use Rattle.rart_node.specs.contracts.node.VersionedNode as node
 use Rattle.rart_node.specs.contracts.node_ref.NodeRef as pointer
 use Rattle.rart_node.specs.declared.node.VersionedNode.{VersionedNode}
 use Rattle.rart_node.specs.declared.node_ref.NodeRef.{NodeRef}
 use Rattle.rart_below.specs.Children.{with_child}
-use Rattle.rart_node.specs.Seen.{seen, shown}
+use Rattle.rart_node.specs.NodeShapes.{node_shape, pointer_shape}
 use Rattle.rart_node.specs.Shape.{with_replaced, with_value}
 
 -- the type of a content, as the logic has it
@@ -33,30 +33,30 @@ module _ (P V : RattleType) where
   Pointer = NodeRef P.Denot V.Denot
 
   -- The content has the child as it was left behind the result, and where there is none holds what it held.
-  abbrev pub LendsHeld : MutBor (Content Pointer) → ℕ → Option (MutBor Pointer) → Fml
-  LendsHeld lender byte result =
+  abbrev pub LendsContentChild : MutBor (Content Pointer) → ℕ → Option (MutBor Pointer) → Fml
+  LendsContentChild lender byte result =
       LendsSo (content_row (pointer.the_row P V)) (pointer.the_row P V) lender result
-      (λ after left. OnSome result (Holds after (held lender.now).width (with_child byte left (held lender.now).children)))
-      (λ after. held after ≡ held lender.now)
+      (λ after left. OnSome result (Holds after (content_shape lender.now).width (with_child byte left (content_shape lender.now).children)))
+      (λ after. content_shape after ≡ content_shape lender.now)
 
 module _ (P V : RattleType) (bytes : P.Denot → List ℕ) where
   -- The pointer shows the node as it was left behind the result, and where there was no memory what it showed.
   abbrev pub LendsNode : MutBor (NodeRef P.Denot V.Denot) → Result (MutBor (VersionedNode P.Denot V.Denot)) AllocError → Fml
   LendsNode lender result =
       LendsSoOk (pointer.the_row P V) (node.the_row P V) lender result
-      (λ after left. shown bytes after ≡ seen bytes left)
-      (λ after. shown bytes after ≡ shown bytes lender.now)
+      (λ after left. pointer_shape bytes after ≡ node_shape bytes left)
+      (λ after. pointer_shape bytes after ≡ pointer_shape bytes lender.now)
 
   -- The node has the child as it was left behind the result, and where there is none is as before.
   abbrev pub LendsChild : MutBor (VersionedNode P.Denot V.Denot) → ℕ → Option (MutBor (NodeRef P.Denot V.Denot)) → Fml
   LendsChild lender byte result =
       LendsSo (node.the_row P V) (pointer.the_row P V) lender result
-      (λ after left. OnSome result (seen bytes after ≡ with_replaced byte (shown bytes left) (seen bytes lender.now)))
-      (λ after. seen bytes after ≡ seen bytes lender.now)
+      (λ after left. OnSome result (node_shape bytes after ≡ with_replaced byte (pointer_shape bytes left) (node_shape bytes lender.now)))
+      (λ after. node_shape bytes after ≡ node_shape bytes lender.now)
 
   -- The node has the value as it was left behind the result, and where there is none is as before.
   abbrev pub LendsValue : MutBor (VersionedNode P.Denot V.Denot) → Option (MutBor V.Denot) → Fml
   LendsValue lender result =
       LendsSo (node.the_row P V) V lender result
-      (λ after left. OnSome result (seen bytes after ≡ with_value (Some left) (seen bytes lender.now)))
-      (λ after. seen bytes after ≡ seen bytes lender.now)
+      (λ after left. OnSome result (node_shape bytes after ≡ with_value (Some left) (node_shape bytes lender.now)))
+      (λ after. node_shape bytes after ≡ node_shape bytes lender.now)

@@ -2,6 +2,6 @@ pub mod Contents
 pub mod Counts
 pub mod Laws
 pub mod Lent
-pub mod Seen
+pub mod NodeShapes
 pub mod Shape
 pub mod VersionedNodeIter

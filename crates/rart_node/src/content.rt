@@ -4,7 +4,7 @@ ghost use Rattle.std.specs.Borrow.{sem};
 ghost use Rattle.std.specs.Option.{option_copied_mut};
 ghost use Rattle.rart_below.specs.Children.{child_at, children_from, first_of, with_child, without_child};
 ghost use Rattle.rart_below.specs.Layouts.{entry_copied};
-ghost use Rattle.rart_node.specs.Contents.{held, Holds};
+ghost use Rattle.rart_node.specs.Contents.{content_shape, Holds};
 ghost use Rattle.rart_node.specs.Shape.{IsFullAt, is_full_at, wider, widened};
 
 use crate::node_ref::NodeRef;
@@ -37,10 +37,10 @@ pub(crate) type Content<P, V> = Layout<
 >;
 
 impl<P: Partial, V: Drop> Content<P, V> {
-    ghost use Rattle.rart_node.specs.Lent.{LendsHeld};
+    ghost use Rattle.rart_node.specs.Lent.{LendsContentChild};
 
     pub(crate) fn width(&self) -> usize
-        ensures { result ≡ (held self.now).width }
+        ensures { result ≡ (content_shape self.now).width }
     {
         match self {
             Layout::Leaf => 0,
@@ -52,8 +52,8 @@ impl<P: Partial, V: Drop> Content<P, V> {
     }
 
     pub(crate) fn num_children(&self) -> usize
-        requires { IsTrue (held self.now).in_order }
-        ensures { result ≡ length (held self.now).children }
+        requires { IsTrue (content_shape self.now).in_order }
+        ensures { result ≡ length (content_shape self.now).children }
     {
         match self {
             Layout::Leaf => 0,
@@ -65,8 +65,8 @@ impl<P: Partial, V: Drop> Content<P, V> {
     }
 
     pub(crate) fn seek_child(&self, byte: u8) -> Option<&NodeRef<P, V>>
-        requires { IsTrue (held self.now).in_order }
-        ensures { option_copied result ≡ child_at byte (held self.now).children }
+        requires { IsTrue (content_shape self.now).in_order }
+        ensures { option_copied result ≡ child_at byte (content_shape self.now).children }
     {
         match self {
             Layout::Leaf => None,
@@ -79,9 +79,9 @@ impl<P: Partial, V: Drop> Content<P, V> {
 
     /// The child under the byte, for writing.
     pub(crate) fn seek_child_mut(&mut self, byte: u8) -> Option<&mut NodeRef<P, V>>
-        requires { IsTrue (held self.old).in_order }
-        ensures* writes_back { sem 𝓛 (LendsHeld P.row V.row self.entry byte result) }
-        ensures value { option_copied_mut result ≡ child_at byte (held self.old).children }
+        requires { IsTrue (content_shape self.old).in_order }
+        ensures* writes_back { sem 𝓛 (LendsContentChild P.row V.row self.entry byte result) }
+        ensures value { option_copied_mut result ≡ child_at byte (content_shape self.old).children }
     {
         match self {
             Layout::Leaf => None,
@@ -94,8 +94,8 @@ impl<P: Partial, V: Drop> Content<P, V> {
 
     /// The child of the least byte that is not below the number, with that byte.
     pub(crate) fn next_from(&self, from: usize) -> Option<(u8, &NodeRef<P, V>)>
-        requires { IsTrue (held self.now).in_order }
-        ensures { entry_copied result ≡ first_of (children_from from (held self.now).children) }
+        requires { IsTrue (content_shape self.now).in_order }
+        ensures { entry_copied result ≡ first_of (children_from from (content_shape self.now).children) }
     {
         match self {
             Layout::Leaf => None,
@@ -108,10 +108,10 @@ impl<P: Partial, V: Drop> Content<P, V> {
 
     /// Puts a child under a byte that has none.
     pub(crate) fn add_child(&mut self, byte: u8, child: NodeRef<P, V>)
-        requires order { IsTrue (held self.old).in_order }
-        requires absent { child_at byte (held self.old).children ≡ None }
-        requires room { length (held self.old).children < (held self.old).width }
-        ensures { Holds self.new (held self.old).width (with_child byte child (held self.old).children) }
+        requires order { IsTrue (content_shape self.old).in_order }
+        requires absent { child_at byte (content_shape self.old).children ≡ None }
+        requires room { length (content_shape self.old).children < (content_shape self.old).width }
+        ensures { Holds self.new (content_shape self.old).width (with_child byte child (content_shape self.old).children) }
     {
         match self {
             Layout::Leaf => unreachable!(),
@@ -124,10 +124,10 @@ impl<P: Partial, V: Drop> Content<P, V> {
 
     /// Puts a child in place of the one under the byte, and gives that one.
     pub(crate) fn replace_child(&mut self, byte: u8, child: NodeRef<P, V>) -> NodeRef<P, V>
-        requires order { IsTrue (held self.old).in_order }
-        requires present { IsSome (child_at byte (held self.old).children) }
-        ensures content { Holds self.new (held self.old).width (with_child byte child (held self.old).children) }
-        ensures replaced { Some result ≡ child_at byte (held self.old).children }
+        requires order { IsTrue (content_shape self.old).in_order }
+        requires present { IsSome (child_at byte (content_shape self.old).children) }
+        ensures content { Holds self.new (content_shape self.old).width (with_child byte child (content_shape self.old).children) }
+        ensures replaced { Some result ≡ child_at byte (content_shape self.old).children }
     {
         match self {
             Layout::Leaf => unreachable!(),
@@ -140,9 +140,9 @@ impl<P: Partial, V: Drop> Content<P, V> {
 
     /// Takes out the child under the byte. The width stays.
     pub(crate) fn delete_child(&mut self, byte: u8) -> Option<NodeRef<P, V>>
-        requires { IsTrue (held self.old).in_order }
-        ensures content { Holds self.new (held self.old).width (without_child byte (held self.old).children) }
-        ensures deleted { result ≡ child_at byte (held self.old).children }
+        requires { IsTrue (content_shape self.old).in_order }
+        ensures content { Holds self.new (content_shape self.old).width (without_child byte (content_shape self.old).children) }
+        ensures deleted { result ≡ child_at byte (content_shape self.old).children }
     {
         match self {
             Layout::Leaf => None,
@@ -156,8 +156,8 @@ impl<P: Partial, V: Drop> Content<P, V> {
     /// Whether there are as many children as the width has room for. No leaf is full, nor is the
     /// widest mapping.
     pub(crate) fn is_full(&self) -> bool
-        requires { IsTrue (held self.now).in_order }
-        ensures { IsTrue result ↔ IsFullAt (held self.now).width (length (held self.now).children) }
+        requires { IsTrue (content_shape self.now).in_order }
+        ensures { IsTrue result ↔ IsFullAt (content_shape self.now).width (length (content_shape self.now).children) }
     {
         let width = self.width();
         0 < width && width < 256 && self.num_children() == width
@@ -165,8 +165,8 @@ impl<P: Partial, V: Drop> Content<P, V> {
 
     /// Whether one more child asks for the next width, as it does of a leaf and of a full mapping.
     fn must_widen(&self) -> bool
-        requires { IsTrue (held self.now).in_order }
-        ensures { result ≡ is_full_at (held self.now).width (length (held self.now).children) }
+        requires { IsTrue (content_shape self.now).in_order }
+        ensures { result ≡ is_full_at (content_shape self.now).width (length (content_shape self.now).children) }
     {
         let width = self.width();
         width < 256 && width <= self.num_children()
@@ -175,12 +175,12 @@ impl<P: Partial, V: Drop> Content<P, V> {
     /// Sees that one more child fits: a change of width is one node made. Refused for memory,
     /// nothing has changed. Where the width stays, the call succeeds.
     pub(crate) fn make_room(&mut self, alloc: Global, work: &mut Work) -> Result<(), AllocError>
-        requires { IsTrue (held self.old).in_order }
-        ensures ok { OnOk result (Holds self.new (widened (held self.old).width (length (held self.old).children)) (held self.old).children) }
+        requires { IsTrue (content_shape self.old).in_order }
+        ensures ok { OnOk result (Holds self.new (widened (content_shape self.old).width (length (content_shape self.old).children)) (content_shape self.old).children) }
         ensures refused { OnErr result (self.new ≡ self.old) }
-        ensures succeeds { is_full_at (held self.old).width (length (held self.old).children) ≡ false
+        ensures succeeds { is_full_at (content_shape self.old).width (length (content_shape self.old).children) ≡ false
             → IsOk result }
-        ensures work { work.new ≡ record work.old { made = work.old.made + (if is_full_at (held self.old).width (length (held self.old).children) then 1 else 0) } }
+        ensures work { work.new ≡ record work.old { made = work.old.made + (if is_full_at (content_shape self.old).width (length (content_shape self.old).children) then 1 else 0) } }
     {
         let must_widen = self.must_widen();
         work.make_if(must_widen);
@@ -192,9 +192,9 @@ impl<P: Partial, V: Drop> Content<P, V> {
 
     /// Moves the children to the next width. Refused for memory, nothing has changed.
     pub(crate) fn widen(&mut self, alloc: Global) -> Result<(), AllocError>
-        requires order { IsTrue (held self.old).in_order }
-        requires narrow { (held self.old).width < 256 }
-        ensures ok { OnOk result (Holds self.new (wider (held self.old).width) (held self.old).children) }
+        requires order { IsTrue (content_shape self.old).in_order }
+        requires narrow { (content_shape self.old).width < 256 }
+        ensures ok { OnOk result (Holds self.new (wider (content_shape self.old).width) (content_shape self.old).children) }
         ensures refused { OnErr result (self.new ≡ self.old) }
     {
         match self {
@@ -221,11 +221,11 @@ impl<P: Partial, V: Drop> Content<P, V> {
 }
 
 impl<P: Partial, V: Drop> Content<P, V> {
-    ghost use Rattle.rart_node.specs.Seen.{shown_held};
+    ghost use Rattle.rart_node.specs.NodeShapes.{shapes_of_content};
 
     /// The same children at the same width: a copy of each pointer.
     pub(crate) fn copy(&self) -> Result<Content<P, V>, AllocError>
-        ensures { IfOk result (λ copy. shown_held P.bytes (held copy) ≡ shown_held P.bytes (held self.now)) }
+        ensures { IfOk result (λ copy. shapes_of_content P.bytes (content_shape copy) ≡ shapes_of_content P.bytes (content_shape self.now)) }
     {
         match self {
             Layout::Leaf => Ok(Layout::Leaf),

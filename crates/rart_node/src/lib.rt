@@ -11,8 +11,6 @@ pub mod laws;
 mod node;
 mod node_iter;
 mod node_ref;
-#[cfg(test)]
-mod tests;
 mod wide_box;
 mod work;
 

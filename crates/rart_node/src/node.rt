@@ -28,9 +28,9 @@ pub struct VersionedNode<P, V> {
     content: Content<P, V>,
 }
 
-#[tactic(auto, using(crate::proofs::Rules::seeing))]
+#[tactic(auto, using(crate::proofs::NodeLemmas::seeing))]
 impl<P: Partial, V: Drop> VersionedNode<P, V> {
-    ghost use Rattle.rart_node.specs.Seen.{seen, shown, shown_entry};
+    ghost use Rattle.rart_node.specs.NodeShapes.{node_shape, pointer_shape, entry_shape};
     ghost use Rattle.rart_node.specs.VersionedNodeIter.{children_left};
     ghost use Rattle.rart_node.specs.Lent.{LendsChild, LendsValue};
     ghost use Rattle.std.specs.Borrow.{sem};
@@ -39,7 +39,7 @@ impl<P: Partial, V: Drop> VersionedNode<P, V> {
     /// `NodeRef::open_mut` copies a node; growth takes its own. `version` is stored and read by no
     /// call.
     pub fn new_leaf(alloc: Global, prefix: P, value: V, version: u64) -> VersionedNode<P, V>
-        ensures { seen P.bytes result ≡ node_of (P.bytes prefix) (Some value) 0 [] }
+        ensures { node_shape P.bytes result ≡ node_of (P.bytes prefix) (Some value) 0 [] }
     {
         VersionedNode {
             prefix,
@@ -57,7 +57,7 @@ impl<P: Partial, V: Drop> VersionedNode<P, V> {
         prefix: P,
         version: u64,
     ) -> Result<VersionedNode<P, V>, AllocError>
-        ensures { IfOk result (λ node. seen P.bytes node ≡ node_of (P.bytes prefix) None 4 []) }
+        ensures { IfOk result (λ node. node_shape P.bytes node ≡ node_of (P.bytes prefix) None 4 []) }
     {
         Ok(VersionedNode {
             prefix,
@@ -70,39 +70,39 @@ impl<P: Partial, V: Drop> VersionedNode<P, V> {
 
     /// Whether the width is none.
     pub fn is_leaf(&self) -> bool
-        ensures leaf { result ≡ (width_of (seen P.bytes self.now) == 0) }
-        ensures width { FitsWidth (seen P.bytes self.now) }
+        ensures leaf { result ≡ (width_of (node_shape P.bytes self.now) == 0) }
+        ensures width { FitsWidth (node_shape P.bytes self.now) }
     {
         self.content.width() == 0
     }
 
     /// Whether the width is not none, also without children.
     pub fn is_inner(&self) -> bool
-        ensures inner { result ≡ not (width_of (seen P.bytes self.now) == 0) }
-        ensures width { FitsWidth (seen P.bytes self.now) }
+        ensures inner { result ≡ not (width_of (node_shape P.bytes self.now) == 0) }
+        ensures width { FitsWidth (node_shape P.bytes self.now) }
     {
         self.content.width() != 0
     }
 
     /// The prefix. rart has no such call: there the field is read.
     pub fn prefix(&self) -> &P
-        ensures { P.bytes result.now ≡ prefix_of (seen P.bytes self.now) }
+        ensures { P.bytes result.now ≡ prefix_of (node_shape P.bytes self.now) }
     {
         &self.prefix
     }
 
     /// The value, where there is one.
     pub fn value(&self) -> Option<&V>
-        ensures { option_copied result ≡ value_of (seen P.bytes self.now) }
+        ensures { option_copied result ≡ value_of (node_shape P.bytes self.now) }
     {
         self.value.as_ref()
     }
 
     /// The number of children.
     pub fn num_children(&self) -> usize
-        requires { IsAscending (seen P.bytes self.now) }
-        ensures count { result ≡ length (children_of (seen P.bytes self.now)) }
-        ensures width { FitsWidth (seen P.bytes self.now) }
+        requires { IsAscending (node_shape P.bytes self.now) }
+        ensures count { result ≡ length (children_of (node_shape P.bytes self.now)) }
+        ensures width { FitsWidth (node_shape P.bytes self.now) }
     {
         self.content.num_children()
     }
@@ -110,26 +110,26 @@ impl<P: Partial, V: Drop> VersionedNode<P, V> {
     /// Whether there are as many children as the width has room for: 4, 16 or 48 at these widths. A
     /// leaf is never full, nor is a node of width 256.
     pub fn is_full(&self) -> bool
-        requires { IsAscending (seen P.bytes self.now) }
-        ensures full { IsTrue result ↔ IsFull (seen P.bytes self.now) }
-        ensures width { FitsWidth (seen P.bytes self.now) }
+        requires { IsAscending (node_shape P.bytes self.now) }
+        ensures full { IsTrue result ↔ IsFull (node_shape P.bytes self.now) }
+        ensures width { FitsWidth (node_shape P.bytes self.now) }
     {
         self.content.is_full()
     }
 
     /// The pointer under the byte.
     pub fn seek_child(&self, byte: u8) -> Option<&NodeRef<P, V>>
-        requires { IsAscending (seen P.bytes self.now) }
-        ensures { option_map (λ child. shown P.bytes child.now) result ≡ child_at byte (children_of (seen P.bytes self.now)) }
+        requires { IsAscending (node_shape P.bytes self.now) }
+        ensures { option_map (λ child. pointer_shape P.bytes child.now) result ≡ child_at byte (children_of (node_shape P.bytes self.now)) }
     {
         self.content.seek_child(byte)
     }
 
     /// The children, each with its byte, ascending.
     pub fn iter(&self) -> VersionedNodeIter<'_, P, V>
-        requires { IsAscending (seen P.bytes self.now) }
-        ensures order { IsAscending (seen P.bytes result.node.now) }
-        ensures children { children_left P.bytes result ≡ children_of (seen P.bytes self.now) }
+        requires { IsAscending (node_shape P.bytes self.now) }
+        ensures order { IsAscending (node_shape P.bytes result.node.now) }
+        ensures children { children_left P.bytes result ≡ children_of (node_shape P.bytes self.now) }
     {
         self.iter_from(0)
     }
@@ -137,9 +137,9 @@ impl<P: Partial, V: Drop> VersionedNode<P, V> {
     /// The children from a byte on, each with its byte, ascending. rart has no such call: there
     /// `iter` starts at the least byte.
     pub fn iter_from(&self, least: u8) -> VersionedNodeIter<'_, P, V>
-        requires { IsAscending (seen P.bytes self.now) }
-        ensures order { IsAscending (seen P.bytes result.node.now) }
-        ensures children { children_left P.bytes result ≡ children_from least (children_of (seen P.bytes self.now)) }
+        requires { IsAscending (node_shape P.bytes self.now) }
+        ensures order { IsAscending (node_shape P.bytes result.node.now) }
+        ensures children { children_left P.bytes result ≡ children_from least (children_of (node_shape P.bytes self.now)) }
     {
         VersionedNodeIter {
             node: self,
@@ -149,17 +149,17 @@ impl<P: Partial, V: Drop> VersionedNode<P, V> {
 
     /// The child of the least byte that is not below the number.
     pub(crate) fn next_from(&self, from: usize) -> Option<(u8, &NodeRef<P, V>)>
-        requires { IsAscending (seen P.bytes self.now) }
-        ensures { option_map (shown_entry P.bytes) result ≡ first_of (children_from from (children_of (seen P.bytes self.now))) }
+        requires { IsAscending (node_shape P.bytes self.now) }
+        ensures { option_map (entry_shape P.bytes) result ≡ first_of (children_from from (children_of (node_shape P.bytes self.now))) }
     {
         self.content.next_from(from)
     }
 
     /// The pointer under the byte, for writing. The node then has that child as it was left.
     pub fn seek_child_mut(&mut self, byte: u8) -> Option<&mut NodeRef<P, V>>
-        requires { IsAscending (seen P.bytes self.old) }
+        requires { IsAscending (node_shape P.bytes self.old) }
         ensures* writes_back { sem 𝓛 (LendsChild P.row V.row P.bytes self.entry byte result) }
-        ensures value { option_map (λ child. shown P.bytes child.now) result ≡ child_at byte (children_of (seen P.bytes self.old)) }
+        ensures value { option_map (λ child. pointer_shape P.bytes child.now) result ≡ child_at byte (children_of (node_shape P.bytes self.old)) }
     {
         self.content.seek_child_mut(byte)
     }
@@ -175,13 +175,13 @@ impl<P: Partial, V: Drop> VersionedNode<P, V> {
         child: NodeRef<P, V>,
         work: &mut Work,
     ) -> Result<(), AllocError>
-        requires order { IsAscending (seen P.bytes self.old) }
-        requires absent { child_at byte (children_of (seen P.bytes self.old)) ≡ None }
-        ensures ok { OnOk result (seen P.bytes self.new ≡ with_added byte (shown P.bytes child) (seen P.bytes self.old)) }
-        ensures refused { OnErr result (seen P.bytes self.new ≡ seen P.bytes self.old) }
-        ensures succeeds { widenings (seen P.bytes self.old) ≡ 0 → IsOk result }
+        requires order { IsAscending (node_shape P.bytes self.old) }
+        requires absent { child_at byte (children_of (node_shape P.bytes self.old)) ≡ None }
+        ensures ok { OnOk result (node_shape P.bytes self.new ≡ with_added byte (pointer_shape P.bytes child) (node_shape P.bytes self.old)) }
+        ensures refused { OnErr result (node_shape P.bytes self.new ≡ node_shape P.bytes self.old) }
+        ensures succeeds { widenings (node_shape P.bytes self.old) ≡ 0 → IsOk result }
         ensures entered { work.new.entered ≡ work.old.entered }
-        ensures made { work.new.made ≡ work.old.made + widenings (seen P.bytes self.old) }
+        ensures made { work.new.made ≡ work.old.made + widenings (node_shape P.bytes self.old) }
     {
         let content = &mut self.content;
         content.make_room(alloc, work)?;
@@ -192,19 +192,19 @@ impl<P: Partial, V: Drop> VersionedNode<P, V> {
     /// Puts a child in place of the one under the byte, and gives that one. rart has no such call:
     /// there the one is taken out by `delete_child`, and the other put in by `add_child`.
     pub fn replace_child(&mut self, byte: u8, child: NodeRef<P, V>) -> NodeRef<P, V>
-        requires order { IsAscending (seen P.bytes self.old) }
-        requires present { IsSome (child_at byte (children_of (seen P.bytes self.old))) }
-        ensures seen { seen P.bytes self.new ≡ with_replaced byte (shown P.bytes child) (seen P.bytes self.old) }
-        ensures replaced { Some (shown P.bytes result) ≡ child_at byte (children_of (seen P.bytes self.old)) }
+        requires order { IsAscending (node_shape P.bytes self.old) }
+        requires present { IsSome (child_at byte (children_of (node_shape P.bytes self.old))) }
+        ensures seen { node_shape P.bytes self.new ≡ with_replaced byte (pointer_shape P.bytes child) (node_shape P.bytes self.old) }
+        ensures replaced { Some (pointer_shape P.bytes result) ≡ child_at byte (children_of (node_shape P.bytes self.old)) }
     {
         self.content.replace_child(byte, child)
     }
 
     /// Takes out the child under the byte. The width stays.
     pub fn delete_child(&mut self, byte: u8) -> Option<NodeRef<P, V>>
-        requires { IsAscending (seen P.bytes self.old) }
-        ensures seen { seen P.bytes self.new ≡ with_deleted byte (seen P.bytes self.old) }
-        ensures deleted { option_map (shown P.bytes) result ≡ child_at byte (children_of (seen P.bytes self.old)) }
+        requires { IsAscending (node_shape P.bytes self.old) }
+        ensures seen { node_shape P.bytes self.new ≡ with_deleted byte (node_shape P.bytes self.old) }
+        ensures deleted { option_map (pointer_shape P.bytes) result ≡ child_at byte (children_of (node_shape P.bytes self.old)) }
     {
         self.content.delete_child(byte)
     }
@@ -213,7 +213,7 @@ impl<P: Partial, V: Drop> VersionedNode<P, V> {
     /// the field is lent.
     pub fn value_mut(&mut self) -> Option<&mut V>
         ensures* writes_back { sem 𝓛 (LendsValue P.row V.row P.bytes self.entry result) }
-        ensures value { option_map (λ value. value.now) result ≡ value_of (seen P.bytes self.old) }
+        ensures value { option_map (λ value. value.now) result ≡ value_of (node_shape P.bytes self.old) }
     {
         self.value.as_mut()
     }
@@ -221,23 +221,23 @@ impl<P: Partial, V: Drop> VersionedNode<P, V> {
     /// Puts the value in, and gives the one that was there. rart has no such call: there the field
     /// is replaced.
     pub fn set_value(&mut self, value: V) -> Option<V>
-        ensures old { result ≡ value_of (seen P.bytes self.old) }
-        ensures new { seen P.bytes self.new ≡ with_value (Some value) (seen P.bytes self.old) }
+        ensures old { result ≡ value_of (node_shape P.bytes self.old) }
+        ensures new { node_shape P.bytes self.new ≡ with_value (Some value) (node_shape P.bytes self.old) }
     {
         self.value.replace(value)
     }
 
     /// Takes the value out, and gives it. rart has no such call: there the field is emptied.
     pub fn take_value(&mut self) -> Option<V>
-        ensures old { result ≡ value_of (seen P.bytes self.old) }
-        ensures new { seen P.bytes self.new ≡ with_value None (seen P.bytes self.old) }
+        ensures old { result ≡ value_of (node_shape P.bytes self.old) }
+        ensures new { node_shape P.bytes self.new ≡ with_value None (node_shape P.bytes self.old) }
     {
         self.value.take()
     }
 
     /// The same node with this prefix. rart has no such call: there the field is assigned.
     pub fn with_prefix(self, prefix: P) -> VersionedNode<P, V>
-        ensures { seen P.bytes result ≡ with_prefix (P.bytes prefix) (seen P.bytes self) }
+        ensures { node_shape P.bytes result ≡ with_prefix (P.bytes prefix) (node_shape P.bytes self) }
     {
         VersionedNode {
             prefix,
@@ -249,10 +249,10 @@ impl<P: Partial, V: Drop> VersionedNode<P, V> {
     }
 }
 
-#[tactic(auto, using(crate::proofs::Rules::seeing))]
+#[tactic(auto, using(crate::proofs::NodeLemmas::seeing))]
 impl<P: Partial, V: Clone + Drop> VersionedNode<P, V> {
-    ghost use Rattle.rart_node.specs.Seen.{seen, seen_of, shown_held};
-    ghost use Rattle.rart_node.specs.Contents.{held};
+    ghost use Rattle.rart_node.specs.NodeShapes.{node_shape, node_of_content, shapes_of_content};
+    ghost use Rattle.rart_node.specs.Contents.{content_shape};
 
     /// A node with the same prefix, value, width and children, where clones of values equal them.
     ///
@@ -263,7 +263,7 @@ impl<P: Partial, V: Clone + Drop> VersionedNode<P, V> {
         alloc: Global,
         new_version: u64,
     ) -> Result<VersionedNode<P, V>, AllocError>
-        ensures { IfOk result (λ copy. ClonesEqual V.is_clone → seen P.bytes copy ≡ seen P.bytes self.now) }
+        ensures { IfOk result (λ copy. ClonesEqual V.is_clone → node_shape P.bytes copy ≡ node_shape P.bytes self.now) }
     {
         let content = self.content.copy()?;
         self.copy_with(alloc, new_version, content)
@@ -275,10 +275,10 @@ impl<P: Partial, V: Clone + Drop> VersionedNode<P, V> {
     /// Of a leaf the answer is `GrowError::Leaf`, of a node of width 256 `GrowError::Widest`, and
     /// where memory is refused `GrowError::Memory`. They are tested in this order.
     pub fn grow(&self, alloc: Global, new_version: u64) -> Result<VersionedNode<P, V>, GrowError>
-        requires { IsAscending (seen P.bytes self.now) }
-        ensures grown { IfOk result (λ node. ClonesEqual V.is_clone → seen P.bytes node ≡ with_width (wider (width_of (seen P.bytes self.now))) (seen P.bytes self.now)) }
-        ensures leaf { IsErrOf result GrowError.Leaf ↔ (width_of (seen P.bytes self.now) ≡ 0) }
-        ensures widest { IsErrOf result GrowError.Widest ↔ (width_of (seen P.bytes self.now) ≡ 256) }
+        requires { IsAscending (node_shape P.bytes self.now) }
+        ensures grown { IfOk result (λ node. ClonesEqual V.is_clone → node_shape P.bytes node ≡ with_width (wider (width_of (node_shape P.bytes self.now))) (node_shape P.bytes self.now)) }
+        ensures leaf { IsErrOf result GrowError.Leaf ↔ (width_of (node_shape P.bytes self.now) ≡ 0) }
+        ensures widest { IsErrOf result GrowError.Widest ↔ (width_of (node_shape P.bytes self.now) ≡ 256) }
     {
         match self.content.width() {
             0 => return Err(GrowError::Leaf),
@@ -297,7 +297,7 @@ impl<P: Partial, V: Clone + Drop> VersionedNode<P, V> {
         new_version: u64,
         content: Content<P, V>,
     ) -> Result<VersionedNode<P, V>, AllocError>
-        ensures { IfOk result (λ copy. ClonesEqual V.is_clone → seen P.bytes copy ≡ seen_of P.bytes (prefix_of (seen P.bytes self.now)) (value_of (seen P.bytes self.now)) (shown_held P.bytes (held content))) }
+        ensures { IfOk result (λ copy. ClonesEqual V.is_clone → node_shape P.bytes copy ≡ node_of_content P.bytes (prefix_of (node_shape P.bytes self.now)) (value_of (node_shape P.bytes self.now)) (shapes_of_content P.bytes (content_shape content))) }
     {
         let prefix = self.prefix.copy(alloc)?;
         let value = clone_of(&self.value)?;
@@ -312,10 +312,10 @@ impl<P: Partial, V: Clone + Drop> VersionedNode<P, V> {
 }
 
 impl<P: Partial, V: Clone + Drop> Clone for VersionedNode<P, V> {
-    ghost use Rattle.rart_node.specs.Seen.{seen};
+    ghost use Rattle.rart_node.specs.NodeShapes.{node_shape};
     ghost use Rattle.rart_below.specs.Clones.{ClonesEqual};
 
-    ghost is_clone = { λ node copy. ClonesEqual V.is_clone → seen P.bytes copy ≡ seen P.bytes node };
+    ghost is_clone = { λ node copy. ClonesEqual V.is_clone → node_shape P.bytes copy ≡ node_shape P.bytes node };
 
     fn clone(&self) -> Result<VersionedNode<P, V>, AllocError> {
         self.cow_clone_inner(self.alloc, self.version)

@@ -1,5 +1,5 @@
 //! The iterator over the children of a node.
-ghost use Rattle.rart_node.specs.Seen.{seen};
+ghost use Rattle.rart_node.specs.NodeShapes.{node_shape};
 ghost use Rattle.rart_node.specs.Shape.{IsAscending};
 
 use crate::node::VersionedNode;
@@ -13,17 +13,17 @@ use rart_below::Partial;
 pub struct VersionedNodeIter<'a, P: Partial, V> {
     pub(crate) node: &'a VersionedNode<P, V>,
     pub(crate) from: usize,
-    pub ghost order: { IsAscending (seen P.bytes node.now) },
+    pub ghost order: { IsAscending (node_shape P.bytes node.now) },
 }
 
 impl<'a, P: Partial, V: Drop> Iterator for VersionedNodeIter<'a, P, V> {
     type Item = (u8, &'a NodeRef<P, V>);
 
     ghost use Rattle.std.specs.Iterator.{YieldsFirstBy, item_count};
-    ghost use Rattle.rart_node.specs.Seen.{shown_entry};
+    ghost use Rattle.rart_node.specs.NodeShapes.{entry_shape};
     ghost use Rattle.rart_node.specs.VersionedNodeIter.{children_left};
 
-    ghost next_gives = { YieldsFirstBy (shown_entry P.bytes) (children_left P.bytes) };
+    ghost next_gives = { YieldsFirstBy (entry_shape P.bytes) (children_left P.bytes) };
 
     ghost remaining = { item_count (children_left P.bytes) };
 

@@ -19,9 +19,9 @@ pub struct NodeRef<P, V> {
     shared: Rc<VersionedNode<P, V>, Global>,
 }
 
-#[tactic(auto, using(crate::proofs::Rules::seeing))]
+#[tactic(auto, using(crate::proofs::NodeLemmas::seeing))]
 impl<P: Partial, V: Drop> NodeRef<P, V> {
-    ghost use Rattle.rart_node.specs.Seen.{seen, shown};
+    ghost use Rattle.rart_node.specs.NodeShapes.{node_shape, pointer_shape};
 
     /// A pointer to this node: one node made. Refused for memory, the node is given up.
     pub fn new(
@@ -29,7 +29,7 @@ impl<P: Partial, V: Drop> NodeRef<P, V> {
         node: VersionedNode<P, V>,
         work: &mut Work,
     ) -> Result<NodeRef<P, V>, AllocError>
-        ensures shown { IfOk result (λ pointer. shown P.bytes pointer ≡ seen P.bytes node) }
+        ensures shown { IfOk result (λ pointer. pointer_shape P.bytes pointer ≡ node_shape P.bytes node) }
         ensures work { work.new ≡ record work.old { made = work.old.made + 1 } }
     {
         work.make();
@@ -40,7 +40,7 @@ impl<P: Partial, V: Drop> NodeRef<P, V> {
 
     /// The node: one node entered.
     pub fn open(&self, work: &mut Work) -> &VersionedNode<P, V>
-        ensures shown { seen P.bytes result.now ≡ shown P.bytes self.now }
+        ensures shown { node_shape P.bytes result.now ≡ pointer_shape P.bytes self.now }
         ensures work { work.new ≡ record work.old { entered = work.old.entered + 1 } }
     {
         work.enter();
@@ -50,7 +50,7 @@ impl<P: Partial, V: Drop> NodeRef<P, V> {
     /// Another pointer to the same node. Refused where the count of pointers to it is at its
     /// greatest, and nothing has changed then. In Rust this is `Arc::clone`.
     pub fn copy(&self) -> Result<NodeRef<P, V>, AllocError>
-        ensures { IfOk result (λ copy. shown P.bytes copy ≡ shown P.bytes self.now) }
+        ensures { IfOk result (λ copy. pointer_shape P.bytes copy ≡ pointer_shape P.bytes self.now) }
     {
         Ok(NodeRef {
             shared: self.shared.clone()?,
@@ -60,18 +60,18 @@ impl<P: Partial, V: Drop> NodeRef<P, V> {
 
 /// As `copy`.
 impl<P: Partial, V: Drop> Clone for NodeRef<P, V> {
-    ghost use Rattle.rart_node.specs.Seen.{shown};
+    ghost use Rattle.rart_node.specs.NodeShapes.{pointer_shape};
 
-    ghost is_clone = { λ pointer copy. shown P.bytes copy ≡ shown P.bytes pointer };
+    ghost is_clone = { λ pointer copy. pointer_shape P.bytes copy ≡ pointer_shape P.bytes pointer };
 
     fn clone(&self) -> Result<NodeRef<P, V>, AllocError> {
         self.copy()
     }
 }
 
-#[tactic(auto, using(crate::proofs::Rules::seeing))]
+#[tactic(auto, using(crate::proofs::NodeLemmas::seeing))]
 impl<P: Partial, V: Clone + Drop> NodeRef<P, V> {
-    ghost use Rattle.rart_node.specs.Seen.{seen, shown};
+    ghost use Rattle.rart_node.specs.NodeShapes.{node_shape, pointer_shape};
     ghost use Rattle.rart_node.specs.Lent.{LendsNode};
     ghost use Rattle.std.specs.Borrow.{sem};
 
@@ -82,7 +82,7 @@ impl<P: Partial, V: Clone + Drop> NodeRef<P, V> {
     pub fn open_mut(&mut self, work: &mut Work) -> Result<&mut VersionedNode<P, V>, AllocError>
         requires clones { ClonesEqual V.is_clone }
         ensures* writes_back { sem 𝓛 (LendsNode P.row V.row P.bytes self.entry result) }
-        ensures shown { IfOk result (λ node. seen P.bytes node.now ≡ shown P.bytes self.old) }
+        ensures shown { IfOk result (λ node. node_shape P.bytes node.now ≡ pointer_shape P.bytes self.old) }
         ensures work { work.new ≡ record { entered = work.old.entered + 1; made = work.old.made + 1 } }
     {
         work.enter();

@@ -1,2 +1,2 @@
-pub mod Takes
-pub mod TakeSteps
+pub mod RemovalLemmas
+pub mod RemovalStepLemmas

@@ -9,5 +9,5 @@ module _ {V : Type 0} where
   is_unused (node prefix value width forest) = not (is_used value forest)
 
   -- the node without the child under the byte, where that one is left unused
-  abbrev pub pruned : ℕ → Bool → Shape V → Shape V
-  pruned byte left_unused shape = if left_unused then with_deleted byte shape else shape
+  abbrev pub prune : ℕ → Bool → Shape V → Shape V
+  prune byte left_unused shape = if left_unused then with_deleted byte shape else shape

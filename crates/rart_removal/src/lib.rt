@@ -4,10 +4,10 @@
 
 ghost use Rattle.std.specs.Prelude.{◌≡◌, ◌<◌, IsSome, IfOk, OnOk, OnErr};
 ghost use Rattle.rart_below.specs.Clones.{ClonesEqual};
-ghost use Rattle.rart_node.specs.Seen.{seen, shown};
+ghost use Rattle.rart_node.specs.NodeShapes.{node_shape, pointer_shape};
 ghost use Rattle.rart_node.specs.Shape.{IsAscending};
 ghost use Rattle.rart_node.specs.Counts.{CountsUpTo};
-ghost use Rattle.rart_removal.specs.Removals.{is_unused, pruned};
+ghost use Rattle.rart_removal.specs.Removals.{is_unused, prune};
 ghost use Rattle.rart_shape.specs.Trees.{IsTree, IsTaken, found, path_bound};
 
 use rart_below::Partial;
@@ -24,16 +24,16 @@ pub struct Removed<V> {
 
 /// Whether a node has neither value nor child.
 fn is_unused<P: Partial, V: Drop>(node: &VersionedNode<P, V>) -> bool
-    requires { IsAscending (seen P.bytes node.now) }
-    ensures { result ≡ is_unused (seen P.bytes node.now) }
+    requires { IsAscending (node_shape P.bytes node.now) }
+    ensures { result ≡ is_unused (node_shape P.bytes node.now) }
 {
     node.value().is_none() && node.num_children() == 0
 }
 
 /// Takes out the child under a byte, where it is left unused.
 fn prune<P: Partial, V: Drop>(node: &mut VersionedNode<P, V>, byte: u8, left_unused: bool)
-    requires { IsAscending (seen P.bytes node.old) }
-    ensures { seen P.bytes node.new ≡ pruned byte left_unused (seen P.bytes node.old) }
+    requires { IsAscending (node_shape P.bytes node.old) }
+    ensures { node_shape P.bytes node.new ≡ prune byte left_unused (node_shape P.bytes node.old) }
 {
     if left_unused {
         let _ = node.delete_child(byte);
@@ -48,14 +48,14 @@ pub fn remove_below<P: Partial, V: Clone + Drop>(
     work: &mut Work,
 ) -> Result<Removed<V>, AllocError>
     requires clones { ClonesEqual V.is_clone }
-    requires tree { IsTree (shown P.bytes at.old) }
-    requires present { IsSome (found (shown P.bytes at.old) key.now) }
-    ensures taken { OnOk result (IsTaken key.now (shown P.bytes at.old) (shown P.bytes at.new)) }
-    ensures value { IfOk result (λ taken. taken.value ≡ found (shown P.bytes at.old) key.now) }
-    ensures unused { IfOk result (λ taken. taken.left_unused ≡ is_unused (shown P.bytes at.new)) }
-    ensures refused { OnErr result (shown P.bytes at.new ≡ shown P.bytes at.old) }
-    ensures counted { CountsUpTo (path_bound (shown P.bytes at.old) key.now)
-        (path_bound (shown P.bytes at.old) key.now) work.old work.new }
+    requires tree { IsTree (pointer_shape P.bytes at.old) }
+    requires present { IsSome (found (pointer_shape P.bytes at.old) key.now) }
+    ensures taken { OnOk result (IsTaken key.now (pointer_shape P.bytes at.old) (pointer_shape P.bytes at.new)) }
+    ensures value { IfOk result (λ taken. taken.value ≡ found (pointer_shape P.bytes at.old) key.now) }
+    ensures unused { IfOk result (λ taken. taken.left_unused ≡ is_unused (pointer_shape P.bytes at.new)) }
+    ensures refused { OnErr result (pointer_shape P.bytes at.new ≡ pointer_shape P.bytes at.old) }
+    ensures counted { CountsUpTo (path_bound (pointer_shape P.bytes at.old) key.now)
+        (path_bound (pointer_shape P.bytes at.old) key.now) work.old work.new }
     ensures entered { work.old.entered < work.new.entered }
 {
     let node = at.open_mut(work)?;

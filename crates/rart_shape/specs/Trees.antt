@@ -6,10 +6,10 @@ use Rattle.rart_below.specs.Children as children
 use Rattle.rart_node.specs.Shape.{Shape, Forest, node, bare, grown, prefix_of, entries_of, widenings}
 
 -- what is left of q behind p, where p begins it
-abbrev pub behind : List ℕ → List ℕ → Option (List ℕ)
-behind [] q = Some q
-behind (b ∷ p) [] = None
-behind (b ∷ p) (c ∷ q) = if c == b then behind p q else None
+abbrev pub strip_prefix : List ℕ → List ℕ → Option (List ℕ)
+strip_prefix [] q = Some q
+strip_prefix (b ∷ p) [] = None
+strip_prefix (b ∷ p) (c ∷ q) = if c == b then strip_prefix p q else None
 
 -- The string begins with the byte.
 abbrev pub BeginsWith : ℕ → List ℕ → Type 0
@@ -30,7 +30,7 @@ module _ {V : Type 0} where
   abbrev mutual
     -- the value of a string: a node's own where the string ends with its prefix, else what the child under the next byte has
     pub found : Shape V → List ℕ → Option V
-    found (node prefix value width forest) q = option_and_then (λ rest. at_end rest value (found_below forest rest)) (behind prefix q)
+    found (node prefix value width forest) q = option_and_then (λ rest. at_end rest value (found_below forest rest)) (strip_prefix prefix q)
 
     pub found_below : Forest V → List ℕ → Option V
     found_below bare q = None

@@ -1,13 +1,13 @@
 //! What a node's prefix leaves of a key.
 ghost use Rattle.std.specs.Prelude.{◌≡◌, ◌≤◌, length, drop};
 ghost use Rattle.std.specs.Option.{option_map};
-ghost use Rattle.rart_shape.specs.Trees.{behind};
+ghost use Rattle.rart_shape.specs.Trees.{strip_prefix};
 
 use rart_below::Partial;
 
 /// What is left of a key behind a node's prefix, or `None` where the key does not begin with it.
 pub fn strip_prefix<'k, P: Partial>(key: &'k [u8], prefix: &P) -> Option<&'k [u8]>
-    ensures { option_map (λ rest. rest.now) result ≡ behind (P.bytes prefix.now) key.now }
+    ensures { option_map (λ rest. rest.now) result ≡ strip_prefix (P.bytes prefix.now) key.now }
 {
     if prefix.prefix_length_slice(key) < prefix.len() {
         return None;

@@ -4,5 +4,5 @@ pub mod Keys
 pub mod Lent
 pub mod Missing
 pub mod Roots
-pub mod Settled
+pub mod SlotChanges
 pub mod Updates

@@ -10,7 +10,7 @@ use Rattle.std.specs.contracts.option.Option as option
 use Rattle.rart_maps.specs.Versions.{Map}
 use Rattle.rart_node.specs.contracts.node_ref.NodeRef as pointer
 use Rattle.rart_node.specs.declared.node_ref.NodeRef.{NodeRef}
-use Rattle.rart_node.specs.Seen.{shown}
+use Rattle.rart_node.specs.NodeShapes.{pointer_shape}
 use Rattle.rart_node.specs.Shape.{Shape}
 use Rattle.rart_shape.specs.Trees.{found, pairs_of, IsTree}
 use Rattle.rart_versioned.specs.Keys.{IsKeyLength}
@@ -58,7 +58,7 @@ module _ {V : Type 0} where
 module _ (P V : RattleType) (bytes : P.Denot → List ℕ) where
   -- what is below a root
   abbrev pub below_root : Option (NodeRef P.Denot V.Denot) → Option (Shape V.Denot)
-  below_root = option_map (shown bytes)
+  below_root = option_map (pointer_shape bytes)
 
   -- The root has the key set to the value as it was left behind the result, and refused, what it had.
   -- It stays sound.

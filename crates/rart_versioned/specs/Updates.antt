@@ -8,7 +8,7 @@ use Rattle.rart_below.specs.declared.slot.SlotUpdate.TheVariants.{Insert}
 use Rattle.rart_below.specs.declared.slot.Refusal.{Refusal}
 use Rattle.rart_below.specs.declared.slot.Refusal.TheVariants.{Callback, Memory}
 use Rattle.rart_maps.specs.Versions.{Version, value_at}
-use Rattle.rart_maps.specs.Changes.{slot_of, updated, tried}
+use Rattle.rart_maps.specs.Changes.{slot_of, slot_update, slot_attempt}
 
 module _ {F V : Type 0} (callback : Once F (MutBor (Slot V) × Unit {0}) (SlotUpdate V × (MutBor (Slot V) × Unit {0}))) where
   -- The callback, called on the slot of the key, may leave the slot so and answer so.
@@ -26,7 +26,7 @@ module _ {F V : Type 0} (callback : Once F (MutBor (Slot V) × Unit {0}) (SlotUp
   abbrev pub Updates : {E : Type 0} → F → Version V → List ℕ → Result Bool E → Version V → Type 0
   Updates f before w (Ok answer) after =
       (left : Slot V) × (told : SlotUpdate V) × Tells f before w left told
-      × ((answer, after) ≡ updated before w left told)
+      × ((answer, after) ≡ slot_update before w left told)
   Updates f before w (Err refusal) after = (after ≡ before) × UpdateTakesMemory f before w
 
 module _ {F V E : Type 0} (callback : Once F (MutBor (Slot V) × Unit {0}) (Result (SlotUpdate V) E × (MutBor (Slot V) × Unit {0}))) where
@@ -41,7 +41,7 @@ module _ {F V E : Type 0} (callback : Once F (MutBor (Slot V) × Unit {0}) (Resu
   abbrev pub Answers : F → Version V → List ℕ → Result Bool E → Version V → Type 0
   Answers f before w answer after =
       (left : Slot V) × (told : Result (SlotUpdate V) E) × TellsOrFails f before w left told
-      × ((answer, after) ≡ tried before w left told)
+      × ((answer, after) ≡ slot_attempt before w left told)
 
   -- Its error is an answer as any other.
   abbrev pub TriesUpdate :

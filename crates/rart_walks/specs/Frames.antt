@@ -4,10 +4,10 @@ use Rattle.std.specs.Prelude.{◌≡◌, ℕ, ◌+◌, List, [], ◌∷◌, ◌+
 use Rattle.std.specs.List.{concat}
 use Rattle.rart_node.specs.Shape.{Shape, prefix_of, children_of}
 use Rattle.rart_shape.specs.Trees.{IsTree, pairs_of}
-use Rattle.rart_walks.specs.Walks.{Standing, nodes_of}
+use Rattle.rart_walks.specs.Walks.{Position, nodes_of}
 
-abbrev pub Opened : Type 0 → Type 0
-Opened V = List ℕ × List (ℕ × Shape V)
+abbrev pub OpenNode : Type 0 → Type 0
+OpenNode V = List ℕ × List (ℕ × Shape V)
 
 module _ {V : Type 0} where
   -- the pairs with this string before each key
@@ -31,19 +31,19 @@ module _ {V : Type 0} where
   AreTrees [] = ⊤
   AreTrees (child ∷ children) = IsTree child.1 × AreTrees children
 
-  abbrev pub segments_of : List (Opened V) → List (List ℕ)
+  abbrev pub segments_of : List (OpenNode V) → List (List ℕ)
   segments_of frames = map (λ frame. frame.0) frames
 
   -- the pairs of the children that are left: those of the innermost node first
-  abbrev pub pairs_ahead : List (Opened V) → List (List ℕ × V)
+  abbrev pub pairs_ahead : List (OpenNode V) → List (List ℕ × V)
   pairs_ahead [] = []
   pairs_ahead (frame ∷ frames) = behind_path frame.0 (pairs_ahead frames ++ pairs_of_all frame.1)
 
-  abbrev pub nodes_ahead : List (Opened V) → ℕ
+  abbrev pub nodes_ahead : List (OpenNode V) → ℕ
   nodes_ahead [] = 0
   nodes_ahead (frame ∷ frames) = nodes_of_all frame.1 + nodes_ahead frames
 
-  abbrev pub TreesAhead : List (Opened V) → Type 0
+  abbrev pub TreesAhead : List (OpenNode V) → Type 0
   TreesAhead [] = ⊤
   TreesAhead (frame ∷ frames) = AreTrees frame.1 × TreesAhead frames
 
@@ -53,20 +53,20 @@ module _ {V : Type 0} where
   pending_pair path (Some value) = (path, value) ∷ []
 
   -- where a walk stands that has these nodes open and this value still to give
-  abbrev pub standing_of : List (Opened V) → Option V → Standing V
-  standing_of frames pending = record {
+  abbrev pub position_of : List (OpenNode V) → Option V → Position V
+  position_of frames pending = record {
     segments = segments_of frames;
     pairs = pending_pair (concat (segments_of frames)) pending ++ pairs_ahead frames;
     nodes = nodes_ahead frames;
   }
 
   -- The next child of the innermost node was taken, or it had none left, or no node was open.
-  abbrev pub TakesChild : List (Opened V) → Option (Option (Shape V)) → List (Opened V) → Type 0
+  abbrev pub TakesChild : List (OpenNode V) → Option (Option (Shape V)) → List (OpenNode V) → Type 0
   TakesChild before None after = (before ≡ []) × (after ≡ [])
   TakesChild before (Some None) after =
-      (after ≡ before) × (front : List (Opened V)) × (segment : List ℕ)
+      (after ≡ before) × (front : List (OpenNode V)) × (segment : List ℕ)
       × (before ≡ front ++ (segment, []) ∷ [])
   TakesChild before (Some (Some child)) after =
-      (front : List (Opened V)) × (segment : List ℕ) × (byte : ℕ) × (rest : List (ℕ × Shape V))
+      (front : List (OpenNode V)) × (segment : List ℕ) × (byte : ℕ) × (rest : List (ℕ × Shape V))
       × (before ≡ front ++ (segment, (byte, child) ∷ rest) ∷ [])
       × (after ≡ front ++ (segment, rest) ∷ [])

@@ -1,5 +1,5 @@
 pub mod Walks
 pub mod Frames
-pub mod Opened
+pub mod WalkFields
 pub mod Parts
 pub mod Trails

@@ -22,7 +22,7 @@ module _ {V : Type 0} where
   AreShort (Some most) pairs = All (λ pair. length pair.0 ≤ most) pairs
 
 -- Where a walk stands, and what it has left.
-pub record Standing (V : Type 0) : Type 0 where
+pub record Position (V : Type 0) : Type 0 where
   -- the prefixes of the nodes from the root to the one that the walk stands at
   pub segments : List (List ℕ)
   -- the pairs that are to be given
@@ -32,11 +32,11 @@ pub record Standing (V : Type 0) : Type 0 where
 
 module _ {V : Type 0} where
   -- a walk behind its end
-  abbrev pub ended : Standing V
-  ended = record { segments = []; pairs = []; nodes = 0 }
+  abbrev pub walk_end : Position V
+  walk_end = record { segments = []; pairs = []; nodes = 0 }
 
   -- The walk gave the first pair of what was left, and stands at its node, or there was none, and it
   -- has ended.
-  abbrev pub Gives : Standing V → Option (Bor V) → Standing V → Type 0
-  Gives before None after = (before.pairs ≡ []) × (after ≡ ended)
+  abbrev pub Gives : Position V → Option (Bor V) → Position V → Type 0
+  Gives before None after = (before.pairs ≡ []) × (after ≡ walk_end)
   Gives before (Some value) after = before.pairs ≡ (concat after.segments, value.now) ∷ after.pairs

@@ -5,8 +5,6 @@
 //! no key type.
 #![tactic(auto)]
 
-#[cfg(test)]
-mod tests;
 mod trail;
 mod walk;
 

@@ -3,13 +3,13 @@ ghost use Rattle.std.specs.Prelude.{◌≡◌, ◌+◌, ◌≤◌, ◌++◌, ◌
 ghost use Rattle.std.specs.List.{concat};
 ghost use Rattle.std.specs.Option.{option_map, option_copied};
 ghost use Rattle.rart_below.specs.Bytes.{IsAdmitted};
-ghost use Rattle.rart_node.specs.Seen.{seen, shown};
+ghost use Rattle.rart_node.specs.NodeShapes.{node_shape, pointer_shape};
 ghost use Rattle.rart_node.specs.VersionedNodeIter.{children_left};
 ghost use Rattle.rart_node.specs.Shape.{IsAscending, prefix_of, value_of, children_of};
 ghost use Rattle.rart_shape.specs.Trees.{IsTree, pairs_of};
-ghost use Rattle.rart_walks.specs.Walks.{Gives, AreShort, ended, nodes_of};
-ghost use Rattle.rart_walks.specs.Frames.{Opened, TakesChild, segments_of, behind_path};
-ghost use Rattle.rart_walks.specs.Opened.{opened, standing, IsWalk};
+ghost use Rattle.rart_walks.specs.Walks.{Gives, AreShort, walk_end, nodes_of};
+ghost use Rattle.rart_walks.specs.Frames.{OpenNode, TakesChild, segments_of, behind_path};
+ghost use Rattle.rart_walks.specs.WalkFields.{open_nodes, position, IsWalk};
 
 mod ways;
 
@@ -40,8 +40,8 @@ impl<'a, P: Partial, V: Drop, T: Trail<'a>> Walk<'a, P, V, T> {
     /// A walk with nothing left.
     fn new(alloc: Global) -> Walk<'a, P, V, T>
         ensures walk { IsWalk P.bytes T.holds T.greatest result }
-        ensures ended { standing P.bytes result ≡ ended }
-        ensures frames { opened P.bytes result.frames.items ≡ [] }
+        ensures ended { position P.bytes result ≡ walk_end }
+        ensures frames { open_nodes P.bytes result.frames.items ≡ [] }
         ensures pending { result.pending ≡ None }
     {
         Walk {
@@ -55,21 +55,21 @@ impl<'a, P: Partial, V: Drop, T: Trail<'a>> Walk<'a, P, V, T> {
     fn enter_whole(&mut self, node: &'a VersionedNode<P, V>) -> Result<(), AllocError>
         requires walk { IsWalk P.bytes T.holds T.greatest self.old }
         requires pending { self.old.pending ≡ None }
-        requires tree { IsTree (seen P.bytes node.now) }
+        requires tree { IsTree (node_shape P.bytes node.now) }
         requires short { AreShort T.greatest (behind_path
-            (concat (standing P.bytes self.old).segments) (pairs_of (seen P.bytes node.now))) }
+            (concat (position P.bytes self.old).segments) (pairs_of (node_shape P.bytes node.now))) }
         ensures walk { OnOk result (IsWalk P.bytes T.holds T.greatest self.new) }
-        ensures pairs { OnOk result ((standing P.bytes self.new).pairs
-            ≡ behind_path (concat (standing P.bytes self.old).segments)
-            (pairs_of (seen P.bytes node.now))
-            ++ (standing P.bytes self.old).pairs) }
-        ensures nodes { OnOk result ((standing P.bytes self.new).nodes + 1
-            ≡ (standing P.bytes self.old).nodes + nodes_of (seen P.bytes node.now)) }
-        ensures frames { OnOk result (opened P.bytes self.new.frames.items
-            ≡ opened P.bytes self.old.frames.items
-            ++ (prefix_of (seen P.bytes node.now), children_of (seen P.bytes node.now)) ∷ []) }
+        ensures pairs { OnOk result ((position P.bytes self.new).pairs
+            ≡ behind_path (concat (position P.bytes self.old).segments)
+            (pairs_of (node_shape P.bytes node.now))
+            ++ (position P.bytes self.old).pairs) }
+        ensures nodes { OnOk result ((position P.bytes self.new).nodes + 1
+            ≡ (position P.bytes self.old).nodes + nodes_of (node_shape P.bytes node.now)) }
+        ensures frames { OnOk result (open_nodes P.bytes self.new.frames.items
+            ≡ open_nodes P.bytes self.old.frames.items
+            ++ (prefix_of (node_shape P.bytes node.now), children_of (node_shape P.bytes node.now)) ∷ []) }
         ensures pending { OnOk result (option_copied self.new.pending
-            ≡ value_of (seen P.bytes node.now)) }
+            ≡ value_of (node_shape P.bytes node.now)) }
     {
         enter(&mut self.frames, &mut self.trail, node)?;
         self.pending = node.value();
@@ -83,13 +83,13 @@ impl<'a, P: Partial, V: Drop, T: Trail<'a>> Walk<'a, P, V, T> {
         children: VersionedNodeIter<'a, P, V>,
     ) -> Result<(), AllocError>
         requires holds { T.holds self.old.trail
-            (segments_of (opened P.bytes self.old.frames.items)) }
+            (segments_of (open_nodes P.bytes self.old.frames.items)) }
         requires short { IsAdmitted T.greatest (length (concat
-            (segments_of (opened P.bytes self.old.frames.items) ++ segment.now ∷ []))) }
+            (segments_of (open_nodes P.bytes self.old.frames.items) ++ segment.now ∷ []))) }
         ensures holds { T.holds self.new.trail
-            (segments_of (opened P.bytes self.new.frames.items)) }
-        ensures frames { OnOk result (opened P.bytes self.new.frames.items
-            ≡ opened P.bytes self.old.frames.items
+            (segments_of (open_nodes P.bytes self.new.frames.items)) }
+        ensures frames { OnOk result (open_nodes P.bytes self.new.frames.items
+            ≡ open_nodes P.bytes self.old.frames.items
             ++ (segment.now, children_left P.bytes children.entry) ∷ []) }
         ensures pending { self.new.pending ≡ self.old.pending }
     {
@@ -104,13 +104,13 @@ impl<'a, P: Partial, V: Drop, T: Trail<'a>> Walk<'a, P, V, T> {
         root: &'a NodeRef<P, V>,
         work: &mut Work,
     ) -> Result<Walk<'a, P, V, T>, AllocError>
-        requires tree { IsTree (shown P.bytes root.now) }
-        requires short { AreShort T.greatest (pairs_of (shown P.bytes root.now)) }
+        requires tree { IsTree (pointer_shape P.bytes root.now) }
+        requires short { AreShort T.greatest (pairs_of (pointer_shape P.bytes root.now)) }
         ensures walk { IfOk result (IsWalk P.bytes T.holds T.greatest) }
-        ensures pairs { IfOk result (λ walk. (standing P.bytes walk).pairs
-            ≡ pairs_of (shown P.bytes root.now)) }
-        ensures nodes { IfOk result (λ walk. (standing P.bytes walk).nodes + 1
-            ≡ nodes_of (shown P.bytes root.now)) }
+        ensures pairs { IfOk result (λ walk. (position P.bytes walk).pairs
+            ≡ pairs_of (pointer_shape P.bytes root.now)) }
+        ensures nodes { IfOk result (λ walk. (position P.bytes walk).nodes + 1
+            ≡ nodes_of (pointer_shape P.bytes root.now)) }
         ensures work { work.new ≡ record work.old { entered = work.old.entered + 1 } }
     {
         let mut walk = Walk::new(alloc);
@@ -121,7 +121,7 @@ impl<'a, P: Partial, V: Drop, T: Trail<'a>> Walk<'a, P, V, T> {
     /// The trail, which keeps the way to the node that the walk stands at.
     pub fn trail(&self) -> &T
         requires walk { IsWalk P.bytes T.holds T.greatest self.now }
-        ensures { T.holds result.now (standing P.bytes self.now).segments }
+        ensures { T.holds result.now (position P.bytes self.now).segments }
     {
         &self.trail
     }
@@ -130,7 +130,7 @@ impl<'a, P: Partial, V: Drop, T: Trail<'a>> Walk<'a, P, V, T> {
     pub fn end(&mut self)
         requires walk { IsWalk P.bytes T.holds T.greatest self.old }
         ensures walk { IsWalk P.bytes T.holds T.greatest self.new }
-        ensures ended { standing P.bytes self.new ≡ ended }
+        ensures ended { position P.bytes self.new ≡ walk_end }
     {
         self.pending = None;
         leave_all(&mut self.frames, &mut self.trail);
@@ -141,12 +141,12 @@ impl<'a, P: Partial, V: Drop, T: Trail<'a>> Walk<'a, P, V, T> {
     pub fn next_value(&mut self, work: &mut Work) -> Result<Option<&'a V>, AllocError>
         requires walk { IsWalk P.bytes T.holds T.greatest self.old }
         ensures walk { IsWalk P.bytes T.holds T.greatest self.new }
-        ensures gives { IfOk result (λ value. Gives (standing P.bytes self.old) value
-            (standing P.bytes self.new)) }
-        ensures refused { OnErr result (standing P.bytes self.new ≡ ended) }
-        ensures entered { OnOk result (work.new.entered + (standing P.bytes self.new).nodes
-            ≡ work.old.entered + (standing P.bytes self.old).nodes) }
-        ensures at_most { work.new.entered ≤ work.old.entered + (standing P.bytes self.old).nodes }
+        ensures gives { IfOk result (λ value. Gives (position P.bytes self.old) value
+            (position P.bytes self.new)) }
+        ensures refused { OnErr result (position P.bytes self.new ≡ walk_end) }
+        ensures entered { OnOk result (work.new.entered + (position P.bytes self.new).nodes
+            ≡ work.old.entered + (position P.bytes self.old).nodes) }
+        ensures at_most { work.new.entered ≤ work.old.entered + (position P.bytes self.old).nodes }
         ensures made { work.new.made ≡ work.old.made }
     {
         if let Some(value) = self.pending {
@@ -177,9 +177,9 @@ impl<'a, P: Partial, V: Drop, T: Trail<'a>> Walk<'a, P, V, T> {
 fn next_child<'a, P: Partial, V: Drop>(
     frames: &mut Vec<Frame<'a, P, V>>,
 ) -> Option<Option<&'a NodeRef<P, V>>>
-    ensures { TakesChild (opened P.bytes frames.old.items)
-        (option_map (option_map (λ child. shown P.bytes child.now)) result)
-        (opened P.bytes frames.new.items) }
+    ensures { TakesChild (open_nodes P.bytes frames.old.items)
+        (option_map (option_map (λ child. pointer_shape P.bytes child.now)) result)
+        (open_nodes P.bytes frames.new.items) }
 {
     let frame = frames.last_mut()?;
     match frame.children.next() {
@@ -195,16 +195,16 @@ fn enter<'a, P: Partial, V: Drop, T: Trail<'a>>(
     trail: &mut T,
     node: &'a VersionedNode<P, V>,
 ) -> Result<(), AllocError>
-    requires order { IsAscending (seen P.bytes node.now) }
-    requires holds { T.holds trail.old (segments_of (opened P.bytes frames.old.items)) }
+    requires order { IsAscending (node_shape P.bytes node.now) }
+    requires holds { T.holds trail.old (segments_of (open_nodes P.bytes frames.old.items)) }
     requires short { IsAdmitted T.greatest (length (concat
-        (segments_of (opened P.bytes frames.old.items)
-        ++ prefix_of (seen P.bytes node.now) ∷ []))) }
-    ensures opened { opened P.bytes frames.new.items ≡ (if is_ok result
-        then opened P.bytes frames.old.items
-        ++ (prefix_of (seen P.bytes node.now), children_of (seen P.bytes node.now)) ∷ []
-        else opened P.bytes frames.old.items) }
-    ensures holds { T.holds trail.new (segments_of (opened P.bytes frames.new.items)) }
+        (segments_of (open_nodes P.bytes frames.old.items)
+        ++ prefix_of (node_shape P.bytes node.now) ∷ []))) }
+    ensures opened { open_nodes P.bytes frames.new.items ≡ (if is_ok result
+        then open_nodes P.bytes frames.old.items
+        ++ (prefix_of (node_shape P.bytes node.now), children_of (node_shape P.bytes node.now)) ∷ []
+        else open_nodes P.bytes frames.old.items) }
+    ensures holds { T.holds trail.new (segments_of (open_nodes P.bytes frames.new.items)) }
 {
     enter_for(frames, trail, node.prefix().as_ref(), node.iter())
 }
@@ -217,14 +217,14 @@ fn enter_for<'a, P: Partial, V: Drop, T: Trail<'a>>(
     segment: &'a [u8],
     children: VersionedNodeIter<'a, P, V>,
 ) -> Result<(), AllocError>
-    requires holds { T.holds trail.old (segments_of (opened P.bytes frames.old.items)) }
+    requires holds { T.holds trail.old (segments_of (open_nodes P.bytes frames.old.items)) }
     requires short { IsAdmitted T.greatest (length (concat
-        (segments_of (opened P.bytes frames.old.items) ++ segment.now ∷ []))) }
-    ensures opened { opened P.bytes frames.new.items ≡ (if is_ok result
-        then opened P.bytes frames.old.items
+        (segments_of (open_nodes P.bytes frames.old.items) ++ segment.now ∷ []))) }
+    ensures opened { open_nodes P.bytes frames.new.items ≡ (if is_ok result
+        then open_nodes P.bytes frames.old.items
         ++ (segment.now, children_left P.bytes children.entry) ∷ []
-        else opened P.bytes frames.old.items) }
-    ensures holds { T.holds trail.new (segments_of (opened P.bytes frames.new.items)) }
+        else open_nodes P.bytes frames.old.items) }
+    ensures holds { T.holds trail.new (segments_of (open_nodes P.bytes frames.new.items)) }
 {
     trail.push(segment)?;
     if let Err(refused) = frames.push(Frame { segment, children }) {
@@ -236,11 +236,11 @@ fn enter_for<'a, P: Partial, V: Drop, T: Trail<'a>>(
 
 /// Leaves the innermost node, if there is one.
 fn leave<'a, P: Partial, V: Drop, T: Trail<'a>>(frames: &mut Vec<Frame<'a, P, V>>, trail: &mut T)
-    requires holds { T.holds trail.old (segments_of (opened P.bytes frames.old.items)) }
-    ensures left { (front : List (Opened V)) (last : Opened V) →
-        opened P.bytes frames.old.items ≡ front ++ last ∷ [] →
-        opened P.bytes frames.new.items ≡ front }
-    ensures holds { T.holds trail.new (segments_of (opened P.bytes frames.new.items)) }
+    requires holds { T.holds trail.old (segments_of (open_nodes P.bytes frames.old.items)) }
+    ensures left { (front : List (OpenNode V)) (last : OpenNode V) →
+        open_nodes P.bytes frames.old.items ≡ front ++ last ∷ [] →
+        open_nodes P.bytes frames.new.items ≡ front }
+    ensures holds { T.holds trail.new (segments_of (open_nodes P.bytes frames.new.items)) }
 {
     if let Some(frame) = frames.pop() {
         trail.pop(frame.segment);
@@ -253,8 +253,8 @@ fn leave_all<'a, P: Partial, V: Drop, T: Trail<'a>>(
     frames: &mut Vec<Frame<'a, P, V>>,
     trail: &mut T,
 )
-    requires holds { T.holds trail.old (segments_of (opened P.bytes frames.old.items)) }
-    ensures left { opened P.bytes frames.new.items ≡ [] }
+    requires holds { T.holds trail.old (segments_of (open_nodes P.bytes frames.old.items)) }
+    ensures left { open_nodes P.bytes frames.new.items ≡ [] }
     ensures holds { T.holds trail.new [] }
 {
     'leaving: while let Some(frame) = frames.pop() {

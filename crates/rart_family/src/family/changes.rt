@@ -4,7 +4,7 @@ ghost use Rattle.rart_versioned.specs.Given.{ClonesEqual};
 ghost use Rattle.rart_maps.specs.Bounds.{lookup_bound};
 ghost use Rattle.rart_maps.specs.Changes.{writing, insertion, replacement, removal, deletion};
 ghost use Rattle.rart_maps.specs.Versions.{HasRoom, has_key};
-ghost use Rattle.rart_family.specs.Attempts.{Tries, replied};
+ghost use Rattle.rart_family.specs.Attempts.{Tries, reply_or_want};
 ghost use Rattle.rart_family.specs.Costs.{CountsChanges};
 ghost use Rattle.rart_family.specs.Families.{version_at};
 ghost use Rattle.rart_family.specs.PlaceChanges.{ChangesAt, CountsChangeAt};
@@ -26,7 +26,7 @@ impl<K: KeyTrait, V: Clone + Drop> Family<K, V> {
         requires clones { ClonesEqual V.is_clone }
         ensures tries { Tries K.bytes self.old (GetMut place key.now value.now) result self.new }
         ensures changes { CountsChanges K.bytes self.old (GetMut place key.now value.now)
-            (replied K.bytes result) changes.old changes.new }
+            (reply_or_want K.bytes result) changes.old changes.new }
     {
         if let Err(refusal) = self.version_with_room(place, 1) {
             return Ok(refusal);
@@ -46,7 +46,7 @@ impl<K: KeyTrait, V: Clone + Drop> Family<K, V> {
         requires clones { ClonesEqual V.is_clone }
         ensures tries { Tries K.bytes self.old (Insert place key.now value.now) result self.new }
         ensures changes { CountsChanges K.bytes self.old (Insert place key.now value.now)
-            (replied K.bytes result) changes.old changes.new }
+            (reply_or_want K.bytes result) changes.old changes.new }
     {
         if let Err(refusal) = self.version_with_room(place, 1) {
             return Ok(refusal);
@@ -66,7 +66,7 @@ impl<K: KeyTrait, V: Clone + Drop> Family<K, V> {
         requires clones { ClonesEqual V.is_clone }
         ensures tries { Tries K.bytes self.old (Replace place key.now value.now) result self.new }
         ensures changes { CountsChanges K.bytes self.old (Replace place key.now value.now)
-            (replied K.bytes result) changes.old changes.new }
+            (reply_or_want K.bytes result) changes.old changes.new }
     {
         if let Err(refusal) = self.version_with_room(place, 1) {
             return Ok(refusal);
@@ -85,7 +85,7 @@ impl<K: KeyTrait, V: Clone + Drop> Family<K, V> {
         requires clones { ClonesEqual V.is_clone }
         ensures tries { Tries K.bytes self.old (Remove place key.now) result self.new }
         ensures changes { CountsChanges K.bytes self.old (Remove place key.now)
-            (replied K.bytes result) changes.old changes.new }
+            (reply_or_want K.bytes result) changes.old changes.new }
     {
         if let Err(refusal) = self.version_with_room(place, 1) {
             return Ok(refusal);
@@ -103,7 +103,7 @@ impl<K: KeyTrait, V: Clone + Drop> Family<K, V> {
         requires clones { ClonesEqual V.is_clone }
         ensures tries { Tries K.bytes self.old (Delete place key.now) result self.new }
         ensures changes { CountsChanges K.bytes self.old (Delete place key.now)
-            (replied K.bytes result) changes.old changes.new }
+            (reply_or_want K.bytes result) changes.old changes.new }
     {
         if let Err(refusal) = self.version_with_room(place, 1) {
             return Ok(refusal);

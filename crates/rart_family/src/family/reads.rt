@@ -1,5 +1,5 @@
 // Commands that leave the family.
-ghost use Rattle.rart_family.specs.Attempts.{Tries, Gives, replied};
+ghost use Rattle.rart_family.specs.Attempts.{Tries, Gives, reply_or_want};
 ghost use Rattle.rart_family.specs.Costs.{CountsReads};
 ghost use Rattle.rart_family.specs.Families.{outcome};
 ghost use Rattle.rart_versioned.specs.Given.{ClonesEqual};
@@ -37,7 +37,7 @@ impl<K: KeyTrait, V: Clone + Drop> Family<K, V> {
         requires clones { ClonesEqual V.is_clone }
         ensures tries { Tries K.bytes self.now (Get place key.now) result self.now }
         ensures reads { CountsReads K.bytes self.now (Get place key.now)
-            (replied K.bytes result) reads.old reads.new }
+            (reply_or_want K.bytes result) reads.old reads.new }
     {
         let Some(version) = self.version_at(place) else {
             return Ok(Reply::NoVersion);

@@ -2,11 +2,11 @@
 ghost use Rattle.std.specs.Prelude.{◌≡◌, IfOk, IsSomeAnd, option_map};
 ghost use Rattle.rart_versioned.specs.Given.{ClonesEqual};
 ghost use Rattle.rart_maps.specs.Versions.{HasRoom, value_at};
-ghost use Rattle.rart_maps.specs.Changes.{slot_of, updated, tried};
+ghost use Rattle.rart_maps.specs.Changes.{slot_of, slot_update, slot_attempt};
 ghost use Rattle.rart_maps.specs.Bounds.{touch_bound};
-ghost use Rattle.rart_family.specs.Attempts.{Tries, replied};
+ghost use Rattle.rart_family.specs.Attempts.{Tries, reply_or_want};
 ghost use Rattle.rart_family.specs.Costs.{CountsChanges};
-ghost use Rattle.rart_family.specs.Families.{version_at, written, told};
+ghost use Rattle.rart_family.specs.Families.{version_at, value_after_write, callback_answer};
 ghost use Rattle.rart_family.specs.PlaceChanges.{ChangesAt, CountsChangeAt};
 ghost use Rattle.rart_family.specs.declared.family.command.Command.TheVariants.{Update, TryUpdate};
 
@@ -26,7 +26,7 @@ impl<K: KeyTrait, V: Clone + Drop> Family<K, V> {
         requires clones { ClonesEqual V.is_clone }
         ensures tries { Tries K.bytes self.old (Update place key.now write.now answer.now) result self.new }
         ensures changes { CountsChanges K.bytes self.old (Update place key.now write.now answer.now)
-            (replied K.bytes result) changes.old changes.new }
+            (reply_or_want K.bytes result) changes.old changes.new }
     {
         if let Err(refusal) = self.version_with_room(place, 1) {
             return Ok(refusal);
@@ -48,7 +48,7 @@ impl<K: KeyTrait, V: Clone + Drop> Family<K, V> {
         requires clones { ClonesEqual V.is_clone }
         ensures tries { Tries K.bytes self.old (TryUpdate place key.now write.now answer.now) result self.new }
         ensures changes { CountsChanges K.bytes self.old (TryUpdate place key.now write.now answer.now)
-            (replied K.bytes result) changes.old changes.new }
+            (reply_or_want K.bytes result) changes.old changes.new }
     {
         if let Err(refusal) = self.version_with_room(place, 2) {
             return Ok(refusal);
@@ -89,7 +89,7 @@ fn answer_copy<V: Clone + Drop>(answer: &SlotUpdate<V>) -> Result<SlotUpdate<V>,
 // What a command's callback does to its slot: it writes where there is something to write, and a
 // value to write over.
 fn write_slot<V: Drop>(slot: &mut Slot<V>, write: Option<V>)
-    ensures { (found : _) → slot.old ≡ slot_of found → slot.new ≡ slot_of (written found write) }
+    ensures { (found : _) → slot.old ≡ slot_of found → slot.new ≡ slot_of (value_after_write found write) }
 {
     if let (Slot::Occupied(old), Some(value)) = (slot, write) {
         *old = value;
@@ -107,7 +107,7 @@ fn update_at<K: KeyTrait, V: Clone + Drop>(
     requires clones { ClonesEqual V.is_clone }
     requires there { IsSomeAnd (version_at versions.old place) (λ v. HasRoom v 1) }
     ensures changes { ChangesAt place result versions.old versions.new (λ v.
-        updated v (K.bytes key.now) (slot_of (written (value_at v (K.bytes key.now)) write))
+        slot_update v (K.bytes key.now) (slot_of (value_after_write (value_at v (K.bytes key.now)) write))
         answer) }
     ensures counted { CountsChangeAt (touch_bound (K.bytes key.now)) versions.old place
         (K.bytes key.now) changes.old changes.new }
@@ -136,15 +136,15 @@ fn try_update_at<K: KeyTrait, V: Clone + Drop>(
     requires clones { ClonesEqual V.is_clone }
     requires there { IsSomeAnd (version_at versions.old place) (λ v. HasRoom v 2) }
     ensures changes { ChangesAt place result versions.old versions.new (λ v.
-        tried v (K.bytes key.now) (slot_of (written (value_at v (K.bytes key.now)) write))
-        (told answer)) }
+        slot_attempt v (K.bytes key.now) (slot_of (value_after_write (value_at v (K.bytes key.now)) write))
+        (callback_answer answer)) }
     ensures counted { CountsChangeAt (touch_bound (K.bytes key.now)) versions.old place
         (K.bytes key.now) changes.old changes.new }
 {
     let Some(version) = &mut versions[place] else {
         unreachable!();
     };
-    let tried = version.try_update_k_counted(
+    let slot_attempt = version.try_update_k_counted(
         key,
         move |slot: &mut Slot<V>| -> Result<SlotUpdate<V>, Failure> {
             write_slot(slot, write);
@@ -152,7 +152,7 @@ fn try_update_at<K: KeyTrait, V: Clone + Drop>(
         },
         changes,
     );
-    match tried {
+    match slot_attempt {
         Ok(is_there) => Ok(Ok(is_there)),
         Err(Refusal::Callback(failure)) => Ok(Err(failure)),
         Err(Refusal::Memory(refused)) => Err(refused),

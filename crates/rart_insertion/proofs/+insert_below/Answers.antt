@@ -3,37 +3,37 @@ use Rattle.std.proofs.lemmas.Result.{IfOk-weaker, IfErr-weaker}
 use Rattle.std.specs.Option.{option_and_then, OnSome}
 use Rattle.rart_below.specs.Bytes.{common_length}
 use Rattle.rart_below.specs.Children.{child_at}
-use Rattle.rart_node.specs.Seen.{seen, shown}
+use Rattle.rart_node.specs.NodeShapes.{node_shape, pointer_shape}
 use Rattle.rart_node.specs.Shape.{prefix_of, children_of, with_replaced}
 use Rattle.rart_shape.specs.Trees.{IsPut, found}
-use Rattle.rart_shape.proofs.Behind.{begins-first}
-use Rattle.rart_shape.proofs.Counting.{counts-opened, counts-then, counts-below, path-one, ending-most}
-use Rattle.rart_shape.proofs.Finds.{branch, ordered, ascending}
-use Rattle.rart_shape.proofs.Puts.{replaced-same}
-use Rattle.rart_insertion.proofs.Steps.{put-at-whole, put-in-child, matched-some, key-long, whole-key, found-in-child, path-down}
+use Rattle.rart_shape.proofs.PrefixLemmas.{begins-first}
+use Rattle.rart_shape.proofs.CountingLemmas.{counts-opened, counts-then, counts-below, path-one, ending-most}
+use Rattle.rart_shape.proofs.FindLemmas.{branch, ordered, ascending}
+use Rattle.rart_shape.proofs.InsertionLemmas.{replaced-same}
+use Rattle.rart_insertion.proofs.InsertionStepLemmas.{put-at-whole, put-in-child, matched-some, key-long, whole-key, found-in-child, path-down}
 use Rattle.rart_insertion.proofs.+insert_below.Goals as goal
 
 pub returns-then-end-depth-clause-put : goal.returns-then-end-depth-clause-put
 returns-then-end-depth-clause-put g t c =
     let bytes = g.K.PartialType.Partial.bytes in
-    let s = shown bytes c.args.at.now in
+    let s = pointer_shape bytes c.args.at.now in
     let w = g.K.KeyTrait.bytes c.args.key.now in
     let depth = c.args.depth in
     let end = c.match_end-end.result in
-    let same : seen bytes c.in_ok-node.node.now ≡ s = c.in_ok-node.ensures.shown in
+    let same : node_shape bytes c.in_ok-node.node.now ≡ s = c.in_ok-node.ensures.shown in
     let is : end ≡ depth + common_length (prefix_of s) (drop depth w) = subst (λ z. end ≡ depth + common_length (prefix_of z) (drop depth w)) same c.match_end-end.ensures.end in
     let after = c.split.new.node in
-    let shows : shown bytes (c.open_mut.follows.lender after) ≡ seen bytes after = c.open_mut.follows.holds after (search rules) in
-    IfOk-weaker c.split.result _ _ (λ _ puts. subst (λ z. IsPut (drop depth w) c.args.value s z) (sym shows) (subst (λ z. IsPut (drop depth w) c.args.value z (seen bytes after)) same puts)) c.split.ensures.put
+    let shows : pointer_shape bytes (c.open_mut.follows.lender after) ≡ node_shape bytes after = c.open_mut.follows.holds after (search rules) in
+    IfOk-weaker c.split.result _ _ (λ _ puts. subst (λ z. IsPut (drop depth w) c.args.value s z) (sym shows) (subst (λ z. IsPut (drop depth w) c.args.value z (node_shape bytes after)) same puts)) c.split.ensures.put
 
 pub returns-then-end-depth-clause-counted : goal.returns-then-end-depth-clause-counted
 returns-then-end-depth-clause-counted g t c =
     let bytes = g.K.PartialType.Partial.bytes in
-    let s = shown bytes c.args.at.now in
+    let s = pointer_shape bytes c.args.at.now in
     let w = g.K.KeyTrait.bytes c.args.key.now in
     let depth = c.args.depth in
     let end = c.match_end-end.result in
-    let same : seen bytes c.in_ok-node.node.now ≡ s = c.in_ok-node.ensures.shown in
+    let same : node_shape bytes c.in_ok-node.node.now ≡ s = c.in_ok-node.ensures.shown in
     let is : end ≡ depth + common_length (prefix_of s) (drop depth w) = subst (λ z. end ≡ depth + common_length (prefix_of z) (drop depth w)) same c.match_end-end.ensures.end in
     let opened = counts-opened c.args.work.now c.open_mut.new.work c.in_ok-node.ensures.work in
     let longer = key-long s w depth end c.requires.depth is in
@@ -43,11 +43,11 @@ returns-then-end-depth-clause-counted g t c =
 pub returns-then-end-depth-clause-made_below : goal.returns-then-end-depth-clause-made_below
 returns-then-end-depth-clause-made_below g t c byte begins also =
     let bytes = g.K.PartialType.Partial.bytes in
-    let s = shown bytes c.args.at.now in
+    let s = pointer_shape bytes c.args.at.now in
     let w = g.K.KeyTrait.bytes c.args.key.now in
     let depth = c.args.depth in
     let end = c.match_end-end.result in
-    let same : seen bytes c.in_ok-node.node.now ≡ s = c.in_ok-node.ensures.shown in
+    let same : node_shape bytes c.in_ok-node.node.now ≡ s = c.in_ok-node.ensures.shown in
     let is : end ≡ depth + common_length (prefix_of s) (drop depth w) = subst (λ z. end ≡ depth + common_length (prefix_of z) (drop depth w)) same c.match_end-end.ensures.end in
     let opened = counts-opened c.args.work.now c.open_mut.new.work c.in_ok-node.ensures.work in
     let longer = key-long s w depth end c.requires.depth is in
@@ -59,10 +59,10 @@ returns-then-end-depth-clause-made_below g t c byte begins also =
 pub insert_below-requires : goal.insert_below-requires
 insert_below-requires g t c κs within =
     let bytes = g.K.PartialType.Partial.bytes in
-    let s = shown bytes c.args.at.now in
-    let same : seen bytes c.in_ok-node.node.now ≡ s = c.in_ok-node.ensures.shown in
+    let s = pointer_shape bytes c.args.at.now in
+    let same : node_shape bytes c.in_ok-node.node.now ≡ s = c.in_ok-node.ensures.shown in
     let byte = c.in-Some.byte in
-    let child = shown bytes c.in-Some-seek_child_mut.child.now in
+    let child = pointer_shape bytes c.in-Some-seek_child_mut.child.now in
     let here : child_at byte (children_of s) ≡ Some child = sym (subst (λ z. Some child ≡ child_at byte (children_of z)) same c.in-Some-seek_child_mut.ensures.value) in
     let below = branch s byte child (ordered s c.requires.tree) here in
     let lower = below.lower in
@@ -75,28 +75,28 @@ seek_child_mut-requires g t c =
 pub returns-in-None-clause-put : goal.returns-in-None-clause-put
 returns-in-None-clause-put g t c =
     let bytes = g.K.PartialType.Partial.bytes in
-    let s = shown bytes c.args.at.now in
+    let s = pointer_shape bytes c.args.at.now in
     let w = g.K.KeyTrait.bytes c.args.key.now in
     let depth = c.args.depth in
     let end = c.match_end-end.result in
-    let same : seen bytes c.in_ok-node.node.now ≡ s = c.in_ok-node.ensures.shown in
+    let same : node_shape bytes c.in_ok-node.node.now ≡ s = c.in_ok-node.ensures.shown in
     let is : end ≡ depth + common_length (prefix_of s) (drop depth w) = subst (λ z. end ≡ depth + common_length (prefix_of z) (drop depth w)) same c.match_end-end.ensures.end in
     let long : c.len.result ≡ length (prefix_of s) = c.len.ensures ∙ ap length (c.prefix.ensures ∙ ap prefix_of same) in
     let whole : length (prefix_of s) ≤ end - depth = subst (λ n. n ≤ end - depth) long c.if-end-depth.false in
     let node-same = same in
     let after = c.finish.new.node in
-    let shows : shown bytes (c.open_mut.follows.lender after) ≡ seen bytes after = c.open_mut.follows.holds after (search rules) in
+    let shows : pointer_shape bytes (c.open_mut.follows.lender after) ≡ node_shape bytes after = c.open_mut.follows.holds after (search rules) in
     IfOk-weaker c.finish.result _ _ (λ _ puts. subst (λ z. IsPut (drop depth w) c.args.value s z) (sym shows)
-    (put-at-whole s w depth end c.requires.depth is (seen bytes after) c.args.value whole (subst (λ z. IsPut (prefix_of z ++ drop end w) c.args.value z (seen bytes after)) node-same puts))) c.finish.ensures.put
+    (put-at-whole s w depth end c.requires.depth is (node_shape bytes after) c.args.value whole (subst (λ z. IsPut (prefix_of z ++ drop end w) c.args.value z (node_shape bytes after)) node-same puts))) c.finish.ensures.put
 
 pub returns-in-None-clause-replaced : goal.returns-in-None-clause-replaced
 returns-in-None-clause-replaced g t c =
     let bytes = g.K.PartialType.Partial.bytes in
-    let s = shown bytes c.args.at.now in
+    let s = pointer_shape bytes c.args.at.now in
     let w = g.K.KeyTrait.bytes c.args.key.now in
     let depth = c.args.depth in
     let end = c.match_end-end.result in
-    let same : seen bytes c.in_ok-node.node.now ≡ s = c.in_ok-node.ensures.shown in
+    let same : node_shape bytes c.in_ok-node.node.now ≡ s = c.in_ok-node.ensures.shown in
     let is : end ≡ depth + common_length (prefix_of s) (drop depth w) = subst (λ z. end ≡ depth + common_length (prefix_of z) (drop depth w)) same c.match_end-end.ensures.end in
     let long : c.len.result ≡ length (prefix_of s) = c.len.ensures ∙ ap length (c.prefix.ensures ∙ ap prefix_of same) in
     let whole : length (prefix_of s) ≤ end - depth = subst (λ n. n ≤ end - depth) long c.if-end-depth.false in
@@ -106,31 +106,31 @@ returns-in-None-clause-replaced g t c =
 pub returns-in-None-clause-counted : goal.returns-in-None-clause-counted
 returns-in-None-clause-counted g t c =
     let bytes = g.K.PartialType.Partial.bytes in
-    let s = shown bytes c.args.at.now in
+    let s = pointer_shape bytes c.args.at.now in
     let w = g.K.KeyTrait.bytes c.args.key.now in
     let depth = c.args.depth in
     let end = c.match_end-end.result in
-    let same : seen bytes c.in_ok-node.node.now ≡ s = c.in_ok-node.ensures.shown in
+    let same : node_shape bytes c.in_ok-node.node.now ≡ s = c.in_ok-node.ensures.shown in
     let is : end ≡ depth + common_length (prefix_of s) (drop depth w) = subst (λ z. end ≡ depth + common_length (prefix_of z) (drop depth w)) same c.match_end-end.ensures.end in
     let opened = counts-opened c.args.work.now c.open_mut.new.work c.in_ok-node.ensures.work in
     let longer = key-long s w depth end c.requires.depth is in
     let one = path-one s (drop depth w) in
-    let most = ending-most (seen bytes c.in_ok-node.node.now) (drop end w) in
+    let most = ending-most (node_shape bytes c.in_ok-node.node.now) (drop end w) in
     counts-then opened c.finish.ensures.counted (omega (arith, one)) (omega (arith, longer, most))
 
 pub returns-in-None-clause-made_below : goal.returns-in-None-clause-made_below
 returns-in-None-clause-made_below g t c byte begins also =
     let bytes = g.K.PartialType.Partial.bytes in
-    let s = shown bytes c.args.at.now in
+    let s = pointer_shape bytes c.args.at.now in
     let w = g.K.KeyTrait.bytes c.args.key.now in
     let depth = c.args.depth in
     let end = c.match_end-end.result in
-    let same : seen bytes c.in_ok-node.node.now ≡ s = c.in_ok-node.ensures.shown in
+    let same : node_shape bytes c.in_ok-node.node.now ≡ s = c.in_ok-node.ensures.shown in
     let is : end ≡ depth + common_length (prefix_of s) (drop depth w) = subst (λ z. end ≡ depth + common_length (prefix_of z) (drop depth w)) same c.match_end-end.ensures.end in
     let opened = counts-opened c.args.work.now c.open_mut.new.work c.in_ok-node.ensures.work in
     let longer = key-long s w depth end c.requires.depth is in
     let some = matched-some s w depth end c.requires.depth is byte begins also in
-    let ending = ending-most (seen bytes c.in_ok-node.node.now) (drop end w) in
+    let ending = ending-most (node_shape bytes c.in_ok-node.node.now) (drop end w) in
     let most = c.finish.ensures.counted.made_at_most in
     let first = opened.made_at_most in
     omega (arith, longer, some, most, first, ending)
@@ -138,62 +138,62 @@ returns-in-None-clause-made_below g t c byte begins also =
 pub returns-in-None-seek_child_mut-clause-put : goal.returns-in-None-seek_child_mut-clause-put
 returns-in-None-seek_child_mut-clause-put g t c =
     let bytes = g.K.PartialType.Partial.bytes in
-    let s = shown bytes c.args.at.now in
+    let s = pointer_shape bytes c.args.at.now in
     let w = g.K.KeyTrait.bytes c.args.key.now in
     let depth = c.args.depth in
     let end = c.match_end-end.result in
-    let same : seen bytes c.in_ok-node.node.now ≡ s = c.in_ok-node.ensures.shown in
+    let same : node_shape bytes c.in_ok-node.node.now ≡ s = c.in_ok-node.ensures.shown in
     let is : end ≡ depth + common_length (prefix_of s) (drop depth w) = subst (λ z. end ≡ depth + common_length (prefix_of z) (drop depth w)) same c.match_end-end.ensures.end in
     let long : c.len.result ≡ length (prefix_of s) = c.len.ensures ∙ ap length (c.prefix.ensures ∙ ap prefix_of same) in
     let whole : length (prefix_of s) ≤ end - depth = subst (λ n. n ≤ end - depth) long c.if-end-depth.false in
-    let node-same : seen bytes c.seek_child_mut.follows.lender-at-none ≡ s = c.seek_child_mut.follows.holds-at-none ∙ same in
+    let node-same : node_shape bytes c.seek_child_mut.follows.lender-at-none ≡ s = c.seek_child_mut.follows.holds-at-none ∙ same in
     let after = c.finish-in-None-seek_child_mut.new.node in
-    let shows : shown bytes (c.open_mut.follows.lender after) ≡ seen bytes after = c.open_mut.follows.holds after (search rules) in
+    let shows : pointer_shape bytes (c.open_mut.follows.lender after) ≡ node_shape bytes after = c.open_mut.follows.holds after (search rules) in
     IfOk-weaker c.finish-in-None-seek_child_mut.result _ _ (λ _ puts. subst (λ z. IsPut (drop depth w) c.args.value s z) (sym shows)
-    (put-at-whole s w depth end c.requires.depth is (seen bytes after) c.args.value whole (subst (λ z. IsPut (prefix_of z ++ drop end w) c.args.value z (seen bytes after)) node-same puts))) c.finish-in-None-seek_child_mut.ensures.put
+    (put-at-whole s w depth end c.requires.depth is (node_shape bytes after) c.args.value whole (subst (λ z. IsPut (prefix_of z ++ drop end w) c.args.value z (node_shape bytes after)) node-same puts))) c.finish-in-None-seek_child_mut.ensures.put
 
 pub returns-in-None-seek_child_mut-clause-replaced : goal.returns-in-None-seek_child_mut-clause-replaced
 returns-in-None-seek_child_mut-clause-replaced g t c =
     let bytes = g.K.PartialType.Partial.bytes in
-    let s = shown bytes c.args.at.now in
+    let s = pointer_shape bytes c.args.at.now in
     let w = g.K.KeyTrait.bytes c.args.key.now in
     let depth = c.args.depth in
     let end = c.match_end-end.result in
-    let same : seen bytes c.in_ok-node.node.now ≡ s = c.in_ok-node.ensures.shown in
+    let same : node_shape bytes c.in_ok-node.node.now ≡ s = c.in_ok-node.ensures.shown in
     let is : end ≡ depth + common_length (prefix_of s) (drop depth w) = subst (λ z. end ≡ depth + common_length (prefix_of z) (drop depth w)) same c.match_end-end.ensures.end in
     let long : c.len.result ≡ length (prefix_of s) = c.len.ensures ∙ ap length (c.prefix.ensures ∙ ap prefix_of same) in
     let whole : length (prefix_of s) ≤ end - depth = subst (λ n. n ≤ end - depth) long c.if-end-depth.false in
-    let node-same : seen bytes c.seek_child_mut.follows.lender-at-none ≡ s = c.seek_child_mut.follows.holds-at-none ∙ same in
+    let node-same : node_shape bytes c.seek_child_mut.follows.lender-at-none ≡ s = c.seek_child_mut.follows.holds-at-none ∙ same in
     IfOk-weaker c.finish-in-None-seek_child_mut.result _ _ (λ old is-old. is-old ∙ ap (λ z. found z (prefix_of z ++ drop end w)) node-same ∙ ap (found s) (sym (whole-key s w depth end c.requires.depth is whole))) c.finish-in-None-seek_child_mut.ensures.replaced
 
 pub returns-in-None-seek_child_mut-clause-counted : goal.returns-in-None-seek_child_mut-clause-counted
 returns-in-None-seek_child_mut-clause-counted g t c =
     let bytes = g.K.PartialType.Partial.bytes in
-    let s = shown bytes c.args.at.now in
+    let s = pointer_shape bytes c.args.at.now in
     let w = g.K.KeyTrait.bytes c.args.key.now in
     let depth = c.args.depth in
     let end = c.match_end-end.result in
-    let same : seen bytes c.in_ok-node.node.now ≡ s = c.in_ok-node.ensures.shown in
+    let same : node_shape bytes c.in_ok-node.node.now ≡ s = c.in_ok-node.ensures.shown in
     let is : end ≡ depth + common_length (prefix_of s) (drop depth w) = subst (λ z. end ≡ depth + common_length (prefix_of z) (drop depth w)) same c.match_end-end.ensures.end in
     let opened = counts-opened c.args.work.now c.open_mut.new.work c.in_ok-node.ensures.work in
     let longer = key-long s w depth end c.requires.depth is in
     let one = path-one s (drop depth w) in
-    let most = ending-most (seen bytes c.seek_child_mut.follows.lender-at-none) (drop end w) in
+    let most = ending-most (node_shape bytes c.seek_child_mut.follows.lender-at-none) (drop end w) in
     counts-then opened c.finish-in-None-seek_child_mut.ensures.counted (omega (arith, one)) (omega (arith, longer, most))
 
 pub returns-in-None-seek_child_mut-clause-made_below : goal.returns-in-None-seek_child_mut-clause-made_below
 returns-in-None-seek_child_mut-clause-made_below g t c byte begins also =
     let bytes = g.K.PartialType.Partial.bytes in
-    let s = shown bytes c.args.at.now in
+    let s = pointer_shape bytes c.args.at.now in
     let w = g.K.KeyTrait.bytes c.args.key.now in
     let depth = c.args.depth in
     let end = c.match_end-end.result in
-    let same : seen bytes c.in_ok-node.node.now ≡ s = c.in_ok-node.ensures.shown in
+    let same : node_shape bytes c.in_ok-node.node.now ≡ s = c.in_ok-node.ensures.shown in
     let is : end ≡ depth + common_length (prefix_of s) (drop depth w) = subst (λ z. end ≡ depth + common_length (prefix_of z) (drop depth w)) same c.match_end-end.ensures.end in
     let opened = counts-opened c.args.work.now c.open_mut.new.work c.in_ok-node.ensures.work in
     let longer = key-long s w depth end c.requires.depth is in
     let some = matched-some s w depth end c.requires.depth is byte begins also in
-    let ending = ending-most (seen bytes c.seek_child_mut.follows.lender-at-none) (drop end w) in
+    let ending = ending-most (node_shape bytes c.seek_child_mut.follows.lender-at-none) (drop end w) in
     let most = c.finish-in-None-seek_child_mut.ensures.counted.made_at_most in
     let first = opened.made_at_most in
     omega (arith, longer, some, most, first, ending)
@@ -201,37 +201,37 @@ returns-in-None-seek_child_mut-clause-made_below g t c byte begins also =
 pub returns-in-Some-seek_child_mut-clause-put : goal.returns-in-Some-seek_child_mut-clause-put
 returns-in-Some-seek_child_mut-clause-put g t c =
     let bytes = g.K.PartialType.Partial.bytes in
-    let s = shown bytes c.args.at.now in
+    let s = pointer_shape bytes c.args.at.now in
     let w = g.K.KeyTrait.bytes c.args.key.now in
     let depth = c.args.depth in
     let end = c.match_end-end.result in
-    let same : seen bytes c.in_ok-node.node.now ≡ s = c.in_ok-node.ensures.shown in
+    let same : node_shape bytes c.in_ok-node.node.now ≡ s = c.in_ok-node.ensures.shown in
     let is : end ≡ depth + common_length (prefix_of s) (drop depth w) = subst (λ z. end ≡ depth + common_length (prefix_of z) (drop depth w)) same c.match_end-end.ensures.end in
     let long : c.len.result ≡ length (prefix_of s) = c.len.ensures ∙ ap length (c.prefix.ensures ∙ ap prefix_of same) in
     let whole : length (prefix_of s) ≤ end - depth = subst (λ n. n ≤ end - depth) long c.if-end-depth.false in
     let byte = c.in-Some.byte in
-    let child = shown bytes c.in-Some-seek_child_mut.child.now in
+    let child = pointer_shape bytes c.in-Some-seek_child_mut.child.now in
     let here : child_at byte (children_of s) ≡ Some child = sym (subst (λ z. Some child ≡ child_at byte (children_of z)) same c.in-Some-seek_child_mut.ensures.value) in
     let inner = c.seek_child_mut.follows.lender c.insert_below.new.at in
-    let written : seen bytes inner ≡ with_replaced byte (shown bytes c.insert_below.new.at) s = subst (λ r. OnSome r (seen bytes inner ≡ with_replaced byte (shown bytes c.insert_below.new.at) (seen bytes c.in_ok-node.node.now))) c.in-Some-seek_child_mut.is (c.seek_child_mut.follows.holds c.insert_below.new.at) ∙ ap (with_replaced byte (shown bytes c.insert_below.new.at)) same in
-    let shows : shown bytes (c.open_mut.follows.lender inner) ≡ with_replaced byte (shown bytes c.insert_below.new.at) s = c.open_mut.follows.holds inner (search rules) ∙ written in
+    let written : node_shape bytes inner ≡ with_replaced byte (pointer_shape bytes c.insert_below.new.at) s = subst (λ r. OnSome r (node_shape bytes inner ≡ with_replaced byte (pointer_shape bytes c.insert_below.new.at) (node_shape bytes c.in_ok-node.node.now))) c.in-Some-seek_child_mut.is (c.seek_child_mut.follows.holds c.insert_below.new.at) ∙ ap (with_replaced byte (pointer_shape bytes c.insert_below.new.at)) same in
+    let shows : pointer_shape bytes (c.open_mut.follows.lender inner) ≡ with_replaced byte (pointer_shape bytes c.insert_below.new.at) s = c.open_mut.follows.holds inner (search rules) ∙ written in
     let next : slice_get (drop end w) 0 ≡ Some byte = sym c.in-Some.ensures in
     IfOk-weaker c.insert_below.result _ _ (λ _ puts. subst (λ z. IsPut (drop depth w) c.args.value s z) (sym shows)
-    (put-in-child s w depth end c.requires.depth is child (shown bytes c.insert_below.new.at) c.args.value byte c.requires.tree whole next here puts)) c.insert_below.ensures.put
+    (put-in-child s w depth end c.requires.depth is child (pointer_shape bytes c.insert_below.new.at) c.args.value byte c.requires.tree whole next here puts)) c.insert_below.ensures.put
 
 pub returns-in-Some-seek_child_mut-clause-replaced : goal.returns-in-Some-seek_child_mut-clause-replaced
 returns-in-Some-seek_child_mut-clause-replaced g t c =
     let bytes = g.K.PartialType.Partial.bytes in
-    let s = shown bytes c.args.at.now in
+    let s = pointer_shape bytes c.args.at.now in
     let w = g.K.KeyTrait.bytes c.args.key.now in
     let depth = c.args.depth in
     let end = c.match_end-end.result in
-    let same : seen bytes c.in_ok-node.node.now ≡ s = c.in_ok-node.ensures.shown in
+    let same : node_shape bytes c.in_ok-node.node.now ≡ s = c.in_ok-node.ensures.shown in
     let is : end ≡ depth + common_length (prefix_of s) (drop depth w) = subst (λ z. end ≡ depth + common_length (prefix_of z) (drop depth w)) same c.match_end-end.ensures.end in
     let long : c.len.result ≡ length (prefix_of s) = c.len.ensures ∙ ap length (c.prefix.ensures ∙ ap prefix_of same) in
     let whole : length (prefix_of s) ≤ end - depth = subst (λ n. n ≤ end - depth) long c.if-end-depth.false in
     let byte = c.in-Some.byte in
-    let child = shown bytes c.in-Some-seek_child_mut.child.now in
+    let child = pointer_shape bytes c.in-Some-seek_child_mut.child.now in
     let here : child_at byte (children_of s) ≡ Some child = sym (subst (λ z. Some child ≡ child_at byte (children_of z)) same c.in-Some-seek_child_mut.ensures.value) in
     let next : slice_get (drop end w) 0 ≡ Some byte = sym c.in-Some.ensures in
     let at-child : found s (drop depth w) ≡ found child (drop end w) = found-in-child s w depth end c.requires.depth is byte whole next ∙ ap (option_and_then (λ z. found z (drop end w))) here in
@@ -240,29 +240,29 @@ returns-in-Some-seek_child_mut-clause-replaced g t c =
 pub returns-in-Some-seek_child_mut-clause-refused : goal.returns-in-Some-seek_child_mut-clause-refused
 returns-in-Some-seek_child_mut-clause-refused g t c =
     let bytes = g.K.PartialType.Partial.bytes in
-    let s = shown bytes c.args.at.now in
-    let same : seen bytes c.in_ok-node.node.now ≡ s = c.in_ok-node.ensures.shown in
+    let s = pointer_shape bytes c.args.at.now in
+    let same : node_shape bytes c.in_ok-node.node.now ≡ s = c.in_ok-node.ensures.shown in
     let byte = c.in-Some.byte in
-    let child = shown bytes c.in-Some-seek_child_mut.child.now in
+    let child = pointer_shape bytes c.in-Some-seek_child_mut.child.now in
     let here : child_at byte (children_of s) ≡ Some child = sym (subst (λ z. Some child ≡ child_at byte (children_of z)) same c.in-Some-seek_child_mut.ensures.value) in
     let inner = c.seek_child_mut.follows.lender c.insert_below.new.at in
-    let written : seen bytes inner ≡ with_replaced byte (shown bytes c.insert_below.new.at) s = subst (λ r. OnSome r (seen bytes inner ≡ with_replaced byte (shown bytes c.insert_below.new.at) (seen bytes c.in_ok-node.node.now))) c.in-Some-seek_child_mut.is (c.seek_child_mut.follows.holds c.insert_below.new.at) ∙ ap (with_replaced byte (shown bytes c.insert_below.new.at)) same in
-    let shows : shown bytes (c.open_mut.follows.lender inner) ≡ with_replaced byte (shown bytes c.insert_below.new.at) s = c.open_mut.follows.holds inner (search rules) ∙ written in
+    let written : node_shape bytes inner ≡ with_replaced byte (pointer_shape bytes c.insert_below.new.at) s = subst (λ r. OnSome r (node_shape bytes inner ≡ with_replaced byte (pointer_shape bytes c.insert_below.new.at) (node_shape bytes c.in_ok-node.node.now))) c.in-Some-seek_child_mut.is (c.seek_child_mut.follows.holds c.insert_below.new.at) ∙ ap (with_replaced byte (pointer_shape bytes c.insert_below.new.at)) same in
+    let shows : pointer_shape bytes (c.open_mut.follows.lender inner) ≡ with_replaced byte (pointer_shape bytes c.insert_below.new.at) s = c.open_mut.follows.holds inner (search rules) ∙ written in
     IfErr-weaker c.insert_below.result _ _ (λ _ kept. shows ∙ ap (λ z. with_replaced byte z s) kept ∙ replaced-same s byte child (ordered s c.requires.tree) here) c.insert_below.ensures.refused
 
 pub returns-in-Some-seek_child_mut-clause-counted : goal.returns-in-Some-seek_child_mut-clause-counted
 returns-in-Some-seek_child_mut-clause-counted g t c =
     let bytes = g.K.PartialType.Partial.bytes in
-    let s = shown bytes c.args.at.now in
+    let s = pointer_shape bytes c.args.at.now in
     let w = g.K.KeyTrait.bytes c.args.key.now in
     let depth = c.args.depth in
     let end = c.match_end-end.result in
-    let same : seen bytes c.in_ok-node.node.now ≡ s = c.in_ok-node.ensures.shown in
+    let same : node_shape bytes c.in_ok-node.node.now ≡ s = c.in_ok-node.ensures.shown in
     let is : end ≡ depth + common_length (prefix_of s) (drop depth w) = subst (λ z. end ≡ depth + common_length (prefix_of z) (drop depth w)) same c.match_end-end.ensures.end in
     let long : c.len.result ≡ length (prefix_of s) = c.len.ensures ∙ ap length (c.prefix.ensures ∙ ap prefix_of same) in
     let whole : length (prefix_of s) ≤ end - depth = subst (λ n. n ≤ end - depth) long c.if-end-depth.false in
     let byte = c.in-Some.byte in
-    let child = shown bytes c.in-Some-seek_child_mut.child.now in
+    let child = pointer_shape bytes c.in-Some-seek_child_mut.child.now in
     let here : child_at byte (children_of s) ≡ Some child = sym (subst (λ z. Some child ≡ child_at byte (children_of z)) same c.in-Some-seek_child_mut.ensures.value) in
     let opened = counts-opened c.args.work.now c.open_mut.new.work c.in_ok-node.ensures.work in
     let longer = key-long s w depth end c.requires.depth is in
@@ -276,14 +276,14 @@ returns-in-Some-seek_child_mut-clause-counted g t c =
 pub returns-in-Some-seek_child_mut-clause-made_below : goal.returns-in-Some-seek_child_mut-clause-made_below
 returns-in-Some-seek_child_mut-clause-made_below g t c first begins also =
     let bytes = g.K.PartialType.Partial.bytes in
-    let s = shown bytes c.args.at.now in
+    let s = pointer_shape bytes c.args.at.now in
     let w = g.K.KeyTrait.bytes c.args.key.now in
     let depth = c.args.depth in
     let end = c.match_end-end.result in
-    let same : seen bytes c.in_ok-node.node.now ≡ s = c.in_ok-node.ensures.shown in
+    let same : node_shape bytes c.in_ok-node.node.now ≡ s = c.in_ok-node.ensures.shown in
     let is : end ≡ depth + common_length (prefix_of s) (drop depth w) = subst (λ z. end ≡ depth + common_length (prefix_of z) (drop depth w)) same c.match_end-end.ensures.end in
     let byte = c.in-Some.byte in
-    let child = shown bytes c.in-Some-seek_child_mut.child.now in
+    let child = pointer_shape bytes c.in-Some-seek_child_mut.child.now in
     let here : child_at byte (children_of s) ≡ Some child = sym (subst (λ z. Some child ≡ child_at byte (children_of z)) same c.in-Some-seek_child_mut.ensures.value) in
     let opened = counts-opened c.args.work.now c.open_mut.new.work c.in_ok-node.ensures.work in
     let longer = key-long s w depth end c.requires.depth is in

@@ -1,11 +1,11 @@
 use Rattle.std.proofs.Common.{sym, ◌∙◌}
-use Rattle.rart_node.specs.Seen.{shown}
-use Rattle.rart_shape.proofs.Finds.{ascending, ordered}
-use Rattle.rart_shape.proofs.Searches.{search-start, search-counted, search-entered, search-left, search-here, search-missing, search-lower, search-child}
+use Rattle.rart_node.specs.NodeShapes.{pointer_shape}
+use Rattle.rart_shape.proofs.FindLemmas.{ascending, ordered}
+use Rattle.rart_shape.proofs.SearchLemmas.{search-start, search-counted, search-entered, search-left, search-here, search-missing, search-lower, search-child}
 use Rattle.rart_lookup.proofs.get_below.Goals as goal
 
 pub down-init : goal.down-init
-down-init g c = search-start (shown g.P.Partial.bytes c.args.root.now) c.args.key.now c.args.work.now c.requires.tree
+down-init g c = search-start (pointer_shape g.P.Partial.bytes c.args.root.now) c.args.key.now c.args.work.now c.requires.tree
 
 pub returns-in-None-clause-value : goal.returns-in-None-clause-value
 returns-in-None-clause-value g c = sym (search-left _ _ _ _ _ _ _ _ c.down.invariant c.open-node.ensures.work c.open-node.ensures.shown _ c.prefix.ensures c.in-None.ensures)

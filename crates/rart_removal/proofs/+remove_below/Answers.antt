@@ -1,15 +1,15 @@
 use Rattle.std.proofs.Common.{arith, sym, ◌∙◌}
-use Rattle.rart_node.specs.Seen.{shown}
-use Rattle.rart_shape.proofs.Finds.{ascending}
-use Rattle.rart_removal.proofs.TakeSteps as steps
+use Rattle.rart_node.specs.NodeShapes.{pointer_shape}
+use Rattle.rart_shape.proofs.FindLemmas.{ascending}
+use Rattle.rart_removal.proofs.RemovalStepLemmas as steps
 use Rattle.rart_removal.proofs.+remove_below.Goals as goal
 
 pub rest_of-rest-requires : goal.rest_of-rest-requires
-rest_of-rest-requires g t c = steps.within (shown g.P.Partial.bytes c.args.at.now) _ c.args.key.now _ _ c.in_ok-node.ensures.shown c.prefix.ensures c.len.ensures c.requires.present
+rest_of-rest-requires g t c = steps.within (pointer_shape g.P.Partial.bytes c.args.at.now) _ c.args.key.now _ _ c.in_ok-node.ensures.shown c.prefix.ensures c.len.ensures c.requires.present
 
 pub returns-in_default-clause-taken : goal.returns-in_default-clause-taken
 returns-in_default-clause-taken g t c =
-    let s = shown g.P.Partial.bytes c.args.at.now in
+    let s = pointer_shape g.P.Partial.bytes c.args.at.now in
     let opened = c.in_ok-node.ensures.shown in
     let at = steps.at-node s _ c.args.key.now _ _ _ opened c.prefix.ensures c.len.ensures c.rest_of-rest.ensures c.requires.tree c.requires.present in
     let written = steps.when-ok c.open_mut.result _ c.in_ok-node.was (c.open_mut.follows.holds c.take_value-value.new.self) in
@@ -17,21 +17,21 @@ returns-in_default-clause-taken g t c =
 
 pub returns-in_default-clause-value : goal.returns-in_default-clause-value
 returns-in_default-clause-value g t c =
-    let s = shown g.P.Partial.bytes c.args.at.now in
+    let s = pointer_shape g.P.Partial.bytes c.args.at.now in
     let opened = c.in_ok-node.ensures.shown in
     let at = steps.at-node s _ c.args.key.now _ _ _ opened c.prefix.ensures c.len.ensures c.rest_of-rest.ensures c.requires.tree c.requires.present in
     steps.value-here s c.args.key.now _ at _ _ opened c.in_default.ensures.value c.take_value-value.ensures.old
 
 pub unreachable-requires : goal.unreachable-requires
 unreachable-requires g t c =
-    let s = shown g.P.Partial.bytes c.args.at.now in
+    let s = pointer_shape g.P.Partial.bytes c.args.at.now in
     let opened = c.in_ok-node.ensures.shown in
     let at = steps.at-node s _ c.args.key.now _ _ _ opened c.prefix.ensures c.len.ensures c.rest_of-rest.ensures c.requires.tree c.requires.present in
     absurd (steps.child-there s c.args.key.now _ at _ _ opened c.in-Some.ensures.value c.in_default-seek_child_mut.ensures.value)
 
 pub remove_below-requires : goal.remove_below-requires
 remove_below-requires g t c κs within =
-    let s = shown g.P.Partial.bytes c.args.at.now in
+    let s = pointer_shape g.P.Partial.bytes c.args.at.now in
     let opened = c.in_ok-node.ensures.shown in
     let at = steps.at-node s _ c.args.key.now _ _ _ opened c.prefix.ensures c.len.ensures c.rest_of-rest.ensures c.requires.tree c.requires.present in
     let branch = steps.child-branch s c.args.key.now _ at _ _ _ opened c.in-Some.ensures.value c.in-Some-seek_child_mut.ensures.value in
@@ -40,7 +40,7 @@ remove_below-requires g t c κs within =
 
 pub returns-in_err-below-clause-refused : goal.returns-in_err-below-clause-refused
 returns-in_err-below-clause-refused g t c =
-    let s = shown g.P.Partial.bytes c.args.at.now in
+    let s = pointer_shape g.P.Partial.bytes c.args.at.now in
     let opened = c.in_ok-node.ensures.shown in
     let at = steps.at-node s _ c.args.key.now _ _ _ opened c.prefix.ensures c.len.ensures c.rest_of-rest.ensures c.requires.tree c.requires.present in
     let next = c.in-Some.ensures.value in
@@ -51,7 +51,7 @@ returns-in_err-below-clause-refused g t c =
 
 pub returns-in_err-below-clause-counted : goal.returns-in_err-below-clause-counted
 returns-in_err-below-clause-counted g t c =
-    let s = shown g.P.Partial.bytes c.args.at.now in
+    let s = pointer_shape g.P.Partial.bytes c.args.at.now in
     let opened = c.in_ok-node.ensures.shown in
     let at = steps.at-node s _ c.args.key.now _ _ _ opened c.prefix.ensures c.len.ensures c.rest_of-rest.ensures c.requires.tree c.requires.present in
     let next = c.in-Some.ensures.value in
@@ -60,17 +60,17 @@ returns-in_err-below-clause-counted g t c =
 
 pub prune-requires : goal.prune-requires
 prune-requires g t c =
-    let s = shown g.P.Partial.bytes c.args.at.now in
+    let s = pointer_shape g.P.Partial.bytes c.args.at.now in
     let opened = c.in_ok-node.ensures.shown in
     let at = steps.at-node s _ c.args.key.now _ _ _ opened c.prefix.ensures c.len.ensures c.rest_of-rest.ensures c.requires.tree c.requires.present in
     let next = c.in-Some.ensures.value in
     let here = c.in-Some-seek_child_mut.ensures.value in
     let replaced = steps.when-some c.seek_child_mut.result _ c.in-Some-seek_child_mut.is (c.seek_child_mut.follows.holds c.remove_below.new.at) in
-    steps.ascending-deeper s c.args.key.now _ at _ _ _ opened next here (shown g.P.Partial.bytes c.remove_below.new.at) _ replaced
+    steps.ascending-deeper s c.args.key.now _ at _ _ _ opened next here (pointer_shape g.P.Partial.bytes c.remove_below.new.at) _ replaced
 
 pub is_unused-requires-2 : goal.is_unused-requires-2
 is_unused-requires-2 g t c =
-    let s = shown g.P.Partial.bytes c.args.at.now in
+    let s = pointer_shape g.P.Partial.bytes c.args.at.now in
     let opened = c.in_ok-node.ensures.shown in
     let at = steps.at-node s _ c.args.key.now _ _ _ opened c.prefix.ensures c.len.ensures c.rest_of-rest.ensures c.requires.tree c.requires.present in
     let next = c.in-Some.ensures.value in
@@ -81,7 +81,7 @@ is_unused-requires-2 g t c =
 
 pub returns-clause-taken : goal.returns-clause-taken
 returns-clause-taken g t c =
-    let s = shown g.P.Partial.bytes c.args.at.now in
+    let s = pointer_shape g.P.Partial.bytes c.args.at.now in
     let opened = c.in_ok-node.ensures.shown in
     let at = steps.at-node s _ c.args.key.now _ _ _ opened c.prefix.ensures c.len.ensures c.rest_of-rest.ensures c.requires.tree c.requires.present in
     let next = c.in-Some.ensures.value in
@@ -92,7 +92,7 @@ returns-clause-taken g t c =
 
 pub returns-clause-value : goal.returns-clause-value
 returns-clause-value g t c =
-    let s = shown g.P.Partial.bytes c.args.at.now in
+    let s = pointer_shape g.P.Partial.bytes c.args.at.now in
     let opened = c.in_ok-node.ensures.shown in
     let at = steps.at-node s _ c.args.key.now _ _ _ opened c.prefix.ensures c.len.ensures c.rest_of-rest.ensures c.requires.tree c.requires.present in
     let next = c.in-Some.ensures.value in
@@ -101,7 +101,7 @@ returns-clause-value g t c =
 
 pub returns-clause-counted : goal.returns-clause-counted
 returns-clause-counted g t c =
-    let s = shown g.P.Partial.bytes c.args.at.now in
+    let s = pointer_shape g.P.Partial.bytes c.args.at.now in
     let opened = c.in_ok-node.ensures.shown in
     let at = steps.at-node s _ c.args.key.now _ _ _ opened c.prefix.ensures c.len.ensures c.rest_of-rest.ensures c.requires.tree c.requires.present in
     let next = c.in-Some.ensures.value in
@@ -109,7 +109,7 @@ returns-clause-counted g t c =
     steps.counted-deeper s c.args.key.now _ at _ _ _ opened next here _ _ _ c.open_mut.ensures.work c.remove_below.ensures.counted
 
 pub returns-in_err-node-clause-counted : goal.returns-in_err-node-clause-counted
-returns-in_err-node-clause-counted g t c = steps.counted-first (shown g.P.Partial.bytes c.args.at.now) c.args.key.now _ _ c.open_mut.ensures.work
+returns-in_err-node-clause-counted g t c = steps.counted-first (pointer_shape g.P.Partial.bytes c.args.at.now) c.args.key.now _ _ c.open_mut.ensures.work
 
 pub returns-in_default-clause-counted : goal.returns-in_default-clause-counted
-returns-in_default-clause-counted g t c = steps.counted-first (shown g.P.Partial.bytes c.args.at.now) c.args.key.now _ _ c.open_mut.ensures.work
+returns-in_default-clause-counted g t c = steps.counted-first (pointer_shape g.P.Partial.bytes c.args.at.now) c.args.key.now _ _ c.open_mut.ensures.work

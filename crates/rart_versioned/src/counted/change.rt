@@ -3,8 +3,8 @@ ghost use Rattle.std.specs.Prelude.{◌≡◌, ◌+◌, ◌≤◌, IsTrue, OnOk,
 ghost use Rattle.rart_below.specs.Clones.{ClonesEqual};
 ghost use Rattle.rart_node.specs.Counts.{CountsUpTo};
 ghost use Rattle.rart_maps.specs.Bounds.{lookup_bound, change_bound};
-ghost use Rattle.rart_versioned.specs.Settled.{change_of, settled};
-ghost use Rattle.rart_maps.specs.Versions.{HasRoom, has_key, raised};
+ghost use Rattle.rart_versioned.specs.SlotChanges.{change_of, version_after};
+ghost use Rattle.rart_maps.specs.Versions.{HasRoom, has_key, with_rise};
 
 use crate::counted::tree::VersionedAdaptiveRadixTree;
 use rart_below::{KeyTrait, Slot, SlotUpdate};
@@ -52,7 +52,7 @@ impl<K: KeyTrait, V: Clone + Drop> VersionedAdaptiveRadixTree<K, V> {
         requires room { HasRoom self.old more }
         requires raised { 1 ≤ more }
         requires present { IsTrue (has_key self.old (K.bytes key.now)) }
-        ensures ok { OnOk result (self.new ≡ settled self.old (K.bytes key.now) change more) }
+        ensures ok { OnOk result (self.new ≡ version_after self.old (K.bytes key.now) change more) }
         ensures refused { OnErr result (self.new ≡ self.old) }
         ensures counted { CountsUpTo (lookup_bound (K.bytes key.now))
             (change_bound (K.bytes key.now)) work.old work.new }
@@ -76,7 +76,7 @@ impl<K: KeyTrait, V: Clone + Drop> VersionedAdaptiveRadixTree<K, V> {
     /// Raises the number by so much.
     pub(crate) fn raise(&mut self, more: u64)
         requires { HasRoom self.old more }
-        ensures { self.new ≡ raised self.old more }
+        ensures { self.new ≡ with_rise self.old more }
     {
         self.version += more;
     }

@@ -3,7 +3,7 @@ ghost use Rattle.std.specs.Prelude.{◌≡◌, ◌+◌, ◌*◌, ◌<◌, ◌^�
 ghost use Rattle.std.specs.Borrow.{sem};
 ghost use Rattle.std.specs.Option.{option_map};
 ghost use Rattle.rart_below.specs.Clones.{ClonesEqual};
-ghost use Rattle.rart_node.specs.Seen.{shown};
+ghost use Rattle.rart_node.specs.NodeShapes.{pointer_shape};
 ghost use Rattle.rart_node.specs.Counts.{CountsUpTo};
 ghost use Rattle.rart_maps.specs.Bounds.{lookup_bound};
 ghost use Rattle.rart_versioned.specs.ChangeCounts.{CountsChange};
@@ -29,18 +29,18 @@ fn lend_in<'a, P: Partial, V: Clone + Drop>(
 ) -> Result<&'a mut V, Missing>
     requires clones { ClonesEqual V.is_clone }
     requires room { number.old + 1 < 2 ^ 64 }
-    requires tree { IsTreeIn (option_map (shown P.bytes) root.old) }
+    requires tree { IsTreeIn (option_map (pointer_shape P.bytes) root.old) }
     ensures* writes_back { sem 𝓛 (LendsBelow P.row V.row P.bytes root.entry key.now result) }
-    ensures value { IfOk result (λ value. found_in (option_map (shown P.bytes) root.old) key.now
+    ensures value { IfOk result (λ value. found_in (option_map (pointer_shape P.bytes) root.old) key.now
         ≡ Some value.now) }
     ensures missing { IfErr result
-        (λ missing. Explains missing (found_in (option_map (shown P.bytes) root.old) key.now)) }
+        (λ missing. Explains missing (found_in (option_map (pointer_shape P.bytes) root.old) key.now)) }
     ensures raised { OnOk result (number.new ≡ number.old + 1) }
     ensures kept { OnErr result (number.new ≡ number.old) }
     ensures counted { CountsUpTo (2 * lookup_bound key.now) (lookup_bound key.now) work.old
         work.new }
     ensures entered_least { IsSome root.old → work.old.entered < work.new.entered }
-    ensures absent_makes_none { found_in (option_map (shown P.bytes) root.old) key.now ≡ None
+    ensures absent_makes_none { found_in (option_map (pointer_shape P.bytes) root.old) key.now ≡ None
         → work.new.made ≡ work.old.made }
 {
     match root.as_mut() {

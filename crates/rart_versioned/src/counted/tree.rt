@@ -20,7 +20,7 @@ pub struct VersionedAdaptiveRadixTree<K: KeyTrait, V: Clone> {
 
 impl<K: KeyTrait, V: Clone> Model for VersionedAdaptiveRadixTree<K, V> {
     ghost use Rattle.std.specs.Option.{option_map};
-    ghost use Rattle.rart_node.specs.Seen.{shown};
+    ghost use Rattle.rart_node.specs.NodeShapes.{pointer_shape};
     ghost use Rattle.rart_versioned.specs.Roots.{map_of, IsSound};
     ghost use Rattle.rart_maps.specs.Versions.{Version, version_code};
 
@@ -28,13 +28,13 @@ impl<K: KeyTrait, V: Clone> Model for VersionedAdaptiveRadixTree<K, V> {
 
     ghost coded = { version_code V.code };
 
-    ghost view = { λ tree. record { content = map_of (option_map (shown K.PartialType.bytes) tree.root); number = tree.version } };
+    ghost view = { λ tree. record { content = map_of (option_map (pointer_shape K.PartialType.bytes) tree.root); number = tree.version } };
 
-    ghost invariant = { λ tree. IsSound K.MAXIMUM_SIZE tree.version (option_map (shown K.PartialType.bytes) tree.root) };
+    ghost invariant = { λ tree. IsSound K.MAXIMUM_SIZE tree.version (option_map (pointer_shape K.PartialType.bytes) tree.root) };
 }
 
 impl<K: KeyTrait, V: Clone + Drop> VersionedAdaptiveRadixTree<K, V> {
-    ghost use Rattle.rart_maps.specs.Versions.{empty_at, raised, has_no_key, has_key, HasRoom};
+    ghost use Rattle.rart_maps.specs.Versions.{empty_at, with_rise, has_no_key, has_key, HasRoom};
     ghost use Rattle.rart_versioned.specs.Keys.{IsKeyLength};
 
     /// A map without a key, its number 0.
@@ -87,7 +87,7 @@ impl<K: KeyTrait, V: Clone + Drop> VersionedAdaptiveRadixTree<K, V> {
     /// The same map once more, its number one greater. Refused for memory, this one is as before.
     pub fn snapshot(&self) -> Result<VersionedAdaptiveRadixTree<K, V>, AllocError>
         requires room { HasRoom self.now 1 }
-        ensures { IfOk result (λ copy. copy ≡ raised self.now 1) }
+        ensures { IfOk result (λ copy. copy ≡ with_rise self.now 1) }
     {
         self.with_version(self.version + 1)
     }

@@ -7,7 +7,7 @@ ghost use Rattle.rart_maps.specs.Bounds.{lookup_bound, touch_bound, change_bound
 ghost use Rattle.rart_maps.specs.Changes.{slot_of};
 ghost use Rattle.rart_maps.specs.Versions.{HasRoom, has_key, value_at};
 ghost use Rattle.rart_versioned.specs.ChangeCounts.{CountsChange, MakesToTryInsert};
-ghost use Rattle.rart_versioned.specs.Settled.{rise_of, Tries, TriesAbsent};
+ghost use Rattle.rart_versioned.specs.SlotChanges.{rise_of, Tries, TriesAbsent};
 ghost use Rattle.rart_versioned.specs.Updates.{TriesUpdate};
 
 use crate::counted::change::Change;

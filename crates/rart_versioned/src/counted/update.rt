@@ -7,7 +7,7 @@ ghost use Rattle.rart_maps.specs.Bounds.{lookup_bound, touch_bound, change_bound
 ghost use Rattle.rart_maps.specs.Changes.{Changes, slot_of};
 ghost use Rattle.rart_maps.specs.Versions.{HasRoom, has_key, value_at, has_no_key};
 ghost use Rattle.rart_versioned.specs.ChangeCounts.{CountsChange, MakesToInsert};
-ghost use Rattle.rart_versioned.specs.Settled.{settled_absent, AsksMemory, is_occupied};
+ghost use Rattle.rart_versioned.specs.SlotChanges.{outcome_of_absent, AsksMemory, is_occupied};
 ghost use Rattle.rart_versioned.specs.Updates.{Updates};
 
 use crate::counted::change::Change;
@@ -71,7 +71,7 @@ impl<K: KeyTrait, V: Clone + Drop> VersionedAdaptiveRadixTree<K, V> {
         requires room { HasRoom self.old 1 }
         requires absent { has_key self.old (K.bytes key.now) ≡ false }
         ensures changes { Changes result self.old self.new
-            (settled_absent self.old (K.bytes key.now) told) }
+            (outcome_of_absent self.old (K.bytes key.now) told) }
         ensures memory { OnErr result (AsksMemory told) }
         ensures counted { CountsUpTo (lookup_bound (K.bytes key.now))
             (change_bound (K.bytes key.now)) work.old work.new }

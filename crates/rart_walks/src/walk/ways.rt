@@ -6,13 +6,13 @@ ghost use Rattle.std.specs.Range.Bound.{is_from_start, bound_map};
 ghost use Rattle.rart_below.specs.Bytes.{begins, byte_order, common_length};
 ghost use Rattle.rart_below.specs.Children.{children_from};
 ghost use Rattle.rart_node.specs.Counts.{CountsUpTo};
-ghost use Rattle.rart_node.specs.Seen.{seen, shown};
+ghost use Rattle.rart_node.specs.NodeShapes.{node_shape, pointer_shape};
 ghost use Rattle.rart_node.specs.Shape.{IsAscending, prefix_of, children_of};
 ghost use Rattle.rart_node.specs.VersionedNodeIter.{children_left};
 ghost use Rattle.rart_shape.specs.Trees.{IsTree, pairs_of, path_bound};
 ghost use Rattle.std.specs.List.{concat};
 ghost use Rattle.rart_walks.specs.Frames.{behind_path, pairs_inside};
-ghost use Rattle.rart_walks.specs.Opened.{opened, standing, IsWalk};
+ghost use Rattle.rart_walks.specs.WalkFields.{open_nodes, position, IsWalk};
 ghost use Rattle.rart_walks.specs.Parts.{keeps, reaches, goes_on, is_strict, start_of};
 ghost use Rattle.rart_walks.specs.Walks.{AreShort, nodes_of, paths_of};
 
@@ -68,13 +68,13 @@ impl<'a, P: Partial, V: Drop, T: Trail<'a>> Walk<'a, P, V, T> {
         prefix: &[u8],
         work: &mut Work,
     ) -> Result<Walk<'a, P, V, T>, AllocError>
-        requires tree { IsTree (shown P.bytes root.now) }
-        requires short { AreShort T.greatest (pairs_of (shown P.bytes root.now)) }
+        requires tree { IsTree (pointer_shape P.bytes root.now) }
+        requires short { AreShort T.greatest (pairs_of (pointer_shape P.bytes root.now)) }
         ensures walk { IfOk result (IsWalk P.bytes T.holds T.greatest) }
-        ensures pairs { IfOk result (λ walk. (standing P.bytes walk).pairs
-            ≡ filter (λ pair. begins prefix.now pair.0) (pairs_of (shown P.bytes root.now))) }
-        ensures nodes { IfOk result (λ walk. (standing P.bytes walk).nodes
-            ≤ count_by (begins prefix.now) (paths_of (shown P.bytes root.now))) }
+        ensures pairs { IfOk result (λ walk. (position P.bytes walk).pairs
+            ≡ filter (λ pair. begins prefix.now pair.0) (pairs_of (pointer_shape P.bytes root.now))) }
+        ensures nodes { IfOk result (λ walk. (position P.bytes walk).nodes
+            ≤ count_by (begins prefix.now) (paths_of (pointer_shape P.bytes root.now))) }
         ensures counted { CountsUpTo (length prefix.now + 1) 0 work.old work.new }
     {
         way_to(alloc, root, Part::Under, prefix, work)
@@ -90,16 +90,16 @@ impl<'a, P: Partial, V: Drop, T: Trail<'a>> Walk<'a, P, V, T> {
         low: Bound<&[u8]>,
         work: &mut Work,
     ) -> Result<Walk<'a, P, V, T>, AllocError>
-        requires tree { IsTree (shown P.bytes root.now) }
-        requires short { AreShort T.greatest (pairs_of (shown P.bytes root.now)) }
+        requires tree { IsTree (pointer_shape P.bytes root.now) }
+        requires short { AreShort T.greatest (pairs_of (pointer_shape P.bytes root.now)) }
         ensures walk { IfOk result (IsWalk P.bytes T.holds T.greatest) }
-        ensures pairs { IfOk result (λ walk. (standing P.bytes walk).pairs
+        ensures pairs { IfOk result (λ walk. (position P.bytes walk).pairs
             ≡ filter (λ pair. is_from_start (as_partial_cmp byte_order)
-            (bound_map (λ low. low.now) low.entry) pair.0) (pairs_of (shown P.bytes root.now))) }
-        ensures nodes { IfOk result (λ walk. (standing P.bytes walk).nodes
+            (bound_map (λ low. low.now) low.entry) pair.0) (pairs_of (pointer_shape P.bytes root.now))) }
+        ensures nodes { IfOk result (λ walk. (position P.bytes walk).nodes
             ≤ count_by (λ path. is_le (byte_order
             (start_of (bound_map (λ low. low.now) low.entry)) path))
-            (paths_of (shown P.bytes root.now))) }
+            (paths_of (pointer_shape P.bytes root.now))) }
         ensures counted { CountsUpTo
             (length (start_of (bound_map (λ low. low.now) low.entry)) + 1) 0 work.old work.new }
     {
@@ -119,14 +119,14 @@ fn way_to<'a, P: Partial, V: Drop, T: Trail<'a>>(
     probe: &[u8],
     work: &mut Work,
 ) -> Result<Walk<'a, P, V, T>, AllocError>
-    requires tree { IsTree (shown P.bytes root.now) }
-    requires short { AreShort T.greatest (pairs_of (shown P.bytes root.now)) }
+    requires tree { IsTree (pointer_shape P.bytes root.now) }
+    requires short { AreShort T.greatest (pairs_of (pointer_shape P.bytes root.now)) }
     ensures walk { IfOk result (IsWalk P.bytes T.holds T.greatest) }
-    ensures pairs { IfOk result (λ walk. (standing P.bytes walk).pairs
-        ≡ filter (λ pair. keeps part probe.now pair.0) (pairs_of (shown P.bytes root.now))) }
-    ensures nodes { IfOk result (λ walk. (standing P.bytes walk).nodes
-        ≤ count_by (reaches part probe.now) (paths_of (shown P.bytes root.now))) }
-    ensures counted { CountsUpTo (path_bound (shown P.bytes root.now) probe.now) 0
+    ensures pairs { IfOk result (λ walk. (position P.bytes walk).pairs
+        ≡ filter (λ pair. keeps part probe.now pair.0) (pairs_of (pointer_shape P.bytes root.now))) }
+    ensures nodes { IfOk result (λ walk. (position P.bytes walk).nodes
+        ≤ count_by (reaches part probe.now) (paths_of (pointer_shape P.bytes root.now))) }
+    ensures counted { CountsUpTo (path_bound (pointer_shape P.bytes root.now) probe.now) 0
         work.old work.new }
 {
     let mut walk = Walk::new(alloc);
@@ -161,20 +161,20 @@ fn finish<'a, P: Partial, V: Drop, T: Trail<'a>>(
 ) -> Result<(), AllocError>
     requires walk { IsWalk P.bytes T.holds T.greatest walk.old }
     requires pending { walk.old.pending ≡ None }
-    requires tree { IsTree (seen P.bytes node.now) }
-    requires short { AreShort T.greatest (behind_path (concat (standing P.bytes walk.old).segments)
-        (pairs_of (seen P.bytes node.now))) }
-    requires common { common ≡ common_length (prefix_of (seen P.bytes node.now)) rest.now }
+    requires tree { IsTree (node_shape P.bytes node.now) }
+    requires short { AreShort T.greatest (behind_path (concat (position P.bytes walk.old).segments)
+        (pairs_of (node_shape P.bytes node.now))) }
+    requires common { common ≡ common_length (prefix_of (node_shape P.bytes node.now)) rest.now }
     requires ends { (common ≡ length rest.now)
-        ⊎ (common < length (prefix_of (seen P.bytes node.now))) }
+        ⊎ (common < length (prefix_of (node_shape P.bytes node.now))) }
     ensures walk { OnOk result (IsWalk P.bytes T.holds T.greatest walk.new) }
-    ensures pairs { OnOk result ((standing P.bytes walk.new).pairs
-        ≡ behind_path (concat (standing P.bytes walk.old).segments)
-        (filter (λ pair. keeps part rest.now pair.0) (pairs_of (seen P.bytes node.now)))
-        ++ (standing P.bytes walk.old).pairs) }
-    ensures nodes { OnOk result ((standing P.bytes walk.new).nodes
-        ≤ (standing P.bytes walk.old).nodes
-        + count_by (reaches part rest.now) (paths_of (seen P.bytes node.now))) }
+    ensures pairs { OnOk result ((position P.bytes walk.new).pairs
+        ≡ behind_path (concat (position P.bytes walk.old).segments)
+        (filter (λ pair. keeps part rest.now pair.0) (pairs_of (node_shape P.bytes node.now)))
+        ++ (position P.bytes walk.old).pairs) }
+    ensures nodes { OnOk result ((position P.bytes walk.new).nodes
+        ≤ (position P.bytes walk.old).nodes
+        + count_by (reaches part rest.now) (paths_of (node_shape P.bytes node.now))) }
 {
     if common == rest.len() {
         let is_passed = passes_own(part, common == node.prefix().len());
@@ -205,17 +205,17 @@ fn enter_end<'a, P: Partial, V: Drop, T: Trail<'a>>(
 ) -> Result<(), AllocError>
     requires walk { IsWalk P.bytes T.holds T.greatest walk.old }
     requires pending { walk.old.pending ≡ None }
-    requires tree { IsTree (seen P.bytes node.now) }
-    requires short { AreShort T.greatest (behind_path (concat (standing P.bytes walk.old).segments)
-        (pairs_of (seen P.bytes node.now))) }
+    requires tree { IsTree (node_shape P.bytes node.now) }
+    requires short { AreShort T.greatest (behind_path (concat (position P.bytes walk.old).segments)
+        (pairs_of (node_shape P.bytes node.now))) }
     ensures walk { OnOk result (IsWalk P.bytes T.holds T.greatest walk.new) }
-    ensures pairs { OnOk result ((standing P.bytes walk.new).pairs
-        ≡ behind_path (concat (standing P.bytes walk.old).segments)
-        (if is_passed then pairs_inside (seen P.bytes node.now)
-        else pairs_of (seen P.bytes node.now))
-        ++ (standing P.bytes walk.old).pairs) }
-    ensures nodes { OnOk result ((standing P.bytes walk.new).nodes + 1
-        ≡ (standing P.bytes walk.old).nodes + nodes_of (seen P.bytes node.now)) }
+    ensures pairs { OnOk result ((position P.bytes walk.new).pairs
+        ≡ behind_path (concat (position P.bytes walk.old).segments)
+        (if is_passed then pairs_inside (node_shape P.bytes node.now)
+        else pairs_of (node_shape P.bytes node.now))
+        ++ (position P.bytes walk.old).pairs) }
+    ensures nodes { OnOk result ((position P.bytes walk.new).nodes + 1
+        ≡ (position P.bytes walk.old).nodes + nodes_of (node_shape P.bytes node.now)) }
 {
     walk.enter_whole(node)?;
     if is_passed {
@@ -230,9 +230,9 @@ fn later_children<'a, P: Partial, V: Drop>(
     byte: u8,
     goes_on: bool,
 ) -> VersionedNodeIter<'a, P, V>
-    requires { IsAscending (seen P.bytes node.now) }
+    requires { IsAscending (node_shape P.bytes node.now) }
     ensures { children_left P.bytes result
-        ≡ (if goes_on then children_from (byte + 1) (children_of (seen P.bytes node.now)) else []) }
+        ≡ (if goes_on then children_from (byte + 1) (children_of (node_shape P.bytes node.now)) else []) }
 {
     if !goes_on {
         return no_more(node.iter_from(u8::MAX));

@@ -2,14 +2,14 @@ use Rattle.std.proofs.Common.{◌≡◌, refl, sym, ◌∙◌, []}
 use Rattle.std.specs.Prelude.{map}
 use Rattle.std.proofs.lemmas.Result.{IfOk-weaker}
 use Rattle.std.proofs.lemmas.List.{length-map}
-use Rattle.rart_family.specs.Replies.{seen}
+use Rattle.rart_family.specs.Replies.{reply_value}
 use Rattle.examples.proofs.SnapshotLemmas.{commands, one_each, run_of, snapshot_replies}
 use Rattle.examples.proofs.snapshots.replies_beside_a_snapshot.Goals as goal
 
 pub returns : goal.returns
 returns g c =
     let bytes = g.K.KeyTrait.bytes in
-    let see = seen {V = g.row.V.Denot} bytes in
+    let see = reply_value {V = g.row.V.Denot} bytes in
     let a = c.in_ok-copy_of.field-0 in
     let b = c.in_ok-copy_of-2.field-0 in
     let d = c.in_ok-copy_of-3.field-0 in

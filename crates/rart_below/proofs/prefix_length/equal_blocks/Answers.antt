@@ -1,5 +1,5 @@
 use Rattle.std.proofs.Common.{◌∙◌, arith}
-use Rattle.rart_below.proofs.Blocks.{common_length-past_four, common_length-past_eight, HasBlock}
+use Rattle.rart_below.proofs.BlockLemmas.{common_length-past_four, common_length-past_eight, HasBlock}
 use Rattle.rart_below.proofs.prefix_length.equal_blocks.Goals as goal
 
 pub loop-matched-preserved : goal.loop-matched-preserved

@@ -1,5 +1,5 @@
 use Rattle.std.proofs.Common.{◌≡◌, ◌≤◌, ℕ, List, length, drop, length-drop, ap, subst, sym, ◌∙◌, arith}
-use Rattle.rart_shape.proofs.Behind.{common_fits}
+use Rattle.rart_shape.proofs.PrefixLemmas.{common_fits}
 use Rattle.rart_insertion.proofs.matching.match_end.Goals as goal
 
 pub returns-clause-within : goal.returns-clause-within

@@ -1,7 +1,7 @@
 use Rattle.std.proofs.Common.{◌<◌, Some, length, sym, arith}
-use Rattle.rart_node.specs.Seen.{shown}
-use Rattle.rart_shape.proofs.Searches.{search-counted, search-missing, search-lower, search-child, stripped, deeper}
-use Rattle.rart_lending.proofs.Searches.{search-down, steps-fit}
+use Rattle.rart_node.specs.NodeShapes.{pointer_shape}
+use Rattle.rart_shape.proofs.SearchLemmas.{search-counted, search-missing, search-lower, search-child, stripped, deeper}
+use Rattle.rart_lending.proofs.SearchLemmas.{search-down, steps-fit}
 use Rattle.rart_lending.proofs.search.steps_to.Goals as goal
 
 pub returns-in-None-clause-counted : goal.returns-in-None-clause-counted
@@ -22,7 +22,7 @@ prove-unreachable-requires g c =
     let fits : c.down.steps < length c.args.key.now = steps-fit _ _ _ _ _ _ _ c.down.invariant c.in-Some.rest.now
     (stripped _ _ _ _ _ _ _ _ c.down.invariant.at c.open-node.ensures.work c.open-node.ensures.shown _ c.prefix.ensures (Some c.in-Some.rest.now) c.in-Some.ensures)
     _ _ (sym c.in-Some-first.ensures.value)
-    (deeper _ _ _ _ _ _ _ _ c.down.invariant.at c.open-node.ensures.work c.open-node.ensures.shown _ c.prefix.ensures c.in-Some.rest.now c.in-Some.ensures _ c.in-Some-first.ensures.value (Some (shown g.P.Partial.bytes c.in-Some-seek_child.child.now)) c.in-Some-seek_child.ensures) in
+    (deeper _ _ _ _ _ _ _ _ c.down.invariant.at c.open-node.ensures.work c.open-node.ensures.shown _ c.prefix.ensures c.in-Some.rest.now c.in-Some.ensures _ c.in-Some-first.ensures.value (Some (pointer_shape g.P.Partial.bytes c.in-Some-seek_child.child.now)) c.in-Some-seek_child.ensures) in
     omega (arith, fits)
 
 pub down-smaller : goal.down-smaller
@@ -34,6 +34,6 @@ down-preserved g c =
     search-down _ _ _ _ _ _ _ c.down.invariant c.in-Some.rest.now
     (stripped _ _ _ _ _ _ _ _ c.down.invariant.at c.open-node.ensures.work c.open-node.ensures.shown _ c.prefix.ensures (Some c.in-Some.rest.now) c.in-Some.ensures)
     _ _ (sym c.in-Some-first.ensures.value)
-    (deeper _ _ _ _ _ _ _ _ c.down.invariant.at c.open-node.ensures.work c.open-node.ensures.shown _ c.prefix.ensures c.in-Some.rest.now c.in-Some.ensures _ c.in-Some-first.ensures.value (Some (shown g.P.Partial.bytes c.in-Some-seek_child.child.now)) c.in-Some-seek_child.ensures)
+    (deeper _ _ _ _ _ _ _ _ c.down.invariant.at c.open-node.ensures.work c.open-node.ensures.shown _ c.prefix.ensures c.in-Some.rest.now c.in-Some.ensures _ c.in-Some-first.ensures.value (Some (pointer_shape g.P.Partial.bytes c.in-Some-seek_child.child.now)) c.in-Some-seek_child.ensures)
     _
     (search-child _ _ _ _ _ _ _ _ c.down.invariant.at c.open-node.ensures.work c.open-node.ensures.shown _ c.prefix.ensures c.in-Some.rest.now c.in-Some.ensures _ c.in-Some-first.ensures.value _ c.in-Some-seek_child.ensures)

@@ -1,5 +1,5 @@
 use Rattle.std.proofs.Common.{◌++◌, ap, arith}
-use Rattle.rart_below.proofs.Moves.{moves, children_from-zero}
+use Rattle.rart_below.proofs.MoveLemmas.{moves, children_from-zero}
 use Rattle.rart_below.proofs.mapping.moves.move_children.Goals as goal
 
 pub loop-byte-init : goal.loop-byte-init

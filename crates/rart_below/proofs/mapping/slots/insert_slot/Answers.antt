@@ -1,5 +1,5 @@
 use Rattle.std.proofs.Common.{Some}
-use Rattle.rart_below.proofs.Rotations.{inserted}
+use Rattle.rart_below.proofs.RotationLemmas.{inserted}
 use Rattle.rart_below.proofs.mapping.slots.insert_slot.Goals as goal
 
 pub returns : goal.returns

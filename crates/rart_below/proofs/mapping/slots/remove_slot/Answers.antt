@@ -1,5 +1,5 @@
 use Rattle.std.proofs.Common.{None}
-use Rattle.rart_below.proofs.Rotations.{taken_out}
+use Rattle.rart_below.proofs.RotationLemmas.{taken_out}
 use Rattle.rart_below.proofs.mapping.slots.remove_slot.Goals as goal
 
 pub returns-clause-after : goal.returns-clause-after

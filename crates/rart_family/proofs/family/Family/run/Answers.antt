@@ -1,6 +1,6 @@
 use Rattle.std.proofs.Common.{◌≡◌, ◌+◌, take, map, ◌∷◌, [], ◌++◌, arith, sym, ap, ◌∙◌, rules}
 use Rattle.std.proofs.lemmas.List.{take_more, map-append}
-use Rattle.rart_family.specs.Replies.{seen}
+use Rattle.rart_family.specs.Replies.{reply_value}
 use Rattle.rart_family.specs.Costs.{read_cost_of, read_least_of, change_cost_of, change_least_of, touch_least_of}
 use Rattle.rart_family.proofs.RunLemmas.{run_more, along_more}
 use Rattle.rart_family.proofs.family.Family.run.Goals as goal
@@ -8,7 +8,7 @@ use Rattle.rart_family.proofs.family.Family.run.Goals as goal
 pub loop-command-preserved : goal.loop-command-preserved
 loop-command-preserved g c =
     let bytes = g.K.KeyTrait.bytes in
-    let see = seen {V = g.row.V.Denot} bytes in
+    let see = reply_value {V = g.row.V.Denot} bytes in
     let items = c.args.commands.now in
     let i = c.loop-command.command-index in
     let item = c.command-item.result in

@@ -1,6 +1,6 @@
 use Rattle.std.proofs.Common.{rules}
 use Rattle.rart_family.proofs.PlaceLemmas.{changes_at, counts_at, there_at}
-use Rattle.rart_versioned.proofs.OneOutcome.{one-update}
+use Rattle.rart_versioned.proofs.OutcomeLemmas.{one-update}
 use Rattle.rart_family.proofs.family.updates.update_at.Goals as goal
 
 pub returns-clause-changes : goal.returns-clause-changes

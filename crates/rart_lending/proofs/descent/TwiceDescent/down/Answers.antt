@@ -6,21 +6,21 @@ use Rattle.std.proofs.lemmas.Result.{IfOk-weaker, IfErr-weaker}
 use Rattle.rart_below.specs.Children.{child_at}
 use Rattle.rart_node.specs.declared.node.VersionedNode.{VersionedNode}
 use Rattle.rart_node.specs.declared.node_ref.NodeRef.{NodeRef}
-use Rattle.rart_node.specs.Seen.{seen, shown}
+use Rattle.rart_node.specs.NodeShapes.{node_shape, pointer_shape}
 use Rattle.rart_node.specs.Shape.{children_of, with_replaced}
-use Rattle.rart_lending.specs.Paths.{step, descent, graft, first_byte}
+use Rattle.rart_lending.specs.Paths.{step, path_end, graft, first_byte}
 use Rattle.rart_shape.specs.Trees.{IsTree}
-use Rattle.rart_shape.proofs.Counting.{counts-then}
-use Rattle.rart_shape.proofs.Finds.{branch, ordered, ascending}
-use Rattle.rart_shape.proofs.Puts.{replaced-same}
-use Rattle.rart_lending.proofs.Ways.{front-there, back-is, step-there, below-is, tree-along, graft-add, graft-below, graft-same}
+use Rattle.rart_shape.proofs.CountingLemmas.{counts-then}
+use Rattle.rart_shape.proofs.FindLemmas.{branch, ordered, ascending}
+use Rattle.rart_shape.proofs.InsertionLemmas.{replaced-same}
+use Rattle.rart_lending.proofs.PathLemmas.{front-there, back-is, step-there, below-is, tree-along, graft-add, graft-below, graft-same}
 use Rattle.rart_lending.proofs.descent.TwiceDescent.down.Goals as goal
 
 pub down-requires-clause-there : goal.down-requires-clause-there
 down-requires-clause-there g c =
     let bytes = g.P.Partial.bytes in
     let w = c.args.key.now in
-    let s = shown bytes c.args.at.now in
+    let s = pointer_shape bytes c.args.at.now in
     let key = drop c.args.depth.now w in
     let steps = c.args.steps in
     let half = (steps - 1) / 2 in
@@ -32,31 +32,31 @@ pub next_byte-byte-requires-clause-there : goal.next_byte-byte-requires-clause-t
 next_byte-byte-requires-clause-there g c =
     let bytes = g.P.Partial.bytes in
     let w = c.args.key.now in
-    let s = shown bytes c.args.at.now in
+    let s = pointer_shape bytes c.args.at.now in
     let key = drop c.args.depth.now w in
     let steps = c.args.steps in
     let half = (steps - 1) / 2 in
     let rest = steps - 1 - half in
     let parts : steps ≡ half + suc rest = omega (arith, c.if-steps-eq0.false) in
-    let middle = seen bytes c.in_ok-middle.middle.now in
+    let middle = node_shape bytes c.in_ok-middle.middle.now in
     let left = drop c.down.new.depth w in
-    let reached : descent half key s ≡ Some (middle, left) = c.in_ok-middle.ensures.reached in
-    let further : IsSome (descent (suc rest) left middle) = subst IsSome (back-is half (suc rest) steps key s (middle, left) parts reached) c.requires.there in
+    let reached : path_end half key s ≡ Some (middle, left) = c.in_ok-middle.ensures.reached in
+    let further : IsSome (path_end (suc rest) left middle) = subst IsSome (back-is half (suc rest) steps key s (middle, left) parts reached) c.requires.there in
     step-there rest left middle further
 
 pub seek_child_mut-requires : goal.seek_child_mut-requires
 seek_child_mut-requires g c =
     let bytes = g.P.Partial.bytes in
     let w = c.args.key.now in
-    let s = shown bytes c.args.at.now in
+    let s = pointer_shape bytes c.args.at.now in
     let key = drop c.args.depth.now w in
     let steps = c.args.steps in
     let half = (steps - 1) / 2 in
     let rest = steps - 1 - half in
     let parts : steps ≡ half + suc rest = omega (arith, c.if-steps-eq0.false) in
-    let middle = seen bytes c.in_ok-middle.middle.now in
+    let middle = node_shape bytes c.in_ok-middle.middle.now in
     let left = drop c.down.new.depth w in
-    let reached : descent half key s ≡ Some (middle, left) = c.in_ok-middle.ensures.reached in
+    let reached : path_end half key s ≡ Some (middle, left) = c.in_ok-middle.ensures.reached in
     let tree : IsTree middle = tree-along half key s (middle, left) c.requires.tree reached in
     ascending middle (ordered middle tree)
 
@@ -64,18 +64,18 @@ pub down-requires-in-Some-clause-tree : goal.down-requires-in-Some-clause-tree
 down-requires-in-Some-clause-tree g c =
     let bytes = g.P.Partial.bytes in
     let w = c.args.key.now in
-    let s = shown bytes c.args.at.now in
+    let s = pointer_shape bytes c.args.at.now in
     let key = drop c.args.depth.now w in
     let steps = c.args.steps in
     let half = (steps - 1) / 2 in
     let rest = steps - 1 - half in
     let parts : steps ≡ half + suc rest = omega (arith, c.if-steps-eq0.false) in
-    let middle = seen bytes c.in_ok-middle.middle.now in
+    let middle = node_shape bytes c.in_ok-middle.middle.now in
     let left = drop c.down.new.depth w in
-    let reached : descent half key s ≡ Some (middle, left) = c.in_ok-middle.ensures.reached in
+    let reached : path_end half key s ≡ Some (middle, left) = c.in_ok-middle.ensures.reached in
     let tree : IsTree middle = tree-along half key s (middle, left) c.requires.tree reached in
     let byte = c.next_byte-byte.result in
-    let child = shown bytes c.in-Some.child.now in
+    let child = pointer_shape bytes c.in-Some.child.now in
     let below = drop c.next_byte-byte.new.depth w in
     let here : child_at byte (children_of middle) ≡ Some child = sym c.in-Some.ensures.value in
     let goes : step left middle ≡ Some (child, below) = c.next_byte-byte.ensures.next ∙ ap (option_map (λ z. (z, below))) here in
@@ -85,18 +85,18 @@ pub down-requires-in-Some-clause-there : goal.down-requires-in-Some-clause-there
 down-requires-in-Some-clause-there g c =
     let bytes = g.P.Partial.bytes in
     let w = c.args.key.now in
-    let s = shown bytes c.args.at.now in
+    let s = pointer_shape bytes c.args.at.now in
     let key = drop c.args.depth.now w in
     let steps = c.args.steps in
     let half = (steps - 1) / 2 in
     let rest = steps - 1 - half in
     let parts : steps ≡ half + suc rest = omega (arith, c.if-steps-eq0.false) in
-    let middle = seen bytes c.in_ok-middle.middle.now in
+    let middle = node_shape bytes c.in_ok-middle.middle.now in
     let left = drop c.down.new.depth w in
-    let reached : descent half key s ≡ Some (middle, left) = c.in_ok-middle.ensures.reached in
-    let further : IsSome (descent (suc rest) left middle) = subst IsSome (back-is half (suc rest) steps key s (middle, left) parts reached) c.requires.there in
+    let reached : path_end half key s ≡ Some (middle, left) = c.in_ok-middle.ensures.reached in
+    let further : IsSome (path_end (suc rest) left middle) = subst IsSome (back-is half (suc rest) steps key s (middle, left) parts reached) c.requires.there in
     let byte = c.next_byte-byte.result in
-    let child = shown bytes c.in-Some.child.now in
+    let child = pointer_shape bytes c.in-Some.child.now in
     let below = drop c.next_byte-byte.new.depth w in
     let here : child_at byte (children_of middle) ≡ Some child = sym c.in-Some.ensures.value in
     let goes : step left middle ≡ Some (child, below) = c.next_byte-byte.ensures.next ∙ ap (option_map (λ z. (z, below))) here in
@@ -106,16 +106,16 @@ pub unreachable-requires : goal.unreachable-requires
 unreachable-requires g c =
     let bytes = g.P.Partial.bytes in
     let w = c.args.key.now in
-    let s = shown bytes c.args.at.now in
+    let s = pointer_shape bytes c.args.at.now in
     let key = drop c.args.depth.now w in
     let steps = c.args.steps in
     let half = (steps - 1) / 2 in
     let rest = steps - 1 - half in
     let parts : steps ≡ half + suc rest = omega (arith, c.if-steps-eq0.false) in
-    let middle = seen bytes c.in_ok-middle.middle.now in
+    let middle = node_shape bytes c.in_ok-middle.middle.now in
     let left = drop c.down.new.depth w in
-    let reached : descent half key s ≡ Some (middle, left) = c.in_ok-middle.ensures.reached in
-    let further : IsSome (descent (suc rest) left middle) = subst IsSome (back-is half (suc rest) steps key s (middle, left) parts reached) c.requires.there in
+    let reached : path_end half key s ≡ Some (middle, left) = c.in_ok-middle.ensures.reached in
+    let further : IsSome (path_end (suc rest) left middle) = subst IsSome (back-is half (suc rest) steps key s (middle, left) parts reached) c.requires.there in
     let gone : step left middle ≡ None = c.next_byte-byte.ensures.next ∙ ap (option_map (λ z. (z, drop c.next_byte-byte.new.depth w))) (sym c.in-None.ensures.value) in
     false≢true (subst IsSome gone (step-there rest left middle further))
 
@@ -123,34 +123,34 @@ pub returns : goal.returns
 returns g c =
     let bytes = g.P.Partial.bytes in
     let w = c.args.key.now in
-    let s = shown bytes c.args.at.now in
+    let s = pointer_shape bytes c.args.at.now in
     let key = drop c.args.depth.now w in
     let steps = c.args.steps in
     let half = (steps - 1) / 2 in
     let rest = steps - 1 - half in
     let parts : steps ≡ half + suc rest = omega (arith, c.if-steps-eq0.false) in
-    let middle = seen bytes c.in_ok-middle.middle.now in
+    let middle = node_shape bytes c.in_ok-middle.middle.now in
     let left = drop c.down.new.depth w in
-    let reached : descent half key s ≡ Some (middle, left) = c.in_ok-middle.ensures.reached in
-    let further : IsSome (descent (suc rest) left middle) = subst IsSome (back-is half (suc rest) steps key s (middle, left) parts reached) c.requires.there in
+    let reached : path_end half key s ≡ Some (middle, left) = c.in_ok-middle.ensures.reached in
+    let further : IsSome (path_end (suc rest) left middle) = subst IsSome (back-is half (suc rest) steps key s (middle, left) parts reached) c.requires.there in
     let tree : IsTree middle = tree-along half key s (middle, left) c.requires.tree reached in
     let byte = c.next_byte-byte.result in
-    let child = shown bytes c.in-Some.child.now in
+    let child = pointer_shape bytes c.in-Some.child.now in
     let below = drop c.next_byte-byte.new.depth w in
     let here : child_at byte (children_of middle) ≡ Some child = sym c.in-Some.ensures.value in
     let goes : step left middle ≡ Some (child, below) = c.next_byte-byte.ensures.next ∙ ap (option_map (λ z. (z, below))) here in
     let first : first_byte below ≡ byte = c.next_byte-byte.ensures.first in
     let Pointer : Type 0 = NodeRef g.row.P.Denot g.row.V.Denot in
     let Node : Type 0 = VersionedNode g.row.P.Denot g.row.V.Denot in
-    let put-back : (pointer : Pointer) → seen bytes (c.seek_child_mut.follows.lender pointer) ≡ with_replaced byte (shown bytes pointer) middle = λ pointer. subst (λ r. OnSome r (seen bytes (c.seek_child_mut.follows.lender pointer) ≡ with_replaced byte (shown bytes pointer) middle)) c.in-Some.is (c.seek_child_mut.follows.holds pointer) in
-    let above : (node : Node) → shown bytes (c.down.follows.lender node) ≡ graft half (seen bytes node) key s = λ node. c.down.follows.holds node (ap is_ok c.in_ok-middle.was) in (
+    let put-back : (pointer : Pointer) → node_shape bytes (c.seek_child_mut.follows.lender pointer) ≡ with_replaced byte (pointer_shape bytes pointer) middle = λ pointer. subst (λ r. OnSome r (node_shape bytes (c.seek_child_mut.follows.lender pointer) ≡ with_replaced byte (pointer_shape bytes pointer) middle)) c.in-Some.is (c.seek_child_mut.follows.holds pointer) in
+    let above : (node : Node) → pointer_shape bytes (c.down.follows.lender node) ≡ graft half (node_shape bytes node) key s = λ node. c.down.follows.holds node (ap is_ok c.in_ok-middle.was) in (
       (
         refl,
         (λ node ok.
             let pointer = c.down-in-Some.follows.lender node in
             let at-middle = c.seek_child_mut.follows.lender pointer in
-            let whole : graft steps (seen bytes node) key s ≡ graft half (graft (suc rest) (seen bytes node) left middle) key s = ap (λ n. graft n (seen bytes node) key s) parts ∙ graft-add half (suc rest) (seen bytes node) key s (middle, left) reached in
-            let one : graft (suc rest) (seen bytes node) left middle ≡ with_replaced byte (graft rest (seen bytes node) below child) middle = graft-below rest (seen bytes node) left middle (child, below) goes ∙ ap (λ b. with_replaced b (graft rest (seen bytes node) below child) middle) first in
+            let whole : graft steps (node_shape bytes node) key s ≡ graft half (graft (suc rest) (node_shape bytes node) left middle) key s = ap (λ n. graft n (node_shape bytes node) key s) parts ∙ graft-add half (suc rest) (node_shape bytes node) key s (middle, left) reached in
+            let one : graft (suc rest) (node_shape bytes node) left middle ≡ with_replaced byte (graft rest (node_shape bytes node) below child) middle = graft-below rest (node_shape bytes node) left middle (child, below) goes ∙ ap (λ b. with_replaced b (graft rest (node_shape bytes node) below child) middle) first in
             above at-middle ∙ ap (λ z. graft half z key s) (put-back pointer ∙ ap (λ z. with_replaced byte z middle) (c.down-in-Some.follows.holds node ok) ∙ sym one) ∙ sym whole),
         IfErr-weaker c.down-in-Some.result _ _ (λ _ kept.
             let pointer = c.down-in-Some.follows.lender-at-none in

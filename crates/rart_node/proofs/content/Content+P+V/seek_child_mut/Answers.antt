@@ -1,5 +1,5 @@
 use Rattle.std.proofs.Common.{rules, refl}
-use Rattle.rart_node.proofs.Contents.{of_lent}
+use Rattle.rart_node.proofs.ContentLemmas.{of_lent}
 use Rattle.rart_node.proofs.content.Content+P+V.seek_child_mut.Goals as goal
 
 pub returns-in-Node4 : goal.returns-in-Node4

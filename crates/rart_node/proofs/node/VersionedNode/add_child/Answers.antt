@@ -1,17 +1,17 @@
 use Rattle.std.proofs.Common.{◌+◌, ap, arith, sym, ◌∙◌}
 use Rattle.std.proofs.lemmas.Bool.{false≢true}
-use Rattle.rart_node.proofs.Contents.{widenings-seen}
-use Rattle.rart_node.proofs.Rooms.{ready, added}
-use Rattle.rart_node.proofs.Widths.{held-not_full}
+use Rattle.rart_node.proofs.ContentLemmas.{widenings-node_shape}
+use Rattle.rart_node.proofs.RoomLemmas.{ready, added}
+use Rattle.rart_node.proofs.WidthLemmas.{content_shape-not_full}
 use Rattle.rart_node.proofs.node.VersionedNode.add_child.Goals as goal
 
 pub returns-in_err-make_room-clause-made : goal.returns-in_err-make_room-clause-made
 returns-in_err-make_room-clause-made g c =
-    ap (λ w. w.made) c.make_room.ensures.work ∙ ap (λ k. c.args.work.now.made + k) (sym (widenings-seen g.P.Partial.bytes c.args.self.now c.requires.order))
+    ap (λ w. w.made) c.make_room.ensures.work ∙ ap (λ k. c.args.work.now.made + k) (sym (widenings-node_shape g.P.Partial.bytes c.args.self.now c.requires.order))
 
 pub returns-in_err-make_room-clause-succeeds : goal.returns-in_err-make_room-clause-succeeds
 returns-in_err-make_room-clause-succeeds g c none =
-    absurd (false≢true (c.in_err-make_room.ensures.succeeds (held-not_full g.P.Partial.bytes c.args.self.now c.requires.order none)))
+    absurd (false≢true (c.in_err-make_room.ensures.succeeds (content_shape-not_full g.P.Partial.bytes c.args.self.now c.requires.order none)))
 
 pub add_child-requires : goal.add_child-requires
 add_child-requires g c =
@@ -25,4 +25,4 @@ returns-clause-ok g c =
 
 pub returns-clause-made : goal.returns-clause-made
 returns-clause-made g c =
-    ap (λ w. w.made) c.make_room.ensures.work ∙ ap (λ k. c.args.work.now.made + k) (sym (widenings-seen g.P.Partial.bytes c.args.self.now c.requires.order))
+    ap (λ w. w.made) c.make_room.ensures.work ∙ ap (λ k. c.args.work.now.made + k) (sym (widenings-node_shape g.P.Partial.bytes c.args.self.now c.requires.order))

@@ -1,4 +1,4 @@
-use Rattle.rart_node.proofs.Widths.{fits_width}
+use Rattle.rart_node.proofs.WidthLemmas.{fits_width}
 use Rattle.rart_node.proofs.node.VersionedNode.is_leaf.Goals as goal
 
 pub returns-clause-width : goal.returns-clause-width

@@ -1,5 +1,5 @@
 use Rattle.std.proofs.Common.{◌∙◌}
-use Rattle.rart_below.proofs.Moves.{children_from-zero}
+use Rattle.rart_below.proofs.MoveLemmas.{children_from-zero}
 use Rattle.rart_node.proofs.node.VersionedNode.iter.Goals as goal
 
 pub returns-clause-children : goal.returns-clause-children

@@ -1,7 +1,7 @@
 use Rattle.std.proofs.Common.{arith, ap, sym, ◌∙◌}
 use Rattle.std.specs.Option.{option_map}
-use Rattle.rart_node.specs.Seen.{shown}
-use Rattle.rart_node.proofs.Contents.{in_order, some-in, child_at-seen, seen-replaced}
+use Rattle.rart_node.specs.NodeShapes.{pointer_shape}
+use Rattle.rart_node.proofs.ContentLemmas.{in_order, some-in, child_at-node_shape, node_shape-replaced}
 use Rattle.rart_node.proofs.node.VersionedNode.replace_child.Goals as goal
 
 pub replace_child-requires : goal.replace_child-requires
@@ -12,9 +12,9 @@ replace_child-requires g c =
     (omega arith, (omega arith, (omega arith, (omega arith, (order, present)))))
 
 pub returns-clause-seen : goal.returns-clause-seen
-returns-clause-seen g c = seen-replaced g.P.Partial.bytes c.args.self.now c.replace_child.new.self c.args.byte c.args.child c.requires.order c.replace_child.ensures.content
+returns-clause-seen g c = node_shape-replaced g.P.Partial.bytes c.args.self.now c.replace_child.new.self c.args.byte c.args.child c.requires.order c.replace_child.ensures.content
 
 pub returns-clause-replaced : goal.returns-clause-replaced
 returns-clause-replaced g c =
     let bytes = g.P.Partial.bytes in
-    ap (option_map (shown bytes)) c.replace_child.ensures.replaced ∙ sym (child_at-seen bytes c.args.self.now c.args.byte c.requires.order)
+    ap (option_map (pointer_shape bytes)) c.replace_child.ensures.replaced ∙ sym (child_at-node_shape bytes c.args.self.now c.args.byte c.requires.order)

@@ -3,17 +3,17 @@ use Rattle.std.specs.Option.{option_map}
 use Rattle.std.specs.Result.{is_ok, OnErr}
 use Rattle.std.specs.Str.{bytes_eq}
 use Rattle.std.proofs.lemmas.Bool.{false≢true}
-use Rattle.rart_node.specs.Seen.{shown}
+use Rattle.rart_node.specs.NodeShapes.{pointer_shape}
 use Rattle.rart_shape.specs.Trees.{found, IsPut}
 use Rattle.rart_versioned.specs.Roots.{found_in, IsSound}
-use Rattle.rart_shape.proofs.Counting.{counts-then, counts-most, made-none, entered-then, path-most}
-use Rattle.rart_versioned.proofs.Sound.{sound-again}
-use Rattle.rart_lending.proofs.Ways.{there-arrived}
+use Rattle.rart_shape.proofs.CountingLemmas.{counts-then, counts-most, made-none, entered-then, path-most}
+use Rattle.rart_versioned.proofs.SoundLemmas.{sound-again}
+use Rattle.rart_lending.proofs.PathLemmas.{there-arrived}
 use Rattle.rart_versioned.proofs.counted.get_mut.lend_in.Goals as goal
 
 pub returns-in-None-steps_to : goal.returns-in-None-steps_to
 returns-in-None-steps_to g c =
-    let f = shown g.P.Partial.bytes in
+    let f = pointer_shape g.P.Partial.bytes in
     let w = c.args.key.now in
     let s = f c.in-Some.at.now in
     let root-is : Some s ≡ option_map f c.args.root.now = ap (option_map f) c.in-Some.ensures.value in
@@ -37,7 +37,7 @@ returns-in-None-steps_to g c =
 
 pub returns-in-Ok : goal.returns-in-Ok
 returns-in-Ok g c =
-    let f = shown g.P.Partial.bytes in
+    let f = pointer_shape g.P.Partial.bytes in
     let w = c.args.key.now in
     let s = f c.in-Some.at.now in
     let root-is : Some s ≡ option_map f c.args.root.now = ap (option_map f) c.in-Some.ensures.value in
@@ -67,7 +67,7 @@ returns-in-Ok g c =
 
 pub returns-in-Err : goal.returns-in-Err
 returns-in-Err g c =
-    let f = shown g.P.Partial.bytes in
+    let f = pointer_shape g.P.Partial.bytes in
     let w = c.args.key.now in
     let s = f c.in-Some.at.now in
     let after = f c.lend_below.follows.lender-at-none in

@@ -1,5 +1,5 @@
 use Rattle.std.proofs.Common.{◌≡◌, ◌-◌, length, arith, ap, ◌∙◌}
-use Rattle.rart_walks.proofs.Trails.{bytes-fit, bytes-pop}
+use Rattle.rart_walks.proofs.TrailLemmas.{bytes-fit, bytes-pop}
 use Rattle.rart_walks.proofs.trail.KeyTrailTrail.pop.Goals as goal
 
 pub overflow_sub-kept : goal.overflow_sub-kept

@@ -1,6 +1,6 @@
 use Rattle.std.proofs.Common.{◌∙◌}
 use Rattle.std.specs.Prelude.{is_ok}
-use Rattle.rart_walks.proofs.Trails.{bytes-push}
+use Rattle.rart_walks.proofs.TrailLemmas.{bytes-push}
 use Rattle.rart_walks.proofs.trail.KeyTrailTrail.push.Goals as goal
 
 pub returns : goal.returns

@@ -1,7 +1,7 @@
 use Rattle.std.proofs.Common.{◌≡◌, ◌+◌, ◌-◌, ◌++◌, ◌∷◌, [], ℕ, List, length, map, arith, sym, ap, ◌∙◌}
 use Rattle.std.specs.Borrow.{Bor}
 use Rattle.std.specs.List.{concat}
-use Rattle.rart_walks.proofs.Trails.{length-push, shown-pop}
+use Rattle.rart_walks.proofs.TrailLemmas.{length-push, shown-pop}
 use Rattle.rart_walks.proofs.trail.SegmentTrailTrail.pop.Goals as goal
 
 pub overflow_sub-self : goal.overflow_sub-self

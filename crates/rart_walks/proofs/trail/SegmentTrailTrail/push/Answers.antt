@@ -1,6 +1,6 @@
 use Rattle.std.proofs.Common.{◌≡◌, ◌+◌, ◌++◌, ◌∷◌, [], length, map, arith, sym, ap, ◌∙◌}
 use Rattle.std.specs.List.{concat}
-use Rattle.rart_walks.proofs.Trails.{length-push, shown-push}
+use Rattle.rart_walks.proofs.TrailLemmas.{length-push, shown-push}
 use Rattle.rart_walks.proofs.trail.SegmentTrailTrail.push.Goals as goal
 
 pub overflow_add-self : goal.overflow_add-self

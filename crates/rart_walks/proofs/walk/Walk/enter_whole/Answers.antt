@@ -1,30 +1,30 @@
 use Rattle.std.proofs.Common.{◌≡◌, ◌++◌, ◌∷◌, [], None, refl, sym, ap, ◌∙◌}
 use Rattle.std.specs.List.{concat}
-use Rattle.rart_node.specs.Seen.{seen}
+use Rattle.rart_node.specs.NodeShapes.{node_shape}
 use Rattle.rart_node.specs.Shape.{prefix_of, value_of, children_of}
 use Rattle.rart_shape.specs.Trees.{pairs_of}
-use Rattle.rart_shape.proofs.Finds.{ascending, ordered}
+use Rattle.rart_shape.proofs.FindLemmas.{ascending, ordered}
 use Rattle.rart_walks.specs.Frames.{segments_of, behind_path, pending_pair, pairs_ahead, nodes_ahead, TreesAhead}
 use Rattle.rart_walks.specs.Walks.{AreShort, nodes_of}
-use Rattle.rart_walks.specs.Opened.{opened}
-use Rattle.rart_walks.proofs.Walking.{whole-pairs, whole-nodes, whole-trees, whole-short, path-fits}
+use Rattle.rart_walks.specs.WalkFields.{open_nodes}
+use Rattle.rart_walks.proofs.WalkLemmas.{whole-pairs, whole-nodes, whole-trees, whole-short, path-fits}
 use Rattle.rart_walks.proofs.walk.Walk.enter_whole.Goals as goal
 
 pub enter-requires : goal.enter-requires
 enter-requires g c =
-    let s = seen g.P.Partial.bytes c.args.node.now in
+    let s = node_shape g.P.Partial.bytes c.args.node.now in
     λ _. (
       (refl, tt),
       (
         ascending s (ordered s c.requires.tree),
-        (c.requires.walk.holds_way, path-fits (opened g.P.Partial.bytes c.args.self.now.frames.items) s g.T.Trail.greatest c.requires.tree c.requires.short),
+        (c.requires.walk.holds_way, path-fits (open_nodes g.P.Partial.bytes c.args.self.now.frames.items) s g.T.Trail.greatest c.requires.tree c.requires.short),
       ),
     )
 
 pub returns-clause-walk : goal.returns-clause-walk
 returns-clause-walk g c =
-    let frames = opened g.P.Partial.bytes c.args.self.now.frames.items in
-    let s = seen g.P.Partial.bytes c.args.node.now in
+    let frames = open_nodes g.P.Partial.bytes c.args.self.now.frames.items in
+    let s = node_shape g.P.Partial.bytes c.args.node.now in
     let is = c.in_ok-enter.ensures.opened in
     record {
       holds_way = c.in_ok-enter.ensures.holds;
@@ -34,12 +34,12 @@ returns-clause-walk g c =
 
 pub returns-clause-pairs : goal.returns-clause-pairs
 returns-clause-pairs g c =
-    let frames = opened g.P.Partial.bytes c.args.self.now.frames.items in
-    let s = seen g.P.Partial.bytes c.args.node.now in
+    let frames = open_nodes g.P.Partial.bytes c.args.self.now.frames.items in
+    let s = node_shape g.P.Partial.bytes c.args.node.now in
     rw (c.in_ok-enter.ensures.opened, c.value-self.ensures, c.requires.pending) (sym (whole-pairs frames s))
 
 pub returns-clause-nodes : goal.returns-clause-nodes
 returns-clause-nodes g c =
-    let frames = opened g.P.Partial.bytes c.args.self.now.frames.items in
-    let s = seen g.P.Partial.bytes c.args.node.now in
+    let frames = open_nodes g.P.Partial.bytes c.args.self.now.frames.items in
+    let s = node_shape g.P.Partial.bytes c.args.node.now in
     rw c.in_ok-enter.ensures.opened (whole-nodes frames s)

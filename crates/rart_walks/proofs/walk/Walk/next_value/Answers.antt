@@ -1,11 +1,11 @@
 use Rattle.std.proofs.Common.{◌≡◌, ◌+◌, ◌++◌, ◌∷◌, [], List, Some, None, refl, arith, sym, ap, subst, ◌∙◌}
 use Rattle.std.specs.Option.{option_map}
-use Rattle.rart_node.specs.Seen.{seen, shown}
+use Rattle.rart_node.specs.NodeShapes.{node_shape, pointer_shape}
 use Rattle.rart_node.specs.Shape.{prefix_of, children_of, value_of}
-use Rattle.rart_shape.proofs.Finds.{ascending, ordered}
-use Rattle.rart_walks.specs.Frames.{Opened, segments_of}
-use Rattle.rart_walks.specs.Opened.{opened}
-use Rattle.rart_walks.proofs.Walking.{IsGoing, HasEntered, TookChild, TookNone, took-child, took-none, took-segments, took-left, took-tree, took-fits, took-counted, took-entered}
+use Rattle.rart_shape.proofs.FindLemmas.{ascending, ordered}
+use Rattle.rart_walks.specs.Frames.{OpenNode, segments_of}
+use Rattle.rart_walks.specs.WalkFields.{open_nodes}
+use Rattle.rart_walks.proofs.WalkLemmas.{IsGoing, HasEntered, TookChild, TookNone, took-child, took-none, took-segments, took-left, took-tree, took-fits, took-counted, took-entered}
 use Rattle.rart_walks.proofs.walk.Walk.next_value.Goals as goal
 
 pub step-init : goal.step-init
@@ -19,10 +19,10 @@ step-init g c = record {
 pub enter-requires : goal.enter-requires
 enter-requires g c =
     let bytes = g.P.Partial.bytes in
-    let s = shown bytes c.in-Some-next.child.now in
-    let same : seen bytes c.open-node.result.now ≡ s = c.open-node.ensures.shown in
-    let took : TookChild (opened bytes c.step.self.frames.items) s (opened bytes c.next_child.new.frames.items) =
-    took-child _ _ _ s (ap (option_map (λ child. shown bytes child.now)) c.in-Some-next.is) c.in-Some-next_child.ensures in
+    let s = pointer_shape bytes c.in-Some-next.child.now in
+    let same : node_shape bytes c.open-node.result.now ≡ s = c.open-node.ensures.shown in
+    let took : TookChild (open_nodes bytes c.step.self.frames.items) s (open_nodes bytes c.next_child.new.frames.items) =
+    took-child _ _ _ s (ap (option_map (λ child. pointer_shape bytes child.now)) c.in-Some-next.is) c.in-Some-next_child.ensures in
     let tree = took-tree _ _ _ _ _ c.step.invariant.going s _ took in
     λ _. (
       (refl, tt),
@@ -38,91 +38,91 @@ enter-requires g c =
 pub returns-in-Err-clause-at_most : goal.returns-in-Err-clause-at_most
 returns-in-Err-clause-at_most g c =
     let bytes = g.P.Partial.bytes in
-    let s = shown bytes c.in-Some-next.child.now in
-    let same : seen bytes c.open-node.result.now ≡ s = c.open-node.ensures.shown in
-    let took : TookChild (opened bytes c.step.self.frames.items) s (opened bytes c.next_child.new.frames.items) =
-    took-child _ _ _ s (ap (option_map (λ child. shown bytes child.now)) c.in-Some-next.is) c.in-Some-next_child.ensures in
+    let s = pointer_shape bytes c.in-Some-next.child.now in
+    let same : node_shape bytes c.open-node.result.now ≡ s = c.open-node.ensures.shown in
+    let took : TookChild (open_nodes bytes c.step.self.frames.items) s (open_nodes bytes c.next_child.new.frames.items) =
+    took-child _ _ _ s (ap (option_map (λ child. pointer_shape bytes child.now)) c.in-Some-next.is) c.in-Some-next_child.ensures in
     took-counted _ _ _ _ _ c.step.invariant.going s _ took _ (ap (λ w. w.entered) c.open-node.ensures.work)
 
 pub returns-in-Some-value-clause-walk : goal.returns-in-Some-value-clause-walk
 returns-in-Some-value-clause-walk g c =
     let bytes = g.P.Partial.bytes in
-    let s = shown bytes c.in-Some-next.child.now in
-    let same : seen bytes c.open-node.result.now ≡ s = c.open-node.ensures.shown in
-    let took : TookChild (opened bytes c.step.self.frames.items) s (opened bytes c.next_child.new.frames.items) =
-    took-child _ _ _ s (ap (option_map (λ child. shown bytes child.now)) c.in-Some-next.is) c.in-Some-next_child.ensures in
-    let entered = took-entered _ _ _ _ _ c.step.invariant.going s _ took (opened bytes c.enter.new.frames.items) c.open-node.new.work.entered
-    (c.in_default-enter.ensures.opened ∙ ap (λ z. opened bytes c.next_child.new.frames.items ++ (prefix_of z, children_of z) ∷ []) same) (ap (λ w. w.entered) c.open-node.ensures.work) in
+    let s = pointer_shape bytes c.in-Some-next.child.now in
+    let same : node_shape bytes c.open-node.result.now ≡ s = c.open-node.ensures.shown in
+    let took : TookChild (open_nodes bytes c.step.self.frames.items) s (open_nodes bytes c.next_child.new.frames.items) =
+    took-child _ _ _ s (ap (option_map (λ child. pointer_shape bytes child.now)) c.in-Some-next.is) c.in-Some-next_child.ensures in
+    let entered = took-entered _ _ _ _ _ c.step.invariant.going s _ took (open_nodes bytes c.enter.new.frames.items) c.open-node.new.work.entered
+    (c.in_default-enter.ensures.opened ∙ ap (λ z. open_nodes bytes c.next_child.new.frames.items ++ (prefix_of z, children_of z) ∷ []) same) (ap (λ w. w.entered) c.open-node.ensures.work) in
     let some : value_of s ≡ Some c.in-Some-value.value.now = sym (c.in-Some-value.ensures ∙ ap value_of same) in
     record { holds_way = c.in_default-enter.ensures.holds; trees = entered.trees; short = entered.short _ some }
 
 pub returns-in-Some-value-clause-gives : goal.returns-in-Some-value-clause-gives
 returns-in-Some-value-clause-gives g c =
     let bytes = g.P.Partial.bytes in
-    let s = shown bytes c.in-Some-next.child.now in
-    let same : seen bytes c.open-node.result.now ≡ s = c.open-node.ensures.shown in
-    let took : TookChild (opened bytes c.step.self.frames.items) s (opened bytes c.next_child.new.frames.items) =
-    took-child _ _ _ s (ap (option_map (λ child. shown bytes child.now)) c.in-Some-next.is) c.in-Some-next_child.ensures in
-    let entered = took-entered _ _ _ _ _ c.step.invariant.going s _ took (opened bytes c.enter.new.frames.items) c.open-node.new.work.entered
-    (c.in_default-enter.ensures.opened ∙ ap (λ z. opened bytes c.next_child.new.frames.items ++ (prefix_of z, children_of z) ∷ []) same) (ap (λ w. w.entered) c.open-node.ensures.work) in
+    let s = pointer_shape bytes c.in-Some-next.child.now in
+    let same : node_shape bytes c.open-node.result.now ≡ s = c.open-node.ensures.shown in
+    let took : TookChild (open_nodes bytes c.step.self.frames.items) s (open_nodes bytes c.next_child.new.frames.items) =
+    took-child _ _ _ s (ap (option_map (λ child. pointer_shape bytes child.now)) c.in-Some-next.is) c.in-Some-next_child.ensures in
+    let entered = took-entered _ _ _ _ _ c.step.invariant.going s _ took (open_nodes bytes c.enter.new.frames.items) c.open-node.new.work.entered
+    (c.in_default-enter.ensures.opened ∙ ap (λ z. open_nodes bytes c.next_child.new.frames.items ++ (prefix_of z, children_of z) ∷ []) same) (ap (λ w. w.entered) c.open-node.ensures.work) in
     let some : value_of s ≡ Some c.in-Some-value.value.now = sym (c.in-Some-value.ensures ∙ ap value_of same) in
     rw (c.in_default.is, c.step.invariant.none) (entered.given _ some)
 
 pub returns-in-Some-value-clause-entered : goal.returns-in-Some-value-clause-entered
 returns-in-Some-value-clause-entered g c =
     let bytes = g.P.Partial.bytes in
-    let s = shown bytes c.in-Some-next.child.now in
-    let same : seen bytes c.open-node.result.now ≡ s = c.open-node.ensures.shown in
-    let took : TookChild (opened bytes c.step.self.frames.items) s (opened bytes c.next_child.new.frames.items) =
-    took-child _ _ _ s (ap (option_map (λ child. shown bytes child.now)) c.in-Some-next.is) c.in-Some-next_child.ensures in
-    let entered = took-entered _ _ _ _ _ c.step.invariant.going s _ took (opened bytes c.enter.new.frames.items) c.open-node.new.work.entered
-    (c.in_default-enter.ensures.opened ∙ ap (λ z. opened bytes c.next_child.new.frames.items ++ (prefix_of z, children_of z) ∷ []) same) (ap (λ w. w.entered) c.open-node.ensures.work) in
+    let s = pointer_shape bytes c.in-Some-next.child.now in
+    let same : node_shape bytes c.open-node.result.now ≡ s = c.open-node.ensures.shown in
+    let took : TookChild (open_nodes bytes c.step.self.frames.items) s (open_nodes bytes c.next_child.new.frames.items) =
+    took-child _ _ _ s (ap (option_map (λ child. pointer_shape bytes child.now)) c.in-Some-next.is) c.in-Some-next_child.ensures in
+    let entered = took-entered _ _ _ _ _ c.step.invariant.going s _ took (open_nodes bytes c.enter.new.frames.items) c.open-node.new.work.entered
+    (c.in_default-enter.ensures.opened ∙ ap (λ z. open_nodes bytes c.next_child.new.frames.items ++ (prefix_of z, children_of z) ∷ []) same) (ap (λ w. w.entered) c.open-node.ensures.work) in
     entered.counted
 
 pub returns-in-Some-value-clause-at_most : goal.returns-in-Some-value-clause-at_most
 returns-in-Some-value-clause-at_most g c =
     let bytes = g.P.Partial.bytes in
-    let s = shown bytes c.in-Some-next.child.now in
-    let same : seen bytes c.open-node.result.now ≡ s = c.open-node.ensures.shown in
-    let took : TookChild (opened bytes c.step.self.frames.items) s (opened bytes c.next_child.new.frames.items) =
-    took-child _ _ _ s (ap (option_map (λ child. shown bytes child.now)) c.in-Some-next.is) c.in-Some-next_child.ensures in
+    let s = pointer_shape bytes c.in-Some-next.child.now in
+    let same : node_shape bytes c.open-node.result.now ≡ s = c.open-node.ensures.shown in
+    let took : TookChild (open_nodes bytes c.step.self.frames.items) s (open_nodes bytes c.next_child.new.frames.items) =
+    took-child _ _ _ s (ap (option_map (λ child. pointer_shape bytes child.now)) c.in-Some-next.is) c.in-Some-next_child.ensures in
     took-counted _ _ _ _ _ c.step.invariant.going s _ took _ (ap (λ w. w.entered) c.open-node.ensures.work)
 
 pub step-smaller-in_default-next : goal.step-smaller-in_default-next
 step-smaller-in_default-next g c =
     let bytes = g.P.Partial.bytes in
-    let took : TookNone (opened bytes c.step.self.frames.items) (opened bytes c.next_child.new.frames.items) =
-    took-none _ _ _ (ap (option_map (λ child. shown bytes child.now)) c.in_default-next.is) c.in-Some-next_child.ensures in
-    let left = took-left _ _ _ _ _ c.step.invariant.going _ took (opened bytes c.leave.new.frames.items) c.leave.ensures.left in
+    let took : TookNone (open_nodes bytes c.step.self.frames.items) (open_nodes bytes c.next_child.new.frames.items) =
+    took-none _ _ _ (ap (option_map (λ child. pointer_shape bytes child.now)) c.in_default-next.is) c.in-Some-next_child.ensures in
+    let left = took-left _ _ _ _ _ c.step.invariant.going _ took (open_nodes bytes c.leave.new.frames.items) c.leave.ensures.left in
     left.1
 
 pub step-preserved-in_default-next : goal.step-preserved-in_default-next
 step-preserved-in_default-next g c =
     let bytes = g.P.Partial.bytes in
-    let took : TookNone (opened bytes c.step.self.frames.items) (opened bytes c.next_child.new.frames.items) =
-    took-none _ _ _ (ap (option_map (λ child. shown bytes child.now)) c.in_default-next.is) c.in-Some-next_child.ensures in
-    let left = took-left _ _ _ _ _ c.step.invariant.going _ took (opened bytes c.leave.new.frames.items) c.leave.ensures.left in
+    let took : TookNone (open_nodes bytes c.step.self.frames.items) (open_nodes bytes c.next_child.new.frames.items) =
+    took-none _ _ _ (ap (option_map (λ child. pointer_shape bytes child.now)) c.in_default-next.is) c.in-Some-next_child.ensures in
+    let left = took-left _ _ _ _ _ c.step.invariant.going _ took (open_nodes bytes c.leave.new.frames.items) c.leave.ensures.left in
     record { holds_way = c.leave.ensures.holds; going = left.0; none = c.step.invariant.none; made = c.step.invariant.made }
 
 pub step-smaller : goal.step-smaller
 step-smaller g c =
     let bytes = g.P.Partial.bytes in
-    let s = shown bytes c.in-Some-next.child.now in
-    let same : seen bytes c.open-node.result.now ≡ s = c.open-node.ensures.shown in
-    let took : TookChild (opened bytes c.step.self.frames.items) s (opened bytes c.next_child.new.frames.items) =
-    took-child _ _ _ s (ap (option_map (λ child. shown bytes child.now)) c.in-Some-next.is) c.in-Some-next_child.ensures in
-    let entered = took-entered _ _ _ _ _ c.step.invariant.going s _ took (opened bytes c.enter.new.frames.items) c.open-node.new.work.entered
-    (c.in_default-enter.ensures.opened ∙ ap (λ z. opened bytes c.next_child.new.frames.items ++ (prefix_of z, children_of z) ∷ []) same) (ap (λ w. w.entered) c.open-node.ensures.work) in
+    let s = pointer_shape bytes c.in-Some-next.child.now in
+    let same : node_shape bytes c.open-node.result.now ≡ s = c.open-node.ensures.shown in
+    let took : TookChild (open_nodes bytes c.step.self.frames.items) s (open_nodes bytes c.next_child.new.frames.items) =
+    took-child _ _ _ s (ap (option_map (λ child. pointer_shape bytes child.now)) c.in-Some-next.is) c.in-Some-next_child.ensures in
+    let entered = took-entered _ _ _ _ _ c.step.invariant.going s _ took (open_nodes bytes c.enter.new.frames.items) c.open-node.new.work.entered
+    (c.in_default-enter.ensures.opened ∙ ap (λ z. open_nodes bytes c.next_child.new.frames.items ++ (prefix_of z, children_of z) ∷ []) same) (ap (λ w. w.entered) c.open-node.ensures.work) in
     entered.smaller
 
 pub step-preserved : goal.step-preserved
 step-preserved g c =
     let bytes = g.P.Partial.bytes in
-    let s = shown bytes c.in-Some-next.child.now in
-    let same : seen bytes c.open-node.result.now ≡ s = c.open-node.ensures.shown in
-    let took : TookChild (opened bytes c.step.self.frames.items) s (opened bytes c.next_child.new.frames.items) =
-    took-child _ _ _ s (ap (option_map (λ child. shown bytes child.now)) c.in-Some-next.is) c.in-Some-next_child.ensures in
-    let entered = took-entered _ _ _ _ _ c.step.invariant.going s _ took (opened bytes c.enter.new.frames.items) c.open-node.new.work.entered
-    (c.in_default-enter.ensures.opened ∙ ap (λ z. opened bytes c.next_child.new.frames.items ++ (prefix_of z, children_of z) ∷ []) same) (ap (λ w. w.entered) c.open-node.ensures.work) in
+    let s = pointer_shape bytes c.in-Some-next.child.now in
+    let same : node_shape bytes c.open-node.result.now ≡ s = c.open-node.ensures.shown in
+    let took : TookChild (open_nodes bytes c.step.self.frames.items) s (open_nodes bytes c.next_child.new.frames.items) =
+    took-child _ _ _ s (ap (option_map (λ child. pointer_shape bytes child.now)) c.in-Some-next.is) c.in-Some-next_child.ensures in
+    let entered = took-entered _ _ _ _ _ c.step.invariant.going s _ took (open_nodes bytes c.enter.new.frames.items) c.open-node.new.work.entered
+    (c.in_default-enter.ensures.opened ∙ ap (λ z. open_nodes bytes c.next_child.new.frames.items ++ (prefix_of z, children_of z) ∷ []) same) (ap (λ w. w.entered) c.open-node.ensures.work) in
     let none : value_of s ≡ None = sym (c.in_default-value.ensures ∙ ap value_of same) in
     record { holds_way = c.in_default-enter.ensures.holds; going = entered.passed none; none = c.step.invariant.none; made = ap (λ w. w.made) c.open-node.ensures.work ∙ c.step.invariant.made }

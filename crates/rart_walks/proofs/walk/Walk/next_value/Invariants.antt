@@ -1,16 +1,16 @@
 use Rattle.std.proofs.Common.{◌≡◌, None}
 use Rattle.rart_walks.specs.Frames.{segments_of}
-use Rattle.rart_walks.specs.Opened.{opened}
-use Rattle.rart_walks.proofs.Walking.{IsGoing, measure}
+use Rattle.rart_walks.specs.WalkFields.{open_nodes}
+use Rattle.rart_walks.proofs.WalkLemmas.{IsGoing, measure}
 use Rattle.rart_walks.proofs.walk.Walk.next_value.Given as goal
 
 abbrev pub invariant-step : goal.invariant-step
 invariant-step g l = record {
-  holds_way : g.T.Trail.holds l.self.trail (segments_of (opened g.P.Partial.bytes l.self.frames.items));
-  going : IsGoing g.T.Trail.greatest (opened g.P.Partial.bytes l.initial.self.frames.items) l.initial.work.entered (opened g.P.Partial.bytes l.self.frames.items) l.work.entered;
+  holds_way : g.T.Trail.holds l.self.trail (segments_of (open_nodes g.P.Partial.bytes l.self.frames.items));
+  going : IsGoing g.T.Trail.greatest (open_nodes g.P.Partial.bytes l.initial.self.frames.items) l.initial.work.entered (open_nodes g.P.Partial.bytes l.self.frames.items) l.work.entered;
   none : l.self.pending ≡ None;
   made : l.work.made ≡ l.initial.work.made;
 }
 
 abbrev pub decreases-step : goal.decreases-step
-decreases-step g l = measure (opened g.P.Partial.bytes l.self.frames.items)
+decreases-step g l = measure (open_nodes g.P.Partial.bytes l.self.frames.items)

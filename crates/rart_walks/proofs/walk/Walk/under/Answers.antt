@@ -1,7 +1,7 @@
 use Rattle.std.proofs.Math.Nat.{le_refl}
-use Rattle.rart_node.specs.Seen.{shown}
-use Rattle.rart_shape.proofs.Counting.{counts-most, path-most}
+use Rattle.rart_node.specs.NodeShapes.{pointer_shape}
+use Rattle.rart_shape.proofs.CountingLemmas.{counts-most, path-most}
 use Rattle.rart_walks.proofs.walk.Walk.under.Goals as goal
 
 pub returns-clause-counted : goal.returns-clause-counted
-returns-clause-counted g c = counts-most c.way_to.ensures.counted (path-most (shown g.P.Partial.bytes c.args.root.now) c.args.prefix.now) (le_refl 0)
+returns-clause-counted g c = counts-most c.way_to.ensures.counted (path-most (pointer_shape g.P.Partial.bytes c.args.root.now) c.args.prefix.now) (le_refl 0)

@@ -1,17 +1,17 @@
 use Rattle.std.proofs.Common.{◌≡◌, ◌++◌, ◌∷◌, [], None, refl, sym, ap, ◌∙◌}
 use Rattle.std.proofs.lemmas.List.{append-nil}
 use Rattle.std.specs.List.{concat}
-use Rattle.rart_node.specs.Seen.{seen, shown}
+use Rattle.rart_node.specs.NodeShapes.{node_shape, pointer_shape}
 use Rattle.rart_shape.specs.Trees.{pairs_of, IsTree}
 use Rattle.rart_walks.specs.Frames.{segments_of, behind_path}
-use Rattle.rart_walks.specs.Walks.{Standing, AreShort, nodes_of}
-use Rattle.rart_walks.specs.Opened.{opened}
-use Rattle.rart_walks.proofs.Walking.{behind-none}
+use Rattle.rart_walks.specs.Walks.{Position, AreShort, nodes_of}
+use Rattle.rart_walks.specs.WalkFields.{open_nodes}
+use Rattle.rart_walks.proofs.WalkLemmas.{behind-none}
 use Rattle.rart_walks.proofs.walk.Walk.whole.Goals as goal
 
 pub enter_whole-requires : goal.enter_whole-requires
 enter_whole-requires g c =
-    let s = shown g.P.Partial.bytes c.args.root.now in
+    let s = pointer_shape g.P.Partial.bytes c.args.root.now in
     λ _. (
       (refl, tt),
       (
@@ -25,8 +25,8 @@ enter_whole-requires g c =
 
 pub returns-clause-pairs : goal.returns-clause-pairs
 returns-clause-pairs g c =
-    let s = shown g.P.Partial.bytes c.args.root.now in
+    let s = pointer_shape g.P.Partial.bytes c.args.root.now in
     let start = c.new-walk.ensures.ended in
     c.in_ok-enter_whole.ensures.pairs
-    ∙ ap (λ (at : Standing g.row.V.Denot). behind_path (concat at.segments) (pairs_of (seen g.P.Partial.bytes c.open.result.now)) ++ at.pairs) start
+    ∙ ap (λ (at : Position g.row.V.Denot). behind_path (concat at.segments) (pairs_of (node_shape g.P.Partial.bytes c.open.result.now)) ++ at.pairs) start
     ∙ append-nil _ ∙ ap (λ z. behind_path [] (pairs_of z)) c.open.ensures.shown ∙ behind-none (pairs_of s)

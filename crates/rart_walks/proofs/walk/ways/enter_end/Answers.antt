@@ -1,16 +1,16 @@
 use Rattle.std.proofs.Common.{◌≡◌, ◌++◌, ◌∷◌, [], sym, ap, ◌∙◌}
 use Rattle.std.specs.List.{concat}
-use Rattle.rart_node.specs.Seen.{seen}
+use Rattle.rart_node.specs.NodeShapes.{node_shape}
 use Rattle.rart_node.specs.Shape.{prefix_of, children_of}
 use Rattle.rart_walks.specs.Frames.{segments_of, behind_path, pairs_of_all, pairs_ahead, pairs_inside}
-use Rattle.rart_walks.specs.Opened.{opened}
-use Rattle.rart_walks.proofs.Walking.{ahead-push, behind-behind}
+use Rattle.rart_walks.specs.WalkFields.{open_nodes}
+use Rattle.rart_walks.proofs.WalkLemmas.{ahead-push, behind-behind}
 use Rattle.rart_walks.proofs.walk.ways.enter_end.Goals as goal
 
 pub returns-then-is_passed-clause-pairs : goal.returns-then-is_passed-clause-pairs
 returns-then-is_passed-clause-pairs g c =
-    let frames = opened g.P.Partial.bytes c.args.walk.now.frames.items in
-    let s = seen g.P.Partial.bytes c.args.node.now in
+    let frames = open_nodes g.P.Partial.bytes c.args.walk.now.frames.items in
+    let s = node_shape g.P.Partial.bytes c.args.node.now in
     let path = concat (segments_of frames) in
     rw (c.if-is_passed.true, c.requires.pending, c.in_ok-enter_whole.ensures.frames)
     (ahead-push frames (prefix_of s, children_of s) ∙ ap (λ z. z ++ pairs_ahead frames) (sym (behind-behind path (prefix_of s) (pairs_of_all (children_of s)))))

@@ -2,21 +2,21 @@ use Rattle.std.proofs.Common.{◌≡◌, ◌+◌, ◌<◌, ◌≤◌, Bool, cond
 use Rattle.std.specs.Prelude.{slice_index_or}
 use Rattle.rart_below.specs.Bytes.{common_length}
 use Rattle.rart_below.specs.Children.{children_from}
-use Rattle.rart_node.specs.Seen.{seen, shown}
+use Rattle.rart_node.specs.NodeShapes.{node_shape, pointer_shape}
 use Rattle.rart_node.specs.Shape.{prefix_of, children_of}
 use Rattle.rart_node.specs.VersionedNodeIter.{children_left}
-use Rattle.rart_shape.proofs.Behind.{common_fits}
-use Rattle.rart_walks.specs.Opened.{opened}
+use Rattle.rart_shape.proofs.PrefixLemmas.{common_fits}
+use Rattle.rart_walks.specs.WalkFields.{open_nodes}
 use Rattle.rart_walks.specs.Parts.{goes_on, reaches}
 use Rattle.rart_walks.specs.Walks.{paths_of}
 use Rattle.std.specs.Prelude.{count_by}
-use Rattle.rart_walks.proofs.Steps.{goes-on, goes-some, step-counted, step-fits, step-lower, step-child, step-missing, step-trees, step-short}
-use Rattle.rart_walks.proofs.Ways.{IsOnWay, way-start, way-counted}
+use Rattle.rart_walks.proofs.StepLemmas.{goes-on, goes-some, step-counted, step-fits, step-lower, step-child, step-missing, step-trees, step-short}
+use Rattle.rart_walks.proofs.PathLemmas.{IsOnWay, way-start, way-counted}
 use Rattle.rart_walks.proofs.walk.ways.way_to.Goals as goal
 
 pub down-init : goal.down-init
 down-init g c =
-    let root = shown g.P.Partial.bytes c.args.root.now in
+    let root = pointer_shape g.P.Partial.bytes c.args.root.now in
     record {
       holds_way = c.new-walk.ensures.walk.holds_way;
       way = subst (λ f. IsOnWay c.args.part g.T.Trail.greatest c.args.probe.now root c.args.work.now root c.args.probe.now f c.args.work.now) (sym c.new-walk.ensures.frames)
@@ -27,16 +27,16 @@ down-init g c =
 pub returns-in_err-finish-clause-counted : goal.returns-in_err-finish-clause-counted
 returns-in_err-finish-clause-counted g c =
     let bytes = g.P.Partial.bytes in
-    let s = shown bytes c.down.at.now in
-    let o = seen bytes c.open-node.result.now in
+    let s = pointer_shape bytes c.down.at.now in
+    let o = node_shape bytes c.open-node.result.now in
     let same : o ≡ s = c.open-node.ensures.shown in
     step-counted _ _ _ _ _ _ _ _ _ c.down.invariant.way o c.open-node.new.work c.open-node.ensures.work same
 
 pub returns-then-common-rest-clause-nodes : goal.returns-then-common-rest-clause-nodes
 returns-then-common-rest-clause-nodes g c =
     let bytes = g.P.Partial.bytes in
-    let s = shown bytes c.down.at.now in
-    let o = seen bytes c.open-node.result.now in
+    let s = pointer_shape bytes c.down.at.now in
+    let o = node_shape bytes c.open-node.result.now in
     let same : o ≡ s = c.open-node.ensures.shown in
     let whole = way-counted _ _ _ _ _ _ _ _ _ c.down.invariant.way in
     let here = ap (λ z. count_by (reaches c.args.part c.down.rest.now) (paths_of z)) same in
@@ -46,8 +46,8 @@ returns-then-common-rest-clause-nodes g c =
 pub returns-then-common-rest-clause-counted : goal.returns-then-common-rest-clause-counted
 returns-then-common-rest-clause-counted g c =
     let bytes = g.P.Partial.bytes in
-    let s = shown bytes c.down.at.now in
-    let o = seen bytes c.open-node.result.now in
+    let s = pointer_shape bytes c.down.at.now in
+    let o = node_shape bytes c.open-node.result.now in
     let same : o ≡ s = c.open-node.ensures.shown in
     step-counted _ _ _ _ _ _ _ _ _ c.down.invariant.way o c.open-node.new.work c.open-node.ensures.work same
 
@@ -61,8 +61,8 @@ rest_of-rest-requires g c =
 pub bounds-rest-0 : goal.bounds-rest-0
 bounds-rest-0 g c =
     let bytes = g.P.Partial.bytes in
-    let s = shown bytes c.down.at.now in
-    let o = seen bytes c.open-node.result.now in
+    let s = pointer_shape bytes c.down.at.now in
+    let o = node_shape bytes c.open-node.result.now in
     let same : o ≡ s = c.open-node.ensures.shown in
     let matched : c.prefix_length_slice-common.result ≡ common_length (prefix_of o) c.down.rest.now = c.prefix_length_slice-common.ensures ∙ ap (λ p. common_length p c.down.rest.now) c.prefix.ensures in
     let long : c.len.result ≡ length (prefix_of o) = c.len.ensures ∙ ap length c.prefix-else-common-rest.ensures in
@@ -72,31 +72,31 @@ bounds-rest-0 g c =
 pub enter_part-requires : goal.enter_part-requires
 enter_part-requires g c =
     let bytes = g.P.Partial.bytes in
-    let s = shown bytes c.down.at.now in
-    let o = seen bytes c.open-node.result.now in
+    let s = pointer_shape bytes c.down.at.now in
+    let o = node_shape bytes c.open-node.result.now in
     let same : o ≡ s = c.open-node.ensures.shown in
     λ _. ((refl, tt), (c.down.invariant.holds_way, step-fits _ _ _ _ _ _ _ _ _ c.down.invariant.way o c.open-node.new.work c.open-node.ensures.work same _ (c.as_ref.ensures ∙ c.prefix-in-down.ensures)))
 
 pub returns-in_err-enter_part-clause-counted : goal.returns-in_err-enter_part-clause-counted
 returns-in_err-enter_part-clause-counted g c =
     let bytes = g.P.Partial.bytes in
-    let s = shown bytes c.down.at.now in
-    let o = seen bytes c.open-node.result.now in
+    let s = pointer_shape bytes c.down.at.now in
+    let o = node_shape bytes c.open-node.result.now in
     let same : o ≡ s = c.open-node.ensures.shown in
     step-counted _ _ _ _ _ _ _ _ _ c.down.invariant.way o c.open-node.new.work c.open-node.ensures.work same
 
 pub returns-in-None-clause-walk : goal.returns-in-None-clause-walk
 returns-in-None-clause-walk g c =
     let bytes = g.P.Partial.bytes in
-    let s = shown bytes c.down.at.now in
-    let o = seen bytes c.open-node.result.now in
+    let s = pointer_shape bytes c.down.at.now in
+    let o = node_shape bytes c.open-node.result.now in
     let same : o ≡ s = c.open-node.ensures.shown in
     let matched : c.prefix_length_slice-common.result ≡ common_length (prefix_of o) c.down.rest.now = c.prefix_length_slice-common.ensures ∙ ap (λ p. common_length p c.down.rest.now) c.prefix.ensures in
     let long : c.len.result ≡ length (prefix_of o) = c.len.ensures ∙ ap length c.prefix-else-common-rest.ensures in
     let goes = goes-on (prefix_of o) c.down.rest.now c.rest_of-rest.result.now c.prefix_length_slice-common.result c.rest_of-rest.ensures matched c.if-common-rest.false (let most = c.if-common-len.false in omega (arith, long, most)) in
     let leaves : children_left bytes c.later_children-later.result ≡ cond (goes_on c.args.part) (children_from (slice_index_or c.rest_of-rest.result.now 0 0 + 1) (children_of o)) [] =
     c.later_children-later.ensures ∙ ap (λ t. cond t (children_from (slice_index_or c.rest_of-rest.result.now 0 0 + 1) (children_of o)) []) c.goes_on.ensures in
-    let inner = opened bytes c.enter_part.new.self.frames.items in
+    let inner = open_nodes bytes c.enter_part.new.self.frames.items in
     let segment = c.as_ref.ensures ∙ c.prefix-in-down.ensures in
     record {
       holds_way = c.in_ok-enter_part.ensures.holds;
@@ -107,15 +107,15 @@ returns-in-None-clause-walk g c =
 pub returns-in-None-clause-pairs : goal.returns-in-None-clause-pairs
 returns-in-None-clause-pairs g c =
     let bytes = g.P.Partial.bytes in
-    let s = shown bytes c.down.at.now in
-    let o = seen bytes c.open-node.result.now in
+    let s = pointer_shape bytes c.down.at.now in
+    let o = node_shape bytes c.open-node.result.now in
     let same : o ≡ s = c.open-node.ensures.shown in
     let matched : c.prefix_length_slice-common.result ≡ common_length (prefix_of o) c.down.rest.now = c.prefix_length_slice-common.ensures ∙ ap (λ p. common_length p c.down.rest.now) c.prefix.ensures in
     let long : c.len.result ≡ length (prefix_of o) = c.len.ensures ∙ ap length c.prefix-else-common-rest.ensures in
     let goes = goes-on (prefix_of o) c.down.rest.now c.rest_of-rest.result.now c.prefix_length_slice-common.result c.rest_of-rest.ensures matched c.if-common-rest.false (let most = c.if-common-len.false in omega (arith, long, most)) in
     let leaves : children_left bytes c.later_children-later.result ≡ cond (goes_on c.args.part) (children_from (slice_index_or c.rest_of-rest.result.now 0 0 + 1) (children_of o)) [] =
     c.later_children-later.ensures ∙ ap (λ t. cond t (children_from (slice_index_or c.rest_of-rest.result.now 0 0 + 1) (children_of o)) []) c.goes_on.ensures in
-    let inner = opened bytes c.enter_part.new.self.frames.items in
+    let inner = open_nodes bytes c.enter_part.new.self.frames.items in
     let segment = c.as_ref.ensures ∙ c.prefix-in-down.ensures in
     let missing = step-missing _ _ _ _ _ _ _ _ _ c.down.invariant.way o c.open-node.new.work c.open-node.ensures.work same _ _ goes inner _ _ c.in_ok-enter_part.ensures.frames segment leaves c.in-None.ensures in
     rw (c.in_ok-enter_part.ensures.pending, c.down.invariant.none) (sym missing.0)
@@ -123,52 +123,52 @@ returns-in-None-clause-pairs g c =
 pub returns-in-None-clause-nodes : goal.returns-in-None-clause-nodes
 returns-in-None-clause-nodes g c =
     let bytes = g.P.Partial.bytes in
-    let s = shown bytes c.down.at.now in
-    let o = seen bytes c.open-node.result.now in
+    let s = pointer_shape bytes c.down.at.now in
+    let o = node_shape bytes c.open-node.result.now in
     let same : o ≡ s = c.open-node.ensures.shown in
     let matched : c.prefix_length_slice-common.result ≡ common_length (prefix_of o) c.down.rest.now = c.prefix_length_slice-common.ensures ∙ ap (λ p. common_length p c.down.rest.now) c.prefix.ensures in
     let long : c.len.result ≡ length (prefix_of o) = c.len.ensures ∙ ap length c.prefix-else-common-rest.ensures in
     let goes = goes-on (prefix_of o) c.down.rest.now c.rest_of-rest.result.now c.prefix_length_slice-common.result c.rest_of-rest.ensures matched c.if-common-rest.false (let most = c.if-common-len.false in omega (arith, long, most)) in
     let leaves : children_left bytes c.later_children-later.result ≡ cond (goes_on c.args.part) (children_from (slice_index_or c.rest_of-rest.result.now 0 0 + 1) (children_of o)) [] =
     c.later_children-later.ensures ∙ ap (λ t. cond t (children_from (slice_index_or c.rest_of-rest.result.now 0 0 + 1) (children_of o)) []) c.goes_on.ensures in
-    let inner = opened bytes c.enter_part.new.self.frames.items in
+    let inner = open_nodes bytes c.enter_part.new.self.frames.items in
     let segment = c.as_ref.ensures ∙ c.prefix-in-down.ensures in
     (step-missing _ _ _ _ _ _ _ _ _ c.down.invariant.way o c.open-node.new.work c.open-node.ensures.work same _ _ goes inner _ _ c.in_ok-enter_part.ensures.frames segment leaves c.in-None.ensures).1
 
 pub returns-in-None-clause-counted : goal.returns-in-None-clause-counted
 returns-in-None-clause-counted g c =
     let bytes = g.P.Partial.bytes in
-    let s = shown bytes c.down.at.now in
-    let o = seen bytes c.open-node.result.now in
+    let s = pointer_shape bytes c.down.at.now in
+    let o = node_shape bytes c.open-node.result.now in
     let same : o ≡ s = c.open-node.ensures.shown in
     step-counted _ _ _ _ _ _ _ _ _ c.down.invariant.way o c.open-node.new.work c.open-node.ensures.work same
 
 pub down-smaller : goal.down-smaller
 down-smaller g c =
     let bytes = g.P.Partial.bytes in
-    let s = shown bytes c.down.at.now in
-    let o = seen bytes c.open-node.result.now in
+    let s = pointer_shape bytes c.down.at.now in
+    let o = node_shape bytes c.open-node.result.now in
     let same : o ≡ s = c.open-node.ensures.shown in
     let matched : c.prefix_length_slice-common.result ≡ common_length (prefix_of o) c.down.rest.now = c.prefix_length_slice-common.ensures ∙ ap (λ p. common_length p c.down.rest.now) c.prefix.ensures in
     let long : c.len.result ≡ length (prefix_of o) = c.len.ensures ∙ ap length c.prefix-else-common-rest.ensures in
     let goes = goes-on (prefix_of o) c.down.rest.now c.rest_of-rest.result.now c.prefix_length_slice-common.result c.rest_of-rest.ensures matched c.if-common-rest.false (let most = c.if-common-len.false in omega (arith, long, most)) in
-    step-lower _ _ _ _ _ _ _ _ _ c.down.invariant.way o c.open-node.new.work c.open-node.ensures.work same _ _ goes (shown bytes c.in-Some.child.now) c.in-Some.ensures
+    step-lower _ _ _ _ _ _ _ _ _ c.down.invariant.way o c.open-node.new.work c.open-node.ensures.work same _ _ goes (pointer_shape bytes c.in-Some.child.now) c.in-Some.ensures
 
 pub down-preserved : goal.down-preserved
 down-preserved g c =
     let bytes = g.P.Partial.bytes in
-    let s = shown bytes c.down.at.now in
-    let o = seen bytes c.open-node.result.now in
+    let s = pointer_shape bytes c.down.at.now in
+    let o = node_shape bytes c.open-node.result.now in
     let same : o ≡ s = c.open-node.ensures.shown in
     let matched : c.prefix_length_slice-common.result ≡ common_length (prefix_of o) c.down.rest.now = c.prefix_length_slice-common.ensures ∙ ap (λ p. common_length p c.down.rest.now) c.prefix.ensures in
     let long : c.len.result ≡ length (prefix_of o) = c.len.ensures ∙ ap length c.prefix-else-common-rest.ensures in
     let goes = goes-on (prefix_of o) c.down.rest.now c.rest_of-rest.result.now c.prefix_length_slice-common.result c.rest_of-rest.ensures matched c.if-common-rest.false (let most = c.if-common-len.false in omega (arith, long, most)) in
     let leaves : children_left bytes c.later_children-later.result ≡ cond (goes_on c.args.part) (children_from (slice_index_or c.rest_of-rest.result.now 0 0 + 1) (children_of o)) [] =
     c.later_children-later.ensures ∙ ap (λ t. cond t (children_from (slice_index_or c.rest_of-rest.result.now 0 0 + 1) (children_of o)) []) c.goes_on.ensures in
-    let inner = opened bytes c.enter_part.new.self.frames.items in
+    let inner = open_nodes bytes c.enter_part.new.self.frames.items in
     let segment = c.as_ref.ensures ∙ c.prefix-in-down.ensures in
     record {
       holds_way = c.in_ok-enter_part.ensures.holds;
-      way = step-child _ _ _ _ _ _ _ _ _ c.down.invariant.way o c.open-node.new.work c.open-node.ensures.work same _ _ goes inner _ _ c.in_ok-enter_part.ensures.frames segment leaves (shown bytes c.in-Some.child.now) c.in-Some.ensures;
+      way = step-child _ _ _ _ _ _ _ _ _ c.down.invariant.way o c.open-node.new.work c.open-node.ensures.work same _ _ goes inner _ _ c.in_ok-enter_part.ensures.frames segment leaves (pointer_shape bytes c.in-Some.child.now) c.in-Some.ensures;
       none = c.in_ok-enter_part.ensures.pending ∙ c.down.invariant.none;
     }

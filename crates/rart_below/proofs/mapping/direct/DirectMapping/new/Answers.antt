@@ -1,7 +1,7 @@
 use Rattle.std.proofs.Common.{◌≡◌, length, [], None, sym, ap, arith}
 use Rattle.rart_below.specs.Layouts.{slot_children}
-use Rattle.rart_below.proofs.Direct.{order_from}
-use Rattle.rart_below.proofs.Slots.{no_slots}
+use Rattle.rart_below.proofs.DirectMappingLemmas.{order_from}
+use Rattle.rart_below.proofs.SlotLemmas.{no_slots}
 use Rattle.rart_below.proofs.mapping.direct.DirectMapping.new.Goals as goal
 
 pub returns-clause-empty : goal.returns-clause-empty

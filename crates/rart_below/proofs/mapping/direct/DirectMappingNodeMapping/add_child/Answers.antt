@@ -1,5 +1,5 @@
 use Rattle.std.proofs.Common.{arith, refl}
-use Rattle.rart_below.proofs.Direct.{kept_from_order, added}
+use Rattle.rart_below.proofs.DirectMappingLemmas.{kept_from_order, added}
 use Rattle.rart_below.proofs.mapping.direct.DirectMappingNodeMapping.add_child.Goals as goal
 
 pub returns-clause-order : goal.returns-clause-order

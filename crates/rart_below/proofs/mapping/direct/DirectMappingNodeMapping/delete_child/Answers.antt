@@ -1,5 +1,5 @@
 use Rattle.std.proofs.Common.{sym, ◌∙◌, refl}
-use Rattle.rart_below.proofs.Direct.{kept_from_order, child_at-place, holds_one, removed, unchanged}
+use Rattle.rart_below.proofs.DirectMappingLemmas.{kept_from_order, child_at-place, holds_one, removed, unchanged}
 use Rattle.rart_below.proofs.mapping.direct.DirectMappingNodeMapping.delete_child.Goals as goal
 
 pub returns-in_err-child-clause-order : goal.returns-in_err-child-clause-order

@@ -1,8 +1,8 @@
 use Rattle.std.proofs.Common.{arith, ◌∙◌, ◌<◌, length, sym}
 use Rattle.rart_below.specs.Layouts.{slot_children}
 use Rattle.rart_below.specs.Laws.{slots-ascending}
-use Rattle.rart_below.proofs.Ascending.{walked_on, walked_to, walked_out}
-use Rattle.rart_below.proofs.Direct.{kept_from_order, found, none_past}
+use Rattle.rart_below.proofs.AscendingLemmas.{walked_on, walked_to, walked_out}
+use Rattle.rart_below.proofs.DirectMappingLemmas.{kept_from_order, found, none_past}
 use Rattle.rart_below.proofs.mapping.direct.DirectMappingNodeMapping.next_from.Goals as goal
 
 pub returns-in-Some : goal.returns-in-Some

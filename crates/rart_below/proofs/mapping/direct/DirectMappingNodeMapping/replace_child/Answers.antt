@@ -1,5 +1,5 @@
 use Rattle.std.proofs.Common.{arith, sym, ◌∙◌, subst, IsSome}
-use Rattle.rart_below.proofs.Direct.{kept_from_order, child_at-place, replaced}
+use Rattle.rart_below.proofs.DirectMappingLemmas.{kept_from_order, child_at-place, replaced}
 use Rattle.rart_below.proofs.mapping.direct.DirectMappingNodeMapping.replace_child.Goals as goal
 
 pub unreachable-requires : goal.unreachable-requires

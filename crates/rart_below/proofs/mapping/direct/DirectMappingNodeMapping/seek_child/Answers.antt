@@ -1,5 +1,5 @@
 use Rattle.std.proofs.Common.{sym, ◌∙◌, arith, ◌<◌, length}
-use Rattle.rart_below.proofs.Direct.{kept_from_order, found}
+use Rattle.rart_below.proofs.DirectMappingLemmas.{kept_from_order, found}
 use Rattle.rart_below.proofs.mapping.direct.DirectMappingNodeMapping.seek_child.Goals as goal
 
 pub returns : goal.returns

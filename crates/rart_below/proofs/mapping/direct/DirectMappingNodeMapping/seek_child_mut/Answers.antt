@@ -1,6 +1,6 @@
 use Rattle.std.proofs.Common.{◌<◌, arith, ap, length, refl, ◌∙◌}
-use Rattle.rart_below.proofs.Direct.{kept_from_order, found, replaced}
-use Rattle.rart_below.proofs.Lent.{of_lent, set_as_was, slot_was}
+use Rattle.rart_below.proofs.DirectMappingLemmas.{kept_from_order, found, replaced}
+use Rattle.rart_below.proofs.LentLemmas.{of_lent, set_as_was, slot_was}
 use Rattle.rart_below.proofs.mapping.direct.DirectMappingNodeMapping.seek_child_mut.Goals as goal
 
 pub returns : goal.returns

@@ -1,5 +1,5 @@
 use Rattle.std.proofs.Common.{None, refl, arith}
-use Rattle.rart_below.proofs.Indexed.{starts}
+use Rattle.rart_below.proofs.IndexedMappingLemmas.{starts}
 use Rattle.rart_below.proofs.mapping.indexed.IndexedMapping.new.Goals as goal
 
 pub returns-clause-empty : goal.returns-clause-empty

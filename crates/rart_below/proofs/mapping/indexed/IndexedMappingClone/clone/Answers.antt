@@ -1,5 +1,5 @@
 use Rattle.std.proofs.Common.{refl, None, Some}
-use Rattle.rart_below.proofs.Clones.{slots_tied, indexed-order}
+use Rattle.rart_below.proofs.CloneLemmas.{slots_tied, indexed-order}
 use Rattle.rart_below.proofs.mapping.indexed.IndexedMappingClone.clone.Goals as goal
 
 pub returns : goal.returns

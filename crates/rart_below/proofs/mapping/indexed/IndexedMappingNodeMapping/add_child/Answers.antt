@@ -1,5 +1,5 @@
 use Rattle.std.proofs.Common.{arith, refl}
-use Rattle.rart_below.proofs.Indexed.{kept_from_order, free_place, added}
+use Rattle.rart_below.proofs.IndexedMappingLemmas.{kept_from_order, free_place, added}
 use Rattle.rart_below.proofs.mapping.indexed.IndexedMappingNodeMapping.add_child.Goals as goal
 
 pub replace_slot-requires : goal.replace_slot-requires

@@ -1,5 +1,5 @@
 use Rattle.std.proofs.Common.{sym, ◌∙◌, arith, refl}
-use Rattle.rart_below.proofs.Indexed.{kept_from_order, absent_past, unchanged, child_at-named, removed}
+use Rattle.rart_below.proofs.IndexedMappingLemmas.{kept_from_order, absent_past, unchanged, child_at-named, removed}
 use Rattle.rart_below.proofs.mapping.indexed.IndexedMappingNodeMapping.delete_child.Goals as goal
 
 pub returns-then-place-ge-NO_SLOT-clause-value : goal.returns-then-place-ge-NO_SLOT-clause-value

@@ -1,8 +1,8 @@
 use Rattle.std.proofs.Common.{◌∙◌, sym, ap, option_copied, arith}
 use Rattle.rart_below.specs.Layouts.{slot_children, named_slots}
 use Rattle.rart_below.specs.Laws.{slots-ascending}
-use Rattle.rart_below.proofs.Ascending.{walked_on, walked_to, walked_out}
-use Rattle.rart_below.proofs.Indexed.{kept_from_order, none_past}
+use Rattle.rart_below.proofs.AscendingLemmas.{walked_on, walked_to, walked_out}
+use Rattle.rart_below.proofs.IndexedMappingLemmas.{kept_from_order, none_past}
 use Rattle.rart_below.proofs.mapping.indexed.IndexedMappingNodeMapping.next_from.Goals as goal
 
 pub returns-in-Some : goal.returns-in-Some

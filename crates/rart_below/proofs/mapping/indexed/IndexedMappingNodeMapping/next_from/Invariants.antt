@@ -1,5 +1,5 @@
 use Rattle.rart_below.specs.Layouts.{slot_children, named_slots}
-use Rattle.rart_below.proofs.Ascending.{Walked}
+use Rattle.rart_below.proofs.AscendingLemmas.{Walked}
 use Rattle.rart_below.proofs.mapping.indexed.IndexedMappingNodeMapping.next_from.Given as goal
 
 abbrev pub invariant-loop-byte : goal.invariant-loop-byte

@@ -1,4 +1,4 @@
-use Rattle.rart_below.proofs.Indexed.{kept_from_order, count_ones-kept}
+use Rattle.rart_below.proofs.IndexedMappingLemmas.{kept_from_order, count_ones-kept}
 use Rattle.rart_below.proofs.mapping.indexed.IndexedMappingNodeMapping.num_children.Goals as goal
 
 pub returns : goal.returns

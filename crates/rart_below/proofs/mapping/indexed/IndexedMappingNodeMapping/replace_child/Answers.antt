@@ -1,5 +1,5 @@
 use Rattle.std.proofs.Common.{sym, ◌∙◌, arith, refl}
-use Rattle.rart_below.proofs.Indexed.{kept_from_order, child_at-named, named_within, held_once, replaced}
+use Rattle.rart_below.proofs.IndexedMappingLemmas.{kept_from_order, child_at-named, named_within, held_once, replaced}
 use Rattle.rart_below.proofs.mapping.indexed.IndexedMappingNodeMapping.replace_child.Goals as goal
 
 pub replace_slot-requires : goal.replace_slot-requires

@@ -1,5 +1,5 @@
 use Rattle.std.proofs.Common.{sym, ◌∙◌, arith}
-use Rattle.rart_below.proofs.Indexed.{kept_from_order, child_at-named}
+use Rattle.rart_below.proofs.IndexedMappingLemmas.{kept_from_order, child_at-named}
 use Rattle.rart_below.proofs.mapping.indexed.IndexedMappingNodeMapping.seek_child.Goals as goal
 
 pub returns : goal.returns

@@ -1,6 +1,6 @@
 use Rattle.std.proofs.Common.{◌<◌, arith, ap, get_or, length, refl, sym, ◌∙◌}
-use Rattle.rart_below.proofs.Indexed.{kept_from_order, absent_past, child_at-named, replaced}
-use Rattle.rart_below.proofs.Lent.{of_lent, set_as_was, slot_was}
+use Rattle.rart_below.proofs.IndexedMappingLemmas.{kept_from_order, absent_past, child_at-named, replaced}
+use Rattle.rart_below.proofs.LentLemmas.{of_lent, set_as_was, slot_was}
 use Rattle.rart_below.proofs.mapping.indexed.IndexedMappingNodeMapping.seek_child_mut.Goals as goal
 
 pub returns-then-place-ge-NO_SLOT : goal.returns-then-place-ge-NO_SLOT

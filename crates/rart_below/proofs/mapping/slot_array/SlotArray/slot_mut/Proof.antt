@@ -43,7 +43,7 @@ use denote.Triple.Entry.{on_entry}
 use denote.Triple.Spec.{Meets, triple_of}
 use denote.Triple.Table.{entered}
 use denote.Triple.Walked.{says, Stays, stay_dropped, walk_of, ends_at, walked, Goes-dropped, Goes-spent_ref, walk_Meets}
-use Rattle.rart_below.proofs.SlotMemory.{arguments, Element, Whole, Around, Outside, elements, first, spot, written, cut_at, opened, taken_out, put_back}
+use Rattle.rart_below.proofs.SlotMemoryLemmas.{arguments, Element, Whole, Around, Outside, elements, first, spot, written, cut_at, opened, taken_out, put_back}
 use Rattle.rart_below.specs.contracts.mapping.slot_array.SlotArray.slot_mut as F
 use Rattle.rart_below.specs.contracts.mapping.slot_array.SlotArray.slot_mut.Key.{name as #self}
 use Rattle.rart_below.proofs.mapping.slot_array.SlotArray.slot_mut.Statement as stated

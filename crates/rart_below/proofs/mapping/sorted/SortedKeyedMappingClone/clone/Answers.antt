@@ -1,6 +1,6 @@
 use Rattle.std.proofs.Common.{refl, None, Some}
 use Rattle.std.specs.List.{each_same}
-use Rattle.rart_below.proofs.Clones.{slots_tied, keyed-order}
+use Rattle.rart_below.proofs.CloneLemmas.{slots_tied, keyed-order}
 use Rattle.rart_below.proofs.mapping.sorted.SortedKeyedMappingClone.clone.Goals as goal
 
 pub returns : goal.returns

@@ -1,5 +1,5 @@
 use Rattle.std.proofs.Common.{arith, length, ◌<◌, rules}
-use Rattle.rart_below.proofs.Sorted.{kept_from_order, length-kept, added}
+use Rattle.rart_below.proofs.SortedMappingLemmas.{kept_from_order, length-kept, added}
 use Rattle.rart_below.proofs.mapping.sorted.SortedKeyedMappingNodeMapping.add_child.Goals as goal
 
 pub insert-requires : goal.insert-requires

@@ -1,5 +1,5 @@
 use Rattle.std.proofs.Common.{sym, ◌∙◌}
-use Rattle.rart_below.proofs.Sorted.{kept_from_order, absent, taken, removed, unchanged}
+use Rattle.rart_below.proofs.SortedMappingLemmas.{kept_from_order, absent, taken, removed, unchanged}
 use Rattle.rart_below.proofs.mapping.sorted.SortedKeyedMappingNodeMapping.delete_child.Goals as goal
 
 pub returns-in_err-place-clause-value : goal.returns-in_err-place-clause-value

@@ -1,4 +1,4 @@
-use Rattle.rart_below.proofs.Sorted.{kept_from_order, never_empty, next_found, next_none}
+use Rattle.rart_below.proofs.SortedMappingLemmas.{kept_from_order, never_empty, next_found, next_none}
 use Rattle.rart_below.proofs.mapping.sorted.SortedKeyedMappingNodeMapping.next_from.Goals as goal
 
 pub unreachable-requires : goal.unreachable-requires

@@ -1,5 +1,5 @@
 use Rattle.std.proofs.Common.{sym, ◌∙◌}
-use Rattle.rart_below.proofs.Sorted.{kept_from_order, length-kept}
+use Rattle.rart_below.proofs.SortedMappingLemmas.{kept_from_order, length-kept}
 use Rattle.rart_below.proofs.mapping.sorted.SortedKeyedMappingNodeMapping.num_children.Goals as goal
 
 pub returns : goal.returns

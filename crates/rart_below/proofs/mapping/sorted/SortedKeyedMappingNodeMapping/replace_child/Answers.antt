@@ -1,5 +1,5 @@
 use Rattle.std.proofs.Common.{sym, ◌∙◌, subst, IsSome}
-use Rattle.rart_below.proofs.Sorted.{kept_from_order, absent, taken, never_empty, replaced}
+use Rattle.rart_below.proofs.SortedMappingLemmas.{kept_from_order, absent, taken, never_empty, replaced}
 use Rattle.rart_below.proofs.mapping.sorted.SortedKeyedMappingNodeMapping.replace_child.Goals as goal
 
 pub unreachable-requires : goal.unreachable-requires

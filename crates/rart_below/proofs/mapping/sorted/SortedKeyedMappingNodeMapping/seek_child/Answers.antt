@@ -1,5 +1,5 @@
 use Rattle.std.proofs.Common.{sym, ◌∙◌, ap, option_copied}
-use Rattle.rart_below.proofs.Sorted.{kept_from_order, found, absent}
+use Rattle.rart_below.proofs.SortedMappingLemmas.{kept_from_order, found, absent}
 use Rattle.rart_below.proofs.mapping.sorted.SortedKeyedMappingNodeMapping.seek_child.Goals as goal
 
 pub returns-in_err-place : goal.returns-in_err-place

@@ -1,6 +1,6 @@
 use Rattle.std.proofs.Common.{ap, refl, sym, ◌∙◌}
-use Rattle.rart_below.proofs.Sorted.{kept_from_order, absent, found, replaced}
-use Rattle.rart_below.proofs.Lent.{of_lent, set_as_was}
+use Rattle.rart_below.proofs.SortedMappingLemmas.{kept_from_order, absent, found, replaced}
+use Rattle.rart_below.proofs.LentLemmas.{of_lent, set_as_was}
 use Rattle.rart_below.proofs.mapping.sorted.SortedKeyedMappingNodeMapping.seek_child_mut.Goals as goal
 
 pub returns-in_default : goal.returns-in_default

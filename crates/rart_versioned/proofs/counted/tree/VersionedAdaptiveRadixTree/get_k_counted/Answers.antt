@@ -1,13 +1,13 @@
 use Rattle.std.proofs.Common.{◌≡◌, ◌+◌, ◌≤◌, ℕ, List, None, true, length, sym, ap, subst, ◌∙◌, arith}
 use Rattle.std.proofs.lemmas.Bool.{true≢false}
 use Rattle.std.specs.Option.{option_map}
-use Rattle.rart_node.specs.Seen.{shown}
+use Rattle.rart_node.specs.NodeShapes.{pointer_shape}
 use Rattle.rart_shape.specs.Trees.{found, path_bound}
 use Rattle.rart_versioned.specs.Roots.{found_in}
 use Rattle.rart_maps.specs.Versions.{has_no_key}
-use Rattle.rart_shape.proofs.Counting.{counts-most, path-most}
-use Rattle.rart_versioned.proofs.Maps.{get-found}
-use Rattle.rart_versioned.proofs.Sound.{value-in, no-key}
+use Rattle.rart_shape.proofs.CountingLemmas.{counts-most, path-most}
+use Rattle.rart_versioned.proofs.MapLemmas.{get-found}
+use Rattle.rart_versioned.proofs.SoundLemmas.{value-in, no-key}
 use Rattle.rart_versioned.proofs.counted.tree.VersionedAdaptiveRadixTree.get_k_counted.Goals as goal
 
 pub returns-in-None-clause-value : goal.returns-in-None-clause-value
@@ -20,7 +20,7 @@ returns-in-None-clause-entered g c keyed =
 
 pub returns-in-Some-clause-value : goal.returns-in-Some-clause-value
 returns-in-Some-clause-value g c =
-    let f = shown g.K.PartialType.Partial.bytes in
+    let f = pointer_shape g.K.PartialType.Partial.bytes in
     let w = g.K.KeyTrait.bytes c.args.key.now in
     let o = option_map f c.self.inside.root in
     rw (← c.self.view_is) (c.get_below.ensures.value ∙ ap (found (f c.in-Some.root)) c.as_ref.ensures
@@ -28,6 +28,6 @@ returns-in-Some-clause-value g c =
 
 pub returns-in-Some-clause-counted : goal.returns-in-Some-clause-counted
 returns-in-Some-clause-counted g c =
-    let s = shown g.K.PartialType.Partial.bytes c.in-Some.root in
+    let s = pointer_shape g.K.PartialType.Partial.bytes c.in-Some.root in
     let most : path_bound s c.as_ref.result.now ≤ length (g.K.KeyTrait.bytes c.args.key.now) + 1 = subst (λ (k : List ℕ). path_bound s c.as_ref.result.now ≤ length k + 1) c.as_ref.ensures (path-most s c.as_ref.result.now) in
     counts-most c.get_below.ensures.counted most (omega arith)

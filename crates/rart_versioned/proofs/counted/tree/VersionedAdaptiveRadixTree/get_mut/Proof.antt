@@ -1,6 +1,6 @@
 -- `found_of(self.lent(key))` by hand, step by step: the call below, what it lent, and then the call that turns its answer.
 -- Rows, laws, bounds with their dictionaries and their proofs come in the order of the statement: keys K, values V, prefixes P; then KeyTrait, Eq, PartialEq, Ord, PartialOrd, Partial, Clone, and the drops of K, V and P.
-use Rattle.rart_versioned.proofs.Walks.{◌≡◌, ◌+◌, ◌<◌, ◌^◌, Some, List, [], ◌∷◌, refl, sym, ap, subst, ◌∙◌, proved_at, GName, ftrue, flft, id⊢, ent, sep, emp, via, fst∗, snd∗, ◌⊑◌, fact, fact_use, fact_i, tables, inst_fn, Args, named, a_type, dcons, dnil, ‵, raw, ◌⊛◌, some, later, ◌$◌, ◌∵◌, !, qed, done, move, drop, use0, use1, split, split3, join, fjoin, suffices, pick, await, rewrite, frame, enter, addr, stop, no_more, and_then, returns, of_opd, alloc_all, pass_all, free_all, look_at, get, through, sets, lands_as, no, follows_if, Is, shows, param, layout, bounded, param_laws, RattleType, mut_vals, mut_Tells, plain, mut_ref_to, named_lft, type_at, nothing, heard, peeks, calls_at, lasts, Lasts, on_entry, triple_of, framed, Stays, stay_dropped, Goes-dropped, Goes-spent_ref, ends_at, walk_of}
+use Rattle.rart_versioned.proofs.ProofSteps.{◌≡◌, ◌+◌, ◌<◌, ◌^◌, Some, List, [], ◌∷◌, refl, sym, ap, subst, ◌∙◌, proved_at, GName, ftrue, flft, id⊢, ent, sep, emp, via, fst∗, snd∗, ◌⊑◌, fact, fact_use, fact_i, tables, inst_fn, Args, named, a_type, dcons, dnil, ‵, raw, ◌⊛◌, some, later, ◌$◌, ◌∵◌, !, qed, done, move, drop, use0, use1, split, split3, join, fjoin, suffices, pick, await, rewrite, frame, enter, addr, stop, no_more, and_then, returns, of_opd, alloc_all, pass_all, free_all, look_at, get, through, sets, lands_as, no, follows_if, Is, shows, param, layout, bounded, param_laws, RattleType, mut_vals, mut_Tells, plain, mut_ref_to, named_lft, type_at, nothing, heard, peeks, calls_at, lasts, Lasts, on_entry, triple_of, framed, Stays, stay_dropped, Goes-dropped, Goes-spent_ref, ends_at, walk_of}
 use mathlib.Core.Option as maybe
 use denote.Laws.{Typed}
 use denote.Steps.{only}
@@ -14,8 +14,8 @@ use Rattle.std.proofs.result.Result.TheLaws as Result-laws
 use Rattle.std.proofs.option.Option.TheLaws as Option-laws
 use Rattle.std.proofs.alloc.AllocError.TheLaws as Err-laws
 use Rattle.rart_below.specs.Clones.{ClonesEqual}
-use Rattle.rart_versioned.proofs.Walks.{reference-laws}
-use Rattle.rart_versioned.proofs.Found.{same-name, found-was, refused-there}
+use Rattle.rart_versioned.proofs.ProofSteps.{reference-laws}
+use Rattle.rart_versioned.proofs.FoundLemmas.{same-name, found-was, refused-there}
 use Rattle.rart_versioned.proofs.counted.missing.Missing.TheLaws as Missing-laws
 use Rattle.rart_versioned.specs.Lent.{LendsValue, found_name}
 use Rattle.rart_versioned.specs.Missing.{Explains, found_value}

@@ -2,18 +2,18 @@ use Rattle.std.proofs.Common.{◌≡◌, ◌≤◌, length, refl, sym, ap, subst
 use Rattle.std.specs.Option.{option_map}
 use Rattle.std.specs.FinMap as finite
 use Rattle.std.proofs.lemmas.Result.{IfOk-weaker, IfErr-weaker}
-use Rattle.rart_node.specs.Seen.{shown}
+use Rattle.rart_node.specs.NodeShapes.{pointer_shape}
 use Rattle.rart_versioned.specs.Roots.{map_of, found_in}
 use Rattle.rart_maps.specs.Versions.{value_at}
 use Rattle.rart_versioned.specs.Missing.{Explains}
-use Rattle.rart_shape.proofs.Counting.{counts-most}
-use Rattle.rart_versioned.proofs.Lending.{same-ends, at-ok, both-at-err, not-fallen}
-use Rattle.rart_versioned.proofs.Sound.{map-below, sound-later, tree-in, value-in, has-root}
+use Rattle.rart_shape.proofs.CountingLemmas.{counts-most}
+use Rattle.rart_versioned.proofs.LendingLemmas.{same-ends, at-ok, both-at-err, not-fallen}
+use Rattle.rart_versioned.proofs.SoundLemmas.{map-below, sound-later, tree-in, value-in, has-root}
 use Rattle.rart_versioned.proofs.counted.tree.VersionedAdaptiveRadixTree.lent_k_counted.Goals as goal
 
 pub invariant_of-self-lent : goal.invariant_of-self-lent
 invariant_of-self-lent g c =
-    let f = shown g.K.PartialType.Partial.bytes in
+    let f = pointer_shape g.K.PartialType.Partial.bytes in
     let most = g.K.KeyTrait.MAXIMUM_SIZE in
     let n = c.self.inside.version in
     let later = c.lend_in.new.number in
@@ -25,7 +25,7 @@ invariant_of-self-lent g c =
 
 pub returns : goal.returns
 returns g c =
-    let f = shown g.K.PartialType.Partial.bytes in
+    let f = pointer_shape g.K.PartialType.Partial.bytes in
     let most = g.K.KeyTrait.MAXIMUM_SIZE in
     let w = g.K.KeyTrait.bytes c.args.key.now in
     let key = c.as_ref.result.now in

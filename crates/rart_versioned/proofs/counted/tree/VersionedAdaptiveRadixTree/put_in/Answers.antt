@@ -2,15 +2,15 @@ use Rattle.std.proofs.lemmas.Bool.{true≢false}
 use Rattle.rart_maps.specs.Versions.{has_no_key}
 use Rattle.std.proofs.Common.{◌≡◌, ◌+◌, None, Some, true, sym, ap, subst, ◌∙◌, arith, rules}
 use Rattle.std.specs.Option.{option_map}
-use Rattle.rart_node.specs.Seen.{shown}
+use Rattle.rart_node.specs.NodeShapes.{pointer_shape}
 use Rattle.rart_versioned.specs.Roots.{IsSound, found_in}
-use Rattle.rart_versioned.proofs.Maps.{get-found}
-use Rattle.rart_versioned.proofs.Sound.{IsPutIn, leaf-put, root-put, sound-put, map-put, value-in, no-key}
+use Rattle.rart_versioned.proofs.MapLemmas.{get-found}
+use Rattle.rart_versioned.proofs.SoundLemmas.{IsPutIn, leaf-put, root-put, sound-put, map-put, value-in, no-key}
 use Rattle.rart_versioned.proofs.counted.tree.VersionedAdaptiveRadixTree.put_in.Goals as goal
 
 pub invariant_of-self-in-None : goal.invariant_of-self-in-None
 invariant_of-self-in-None g c =
-    let f = shown g.K.PartialType.Partial.bytes in
+    let f = pointer_shape g.K.PartialType.Partial.bytes in
     let w = g.K.KeyTrait.bytes c.args.key.now in
     let n = c.self.inside.version in
     let raised = c.requires.raised in
@@ -19,7 +19,7 @@ invariant_of-self-in-None g c =
 
 pub invariant_of-self-in-Some : goal.invariant_of-self-in-Some
 invariant_of-self-in-Some g c =
-    let f = shown g.K.PartialType.Partial.bytes in
+    let f = pointer_shape g.K.PartialType.Partial.bytes in
     let w = g.K.KeyTrait.bytes c.args.key.now in
     let n = c.self.inside.version in
     let raised = c.requires.raised in
@@ -33,7 +33,7 @@ returns-in_ok-leaf-in-None-clause-changes g c =
 
 pub returns-in_ok-old-in-Some-clause-changes : goal.returns-in_ok-old-in-Some-clause-changes
 returns-in_ok-old-in-Some-clause-changes g c =
-    let f = shown g.K.PartialType.Partial.bytes in
+    let f = pointer_shape g.K.PartialType.Partial.bytes in
     let w = g.K.KeyTrait.bytes c.args.key.now in
     let n = c.self.inside.version in
     let o = option_map f c.self.inside.root in

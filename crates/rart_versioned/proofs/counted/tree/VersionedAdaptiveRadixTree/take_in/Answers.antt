@@ -2,20 +2,20 @@ use Rattle.std.proofs.Common.{arith, ◌≡◌, ◌+◌, ◌≤◌, ℕ, List, l
 use Rattle.std.specs.Option.{option_map}
 use Rattle.std.specs.FinMap as finite
 use Rattle.std.proofs.lemmas.Bool.{false≢true}
-use Rattle.rart_node.specs.Seen.{shown}
+use Rattle.rart_node.specs.NodeShapes.{pointer_shape}
 use Rattle.rart_shape.specs.Trees.{IsTaken, path_bound, found}
 use Rattle.rart_versioned.specs.Roots.{found_in}
 use Rattle.rart_maps.specs.Versions.{Version, value_at, without_key}
-use Rattle.rart_shape.proofs.Counting.{counts-most, path-most}
-use Rattle.rart_versioned.proofs.Maps.{get-found}
-use Rattle.rart_versioned.proofs.Sound.{tree-in}
-use Rattle.rart_versioned.proofs.TakenIn.{IsTakenIn, kept, root-taken, there-found, map-taken, sound-taken}
+use Rattle.rart_shape.proofs.CountingLemmas.{counts-most, path-most}
+use Rattle.rart_versioned.proofs.MapLemmas.{get-found}
+use Rattle.rart_versioned.proofs.SoundLemmas.{tree-in}
+use Rattle.rart_versioned.proofs.RemovalLemmas.{IsTakenIn, kept, root-taken, there-found, map-taken, sound-taken}
 use Rattle.rart_versioned.proofs.counted.tree.VersionedAdaptiveRadixTree.take_in.Goals as goal
 use Rattle.rart_versioned.proofs.counted.tree.VersionedAdaptiveRadixTree.take_in.Goals.{then-removed+in-Some-1, then-removed+in-None-1, else-removed}
 
 pub unreachable-requires : goal.unreachable-requires
 unreachable-requires g c =
-    let f = shown g.K.PartialType.Partial.bytes in
+    let f = pointer_shape g.K.PartialType.Partial.bytes in
     let w = g.K.KeyTrait.bytes c.args.key.now in
     let before = option_map f c.self.inside.root in
     let tree = tree-in g.K.KeyTrait.MAXIMUM_SIZE c.self.inside.version before c.self.invariant in
@@ -24,7 +24,7 @@ unreachable-requires g c =
 
 pub remove_below-requires-clause-present : goal.remove_below-requires-clause-present
 remove_below-requires-clause-present g c =
-    let f = shown g.K.PartialType.Partial.bytes in
+    let f = pointer_shape g.K.PartialType.Partial.bytes in
     let w = g.K.KeyTrait.bytes c.args.key.now in
     let before = option_map f c.self.inside.root in
     let tree = tree-in g.K.KeyTrait.MAXIMUM_SIZE c.self.inside.version before c.self.invariant in
@@ -33,7 +33,7 @@ remove_below-requires-clause-present g c =
 
 pub invariant_of-self-2 : goal.invariant_of-self-2
 invariant_of-self-2 g c =
-    let f = shown g.K.PartialType.Partial.bytes in
+    let f = pointer_shape g.K.PartialType.Partial.bytes in
     let w = g.K.KeyTrait.bytes c.args.key.now in
     let before = option_map f c.self.inside.root in
     let tree = tree-in g.K.KeyTrait.MAXIMUM_SIZE c.self.inside.version before c.self.invariant in
@@ -50,7 +50,7 @@ invariant_of-self-2 g c =
 
 pub returns-clause-changes : goal.returns-clause-changes
 returns-clause-changes g c =
-    let f = shown g.K.PartialType.Partial.bytes in
+    let f = pointer_shape g.K.PartialType.Partial.bytes in
     let w = g.K.KeyTrait.bytes c.args.key.now in
     let before = option_map f c.self.inside.root in
     let tree = tree-in g.K.KeyTrait.MAXIMUM_SIZE c.self.inside.version before c.self.invariant in
@@ -71,14 +71,14 @@ returns-clause-changes g c =
 
 pub returns-in_err-removed-clause-counted : goal.returns-in_err-removed-clause-counted
 returns-in_err-removed-clause-counted g c =
-    let f = shown g.K.PartialType.Partial.bytes in
+    let f = pointer_shape g.K.PartialType.Partial.bytes in
     let w = g.K.KeyTrait.bytes c.args.key.now in
     let most : path_bound (f c.in-Some.root) c.as_ref.result.now ≤ length w + 1 = subst (λ (k : List ℕ). path_bound (f c.in-Some.root) c.as_ref.result.now ≤ length k + 1) c.as_ref.ensures (path-most (f c.in-Some.root) c.as_ref.result.now) in
     counts-most c.remove_below.ensures.counted most most
 
 pub returns-clause-counted : goal.returns-clause-counted
 returns-clause-counted g c =
-    let f = shown g.K.PartialType.Partial.bytes in
+    let f = pointer_shape g.K.PartialType.Partial.bytes in
     let w = g.K.KeyTrait.bytes c.args.key.now in
     let most : path_bound (f c.in-Some.root) c.as_ref.result.now ≤ length w + 1 = subst (λ (k : List ℕ). path_bound (f c.in-Some.root) c.as_ref.result.now ≤ length k + 1) c.as_ref.ensures (path-most (f c.in-Some.root) c.as_ref.result.now) in
     counts-most c.remove_below.ensures.counted most most

@@ -1,5 +1,5 @@
 use Rattle.std.proofs.Common.{sym, ◌∙◌}
-use Rattle.rart_versioned.proofs.Settles.{there-by-slot, tells-or-fails, tries-there, tries-absent}
+use Rattle.rart_versioned.proofs.SlotChangeLemmas.{there-by-slot, tells-or-fails, tries-there, tries-absent}
 use Rattle.rart_versioned.proofs.counted.tree.VersionedAdaptiveRadixTree.try_update_k_counted.Goals as goal
 
 pub returns-then-was_there-clause-updates : goal.returns-then-was_there-clause-updates

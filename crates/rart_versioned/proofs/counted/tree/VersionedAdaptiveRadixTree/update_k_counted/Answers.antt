@@ -1,7 +1,7 @@
 use Rattle.std.proofs.Common.{sym, ap, ◌∙◌}
 use Rattle.std.specs.declared.alloc.AllocError.{AllocError}
-use Rattle.rart_versioned.specs.Settled.{settled}
-use Rattle.rart_versioned.proofs.Settles.{there-by-slot, absent-by-slot, tells, updates-there, updates-absent}
+use Rattle.rart_versioned.specs.SlotChanges.{version_after}
+use Rattle.rart_versioned.proofs.SlotChangeLemmas.{there-by-slot, absent-by-slot, tells, updates-there, updates-absent}
 use Rattle.rart_versioned.proofs.counted.tree.VersionedAdaptiveRadixTree.update_k_counted.Goals as goal
 
 pub returns-then-was_there-clause-updates : goal.returns-then-was_there-clause-updates
@@ -11,7 +11,7 @@ returns-then-was_there-clause-updates g c =
     let slot = c.in_ok-slot.ensures.slot in
     let there = there-by-slot v w _ slot (sym c.is_occupied-was_there.ensures ∙ c.if-was_there.true) in
     let tell = tells g.F.FnOnce c.args.f v w _ _ _ slot c.f-told.ensures in
-    updates-there g.F.FnOnce c.args.f v w AllocError _ _ _ tell there (c.in_ok-settle.ensures.ok ∙ ap (λ change. settled v w change 1) c.of.ensures)
+    updates-there g.F.FnOnce c.args.f v w AllocError _ _ _ tell there (c.in_ok-settle.ensures.ok ∙ ap (λ change. version_after v w change 1) c.of.ensures)
 
 pub returns-clause-updates : goal.returns-clause-updates
 returns-clause-updates g c =

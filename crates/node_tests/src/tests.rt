@@ -1,0 +1,99 @@
+// What no clause says: that the calls succeed where there is memory, the widths at each count of
+// children, and the bytes that nodes and their parts take.
+//
+// The children are leaves whose values tell them apart.
+
+mod ends;
+mod growth;
+mod node;
+mod pointer;
+mod rooms;
+mod sizes;
+mod widths;
+
+ghost use Rattle.rart_node.specs.NodeShapes.{node_shape};
+ghost use Rattle.rart_node.specs.Shape.{IsAscending};
+
+use rart_node::{NodeRef, VersionedNode, VersionedNodeIter, Work};
+use rart_below::{ArrPartial, ArrayKey, KeyTrait, Partial};
+use std::alloc::{AllocError, Global};
+use std::process::Abort;
+
+// A prefix of at most 16 bytes.
+fn prefix(alloc: Global, bytes: &[u8; 4]) -> Result<ArrPartial<16>, AllocError> {
+    let key: ArrayKey<16> = ArrayKey::new_from_slice(alloc, bytes)?;
+    key.to_partial(alloc, 0)
+}
+
+// A pointer to a leaf with this value.
+fn leaf<P: Partial>(alloc: Global, prefix: &P, value: u64) -> Result<NodeRef<P, u64>, AllocError> {
+    let node = VersionedNode::new_leaf(alloc, prefix.copy(alloc)?, value, 0);
+    NodeRef::new(alloc, node, &mut Work::new())
+}
+
+// The value of the node that the pointer shows.
+fn value_of<P: Partial>(pointer: &NodeRef<P, u64>) -> Option<u64> {
+    pointer.open(&mut Work::new()).value().copied()
+}
+
+// The value of the child under the byte.
+fn value_at<P: Partial>(node: &VersionedNode<P, u64>, byte: u8) -> Option<u64>
+    requires { IsAscending (node_shape P.bytes node.now) }
+{
+    value_of(node.seek_child(byte)?)
+}
+
+// Adds a leaf with this value under a byte that has no child.
+#[tactic(auto, using(rart_node::proofs::ChildOrderLemmas::keeps_order))]
+fn add_leaf<P: Partial>(
+    rt: &impl Abort,
+    alloc: Global,
+    node: &mut VersionedNode<P, u64>,
+    byte: u8,
+    value: u64,
+) -> Result<(), AllocError>
+    requires { IsAscending (node_shape P.bytes node.old) }
+    ensures { IsAscending (node_shape P.bytes node.new) }
+{
+    let child = leaf(alloc, node.prefix(), value)?;
+    assert!(rt; node.seek_child(byte).is_none());
+    node.add_child(alloc, byte, child, &mut Work::new())?;
+    Ok(())
+}
+
+// Adds a leaf under each of the first bytes, whose value is ten times the byte.
+fn add_leaves<P: Partial>(
+    rt: &impl Abort,
+    alloc: Global,
+    node: &mut VersionedNode<P, u64>,
+    count: u8,
+) -> Result<(), AllocError>
+    requires { IsAscending (node_shape P.bytes node.old) }
+    ensures { IsAscending (node_shape P.bytes node.new) }
+{
+    for byte in 0..count {
+        add_leaf(rt, alloc, node, byte, u64::from(byte) * 10)?;
+    }
+    Ok(())
+}
+
+// The children that are left: these bytes, ascending, over leaves with these values.
+fn assert_children<P: Partial>(
+    rt: &impl Abort,
+    children: VersionedNodeIter<'_, P, u64>,
+    wanted: &[(u8, u64)],
+) {
+    let mut count = 0;
+    for (byte, child) in children {
+        assert!(rt; count < wanted.len(), "one more, under {byte}");
+        let (wanted_byte, wanted_value) = wanted[count];
+        assert_eq!(rt; byte, wanted_byte);
+        assert_eq!(rt; value_of(child), Some(wanted_value));
+        count += 1;
+    }
+    assert_eq!(rt; count, wanted.len());
+}
+
+fn assert_prefix<P: Partial>(rt: &impl Abort, node: &VersionedNode<P, u64>, wanted: &[u8]) {
+    assert_eq!(rt; node.prefix().as_ref(), wanted);
+}

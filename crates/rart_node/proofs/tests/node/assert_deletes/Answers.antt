@@ -1,5 +1,0 @@
-use Rattle.rart_node.proofs.Orders.{ascending-with_deleted}
-use Rattle.rart_node.proofs.tests.node.assert_deletes.Goals as goal
-
-pub returns : goal.returns
-returns g c = ascending-with_deleted _ _ _ c.delete_child.ensures.seen c.requires

@@ -1,0 +1,27 @@
+-- What the fields of a walk mean.
+use Rattle.std.specs.Prelude.{ℕ, List, Option, map}
+use Rattle.std.specs.Option.{option_copied}
+use Rattle.rart_node.specs.VersionedNodeIter.{children_left}
+use Rattle.rart_walks.specs.declared.walk.Frame.{Frame}
+use Rattle.rart_walks.specs.declared.walk.Walk.{Walk}
+use Rattle.rart_walks.specs.Walks.{Position, AreShort}
+use Rattle.rart_walks.specs.Frames.{OpenNode, segments_of, pairs_ahead, TreesAhead, position_of}
+
+-- `partial` is what is known of prefixes, which the types take for a ghost field
+module _ {P V : Type 0} {partial : _} (bytes : P → List ℕ) where
+  -- frames, as the nodes that they stand for
+  abbrev pub open_nodes : List (Frame P V partial) → List (OpenNode V)
+  open_nodes frames = map (λ frame. (frame.segment.now, children_left bytes frame.children)) frames
+
+  module _ {T : Type 0} where
+    -- where a walk stands, and what it has left
+    abbrev pub position : Walk P V T partial → Position V
+    position walk = position_of (open_nodes walk.frames.items) (option_copied walk.pending)
+
+    -- What is left of a walk are trees, no key of which is too long for the trail, and the trail keeps
+    -- the way to where the walk stands.
+    pub record IsWalk (holds : T → List (List ℕ) → Type 0) (greatest : Option ℕ)
+        (walk : Walk P V T partial) : Type 0 where
+      pub holds_way : holds walk.trail (segments_of (open_nodes walk.frames.items))
+      pub trees : TreesAhead (open_nodes walk.frames.items)
+      pub short : AreShort greatest (pairs_ahead (open_nodes walk.frames.items))

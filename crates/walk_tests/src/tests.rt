@@ -1,0 +1,151 @@
+ghost use Rattle.std.specs.Prelude.{◌≡◌, ◌≤◌, ◌^◌, ◌-◌, [], List, ◌∷◌, length, slice_get, Some, None, IfOk};
+ghost use Rattle.std.specs.Option.{option_map};
+ghost use Rattle.rart_node.specs.NodeShapes.{pointer_shape};
+ghost use Rattle.rart_node.specs.Shape.{node, node_of, bare, grown};
+ghost use Rattle.rart_shape.specs.Trees.{IsTree, pairs_of};
+ghost use Rattle.rart_walks.specs.Walks.{AreShort};
+ghost use Rattle.rart_walks.specs.WalkFields.{IsWalk, position};
+ghost use Rattle.rart_walks.specs.Trails.{HoldsBytes, HoldsSegments};
+
+use rart_walks::{KeyTrail, NoTrail, SegmentTrail, Trail, Walk};
+use rart_below::{ArrPartial, ArrayKey, KeyTrait, Partial};
+use rart_node::{NodeRef, VersionedNode, Work};
+use std::alloc::{AllocError, Global};
+use std::ops::Bound;
+use std::test::Fail;
+
+fn leaf(
+    alloc: Global,
+    bytes: &[u8],
+    value: u64,
+    work: &mut Work,
+) -> Result<NodeRef<ArrPartial<16>, u64>, AllocError>
+    requires { length bytes.now ≤ 16 }
+    ensures { IfOk result (λ leaf. pointer_shape ⟦<ArrPartial<16> as Partial>⟧.bytes leaf
+        ≡ node_of bytes.now (Some value) 0 []) }
+{
+    let key: ArrayKey<16> = ArrayKey::new_from_slice(alloc, bytes)?;
+    let prefix = key.to_partial(alloc, 0)?;
+    NodeRef::new(
+        alloc,
+        VersionedNode::new_leaf(alloc, prefix, value, 0),
+        work,
+    )
+}
+
+// The keys "a", "abc" and "ad" with the values 0, 1 and 2.
+fn branching(alloc: Global, work: &mut Work) -> Result<NodeRef<ArrPartial<16>, u64>, AllocError>
+    ensures { IfOk result (λ root. pointer_shape ⟦<ArrPartial<16> as Partial>⟧.bytes root
+        ≡ node (97 ∷ []) (Some 0) 4 (grown 98 (node (98 ∷ 99 ∷ []) (Some 1) 0 bare)
+        (grown 100 (node (100 ∷ []) (Some 2) 0 bare) bare))) }
+{
+    let key: ArrayKey<16> = ArrayKey::new_from_slice(alloc, b"a")?;
+    let mut root = VersionedNode::new_leaf(alloc, key.to_partial(alloc, 0)?, 0, 0);
+    let first = leaf(alloc, b"bc", 1, work)?;
+    root.add_child(alloc, b'b', first, work)?;
+    let second = leaf(alloc, b"d", 2, work)?;
+    root.add_child(alloc, b'd', second, work)?;
+    NodeRef::new(alloc, root, work)
+}
+
+// The values that a walk has left.
+fn values_left<'a, P: Partial, T: Trail<'a>>(
+    alloc: Global,
+    mut walk: Walk<'a, P, u64, T>,
+    work: &mut Work,
+) -> Result<Vec<u64>, AllocError>
+    requires { IsWalk P.bytes T.holds T.greatest walk }
+{
+    let mut values = Vec::new(alloc);
+    'walking: while let Some(value) = walk.next_value(work)? {
+        values.push(*value)?;
+    }
+    Ok(values)
+}
+
+// The first key of a tree, copied.
+fn first_key<'a, P: Partial, V: Drop>(
+    alloc: Global,
+    root: &'a NodeRef<P, V>,
+    work: &mut Work,
+) -> Result<Option<(Vec<u8>, &'a V)>, AllocError>
+    requires { IsTree (pointer_shape P.bytes root.now) }
+    ensures { IfOk result (λ first. option_map (λ pair. (pair.0.items, pair.1.now)) first
+        ≡ slice_get (pairs_of (pointer_shape P.bytes root.now)) 0) }
+{
+    let mut walk: Walk<'_, P, V, KeyTrail> = Walk::whole(alloc, root, work)?;
+    match walk.next_value(work)? {
+        Some(value) => Ok(Some((walk.trail().as_slice().to_vec(alloc)?, value))),
+        None => Ok(None),
+    }
+}
+
+// How many bytes its segments are, joined.
+fn first_length<'a, P: Partial, V: Drop>(
+    alloc: Global,
+    root: &'a NodeRef<P, V>,
+    work: &mut Work,
+) -> Result<usize, AllocError>
+    requires tree { IsTree (pointer_shape P.bytes root.now) }
+    requires short { AreShort (Some (2 ^ 64 - 1)) (pairs_of (pointer_shape P.bytes root.now)) }
+{
+    let mut walk: Walk<'_, P, V, SegmentTrail<'_>> = Walk::whole(alloc, root, work)?;
+    let _value = walk.next_value(work)?;
+    Ok(walk.trail().len())
+}
+
+#[test]
+fn leaf_has_its_key_and_value(rt: HostRuntime) -> Result<(), Fail> {
+    let mut work = Work::new();
+    let root = leaf(rt.alloc(), b"abc", 7, &mut work)?;
+    match first_key(rt.alloc(), &root, &mut work)? {
+        Some((key, value)) => {
+            assert_eq!(rt; key.as_slice(), b"abc".as_slice());
+            assert_eq!(rt; *value, 7);
+        }
+        None => assert!(rt; false),
+    }
+    assert_eq!(rt; first_length(rt.alloc(), &root, &mut work)?, 3);
+    Ok(())
+}
+
+#[test]
+fn whole_walk_gives_values_in_key_order(rt: HostRuntime) -> Result<(), Fail> {
+    let mut work = Work::new();
+    let root = branching(rt.alloc(), &mut work)?;
+    let walk: Walk<'_, ArrPartial<16>, u64, NoTrail> = Walk::whole(rt.alloc(), &root, &mut work)?;
+    let values = values_left(rt.alloc(), walk, &mut work)?;
+    assert_eq!(rt; values.as_slice(), [0, 1, 2].as_slice());
+    Ok(())
+}
+
+#[test]
+fn prefix_may_end_inside_a_node(rt: HostRuntime) -> Result<(), Fail> {
+    let mut work = Work::new();
+    let root = branching(rt.alloc(), &mut work)?;
+    let walk: Walk<'_, ArrPartial<16>, u64, NoTrail> = Walk::under(
+        rt.alloc(),
+        &root,
+        b"ab",
+        &mut work,
+    )?;
+    let values = values_left(rt.alloc(), walk, &mut work)?;
+    assert_eq!(rt; values.as_slice(), [1].as_slice());
+    Ok(())
+}
+
+#[test]
+fn excluded_start_is_passed(rt: HostRuntime) -> Result<(), Fail> {
+    let mut work = Work::new();
+    let root = branching(rt.alloc(), &mut work)?;
+    let low: &[u8] = b"abc";
+    let walk: Walk<'_, ArrPartial<16>, u64, KeyTrail> = Walk::from(
+        rt.alloc(),
+        &root,
+        Bound::Excluded(low),
+        &mut work,
+    )?;
+    let values = values_left(rt.alloc(), walk, &mut work)?;
+    assert_eq!(rt; values.as_slice(), [2].as_slice());
+    Ok(())
+}

@@ -13,7 +13,8 @@ AreBytes-take : (count : ℕ) (bytes : List ℕ) → AreBytes bytes → AreBytes
 AreBytes-take zero bytes are place = lit< tt
 AreBytes-take (suc count) [] are place = lit< tt
 AreBytes-take (suc count) (byte ∷ bytes) are zero = are zero
-AreBytes-take (suc count) (byte ∷ bytes) are (suc place) = AreBytes-take count bytes (λ k. are (suc k)) place
+AreBytes-take (suc count) (byte ∷ bytes) are (suc place) =
+    AreBytes-take count bytes (λ k. are (suc k)) place
 
 AreBytes-drop : (count : ℕ) (bytes : List ℕ) → AreBytes bytes → AreBytes (drop count bytes)
 AreBytes-drop zero bytes are = are
@@ -28,39 +29,66 @@ pub record HasBlock (count place : ℕ) (bytes : List ℕ) : Type 0 where
 abbrev block : ℕ → ℕ → List ℕ → List ℕ
 block count place bytes = take count (drop place bytes)
 
-length-block : (count place : ℕ) (bytes : List ℕ) → HasBlock count place bytes → length (block count place bytes) ≡ count
+length-block : (count place : ℕ) (bytes : List ℕ) → HasBlock count place bytes
+    → length (block count place bytes) ≡ count
 length-block count place bytes has =
-    let long : count ≤ length (drop place bytes) = omega (arith, length-drop place bytes, has.within) in
+    let long : count ≤ length (drop place bytes) =
+        omega (arith, length-drop place bytes, has.within) in
     length-take-le count (drop place bytes) long
 
-AreBytes-block : (count place : ℕ) (bytes : List ℕ) → HasBlock count place bytes → AreBytes (block count place bytes)
-AreBytes-block count place bytes has = AreBytes-take count (drop place bytes) (AreBytes-drop place bytes has.are_bytes)
+AreBytes-block : (count place : ℕ) (bytes : List ℕ) → HasBlock count place bytes
+    → AreBytes (block count place bytes)
+AreBytes-block count place bytes has =
+    AreBytes-take count (drop place bytes) (AreBytes-drop place bytes has.are_bytes)
 
-block-rest : (count place : ℕ) (bytes : List ℕ) → drop place bytes ≡ block count place bytes ++ drop (place + count) bytes
-block-rest count place bytes = sym (take-append-drop count (drop place bytes)) ∙ ap (λ rest. block count place bytes ++ rest) (drop-drop count place bytes)
+block-rest : (count place : ℕ) (bytes : List ℕ)
+    → drop place bytes ≡ block count place bytes ++ drop (place + count) bytes
+block-rest count place bytes = sym (take-append-drop count (drop place bytes))
+    ∙ ap (λ rest. block count place bytes ++ rest) (drop-drop count place bytes)
 
 -- past a block that is the same in both, the common beginning goes on
-past_block : (count place : ℕ) (left right : List ℕ) → HasBlock count place left → block count place left ≡ block count place right
-    → place + count + common_length (drop (place + count) left) (drop (place + count) right) ≡ place + common_length (drop place left) (drop place right)
+past_block : (count place : ℕ) (left right : List ℕ) → HasBlock count place left
+    → block count place left ≡ block count place right
+    → place + count + common_length (drop (place + count) left) (drop (place + count) right)
+    ≡ place + common_length (drop place left) (drop place right)
 past_block count place left right has same =
     let in_left = block-rest count place left in
-    let in_right = block-rest count place right ∙ ap (λ front. front ++ drop (place + count) right) (sym same) in
-    let whole : common_length (drop place left) (drop place right) ≡ length (block count place left) + common_length (drop (place + count) left) (drop (place + count) right) =
-    (λ i. common_length (in_left i) (in_right i)) ∙ common_length-append (block count place left) _ _ in
+    let in_right =
+        block-rest count place right ∙ ap (λ front. front ++ drop (place + count) right)
+        (sym same) in
+    let whole : common_length (drop place left) (drop place right)
+        ≡ length (block count place left) + common_length (drop (place + count) left)
+        (drop (place + count) right) =
+    (λ i. common_length (in_left i) (in_right i))
+        ∙ common_length-append (block count place left) _ _ in
     omega (arith, whole, length-block count place left has)
 
 module _ (place number : ℕ) (left right : List ℕ) where
   -- the same where the block of each is this number
-  pub common_length-past_eight : HasBlock 8 place left → HasBlock 8 place right → number ≡ from_le_bytes w64 (take 8 (drop place left)) → number ≡ from_le_bytes w64 (take 8 (drop place right))
-      → place + 8 + common_length (drop (place + 8) left) (drop (place + 8) right) ≡ place + common_length (drop place left) (drop place right)
+  pub common_length-past_eight : HasBlock 8 place left → HasBlock 8 place right
+      → number ≡ from_le_bytes w64 (take 8 (drop place left))
+      → number ≡ from_le_bytes w64 (take 8 (drop place right))
+      → place + 8 + common_length (drop (place + 8) left) (drop (place + 8) right)
+      ≡ place + common_length (drop place left) (drop place right)
   common_length-past_eight has_left has_right is_left is_right =
-      let bytes_left = le_bytes_8 (block 8 place left) number (length-block 8 place left has_left) (AreBytes-block 8 place left has_left) is_left in
-      let bytes_right = le_bytes_8 (block 8 place right) number (length-block 8 place right has_right) (AreBytes-block 8 place right has_right) is_right in
+      let bytes_left =
+          le_bytes_8 (block 8 place left) number (length-block 8 place left has_left)
+          (AreBytes-block 8 place left has_left) is_left in
+      let bytes_right =
+          le_bytes_8 (block 8 place right) number (length-block 8 place right has_right)
+          (AreBytes-block 8 place right has_right) is_right in
       past_block 8 place left right has_left (sym bytes_left ∙ bytes_right)
 
-  pub common_length-past_four : HasBlock 4 place left → HasBlock 4 place right → number ≡ from_le_bytes w32 (take 4 (drop place left)) → number ≡ from_le_bytes w32 (take 4 (drop place right))
-      → place + 4 + common_length (drop (place + 4) left) (drop (place + 4) right) ≡ place + common_length (drop place left) (drop place right)
+  pub common_length-past_four : HasBlock 4 place left → HasBlock 4 place right
+      → number ≡ from_le_bytes w32 (take 4 (drop place left))
+      → number ≡ from_le_bytes w32 (take 4 (drop place right))
+      → place + 4 + common_length (drop (place + 4) left) (drop (place + 4) right)
+      ≡ place + common_length (drop place left) (drop place right)
   common_length-past_four has_left has_right is_left is_right =
-      let bytes_left = le_bytes_4 (block 4 place left) number (length-block 4 place left has_left) (AreBytes-block 4 place left has_left) is_left in
-      let bytes_right = le_bytes_4 (block 4 place right) number (length-block 4 place right has_right) (AreBytes-block 4 place right has_right) is_right in
+      let bytes_left =
+          le_bytes_4 (block 4 place left) number (length-block 4 place left has_left)
+          (AreBytes-block 4 place left has_left) is_left in
+      let bytes_right =
+          le_bytes_4 (block 4 place right) number (length-block 4 place right has_right)
+          (AreBytes-block 4 place right has_right) is_right in
       past_block 4 place left right has_left (sym bytes_left ∙ bytes_right)

@@ -18,62 +18,104 @@ module _ {C : Type 0} where
     pub wide : length slots ≡ 256
     pub counted : count ≡ length (slot_children 0 slots)
 
-  pub kept_from_order : (slots : List (Option C)) (count : ℕ) → in_order slots count ≡ true → IsKept slots count
+  pub kept_from_order : (slots : List (Option C)) (count : ℕ) → in_order slots count ≡ true
+      → IsKept slots count
   kept_from_order slots count order =
       let parts = and_parts (length slots == 256) (count == length (slot_children 0 slots)) order in
-      record { wide = eqb-true (length slots) 256 parts.0; counted = eqb-true count (length (slot_children 0 slots)) parts.1 }
+      record { wide = eqb-true (length slots) 256 parts.0;
+          counted = eqb-true count (length (slot_children 0 slots)) parts.1 }
 
-  pub order_from : (slots : List (Option C)) (count : ℕ) → length slots ≡ 256 → count ≡ length (slot_children 0 slots) → in_order slots count ≡ true
-  order_from slots count wide counted = and_from _ _ (eq-eqb (length slots) 256 wide) (eq-eqb count (length (slot_children 0 slots)) counted)
+  pub order_from : (slots : List (Option C)) (count : ℕ) → length slots ≡ 256
+      → count ≡ length (slot_children 0 slots) → in_order slots count ≡ true
+  order_from slots count wide counted =
+      and_from _ _ (eq-eqb (length slots) 256 wide)
+      (eq-eqb count (length (slot_children 0 slots)) counted)
 
   -- The mapping is in order, and shows these children.
   abbrev pub Shows : List (Option C) → ℕ → List (ℕ × C) → Type 0
   Shows slots count children = (in_order slots count ≡ true) × (slot_children 0 slots ≡ children)
 
-  pub child_at-place : (byte : ℕ) (slots : List (Option C)) → child_at byte (slot_children 0 slots) ≡ get_or slots byte None
-  child_at-place byte slots = let same : 0 + byte ≡ byte = omega arith in subst (λ (n : ℕ). child_at n (slot_children 0 slots) ≡ get_or slots byte None) same (child_at-slot 0 byte slots)
+  pub child_at-place : (byte : ℕ) (slots : List (Option C))
+      → child_at byte (slot_children 0 slots) ≡ get_or slots byte None
+  child_at-place byte slots = let same : 0 + byte ≡ byte = omega arith in
+      subst (λ (n : ℕ). child_at n (slot_children 0 slots) ≡ get_or slots byte None) same
+          (child_at-slot 0 byte slots)
 
-  pub with_child-place : (byte : ℕ) (child : C) (slots : List (Option C)) → byte < length slots → slot_children 0 (set slots byte (Some child)) ≡ with_child byte child (slot_children 0 slots)
-  with_child-place byte child slots lt = let same : 0 + byte ≡ byte = omega arith in subst (λ (n : ℕ). slot_children 0 (set slots byte (Some child)) ≡ with_child n child (slot_children 0 slots)) same (with_child-slot 0 byte child slots lt)
+  pub with_child-place : (byte : ℕ) (child : C) (slots : List (Option C)) → byte < length slots
+      → slot_children 0 (set slots byte (Some child))
+      ≡ with_child byte child (slot_children 0 slots)
+  with_child-place byte child slots lt = let same : 0 + byte ≡ byte = omega arith in
+      subst (λ (n : ℕ). slot_children 0 (set slots byte (Some child))
+          ≡ with_child n child (slot_children 0 slots)) same (with_child-slot 0 byte child slots lt)
 
-  pub without_child-place : (byte : ℕ) (slots : List (Option C)) → slot_children 0 (set slots byte None) ≡ without_child byte (slot_children 0 slots)
-  without_child-place byte slots = let same : 0 + byte ≡ byte = omega arith in subst (λ (n : ℕ). slot_children 0 (set slots byte None) ≡ without_child n (slot_children 0 slots)) same (without_child-slot 0 byte slots)
+  pub without_child-place : (byte : ℕ) (slots : List (Option C))
+      → slot_children 0 (set slots byte None) ≡ without_child byte (slot_children 0 slots)
+  without_child-place byte slots = let same : 0 + byte ≡ byte = omega arith in
+      subst (λ (n : ℕ). slot_children 0 (set slots byte None)
+          ≡ without_child n (slot_children 0 slots)) same (without_child-slot 0 byte slots)
 
-  pub found : (byte : ℕ) (slots : List (Option C)) (o : Option C) → byte < length slots → o ≡ get_or slots byte o → o ≡ child_at byte (slot_children 0 slots)
-  found byte slots o lt is = is ∙ (get_or_default slots byte o None lt ∙ sym (child_at-place byte slots))
+  pub found : (byte : ℕ) (slots : List (Option C)) (o : Option C) → byte < length slots
+      → o ≡ get_or slots byte o → o ≡ child_at byte (slot_children 0 slots)
+  found byte slots o lt is =
+      is ∙ (get_or_default slots byte o None lt ∙ sym (child_at-place byte slots))
 
-  pub room_for_one : (byte : ℕ) (child : C) (slots : List (Option C)) (count : ℕ) → IsKept slots count → byte < 256 → child_at byte (slot_children 0 slots) ≡ None → count < 256
+  pub room_for_one : (byte : ℕ) (child : C) (slots : List (Option C)) (count : ℕ)
+      → IsKept slots count → byte < 256 → child_at byte (slot_children 0 slots) ≡ None → count < 256
   room_for_one byte child slots count kept lt absent =
       let within : byte < length slots = omega (arith, kept.wide) in
-      let more = length-slots_added 0 byte child slots within (sym (child_at-place byte slots) ∙ absent) in
-      omega (arith, more, kept.wide, kept.counted, length-slot_children 0 (set slots byte (Some child)), length-set slots byte (Some child))
+      let more =
+          length-slots_added 0 byte child slots within (sym (child_at-place byte slots) ∙ absent) in
+      omega (arith, more, kept.wide, kept.counted,
+          length-slot_children 0 (set slots byte (Some child)), length-set slots byte (Some child))
 
   -- ---- the slots after each change
-  pub added : (byte count' : ℕ) (child : C) (slots slots' : List (Option C)) (count : ℕ) → IsKept slots count → byte < 256 → child_at byte (slot_children 0 slots) ≡ None → slots' ≡ set slots byte (Some child) → count' ≡ count + 1 → Shows slots' count' (with_child byte child (slot_children 0 slots))
+  pub added : (byte count' : ℕ) (child : C) (slots slots' : List (Option C)) (count : ℕ)
+      → IsKept slots count → byte < 256 → child_at byte (slot_children 0 slots) ≡ None
+      → slots' ≡ set slots byte (Some child) → count' ≡ count + 1
+      → Shows slots' count' (with_child byte child (slot_children 0 slots))
   added byte count' child slots slots' count kept lt absent s n =
       let within : byte < length slots = omega (arith, kept.wide) in
-      let more = length-slots_added 0 byte child slots within (sym (child_at-place byte slots) ∙ absent) in
-      rw s (order_from _ count' (length-set slots byte (Some child) ∙ kept.wide) (omega (arith, n, more, kept.counted)), with_child-place byte child slots within)
+      let more =
+          length-slots_added 0 byte child slots within (sym (child_at-place byte slots) ∙ absent) in
+      rw s (order_from _ count' (length-set slots byte (Some child) ∙ kept.wide)
+          (omega (arith, n, more, kept.counted)), with_child-place byte child slots within)
 
-  pub replaced : (byte : ℕ) (child old : C) (slots slots' : List (Option C)) (count : ℕ) → IsKept slots count → byte < 256 → Some old ≡ get_or slots byte None → slots' ≡ set slots byte (Some child) → Shows slots' count (with_child byte child (slot_children 0 slots))
+  pub replaced : (byte : ℕ) (child old : C) (slots slots' : List (Option C)) (count : ℕ)
+      → IsKept slots count → byte < 256 → Some old ≡ get_or slots byte None
+      → slots' ≡ set slots byte (Some child)
+      → Shows slots' count (with_child byte child (slot_children 0 slots))
   replaced byte child old slots slots' count kept lt held s =
       let within : byte < length slots = omega (arith, kept.wide) in
-      rw s (order_from _ count (length-set slots byte (Some child) ∙ kept.wide) (kept.counted ∙ sym (length-slots_replaced 0 byte child old slots (sym held))), with_child-place byte child slots within)
+      rw s (order_from _ count (length-set slots byte (Some child) ∙ kept.wide)
+          (kept.counted ∙ sym (length-slots_replaced 0 byte child old slots (sym held))),
+          with_child-place byte child slots within)
 
-  pub removed : (byte count' : ℕ) (old : C) (slots slots' : List (Option C)) (count : ℕ) → IsKept slots count → Some old ≡ get_or slots byte None → slots' ≡ set slots byte None → count' ≡ count - 1 → Shows slots' count' (without_child byte (slot_children 0 slots))
+  pub removed : (byte count' : ℕ) (old : C) (slots slots' : List (Option C)) (count : ℕ)
+      → IsKept slots count → Some old ≡ get_or slots byte None → slots' ≡ set slots byte None
+      → count' ≡ count - 1 → Shows slots' count' (without_child byte (slot_children 0 slots))
   removed byte count' old slots slots' count kept held s n =
       let fewer = length-slots_removed 0 byte old slots (sym held) in
-      rw s (order_from _ count' (length-set slots byte None ∙ kept.wide) (omega (arith, n, fewer, kept.counted)), without_child-place byte slots)
+      rw s (order_from _ count' (length-set slots byte None ∙ kept.wide)
+          (omega (arith, n, fewer, kept.counted)), without_child-place byte slots)
 
   -- emptying a slot that is empty changes nothing
-  pub unchanged : (byte : ℕ) (slots slots' : List (Option C)) (count : ℕ) → IsKept slots count → None ≡ get_or slots byte None → slots' ≡ set slots byte None → Shows slots' count (without_child byte (slot_children 0 slots))
+  pub unchanged : (byte : ℕ) (slots slots' : List (Option C)) (count : ℕ) → IsKept slots count
+      → None ≡ get_or slots byte None → slots' ≡ set slots byte None
+      → Shows slots' count (without_child byte (slot_children 0 slots))
   unchanged byte slots slots' count kept absent s =
-      let same = without_child-absent byte (slot_children 0 slots) (child_at-place byte slots ∙ sym absent) in
+      let same =
+          without_child-absent byte (slot_children 0 slots)
+          (child_at-place byte slots ∙ sym absent) in
       let shown = without_child-place byte slots in
-      rw s (order_from _ count (length-set slots byte None ∙ kept.wide) (kept.counted ∙ ap length (sym (shown ∙ same))), shown)
+      rw s (order_from _ count (length-set slots byte None ∙ kept.wide)
+          (kept.counted ∙ ap length (sym (shown ∙ same))), shown)
 
-  pub holds_one : (byte : ℕ) (old : C) (slots : List (Option C)) (count : ℕ) → IsKept slots count → Some old ≡ get_or slots byte None → 0 < count
-  holds_one byte old slots count kept held = omega (arith, length-slots_removed 0 byte old slots (sym held), kept.counted)
+  pub holds_one : (byte : ℕ) (old : C) (slots : List (Option C)) (count : ℕ) → IsKept slots count
+      → Some old ≡ get_or slots byte None → 0 < count
+  holds_one byte old slots count kept held =
+      omega (arith, length-slots_removed 0 byte old slots (sym held), kept.counted)
 
-  pub none_past : (byte : ℕ) (slots : List (Option C)) (count : ℕ) → IsKept slots count → 256 ≤ byte → child_at byte (slot_children 0 slots) ≡ None
-  none_past byte slots count kept le = child_at-place byte slots ∙ get_or_past slots byte None (omega (arith, kept.wide))
+  pub none_past : (byte : ℕ) (slots : List (Option C)) (count : ℕ) → IsKept slots count → 256 ≤ byte
+      → child_at byte (slot_children 0 slots) ≡ None
+  none_past byte slots count kept le =
+      child_at-place byte slots ∙ get_or_past slots byte None (omega (arith, kept.wide))

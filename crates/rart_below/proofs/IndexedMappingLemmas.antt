@@ -14,12 +14,15 @@ use Rattle.rart_below.proofs.NameLemmas.{names-other, names_positive, names-set_
 
 no_names : (place count : ℕ) → 48 ≢ place → names_of place (replicate count 48) ≡ 0
 no_names place zero ne = refl
-no_names place (suc count) ne = names-other place 48 (replicate count 48) ne ∙ no_names place count ne
+no_names place (suc count) ne = names-other place 48 (replicate count 48) ne
+    ∙ no_names place count ne
 
 module _ {C : Type 0} where
   -- the test of a mapping by an index
   abbrev pub in_order : List ℕ → List (Option C) → ℕ → Bool
-  in_order index slots used = length index == 256 && length slots == 48 && used == marks_of slots && is_named_once 0 slots index
+  in_order index slots used =
+      length index == 256 && length slots == 48 && used == marks_of slots
+      && is_named_once 0 slots index
 
   pub record IsKept (index : List ℕ) (slots : List (Option C)) (used : ℕ) : Type 0 where
     pub wide : length index ≡ 256
@@ -27,10 +30,14 @@ module _ {C : Type 0} where
     pub marked : used ≡ marks_of slots
     pub named : is_named_once 0 slots index ≡ true
 
-  pub kept_from_order : (index : List ℕ) (slots : List (Option C)) (used : ℕ) → in_order index slots used ≡ true → IsKept index slots used
+  pub kept_from_order : (index : List ℕ) (slots : List (Option C)) (used : ℕ)
+      → in_order index slots used ≡ true → IsKept index slots used
   kept_from_order index slots used order =
-      let outer = and_parts (length index == 256 && length slots == 48 && used == marks_of slots) (is_named_once 0 slots index) order in
-      let lists = and_parts (length index == 256 && length slots == 48) (used == marks_of slots) outer.0 in
+      let outer =
+          and_parts (length index == 256 && length slots == 48 && used == marks_of slots)
+          (is_named_once 0 slots index) order in
+      let lists =
+          and_parts (length index == 256 && length slots == 48) (used == marks_of slots) outer.0 in
       let lengths = and_parts (length index == 256) (length slots == 48) lists.0 in
       record {
         wide = eqb-true (length index) 256 lengths.0;
@@ -39,110 +46,176 @@ module _ {C : Type 0} where
         named = outer.1;
       }
 
-  pub order_from_kept : (index : List ℕ) (slots : List (Option C)) (used : ℕ) → IsKept index slots used → in_order index slots used ≡ true
+  pub order_from_kept : (index : List ℕ) (slots : List (Option C)) (used : ℕ)
+      → IsKept index slots used → in_order index slots used ≡ true
   order_from_kept index slots used kept =
-      and_from _ _ (and_from _ _ (and_from _ _ (eq-eqb (length index) 256 kept.wide) (eq-eqb (length slots) 48 kept.enough)) (eq-eqb used (marks_of slots) kept.marked)) kept.named
+      and_from _ _ (and_from _ _ (and_from _ _ (eq-eqb (length index) 256 kept.wide)
+          (eq-eqb (length slots) 48 kept.enough)) (eq-eqb used (marks_of slots) kept.marked))
+          kept.named
 
   -- The mapping is in order, and shows these children.
   abbrev pub Shows : List ℕ → List (Option C) → ℕ → List (ℕ × C) → Type 0
-  Shows index slots used children = (in_order index slots used ≡ true) × (slot_children 0 (named_slots slots index) ≡ children)
+  Shows index slots used children =
+      (in_order index slots used ≡ true) × (slot_children 0 (named_slots slots index) ≡ children)
 
-  pub child_at-named : (byte : ℕ) (index : List ℕ) (slots : List (Option C)) (used : ℕ) → IsKept index slots used → byte < 256 → child_at byte (slot_children 0 (named_slots slots index)) ≡ get_or slots (get_or index byte 0) None
-  child_at-named byte index slots used kept lt = child_at-place byte (named_slots slots index) ∙ get_or-named byte slots index (omega (arith, kept.wide))
+  pub child_at-named : (byte : ℕ) (index : List ℕ) (slots : List (Option C)) (used : ℕ)
+      → IsKept index slots used → byte < 256
+      → child_at byte (slot_children 0 (named_slots slots index))
+      ≡ get_or slots (get_or index byte 0) None
+  child_at-named byte index slots used kept lt = child_at-place byte (named_slots slots index)
+      ∙ get_or-named byte slots index (omega (arith, kept.wide))
 
-  pub none_past : (byte : ℕ) (index : List ℕ) (slots : List (Option C)) (used : ℕ) → IsKept index slots used → 256 ≤ byte → child_at byte (slot_children 0 (named_slots slots index)) ≡ None
-  none_past byte index slots used kept le = child_at-place byte (named_slots slots index) ∙ get_or_past (named_slots slots index) byte None (omega (arith, kept.wide, length-named slots index))
+  pub none_past : (byte : ℕ) (index : List ℕ) (slots : List (Option C)) (used : ℕ)
+      → IsKept index slots used → 256 ≤ byte
+      → child_at byte (slot_children 0 (named_slots slots index)) ≡ None
+  none_past byte index slots used kept le = child_at-place byte (named_slots slots index)
+      ∙ get_or_past (named_slots slots index) byte None
+      (omega (arith, kept.wide, length-named slots index))
 
-  pub count_ones-kept : (index : List ℕ) (slots : List (Option C)) (used : ℕ) → IsKept index slots used → count_ones used ≡ length (slot_children 0 (named_slots slots index))
-  count_ones-kept index slots used kept = ap count_ones kept.marked ∙ (count_ones-marks 0 slots ∙ sym (length-named_slots slots index kept.named))
+  pub count_ones-kept : (index : List ℕ) (slots : List (Option C)) (used : ℕ)
+      → IsKept index slots used → count_ones used
+      ≡ length (slot_children 0 (named_slots slots index))
+  count_ones-kept index slots used kept =
+      ap count_ones kept.marked ∙ (count_ones-marks 0 slots
+      ∙ sym (length-named_slots slots index kept.named))
 
   -- the place that a new child takes is free
-  pub free_place : (index : List ℕ) (slots : List (Option C)) (used : ℕ) → IsKept index slots used → length (slot_children 0 (named_slots slots index)) < 48
+  pub free_place : (index : List ℕ) (slots : List (Option C)) (used : ℕ) → IsKept index slots used
+      → length (slot_children 0 (named_slots slots index)) < 48
       → (trailing_ones w64 used < 48) × (get_or slots (trailing_ones w64 used) None ≡ None)
   free_place index slots used kept room =
-      rw kept.marked (free_slot slots kept.enough (omega (arith, room, length-named_slots slots index kept.named)))
+      rw kept.marked (free_slot slots kept.enough
+          (omega (arith, room, length-named_slots slots index kept.named)))
 
   -- a byte whose entry names a slot has the child of that slot, and no other byte does
-  pub held_once : (byte place : ℕ) (index : List ℕ) (slots : List (Option C)) (used : ℕ) → IsKept index slots used → byte < 256 → place ≡ get_or index byte 0 → place < 48 → (names_of place index ≡ 1) × (get_or slots place None ≢ None)
+  pub held_once : (byte place : ℕ) (index : List ℕ) (slots : List (Option C)) (used : ℕ)
+      → IsKept index slots used → byte < 256 → place ≡ get_or index byte 0 → place < 48
+      → (names_of place index ≡ 1) × (get_or slots place None ≢ None)
   held_once byte place index slots used kept lt e within =
       let some = names_positive place byte index (omega (arith, kept.wide)) (sym e) in
       let named = named_at place slots index kept.named (omega (arith, kept.enough)) in
       let known = once (get_or slots place None) (names_of place index) some named in
       known
     where
-      once : (slot : Option C) (count : ℕ) → 1 ≤ count → count ≡ one_if_some slot → (count ≡ 1) × (slot ≢ None)
+      once : (slot : Option C) (count : ℕ) → 1 ≤ count → count ≡ one_if_some slot
+          → (count ≡ 1) × (slot ≢ None)
       once None count le same = absurd (omega arith)
       once (Some child) count le same = (same, λ q. cc)
 
-  pub named_within : (byte : ℕ) (index : List ℕ) (slots : List (Option C)) (used : ℕ) → IsKept index slots used → byte < 256 → IsSome (child_at byte (slot_children 0 (named_slots slots index))) → get_or index byte 0 < 48
+  pub named_within : (byte : ℕ) (index : List ℕ) (slots : List (Option C)) (used : ℕ)
+      → IsKept index slots used → byte < 256
+      → IsSome (child_at byte (slot_children 0 (named_slots slots index)))
+      → get_or index byte 0 < 48
   named_within byte index slots used kept lt present = elim (cases_lt (get_or index byte 0) 48) [
     | inl less ↦ less
     | inr le ↦
-        let absent : child_at byte (slot_children 0 (named_slots slots index)) ≡ None = child_at-named byte index slots used kept lt ∙ get_or_past slots (get_or index byte 0) None (omega (arith, kept.enough)) in
+        let absent : child_at byte (slot_children 0 (named_slots slots index)) ≡ None =
+            child_at-named byte index slots used kept lt
+            ∙ get_or_past slots (get_or index byte 0) None (omega (arith, kept.enough)) in
         let none = subst IsSome absent present in
         cc
   ]
 
   -- ---- the lists after each change
-  pub added : (byte place : ℕ) (child : C) (index index' : List ℕ) (slots slots' : List (Option C)) (used used' : ℕ) → IsKept index slots used → byte < 256 → place < 48 → get_or slots place None ≡ None → child_at byte (slot_children 0 (named_slots slots index)) ≡ None
-      → index' ≡ set index byte place → slots' ≡ set slots place (Some child) → used' ≡ bit_or used (1 * 2 ^ place % 2 ^ 64)
-      → Shows index' slots' used' (with_child byte child (slot_children 0 (named_slots slots index)))
+  pub added : (byte place : ℕ) (child : C) (index index' : List ℕ) (slots slots' : List (Option C))
+      (used used' : ℕ) → IsKept index slots used → byte < 256 → place < 48
+      → get_or slots place None ≡ None → child_at byte (slot_children 0 (named_slots slots index))
+      ≡ None
+      → index' ≡ set index byte place → slots' ≡ set slots place (Some child)
+      → used' ≡ bit_or used (1 * 2 ^ place % 2 ^ 64)
+      → Shows index' slots' used' (with_child byte child
+      (slot_children 0 (named_slots slots index)))
   added byte place child index index' slots slots' used used' kept lt within free absent i s u =
       let byte_within : byte < length index = omega (arith, kept.wide) in
       let place_within : place < length slots = omega (arith, kept.enough) in
-      let gone : get_or slots (get_or index byte 0) None ≡ None = sym (child_at-named byte index slots used kept lt) ∙ absent in
-      let unnamed : names_of place index ≡ 0 = named_at place slots index kept.named place_within ∙ ap one_if_some free in
-      let other : get_or index byte 0 ≢ place = λ e. absurd (omega (arith, names_positive place byte index byte_within e)) in
-      let shown : named_slots (set slots place (Some child)) (set index byte place) ≡ set (named_slots slots index) byte (Some child) =
+      let gone : get_or slots (get_or index byte 0) None ≡ None =
+          sym (child_at-named byte index slots used kept lt) ∙ absent in
+      let unnamed : names_of place index ≡ 0 = named_at place slots index kept.named place_within
+          ∙ ap one_if_some free in
+      let other : get_or index byte 0 ≢ place =
+          λ e. absurd (omega (arith, names_positive place byte index byte_within e)) in
+      let shown : named_slots (set slots place (Some child)) (set index byte place)
+          ≡ set (named_slots slots index) byte (Some child) =
       named-entry byte place (set slots place (Some child)) index
-      ∙ λ j. set (named-set_unnamed place (Some child) slots index unnamed j) byte (get_or-set_same slots place (Some child) None place_within j)
+      ∙ λ j. set (named-set_unnamed place (Some child) slots index unnamed j) byte
+      (get_or-set_same slots place (Some child) None place_within j)
       in
       let named : is_named_once 0 (set slots place (Some child)) (set index byte place) ≡ true =
-      named_from (set slots place (Some child)) (set index byte place) (λ n n_within. elim (cases_eq n place) [
+      named_from (set slots place (Some child)) (set index byte place)
+          (λ n n_within. elim (cases_eq n place) [
         | inl e ↦
-            rw e (names-set_new place byte index byte_within other ∙ (ap suc unnamed ∙ sym (ap one_if_some (get_or-set_same slots place (Some child) None place_within))))
+            rw e (names-set_new place byte index byte_within other
+                ∙ (ap suc unnamed ∙ sym (ap one_if_some
+                (get_or-set_same slots place (Some child) None place_within))))
         | inr ne ↦
-            let n_in : n < length slots = omega (arith, n_within, length-set slots place (Some child)) in
-            let differs : get_or index byte 0 ≢ n = λ e. absurd (omega (arith, names_positive n byte index byte_within e, named_at n slots index kept.named n_in, ap one_if_some (ap (λ (k : ℕ). get_or slots k None) (sym e) ∙ gone))) in
+            let n_in : n < length slots =
+                omega (arith, n_within, length-set slots place (Some child)) in
+            let differs : get_or index byte 0 ≢ n =
+                λ e. absurd (omega (arith, names_positive n byte index byte_within e,
+                named_at n slots index kept.named n_in,
+                ap one_if_some (ap (λ (k : ℕ). get_or slots k None) (sym e) ∙ gone))) in
             names-set_neither n byte place index byte_within differs (λ e. ne (sym e))
-            ∙ (named_at n slots index kept.named n_in ∙ sym (ap one_if_some (get_or-set_other slots place n (Some child) None ne)))
+            ∙ (named_at n slots index kept.named n_in
+            ∙ sym (ap one_if_some (get_or-set_other slots place n (Some child) None ne)))
       ])
       in
-      let marks : used' ≡ marks_of (set slots place (Some child)) = u ∙ (ap (λ (n : ℕ). bit_or n (1 * 2 ^ place % 2 ^ 64)) kept.marked ∙ marks-added place child slots place_within (omega arith)) in
+      let marks : used' ≡ marks_of (set slots place (Some child)) =
+          u ∙ (ap (λ (n : ℕ). bit_or n (1 * 2 ^ place % 2 ^ 64)) kept.marked
+          ∙ marks-added place child slots place_within (omega arith)) in
       rw (i, s) (
-        order_from_kept _ _ used' (record { wide = length-set index byte place ∙ kept.wide; enough = length-set slots place (Some child) ∙ kept.enough; marked = marks; named = named }),
-        ap (slot_children 0) shown ∙ with_child-place byte child (named_slots slots index) (omega (arith, length-named slots index)),
+        order_from_kept _ _ used' (record { wide = length-set index byte place ∙ kept.wide;
+            enough = length-set slots place (Some child) ∙ kept.enough; marked = marks;
+            named = named }),
+        ap (slot_children 0) shown ∙ with_child-place byte child (named_slots slots index)
+            (omega (arith, length-named slots index)),
       )
 
-  pub replaced : (byte place : ℕ) (child held : C) (index : List ℕ) (slots slots' : List (Option C)) (used : ℕ) → IsKept index slots used → byte < 256 → place ≡ get_or index byte 0 → place < 48 → Some held ≡ get_or slots place None → slots' ≡ set slots place (Some child)
+  pub replaced : (byte place : ℕ) (child held : C) (index : List ℕ) (slots slots' : List (Option C))
+      (used : ℕ) → IsKept index slots used → byte < 256 → place ≡ get_or index byte 0 → place < 48
+      → Some held ≡ get_or slots place None → slots' ≡ set slots place (Some child)
       → Shows index slots' used (with_child byte child (slot_children 0 (named_slots slots index)))
   replaced byte place child held index slots slots' used kept lt at within is s =
       let byte_within : byte < length index = omega (arith, kept.wide) in
       let place_within : place < length slots = omega (arith, kept.enough) in
       let once = (held_once byte place index slots used kept lt at within).0 in
-      let shown = named-set_named place byte (Some child) slots index byte_within (sym at) once place_within in
+      let shown =
+          named-set_named place byte (Some child) slots index byte_within
+          (sym at) once place_within in
       let named : is_named_once 0 (set slots place (Some child)) index ≡ true =
       named_from (set slots place (Some child)) index (λ n n_within. elim (cases_eq n place) [
-        | inl e ↦ rw e (once ∙ sym (ap one_if_some (get_or-set_same slots place (Some child) None place_within)))
-        | inr ne ↦ named_at n slots index kept.named (omega (arith, n_within, length-set slots place (Some child))) ∙ sym (ap one_if_some (get_or-set_other slots place n (Some child) None ne))
+        | inl e ↦ rw e (once ∙ sym (ap one_if_some
+        (get_or-set_same slots place (Some child) None place_within)))
+        | inr ne ↦ named_at n slots index kept.named
+        (omega (arith, n_within, length-set slots place (Some child)))
+        ∙ sym (ap one_if_some (get_or-set_other slots place n (Some child) None ne))
       ])
       in
       rw s (
-        order_from_kept index _ used (record { wide = kept.wide; enough = length-set slots place (Some child) ∙ kept.enough; marked = kept.marked ∙ sym (marks-replaced place child held slots (sym is)); named = named }),
-        ap (slot_children 0) shown ∙ with_child-place byte child (named_slots slots index) (omega (arith, length-named slots index)),
+        order_from_kept index _ used (record { wide = kept.wide;
+            enough = length-set slots place (Some child) ∙ kept.enough; marked = kept.marked
+            ∙ sym (marks-replaced place child held slots (sym is)); named = named }),
+        ap (slot_children 0) shown ∙ with_child-place byte child (named_slots slots index)
+            (omega (arith, length-named slots index)),
       )
 
-  pub removed : (byte place : ℕ) (index index' : List ℕ) (slots slots' : List (Option C)) (used used' : ℕ) → IsKept index slots used → byte < 256 → place ≡ get_or index byte 0 → place < 48
-      → index' ≡ set index byte 48 → slots' ≡ set slots place None → used' ≡ bit_and used (bit_not w64 (1 * 2 ^ place % 2 ^ 64))
+  pub removed : (byte place : ℕ) (index index' : List ℕ) (slots slots' : List (Option C))
+      (used used' : ℕ) → IsKept index slots used → byte < 256 → place ≡ get_or index byte 0
+      → place < 48
+      → index' ≡ set index byte 48 → slots' ≡ set slots place None
+      → used' ≡ bit_and used (bit_not w64 (1 * 2 ^ place % 2 ^ 64))
       → Shows index' slots' used' (without_child byte (slot_children 0 (named_slots slots index)))
   removed byte place index index' slots slots' used used' kept lt at within i s u =
       let byte_within : byte < length index = omega (arith, kept.wide) in
       let place_within : place < length slots = omega (arith, kept.enough) in
       let once = (held_once byte place index slots used kept lt at within).0 in
-      let none_there : get_or (set slots place None) 48 None ≡ None = get_or_past (set slots place None) 48 None (omega (arith, kept.enough, length-set slots place None)) in
-      let shown : named_slots (set slots place None) (set index byte 48) ≡ set (named_slots slots index) byte None =
+      let none_there : get_or (set slots place None) 48 None ≡ None =
+          get_or_past (set slots place None) 48 None
+          (omega (arith, kept.enough, length-set slots place None)) in
+      let shown : named_slots (set slots place None) (set index byte 48)
+          ≡ set (named_slots slots index) byte None =
       named-entry byte 48 (set slots place None) index
-      ∙ ((λ j. set (named-set_named place byte None slots index byte_within (sym at) once place_within j) byte (none_there j))
+      ∙ ((λ j. set (named-set_named place byte None slots index byte_within
+      (sym at) once place_within j) byte (none_there j))
       ∙ set_again (named_slots slots index) byte None (omega (arith, length-named slots index)))
       in
       let named : is_named_once 0 (set slots place None) (set index byte 48) ≡ true =
@@ -151,40 +224,63 @@ module _ {C : Type 0} where
       let not_new : 48 ≢ n = omega (arith, n_in, kept.enough) in
       elim (cases_eq n place) [
         | inl e ↦
-            rw e (omega (arith, names-set_old place byte 48 index byte_within (sym at) (omega arith), once, ap one_if_some (get_or-set_same slots place None None place_within)))
+            rw e (omega (arith, names-set_old place byte 48 index byte_within (sym at)
+                (omega arith), once, ap one_if_some
+                (get_or-set_same slots place None None place_within)))
         | inr ne ↦
             names-set_neither n byte 48 index byte_within (λ e. ne (sym e ∙ sym at)) not_new
-            ∙ (named_at n slots index kept.named n_in ∙ sym (ap one_if_some (get_or-set_other slots place n None None ne)))
+            ∙ (named_at n slots index kept.named n_in
+            ∙ sym (ap one_if_some (get_or-set_other slots place n None None ne)))
       ])
       in
-      let marks : used' ≡ marks_of (set slots place None) = u ∙ (ap (λ (n : ℕ). bit_and n (bit_not w64 (1 * 2 ^ place % 2 ^ 64))) kept.marked ∙ marks-removed place slots place_within (omega arith) (omega (arith, kept.enough))) in
+      let marks : used' ≡ marks_of (set slots place None) =
+          u ∙ (ap (λ (n : ℕ). bit_and n (bit_not w64 (1 * 2 ^ place % 2 ^ 64))) kept.marked
+          ∙ marks-removed place slots place_within (omega arith) (omega (arith, kept.enough))) in
       rw (i, s) (
-        order_from_kept _ _ used' (record { wide = length-set index byte 48 ∙ kept.wide; enough = length-set slots place None ∙ kept.enough; marked = marks; named = named }),
+        order_from_kept _ _ used' (record { wide = length-set index byte 48 ∙ kept.wide;
+            enough = length-set slots place None ∙ kept.enough; marked = marks; named = named }),
         ap (slot_children 0) shown ∙ without_child-place byte (named_slots slots index),
       )
 
   -- a byte whose entry names no slot
-  pub absent_past : (byte : ℕ) (index : List ℕ) (slots : List (Option C)) (used : ℕ) → IsKept index slots used → byte < 256 → 48 ≤ get_or index byte 0 → child_at byte (slot_children 0 (named_slots slots index)) ≡ None
-  absent_past byte index slots used kept lt le = child_at-named byte index slots used kept lt ∙ get_or_past slots (get_or index byte 0) None (omega (arith, kept.enough))
+  pub absent_past : (byte : ℕ) (index : List ℕ) (slots : List (Option C)) (used : ℕ)
+      → IsKept index slots used → byte < 256 → 48 ≤ get_or index byte 0
+      → child_at byte (slot_children 0 (named_slots slots index)) ≡ None
+  absent_past byte index slots used kept lt le = child_at-named byte index slots used kept lt
+      ∙ get_or_past slots (get_or index byte 0) None (omega (arith, kept.enough))
 
-  pub unchanged : (byte : ℕ) (index : List ℕ) (slots : List (Option C)) (used : ℕ) → IsKept index slots used → byte < 256 → 48 ≤ get_or index byte 0 → slot_children 0 (named_slots slots index) ≡ without_child byte (slot_children 0 (named_slots slots index))
-  unchanged byte index slots used kept lt le = sym (without_child-absent byte (slot_children 0 (named_slots slots index)) (absent_past byte index slots used kept lt le))
+  pub unchanged : (byte : ℕ) (index : List ℕ) (slots : List (Option C)) (used : ℕ)
+      → IsKept index slots used → byte < 256 → 48 ≤ get_or index byte 0
+      → slot_children 0 (named_slots slots index)
+      ≡ without_child byte (slot_children 0 (named_slots slots index))
+  unchanged byte index slots used kept lt le =
+      sym (without_child-absent byte (slot_children 0 (named_slots slots index))
+      (absent_past byte index slots used kept lt le))
 
   -- ---- the lists of a new mapping
-  no_named : (byte count : ℕ) (slots : List (Option C)) → get_or slots 48 None ≡ None → slot_children byte (named_slots slots (replicate count 48)) ≡ []
+  no_named : (byte count : ℕ) (slots : List (Option C)) → get_or slots 48 None ≡ None
+      → slot_children byte (named_slots slots (replicate count 48)) ≡ []
   no_named byte zero slots past = refl
   no_named byte (suc count) slots past = rw past (no_named (suc byte) count slots past)
 
-  no_marks : (slots : List (Option C)) → ((place : ℕ) → place < length slots → get_or slots place None ≡ None) → marks_of slots ≡ 0
+  no_marks : (slots : List (Option C))
+      → ((place : ℕ) → place < length slots → get_or slots place None ≡ None) → marks_of slots ≡ 0
   no_marks [] empty = refl
   no_marks (slot ∷ slots) empty =
-      omega (arith, ap one_if_some (empty 0 (omega arith)), no_marks slots (λ place lt. empty (suc place) (omega arith)))
+      omega (arith, ap one_if_some (empty 0 (omega arith)),
+          no_marks slots (λ place lt. empty (suc place) (omega arith)))
 
-  pub starts : (count : ℕ) (slots : List (Option C)) → count ≡ 256 → length slots ≡ 48 → ((place : ℕ) → place < length slots → get_or slots place None ≡ None) → Shows (replicate count 48) slots 0 []
+  pub starts : (count : ℕ) (slots : List (Option C)) → count ≡ 256 → length slots ≡ 48
+      → ((place : ℕ) → place < length slots → get_or slots place None ≡ None)
+      → Shows (replicate count 48) slots 0 []
   starts count slots wide enough empty =
       let named : is_named_once 0 slots (replicate count 48) ≡ true =
-      named_from slots (replicate count 48) (λ place lt. no_names place count (omega (arith, lt, enough)) ∙ sym (ap one_if_some (empty place lt)))
+      named_from slots (replicate count 48)
+          (λ place lt. no_names place count (omega (arith, lt, enough))
+          ∙ sym (ap one_if_some (empty place lt)))
       in (
-        order_from_kept (replicate count 48) slots 0 (record { wide = length-replicate count 48 ∙ wide; enough = enough; marked = sym (no_marks slots empty); named = named }),
+        order_from_kept (replicate count 48) slots 0
+            (record { wide = length-replicate count 48 ∙ wide; enough = enough;
+            marked = sym (no_marks slots empty); named = named }),
         no_named 0 count slots (get_or_past slots 48 None (omega (arith, enough))),
       )

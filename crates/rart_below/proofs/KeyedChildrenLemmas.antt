@@ -9,7 +9,8 @@ use Rattle.rart_below.specs.Layouts.{rank, keyed_children, is_filled}
 use Rattle.rart_below.specs.Laws.{IsBelow, below_from}
 use Rattle.rart_below.proofs.AscendingLemmas.{held_and_not, below_parts, below_lower, ascending_parts, child_at-later, child_at-here, child_at-below, with_child-later, with_child-before, with_child-here, without_child-other, without_child-here, without_child-below, children_from-kept, children_from-passed}
 
-rank-later : (byte key : ℕ) (keys : List ℕ) → key < byte → rank byte (key ∷ keys) ≡ suc (rank byte keys)
+rank-later : (byte key : ℕ) (keys : List ℕ) → key < byte
+    → rank byte (key ∷ keys) ≡ suc (rank byte keys)
 rank-later byte key keys h =
     let counts : nat_lt key byte ≡ true = lt-ltb key byte h in
     sum_by-cons (λ k. cond (nat_lt k byte) 1 0) key keys ∙ rw counts (omega arith)
@@ -24,27 +25,36 @@ module _ {C : Type 0} where
   IsFilled keys slots = is_filled keys slots ≡ true
 
   -- each key has a slot
-  pub slots_enough : (keys : List ℕ) (slots : List (Option C)) → IsFilled keys slots → length keys ≤ length slots
+  pub slots_enough : (keys : List ℕ) (slots : List (Option C)) → IsFilled keys slots
+      → length keys ≤ length slots
   slots_enough [] slots h = omega arith
   slots_enough (key ∷ keys) [] h = cc
   slots_enough (key ∷ keys) (None ∷ slots) h = cc
   slots_enough (key ∷ keys) (Some child ∷ slots) h = omega (arith, slots_enough keys slots h)
 
-  rank-below : (byte least : ℕ) (keys : List ℕ) (slots : List (Option C)) → IsFilled keys slots → byte ≤ least → IsBelow least (keyed_children keys slots) → rank byte keys ≡ 0
+  rank-below : (byte least : ℕ) (keys : List ℕ) (slots : List (Option C)) → IsFilled keys slots
+      → byte ≤ least → IsBelow least (keyed_children keys slots) → rank byte keys ≡ 0
   rank-below byte least [] slots h le below = refl
   rank-below byte least (key ∷ keys) [] h le below = cc
   rank-below byte least (key ∷ keys) (None ∷ slots) h le below = cc
   rank-below byte least (key ∷ keys) (Some child ∷ slots) h le below =
       let parts = below_parts least (key, child) (keyed_children keys slots) below in
-      rank-skip byte key keys (omega (arith, parts.0)) ∙ rank-below byte least keys slots h le parts.1
+      rank-skip byte key keys (omega (arith, parts.0))
+          ∙ rank-below byte least keys slots h le parts.1
 
   -- the first key is not below the byte, and so none is
-  rank-stop : (byte key : ℕ) (child : C) (keys : List ℕ) (slots : List (Option C)) → IsFilled keys slots → IsAscending ((key, child) ∷ keyed_children keys slots) → byte ≤ key → rank byte (key ∷ keys) ≡ 0
+  rank-stop : (byte key : ℕ) (child : C) (keys : List ℕ) (slots : List (Option C))
+      → IsFilled keys slots → IsAscending ((key, child) ∷ keyed_children keys slots) → byte ≤ key
+      → rank byte (key ∷ keys) ≡ 0
   rank-stop byte key child keys slots h order le =
-      rank-skip byte key keys le ∙ rank-below byte key keys slots h le (ascending_parts (key, child) (keyed_children keys slots) order).0
+      rank-skip byte key keys le ∙ rank-below byte key keys slots h le
+          (ascending_parts (key, child) (keyed_children keys slots) order).0
 
   -- where the byte is among the keys, its child stands at its rank
-  pub child_at-rank : (byte : ℕ) (keys : List ℕ) (slots : List (Option C)) → IsFilled keys slots → IsAscending (keyed_children keys slots) → rank byte keys < length keys → get_or keys (rank byte keys) 0 ≡ byte → child_at byte (keyed_children keys slots) ≡ get_or slots (rank byte keys) None
+  pub child_at-rank : (byte : ℕ) (keys : List ℕ) (slots : List (Option C)) → IsFilled keys slots
+      → IsAscending (keyed_children keys slots) → rank byte keys < length keys
+      → get_or keys (rank byte keys) 0 ≡ byte
+      → child_at byte (keyed_children keys slots) ≡ get_or slots (rank byte keys) None
   child_at-rank byte [] slots h order lt e = absurd (omega arith)
   child_at-rank byte (key ∷ keys) [] h order lt e = cc
   child_at-rank byte (key ∷ keys) (None ∷ slots) h order lt e = cc
@@ -55,14 +65,19 @@ module _ {C : Type 0} where
             let rest = (ascending_parts (key, child) (keyed_children keys slots) order).1 in
             let e' : get_or keys (rank byte keys) 0 ≡ byte = rw later at e in
             let lt' : rank byte keys < length keys = omega (arith, rw later at lt) in
-            child_at-later byte key child _ less ∙ child_at-rank byte keys slots h rest lt' e' ∙ sym (ap (λ place. get_or (Some child ∷ slots) place None) later)
+            child_at-later byte key child _ less ∙ child_at-rank byte keys slots h rest lt' e'
+                ∙ sym (ap (λ place. get_or (Some child ∷ slots) place None) later)
         | inr more ↦
             let stop = rank-stop byte key child keys slots h order more in
             let e' : key ≡ byte = rw stop at e in
-            child_at-here byte key child _ e' ∙ sym (ap (λ place. get_or (Some child ∷ slots) place None) stop)
+            child_at-here byte key child _ e'
+                ∙ sym (ap (λ place. get_or (Some child ∷ slots) place None) stop)
       ]
 
-  pub child_at-no_rank : (byte : ℕ) (keys : List ℕ) (slots : List (Option C)) → IsFilled keys slots → IsAscending (keyed_children keys slots) → (rank byte keys < length keys → get_or keys (rank byte keys) 0 ≢ byte) → child_at byte (keyed_children keys slots) ≡ None
+  pub child_at-no_rank : (byte : ℕ) (keys : List ℕ) (slots : List (Option C)) → IsFilled keys slots
+      → IsAscending (keyed_children keys slots)
+      → (rank byte keys < length keys → get_or keys (rank byte keys) 0 ≢ byte)
+      → child_at byte (keyed_children keys slots) ≡ None
   child_at-no_rank byte [] slots h order ne = refl
   child_at-no_rank byte (key ∷ keys) [] h order ne = refl
   child_at-no_rank byte (key ∷ keys) (None ∷ slots) h order ne = cc
@@ -71,17 +86,25 @@ module _ {C : Type 0} where
       elim (cases_lt key byte) [
         | inl less ↦
             let later = rank-later byte key keys less in
-            let ne' : rank byte keys < length keys → get_or keys (rank byte keys) 0 ≢ byte = λ lt e. ne (omega (arith, later, lt)) (ap (λ place. get_or (key ∷ keys) place 0) later ∙ e) in
+            let ne' : rank byte keys < length keys → get_or keys (rank byte keys) 0 ≢ byte =
+                λ lt e. ne (omega (arith, later, lt))
+                (ap (λ place. get_or (key ∷ keys) place 0) later ∙ e) in
             child_at-later byte key child _ less ∙ child_at-no_rank byte keys slots h parts.1 ne'
         | inr more ↦
             let stop = rank-stop byte key child keys slots h order more in
-            let differs : key ≢ byte = λ e. ne (omega (arith, stop)) (ap (λ place. get_or (key ∷ keys) place 0) stop ∙ e) in
-            let before : IsBelow byte ((key, child) ∷ keyed_children keys slots) = below_from byte (key, child) (keyed_children keys slots) (omega (arith, differs)) (below_lower byte key (keyed_children keys slots) more parts.0) in
+            let differs : key ≢ byte =
+                λ e. ne (omega (arith, stop)) (ap (λ place. get_or (key ∷ keys) place 0) stop
+                ∙ e) in
+            let before : IsBelow byte ((key, child) ∷ keyed_children keys slots) =
+                below_from byte (key, child) (keyed_children keys slots) (omega (arith, differs))
+                (below_lower byte key (keyed_children keys slots) more parts.0) in
             child_at-below byte byte ((key, child) ∷ keyed_children keys slots) (omega arith) before
       ]
 
   -- slots past the keys do not count
-  keyed-taken : (keys : List ℕ) (slots rest : List (Option C)) → IsFilled keys slots → IsFilled keys (take (length keys) slots ++ rest) × (keyed_children keys (take (length keys) slots ++ rest) ≡ keyed_children keys slots)
+  keyed-taken : (keys : List ℕ) (slots rest : List (Option C)) → IsFilled keys slots
+      → IsFilled keys (take (length keys) slots ++ rest)
+      × (keyed_children keys (take (length keys) slots ++ rest) ≡ keyed_children keys slots)
   keyed-taken [] slots rest h = (refl, refl)
   keyed-taken (key ∷ keys) [] rest h = cc
   keyed-taken (key ∷ keys) (None ∷ slots) rest h = cc
@@ -90,29 +113,45 @@ module _ {C : Type 0} where
       (tail.0, ap (λ (children : List (ℕ × C)). (key, child) ∷ children) tail.1)
 
   -- a byte put in at its rank, with its child
-  pub keyed-insert : (byte : ℕ) (added : C) (keys : List ℕ) (slots rest : List (Option C)) (place : ℕ) → IsFilled keys slots → IsAscending (keyed_children keys slots) → child_at byte (keyed_children keys slots) ≡ None → place ≡ rank byte keys
-      → IsFilled (insert keys place byte) (insert (take (length keys) slots) place (Some added) ++ rest)
-      × (keyed_children (insert keys place byte) (insert (take (length keys) slots) place (Some added) ++ rest) ≡ with_child byte added (keyed_children keys slots))
-  keyed-insert byte added [] slots rest place h order absent e = let first : place ≡ 0 = e in rw first (refl, refl)
+  pub keyed-insert : (byte : ℕ) (added : C) (keys : List ℕ) (slots rest : List (Option C))
+      (place : ℕ) → IsFilled keys slots → IsAscending (keyed_children keys slots)
+      → child_at byte (keyed_children keys slots) ≡ None → place ≡ rank byte keys
+      → IsFilled (insert keys place byte)
+      (insert (take (length keys) slots) place (Some added) ++ rest)
+      × (keyed_children (insert keys place byte)
+      (insert (take (length keys) slots) place (Some added) ++ rest)
+      ≡ with_child byte added (keyed_children keys slots))
+  keyed-insert byte added [] slots rest place h order absent e = let first : place ≡ 0 = e in
+      rw first (refl, refl)
   keyed-insert byte added (key ∷ keys) [] rest place h order absent e = cc
   keyed-insert byte added (key ∷ keys) (None ∷ slots) rest place h order absent e = cc
   keyed-insert byte added (key ∷ keys) (Some child ∷ slots) rest place h order absent e =
       elim (cases_lt key byte) [
         | inl less ↦
             let later : place ≡ suc (rank byte keys) = e ∙ rank-later byte key keys less in
-            let absent' : child_at byte (keyed_children keys slots) ≡ None = sym (child_at-later byte key child _ less) ∙ absent in
-            let tail = keyed-insert byte added keys slots rest (rank byte keys) h (ascending_parts (key, child) (keyed_children keys slots) order).1 absent' refl in
-            rw later (tail.0, ap (λ (children : List (ℕ × C)). (key, child) ∷ children) tail.1 ∙ sym (with_child-later byte key added child _ less))
+            let absent' : child_at byte (keyed_children keys slots) ≡ None =
+                sym (child_at-later byte key child _ less) ∙ absent in
+            let tail =
+                keyed-insert byte added keys slots rest (rank byte keys) h
+                (ascending_parts (key, child) (keyed_children keys slots) order).1 absent' refl in
+            rw later (tail.0, ap (λ (children : List (ℕ × C)). (key, child) ∷ children) tail.1
+                ∙ sym (with_child-later byte key added child _ less))
         | inr more ↦
             let first : place ≡ 0 = e ∙ rank-stop byte key child keys slots h order more in
-            let differs : byte ≢ key = λ q. held_and_not child (sym (child_at-here byte key child _ (sym q)) ∙ absent) in
+            let differs : byte ≢ key =
+                λ q. held_and_not child (sym (child_at-here byte key child _ (sym q)) ∙ absent) in
             let tail = keyed-taken (key ∷ keys) (Some child ∷ slots) rest h in
-            rw first (tail.0, ap (λ (children : List (ℕ × C)). (byte, added) ∷ children) tail.1 ∙ sym (with_child-before byte key added child _ (omega (arith, differs))))
+            rw first (tail.0, ap (λ (children : List (ℕ × C)). (byte, added) ∷ children) tail.1
+                ∙ sym (with_child-before byte key added child _ (omega (arith, differs))))
       ]
 
   -- a child written over the one of its byte
-  pub keyed-set : (byte : ℕ) (added : C) (keys : List ℕ) (slots : List (Option C)) (place : ℕ) → IsFilled keys slots → IsAscending (keyed_children keys slots) → place ≡ rank byte keys → place < length keys → get_or keys place 0 ≡ byte
-      → IsFilled keys (set slots place (Some added)) × (keyed_children keys (set slots place (Some added)) ≡ with_child byte added (keyed_children keys slots))
+  pub keyed-set : (byte : ℕ) (added : C) (keys : List ℕ) (slots : List (Option C)) (place : ℕ)
+      → IsFilled keys slots → IsAscending (keyed_children keys slots) → place ≡ rank byte keys
+      → place < length keys → get_or keys place 0 ≡ byte
+      → IsFilled keys (set slots place (Some added))
+      × (keyed_children keys (set slots place (Some added))
+      ≡ with_child byte added (keyed_children keys slots))
   keyed-set byte added [] slots place h order e lt is = absurd (omega arith)
   keyed-set byte added (key ∷ keys) [] place h order e lt is = cc
   keyed-set byte added (key ∷ keys) (None ∷ slots) place h order e lt is = cc
@@ -121,8 +160,12 @@ module _ {C : Type 0} where
         | inl less ↦
             let later : place ≡ suc (rank byte keys) = e ∙ rank-later byte key keys less in
             let is' : get_or keys (rank byte keys) 0 ≡ byte = rw later at is in
-            let tail = keyed-set byte added keys slots (rank byte keys) h (ascending_parts (key, child) (keyed_children keys slots) order).1 refl (omega arith) is' in
-            rw later (tail.0, ap (λ (children : List (ℕ × C)). (key, child) ∷ children) tail.1 ∙ sym (with_child-later byte key added child _ less))
+            let tail =
+                keyed-set byte added keys slots (rank byte keys) h
+                (ascending_parts (key, child) (keyed_children keys slots) order).1 refl
+                (omega arith) is' in
+            rw later (tail.0, ap (λ (children : List (ℕ × C)). (key, child) ∷ children) tail.1
+                ∙ sym (with_child-later byte key added child _ less))
         | inr more ↦
             let first : place ≡ 0 = e ∙ rank-stop byte key child keys slots h order more in
             let is' : key ≡ byte = rw first at is in
@@ -130,9 +173,12 @@ module _ {C : Type 0} where
       ]
 
   -- a byte taken out with its child
-  pub keyed-remove : (byte : ℕ) (keys : List ℕ) (slots rest : List (Option C)) (place : ℕ) → IsFilled keys slots → IsAscending (keyed_children keys slots) → place ≡ rank byte keys → place < length keys → get_or keys place 0 ≡ byte
+  pub keyed-remove : (byte : ℕ) (keys : List ℕ) (slots rest : List (Option C)) (place : ℕ)
+      → IsFilled keys slots → IsAscending (keyed_children keys slots) → place ≡ rank byte keys
+      → place < length keys → get_or keys place 0 ≡ byte
       → IsFilled (remove keys place) (remove (take (length keys) slots) place ++ rest)
-      × (keyed_children (remove keys place) (remove (take (length keys) slots) place ++ rest) ≡ without_child byte (keyed_children keys slots))
+      × (keyed_children (remove keys place) (remove (take (length keys) slots) place ++ rest)
+      ≡ without_child byte (keyed_children keys slots))
   keyed-remove byte [] slots rest place h order e lt is = absurd (omega arith)
   keyed-remove byte (key ∷ keys) [] rest place h order e lt is = cc
   keyed-remove byte (key ∷ keys) (None ∷ slots) rest place h order e lt is = cc
@@ -142,18 +188,28 @@ module _ {C : Type 0} where
         | inl less ↦
             let later : place ≡ suc (rank byte keys) = e ∙ rank-later byte key keys less in
             let is' : get_or keys (rank byte keys) 0 ≡ byte = rw later at is in
-            let tail = keyed-remove byte keys slots rest (rank byte keys) h parts.1 refl (omega arith) is' in
+            let tail =
+                keyed-remove byte keys slots rest (rank byte keys) h parts.1 refl
+                (omega arith) is' in
             let differs : key ≢ byte = omega arith in
-            rw later (tail.0, ap (λ (children : List (ℕ × C)). (key, child) ∷ children) tail.1 ∙ sym (without_child-other byte key child _ differs))
+            rw later (tail.0, ap (λ (children : List (ℕ × C)). (key, child) ∷ children) tail.1
+                ∙ sym (without_child-other byte key child _ differs))
         | inr more ↦
             let first : place ≡ 0 = e ∙ rank-stop byte key child keys slots h order more in
             let is' : key ≡ byte = rw first at is in
             let tail = keyed-taken keys slots rest h in
-            rw first (tail.0, tail.1 ∙ (sym (without_child-below byte (keyed_children keys slots) (below_lower byte key (keyed_children keys slots) more parts.0)) ∙ sym (without_child-here byte key child _ is')))
+            rw first (tail.0, tail.1 ∙ (sym
+                (without_child-below byte (keyed_children keys slots)
+                (below_lower byte key (keyed_children keys slots) more parts.0))
+                ∙ sym (without_child-here byte key child _ is')))
       ]
 
   -- the child of the least byte that is not below a number stands at the rank of that number
-  pub children_from-rank : (from : ℕ) (child : C) (keys : List ℕ) (slots : List (Option C)) → IsFilled keys slots → IsAscending (keyed_children keys slots) → rank from keys < length keys → get_or slots (rank from keys) None ≡ Some child → first_of (children_from from (keyed_children keys slots)) ≡ Some (get_or keys (rank from keys) 0, child)
+  pub children_from-rank : (from : ℕ) (child : C) (keys : List ℕ) (slots : List (Option C))
+      → IsFilled keys slots → IsAscending (keyed_children keys slots) → rank from keys < length keys
+      → get_or slots (rank from keys) None ≡ Some child
+      → first_of (children_from from (keyed_children keys slots))
+      ≡ Some (get_or keys (rank from keys) 0, child)
   children_from-rank from child [] slots h order lt is = absurd (omega arith)
   children_from-rank from child (key ∷ keys) [] h order lt is = cc
   children_from-rank from child (key ∷ keys) (None ∷ slots) h order lt is = cc
@@ -162,28 +218,40 @@ module _ {C : Type 0} where
         | inl less ↦
             let later = rank-later from key keys less in
             let is' : get_or slots (rank from keys) None ≡ Some child = rw later at is in
-            rw later (ap (λ (children : List (ℕ × C)). first_of children) (children_from-passed from (key, held) _ less) ∙ children_from-rank from child keys slots h (ascending_parts (key, held) (keyed_children keys slots) order).1 (omega (arith, later)) is')
+            rw later (ap (λ (children : List (ℕ × C)). first_of children)
+                (children_from-passed from (key, held) _ less)
+                ∙ children_from-rank from child keys slots h
+                (ascending_parts (key, held) (keyed_children keys slots) order).1
+                (omega (arith, later)) is')
         | inr more ↦
             let stop = rank-stop from key held keys slots h order more in
             let is' : Some held ≡ Some child = rw stop at is in
             let same : held ≡ child = cc in
-            rw stop (children_from-kept from (key, held) _ more ∙ ap (λ (c : C). Some (key, c)) same)
+            rw stop (children_from-kept from (key, held) _ more
+                ∙ ap (λ (c : C). Some (key, c)) same)
       ]
 
-  pub children_from-past : (from : ℕ) (keys : List ℕ) (slots : List (Option C)) → IsFilled keys slots → length keys ≤ rank from keys → first_of (children_from from (keyed_children keys slots)) ≡ None
+  pub children_from-past : (from : ℕ) (keys : List ℕ) (slots : List (Option C))
+      → IsFilled keys slots → length keys ≤ rank from keys
+      → first_of (children_from from (keyed_children keys slots)) ≡ None
   children_from-past from [] slots h le = refl
   children_from-past from (key ∷ keys) [] h le = cc
   children_from-past from (key ∷ keys) (None ∷ slots) h le = cc
   children_from-past from (key ∷ keys) (Some held ∷ slots) h le =
       elim (cases_lt key from) [
-        | inl less ↦ ap (λ (children : List (ℕ × C)). first_of children) (children_from-passed from (key, held) _ less) ∙ children_from-past from keys slots h (omega (arith, rank-later from key keys less))
-        | inr more ↦ absurd (omega (arith, rank-skip from key keys more, count_by-le-length (λ k. nat_lt k from) keys))
+        | inl less ↦ ap (λ (children : List (ℕ × C)). first_of children)
+        (children_from-passed from (key, held) _ less)
+        ∙ children_from-past from keys slots h (omega (arith, rank-later from key keys less))
+        | inr more ↦ absurd (omega (arith, rank-skip from key keys more,
+        count_by-le-length (λ k. nat_lt k from) keys))
       ]
 
   -- each key has its child beside it
-  pub held_beside : (keys : List ℕ) (slots : List (Option C)) (place : ℕ) → IsFilled keys slots → place < length keys → get_or slots place None ≢ None
+  pub held_beside : (keys : List ℕ) (slots : List (Option C)) (place : ℕ) → IsFilled keys slots
+      → place < length keys → get_or slots place None ≢ None
   held_beside [] slots place h lt = absurd (omega arith)
   held_beside (key ∷ keys) [] place h lt = cc
   held_beside (key ∷ keys) (None ∷ slots) place h lt = cc
   held_beside (key ∷ keys) (Some child ∷ slots) zero h lt = λ q. cc
-  held_beside (key ∷ keys) (Some child ∷ slots) (suc place) h lt = held_beside keys slots place h (omega arith)
+  held_beside (key ∷ keys) (Some child ∷ slots) (suc place) h lt =
+      held_beside keys slots place h (omega arith)

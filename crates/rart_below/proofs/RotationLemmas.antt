@@ -29,7 +29,8 @@ module _ {X : Type 0} where
   past_part (suc m) (y ∷ ys) x = past_part m ys x
 
   turned_in : (place len m : ℕ) (xs ys : List X) (x : X) → len ≡ m + place → len < length xs
-      → ys ≡ drop m (take (suc m) (drop place (set xs len x))) ++ take m (take (suc m) (drop place (set xs len x)))
+      → ys ≡ drop m (take (suc m) (drop place (set xs len x)))
+      ++ take m (take (suc m) (drop place (set xs len x)))
       → put_mid place (suc m) (set xs len x) ys ≡ insert (take len xs) place x ++ drop (suc len) xs
   turned_in zero len m xs ys x e lt is =
       let here : len ≡ m = omega arith in
@@ -37,24 +38,33 @@ module _ {X : Type 0} where
       rw (is, here, last_of_part m xs x lt', front_of_part m xs x, past_part m xs x) refl
   turned_in (suc place) zero m xs ys x e lt is = absurd (omega arith)
   turned_in (suc place) (suc len) m [] ys x e lt is = absurd (omega arith)
-  turned_in (suc place) (suc len) m (z ∷ zs) ys x e lt is = ap (λ (l : List X). z ∷ l) (turned_in place len m zs ys x (omega arith) (omega arith) is)
+  turned_in (suc place) (suc len) m (z ∷ zs) ys x e lt is =
+      ap (λ (l : List X). z ∷ l) (turned_in place len m zs ys x (omega arith) (omega arith) is)
 
   -- the last one of a part, just written, comes to its front
   pub inserted : (place len : ℕ) (xs ys : List X) (x : X) → place ≤ len → len < length xs
-      → ys ≡ drop (length (take (len + 1 - place) (drop place (set xs len x))) - 1) (take (len + 1 - place) (drop place (set xs len x)))
-      ++ take (length (take (len + 1 - place) (drop place (set xs len x))) - 1) (take (len + 1 - place) (drop place (set xs len x)))
-      → put_mid place (len + 1 - place) (set xs len x) ys ≡ insert (take len xs) place x ++ drop (len + 1) xs
+      → ys ≡ drop (length (take (len + 1 - place) (drop place (set xs len x))) - 1)
+      (take (len + 1 - place) (drop place (set xs len x)))
+      ++ take (length (take (len + 1 - place) (drop place (set xs len x))) - 1)
+      (take (len + 1 - place) (drop place (set xs len x)))
+      → put_mid place (len + 1 - place) (set xs len x) ys ≡ insert (take len xs) place x
+      ++ drop (len + 1) xs
   inserted place len xs ys x le lt is =
       let count : len + 1 - place ≡ suc (len - place) = omega arith in
-      let long : suc (len - place) ≤ length (drop place (set xs len x)) = omega (arith, length-drop place (set xs len x), length-set xs len x) in
-      let is' = rw (count, length-take-le (suc (len - place)) (drop place (set xs len x)) long) at is in
+      let long : suc (len - place) ≤ length (drop place (set xs len x)) =
+          omega (arith, length-drop place (set xs len x), length-set xs len x) in
+      let is' =
+          rw (count, length-take-le (suc (len - place)) (drop place (set xs len x)) long) at is in
       let less : suc (len - place) - 1 ≡ len - place = omega arith in
-      rw (count, add-one) (turned_in place len (len - place) xs ys x (omega arith) lt (rw less at is'))
+      rw (count, add-one) (turned_in place len (len - place) xs ys x (omega arith) lt
+          (rw less at is'))
 
   -- the first one of a part, just written, goes to its end
   turned_out : (place len : ℕ) (xs ys : List X) (x : X) → place < len → place < length xs
-      → ys ≡ drop 1 (take (len - place) (drop place (set xs place x))) ++ take 1 (take (len - place) (drop place (set xs place x)))
-      → put_mid place (len - place) (set xs place x) ys ≡ remove (take len xs) place ++ x ∷ drop len xs
+      → ys ≡ drop 1 (take (len - place) (drop place (set xs place x)))
+      ++ take 1 (take (len - place) (drop place (set xs place x)))
+      → put_mid place (len - place) (set xs place x) ys ≡ remove (take len xs) place
+      ++ x ∷ drop len xs
   turned_out place zero xs ys x lt within is = absurd (omega arith)
   turned_out place (suc len) [] ys x lt within is = absurd (omega arith)
   turned_out zero (suc len) (z ∷ zs) ys x lt within is =
@@ -62,9 +72,12 @@ module _ {X : Type 0} where
       rw (is, whole) (append_assoc (take len zs) (x ∷ []) (drop len zs))
   turned_out (suc place) (suc len) (z ∷ zs) ys x lt within is =
       let less : suc len - suc place ≡ len - place = omega arith in
-      rw less (ap (λ (l : List X). z ∷ l) (turned_out place len zs ys x (omega arith) (omega arith) (rw less at is)))
+      rw less (ap (λ (l : List X). z ∷ l)
+          (turned_out place len zs ys x (omega arith) (omega arith) (rw less at is)))
 
   pub taken_out : (place len : ℕ) (xs ys : List X) (x : X) → place < len → len ≤ length xs
-      → ys ≡ drop 1 (take (len - place) (drop place (set xs place x))) ++ take 1 (take (len - place) (drop place (set xs place x)))
-      → put_mid place (len - place) (set xs place x) ys ≡ remove (take len xs) place ++ x ∷ drop len xs
+      → ys ≡ drop 1 (take (len - place) (drop place (set xs place x)))
+      ++ take 1 (take (len - place) (drop place (set xs place x)))
+      → put_mid place (len - place) (set xs place x) ys ≡ remove (take len xs) place
+      ++ x ∷ drop len xs
   taken_out place len xs ys x lt le is = turned_out place len xs ys x lt (omega arith) is

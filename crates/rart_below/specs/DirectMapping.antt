@@ -9,4 +9,5 @@ module _ {C : Type 0} where
 
   -- whether there is a slot for each byte, and the count is that of the children
   abbrev pub direct_in_order : DirectMapping C → Bool
-  direct_in_order mapping = length mapping.children.slots == 256 && mapping.count == length (direct_children mapping)
+  direct_in_order mapping =
+      length mapping.children.slots == 256 && mapping.count == length (direct_children mapping)

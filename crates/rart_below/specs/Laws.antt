@@ -1,4 +1,5 @@
--- The laws of the mappings: a mapping in order shows ascending children, and no more than its width.
+-- The laws of the mappings: a mapping in order shows ascending children, and no more than its
+-- width.
 use Rattle.std.proofs.Common.{◌≡◌, ◌<◌, ◌≤◌, suc-le-suc, ℕ, suc, true, List, [], ◌∷◌, length, refl, ap, sym, subst, Option, Some, None}
 use Rattle.std.proofs.Math.Nat.{le_refl, le_trans, le-suc}
 use Rattle.std.specs.Prelude.{IsTrue, nat_le, ◌==◌, ◌&&◌}
@@ -22,57 +23,99 @@ module _ {C : Type 0} where
   abbrev pub IsBelow : ℕ → List (ℕ × C) → Type 0
   IsBelow byte children = below_all nat_cmp byte children ≡ true
 
-  pub below_from : (byte : ℕ) (child : ℕ × C) (children : List (ℕ × C)) → byte < child.0 → IsBelow byte children → IsBelow byte (child ∷ children)
-  below_from byte child children lt below = and_from (is_lt (nat_cmp byte child.0)) (below_all nat_cmp byte children) (ap is_lt (sym (nat_cmp_is byte child.0 Less lt))) below
+  pub below_from : (byte : ℕ) (child : ℕ × C) (children : List (ℕ × C)) → byte < child.0
+      → IsBelow byte children → IsBelow byte (child ∷ children)
+  below_from byte child children lt below =
+      and_from (is_lt (nat_cmp byte child.0)) (below_all nat_cmp byte children)
+      (ap is_lt (sym (nat_cmp_is byte child.0 Less lt))) below
 
-  pub ascending_from : (child : ℕ × C) (children : List (ℕ × C)) → IsBelow child.0 children → IsAscending children → IsAscending (child ∷ children)
-  ascending_from child children below rest = and_from (below_all nat_cmp child.0 children) (is_sorted nat_cmp children) below rest
+  pub ascending_from : (child : ℕ × C) (children : List (ℕ × C)) → IsBelow child.0 children
+      → IsAscending children → IsAscending (child ∷ children)
+  ascending_from child children below rest =
+      and_from (below_all nat_cmp child.0 children) (is_sorted nat_cmp children) below rest
 
-  pub length-keyed_children : (keys : List ℕ) (slots : List (Option C)) → is_filled keys slots ≡ true → length (keyed_children keys slots) ≡ length keys
+  pub length-keyed_children : (keys : List ℕ) (slots : List (Option C))
+      → is_filled keys slots ≡ true → length (keyed_children keys slots) ≡ length keys
   length-keyed_children [] slots filled = refl
   length-keyed_children (key ∷ keys) [] filled = absurd (false≢true filled)
   length-keyed_children (key ∷ keys) (None ∷ slots) filled = absurd (false≢true filled)
-  length-keyed_children (key ∷ keys) (Some child ∷ slots) filled = ap suc (length-keyed_children keys slots filled)
+  length-keyed_children (key ∷ keys) (Some child ∷ slots) filled =
+      ap suc (length-keyed_children keys slots filled)
 
-  pub slots-below : (byte first : ℕ) (slots : List (Option C)) → byte < first → IsBelow byte (slot_children first slots)
+  pub slots-below : (byte first : ℕ) (slots : List (Option C)) → byte < first
+      → IsBelow byte (slot_children first slots)
   slots-below byte first [] lt = refl
-  slots-below byte first (None ∷ slots) lt = slots-below byte (suc first) slots (le_trans lt (le-suc first))
-  slots-below byte first (Some child ∷ slots) lt = below_from byte (first, child) (slot_children (suc first) slots) lt (slots-below byte (suc first) slots (le_trans lt (le-suc first)))
+  slots-below byte first (None ∷ slots) lt =
+      slots-below byte (suc first) slots (le_trans lt (le-suc first))
+  slots-below byte first (Some child ∷ slots) lt =
+      below_from byte (first, child) (slot_children (suc first) slots) lt
+      (slots-below byte (suc first) slots (le_trans lt (le-suc first)))
 
-  pub slots-ascending : (first : ℕ) (slots : List (Option C)) → IsAscending (slot_children first slots)
+  pub slots-ascending : (first : ℕ) (slots : List (Option C))
+      → IsAscending (slot_children first slots)
   slots-ascending first [] = refl
   slots-ascending first (None ∷ slots) = slots-ascending (suc first) slots
-  slots-ascending first (Some child ∷ slots) = ascending_from (first, child) (slot_children (suc first) slots) (slots-below first (suc first) slots (le_refl (suc first))) (slots-ascending (suc first) slots)
+  slots-ascending first (Some child ∷ slots) =
+      ascending_from (first, child) (slot_children (suc first) slots)
+      (slots-below first (suc first) slots (le_refl (suc first)))
+      (slots-ascending (suc first) slots)
 
-  pub length-slot_children : (first : ℕ) (slots : List (Option C)) → length (slot_children first slots) ≤ length slots
+  pub length-slot_children : (first : ℕ) (slots : List (Option C))
+      → length (slot_children first slots) ≤ length slots
   length-slot_children first [] = le_refl 0
-  length-slot_children first (None ∷ slots) = le_trans (length-slot_children (suc first) slots) (le-suc (length slots))
-  length-slot_children first (Some child ∷ slots) = suc-le-suc (length-slot_children (suc first) slots)
+  length-slot_children first (None ∷ slots) =
+      le_trans (length-slot_children (suc first) slots) (le-suc (length slots))
+  length-slot_children first (Some child ∷ slots) =
+      suc-le-suc (length-slot_children (suc first) slots)
 
-  pub direct-ascending : (mapping : DirectMapping C) → IsTrue (direct_in_order mapping) → IsAscending (direct_children mapping)
+  pub direct-ascending : (mapping : DirectMapping C) → IsTrue (direct_in_order mapping)
+      → IsAscending (direct_children mapping)
   direct-ascending mapping order = slots-ascending 0 mapping.children.slots
 
-  pub direct-fits : (mapping : DirectMapping C) → IsTrue (direct_in_order mapping) → length (direct_children mapping) ≤ 256
+  pub direct-fits : (mapping : DirectMapping C) → IsTrue (direct_in_order mapping)
+      → length (direct_children mapping) ≤ 256
   direct-fits mapping order =
-      let parts = and_parts (length mapping.children.slots == 256) (mapping.count == length (direct_children mapping)) order in
-      subst (λ (width : ℕ). length (direct_children mapping) ≤ width) (eqb-true (length mapping.children.slots) 256 parts.0) (length-slot_children 0 mapping.children.slots)
+      let parts =
+          and_parts (length mapping.children.slots == 256)
+          (mapping.count == length (direct_children mapping)) order in
+      subst (λ (width : ℕ). length (direct_children mapping) ≤ width)
+          (eqb-true (length mapping.children.slots) 256 parts.0)
+          (length-slot_children 0 mapping.children.slots)
 
-  pub indexed-ascending : (mapping : IndexedMapping C) → IsTrue (indexed_in_order mapping) → IsAscending (indexed_children mapping)
-  indexed-ascending mapping order = slots-ascending 0 (named_slots mapping.children.slots mapping.index)
+  pub indexed-ascending : (mapping : IndexedMapping C) → IsTrue (indexed_in_order mapping)
+      → IsAscending (indexed_children mapping)
+  indexed-ascending mapping order =
+      slots-ascending 0 (named_slots mapping.children.slots mapping.index)
 
-  pub indexed-fits : (mapping : IndexedMapping C) → IsTrue (indexed_in_order mapping) → length (indexed_children mapping) ≤ 48
+  pub indexed-fits : (mapping : IndexedMapping C) → IsTrue (indexed_in_order mapping)
+      → length (indexed_children mapping) ≤ 48
   indexed-fits mapping order =
-      let parts = and_parts (length mapping.index == 256 && length mapping.children.slots == 48 && mapping.used == marks_of mapping.children.slots) (is_named_once 0 mapping.children.slots mapping.index) order in
-      let lists = and_parts (length mapping.index == 256 && length mapping.children.slots == 48) (mapping.used == marks_of mapping.children.slots) parts.0 in
-      let slots = and_parts (length mapping.index == 256) (length mapping.children.slots == 48) lists.0 in
-      subst (λ (count : ℕ). count ≤ 48) (sym (length-named_slots mapping.children.slots mapping.index parts.1))
-      (subst (λ (width : ℕ). length (slot_children 0 mapping.children.slots) ≤ width) (eqb-true (length mapping.children.slots) 48 slots.1) (length-slot_children 0 mapping.children.slots))
+      let parts =
+          and_parts (length mapping.index == 256 && length mapping.children.slots == 48
+          && mapping.used == marks_of mapping.children.slots)
+          (is_named_once 0 mapping.children.slots mapping.index) order in
+      let lists =
+          and_parts (length mapping.index == 256 && length mapping.children.slots == 48)
+          (mapping.used == marks_of mapping.children.slots) parts.0 in
+      let slots =
+          and_parts (length mapping.index == 256) (length mapping.children.slots == 48) lists.0 in
+      subst (λ (count : ℕ). count ≤ 48)
+          (sym (length-named_slots mapping.children.slots mapping.index parts.1))
+      (subst (λ (width : ℕ). length (slot_children 0 mapping.children.slots) ≤ width)
+          (eqb-true (length mapping.children.slots) 48 slots.1)
+          (length-slot_children 0 mapping.children.slots))
 
 module _ {C : Type 0} {WIDTH : ℕ} where
-  pub sorted-ascending : (mapping : SortedKeyedMapping C WIDTH) → IsTrue (sorted_in_order mapping) → IsAscending (sorted_children mapping)
+  pub sorted-ascending : (mapping : SortedKeyedMapping C WIDTH) → IsTrue (sorted_in_order mapping)
+      → IsAscending (sorted_children mapping)
   sorted-ascending mapping order = (and_parts _ _ order).1
 
-  pub sorted-fits : (mapping : SortedKeyedMapping C WIDTH) → IsTrue (sorted_in_order mapping) → length (sorted_children mapping) ≤ WIDTH
+  pub sorted-fits : (mapping : SortedKeyedMapping C WIDTH) → IsTrue (sorted_in_order mapping)
+      → length (sorted_children mapping) ≤ WIDTH
   sorted-fits mapping order =
-      let parts = and_parts (nat_le (length mapping.keys.items) WIDTH) (is_filled mapping.keys.items mapping.children.slots) (and_parts _ _ order).0 in
-      subst (λ (count : ℕ). count ≤ WIDTH) (sym (length-keyed_children mapping.keys.items mapping.children.slots parts.1)) (leb-true (length mapping.keys.items) WIDTH parts.0)
+      let parts =
+          and_parts (nat_le (length mapping.keys.items) WIDTH)
+          (is_filled mapping.keys.items mapping.children.slots) (and_parts _ _ order).0 in
+      subst (λ (count : ℕ). count ≤ WIDTH)
+          (sym (length-keyed_children mapping.keys.items mapping.children.slots parts.1))
+          (leb-true (length mapping.keys.items) WIDTH parts.0)

@@ -10,7 +10,8 @@ entry_copied (Some entry) = Some (entry.0, entry.1.now)
 
 -- the same bytes, with children that the relation ties
 abbrev pub SameBytes : {C : Type 0} → (C → C → Type 0) → List (ℕ × C) → List (ℕ × C) → Type 0
-SameBytes Tied children copies = AllZip (λ child copy. (copy.0 ≡ child.0) × Tied child.1 copy.1) children copies
+SameBytes Tied children copies =
+    AllZip (λ child copy. (copy.0 ≡ child.0) × Tied child.1 copy.1) children copies
 
 -- how many of the keys are below the byte. Where the keys ascend this is the byte's place
 abbrev pub rank : ℕ → List ℕ → ℕ
@@ -63,7 +64,9 @@ marks_of (slot ∷ slots) = one_if_some slot + 2 * marks_of slots
 abbrev pub names_of : ℕ → List ℕ → ℕ
 names_of place index = count_by (λ entry. entry == place) index
 
--- whether the index names each slot that is in use once and the others never, where the first slot has this number
+-- whether the index names each slot that is in use once and the others never, where the first slot
+-- has this number
 abbrev pub is_named_once : {C : Type 0} → ℕ → List (Option C) → List ℕ → Bool
 is_named_once first [] index = true
-is_named_once first (slot ∷ slots) index = names_of first index == one_if_some slot && is_named_once (suc first) slots index
+is_named_once first (slot ∷ slots) index =
+    names_of first index == one_if_some slot && is_named_once (suc first) slots index

@@ -11,4 +11,7 @@ module _ {C : Type 0} {WIDTH : ℕ} where
 
   -- whether the keys fit, each has its child beside it, and they strictly rise
   abbrev pub sorted_in_order : SortedKeyedMapping C WIDTH → Bool
-  sorted_in_order mapping = nat_le (length mapping.keys.items) WIDTH && is_filled mapping.keys.items mapping.children.slots && is_sorted nat_cmp (sorted_children mapping)
+  sorted_in_order mapping =
+      nat_le (length mapping.keys.items) WIDTH
+      && is_filled mapping.keys.items mapping.children.slots
+      && is_sorted nat_cmp (sorted_children mapping)

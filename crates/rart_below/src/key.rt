@@ -34,7 +34,8 @@ pub trait KeyTrait: Eq + Ord + Drop {
     /// The bytes from `depth` on.
     fn to_partial(&self, alloc: Global, depth: usize) -> Result<Self::PartialType, AllocError>
         requires { depth ≤ length (bytes self.now) }
-        ensures { IfOk result (λ partial. Self.PartialType.bytes partial ≡ drop depth (bytes self.now)) };
+        ensures { IfOk result (λ partial. Self.PartialType.bytes partial
+            ≡ drop depth (bytes self.now)) };
 
     fn as_ref(&self) -> &[u8]
         ensures { result.now ≡ bytes self.now };

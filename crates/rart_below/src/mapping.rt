@@ -40,7 +40,8 @@ pub trait NodeMapping<C: Drop> {
     /// The child under the byte, for writing. The mapping then has that child as it was left.
     fn seek_child_mut(&mut self, byte: u8) -> Option<&mut C>
         requires { IsTrue (in_order self.old) }
-        ensures* writes_back { sem 𝓛 (LendsChild Self.row C.row in_order children self.entry byte result) }
+        ensures* writes_back { sem 𝓛 (LendsChild Self.row C.row in_order children self.entry byte
+            result) }
         ensures value { option_copied_mut result ≡ child_at byte (children self.old) };
 
     /// The number of children.
@@ -79,7 +80,9 @@ pub trait NodeMapping<C: Drop> {
         requires { IsTrue (in_order self.now) }
         ensures { entry_copied result ≡ first_of (children_from from (children self.now)) };
 
-    ghost ascending: { (mapping : Self) → IsTrue (in_order mapping) → IsAscending (children mapping) };
+    ghost ascending: { (mapping : Self) → IsTrue (in_order mapping)
+        → IsAscending (children mapping) };
 
-    ghost fits: { (mapping : Self) → IsTrue (in_order mapping) → length (children mapping) ≤ width };
+    ghost fits: { (mapping : Self) → IsTrue (in_order mapping)
+        → length (children mapping) ≤ width };
 }

@@ -7,7 +7,12 @@ ghost use Rattle.rart_below.specs.Bytes.{common_length};
 ///
 /// Where both are long enough, blocks of bytes are compared as numbers first, and only the bytes
 /// behind them one by one.
-#[tactic(auto, using(crate::proofs::CommonLengthLemmas::common_step, crate::proofs::CommonLengthLemmas::common_stop, crate::proofs::CommonLengthLemmas::common_stop_left, crate::proofs::CommonLengthLemmas::common_stop_right))]
+#[tactic(auto, using(
+    crate::proofs::CommonLengthLemmas::common_step,
+    crate::proofs::CommonLengthLemmas::common_stop,
+    crate::proofs::CommonLengthLemmas::common_stop_left,
+    crate::proofs::CommonLengthLemmas::common_stop_right
+))]
 pub(crate) fn prefix_length(left: &[u8], right: &[u8]) -> usize
     ensures { result ≡ common_length left.now right.now }
 {
@@ -29,7 +34,8 @@ pub(crate) fn prefix_length(left: &[u8], right: &[u8]) -> usize
 fn equal_blocks(left: &[u8], right: &[u8]) -> usize
     ensures in_left { result ≤ length left.now }
     ensures in_right { result ≤ length right.now }
-    ensures equal { result + common_length (drop result left.now) (drop result right.now) ≡ common_length left.now right.now }
+    ensures equal { result + common_length (drop result left.now) (drop result right.now)
+        ≡ common_length left.now right.now }
 {
     let shorter = left.len().min(right.len());
     let mut matched = 0;

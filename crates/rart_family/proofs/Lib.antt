@@ -1,7 +1,7 @@
 pub mod LawLemmas
 pub mod PlaceLemmas
 pub mod RunLemmas
-pub mod SlotLemmas
+pub mod WritingLemmas
 pub mod WantLemmas
 pub mod WorkedCostLemmas
 pub mod WorkedRunLemmas

@@ -6,6 +6,6 @@ pub mod Laws
 pub mod PlaceChanges
 pub mod Replies
 pub mod Runs
-pub mod Slots
+pub mod Writing
 pub mod WorkedCosts
 pub mod WorkedRuns

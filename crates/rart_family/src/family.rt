@@ -14,7 +14,7 @@ mod changes;
 mod command;
 mod reads;
 mod reply;
-mod slot;
+mod writing;
 mod updates;
 mod versions;
 

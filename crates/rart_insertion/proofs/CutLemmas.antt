@@ -1,4 +1,5 @@
--- A node that is cut inside its prefix, and what is put into a node as far as its prefix is matched.
+-- A node that is cut inside its prefix, and what is put into a node as far as its prefix is
+-- matched.
 use Rattle.std.proofs.Common.{◌≡◌, ℕ, ◌<◌, List, [], ◌∷◌, ◌++◌, Option, Some, None, slice_get, length, take, drop, cond, Bool, true, false, refl, sym, ap, subst, ◌∙◌}
 use Rattle.std.specs.Prelude.{◌==◌, slice_index_or}
 use Rattle.std.specs.Option.{option_and_then}
@@ -14,40 +15,64 @@ use Rattle.rart_shape.proofs.PairLemmas.{found-empty, found-other}
 use Rattle.rart_shape.proofs.InsertionLemmas.{inside}
 
 module _ {V : Type 0} where
-  pub cut-tree : (s : Shape V) (at : ℕ) → IsTree s → at < length (prefix_of s) → IsTree (cut_at at s)
-  cut-tree (node prefix value width forest) at tree lt = (refl, (begins-drop prefix at lt, tree, tt), refl)
+  pub cut-tree : (s : Shape V) (at : ℕ) → IsTree s → at < length (prefix_of s)
+      → IsTree (cut_at at s)
+  cut-tree (node prefix value width forest) at tree lt =
+      (refl, (begins-drop prefix at lt, tree, tt), refl)
 
-  only-child : (byte : ℕ) (child : Shape V) (q : List ℕ) → BeginsWith byte (prefix_of child) → inside None (grown byte child bare) q ≡ found child q
+  only-child : (byte : ℕ) (child : Shape V) (q : List ℕ) → BeginsWith byte (prefix_of child)
+      → inside None (grown byte child bare) q ≡ found child q
   only-child byte child [] begins = sym (found-empty child byte begins)
   only-child byte child (c ∷ q) begins =
-      let P : Bool → Type 0 = λ t. (c == byte) ≡ t → cond t (found child (c ∷ q)) None ≡ found child (c ∷ q) in
-      let both : (t : Bool) → P t = elim [ true ↦ (λ same. refl) | false ↦ (λ differs. sym (found-other child byte c q begins differs)) ] in
+      let P : Bool → Type 0 =
+          λ t. (c == byte) ≡ t → cond t (found child (c ∷ q)) None ≡ found child (c ∷ q) in
+      let both : (t : Bool) → P t =
+          elim [ true ↦ (λ same. refl) | false ↦
+          (λ differs. sym (found-other child byte c q begins differs)) ] in
       both (c == byte) refl
 
-  along : (o : Option (List ℕ)) (p : List ℕ) (value : Option V) (width byte : ℕ) (forest : Forest V) → BeginsWith byte p
-      → option_and_then (inside None (grown byte (node p value width forest) bare)) o ≡ option_and_then (inside value forest) (option_and_then (strip_prefix p) o)
+  along : (o : Option (List ℕ)) (p : List ℕ) (value : Option V) (width byte : ℕ) (forest : Forest V)
+      → BeginsWith byte p
+      → option_and_then (inside None (grown byte (node p value width forest) bare)) o
+      ≡ option_and_then (inside value forest) (option_and_then (strip_prefix p) o)
   along None p value width byte forest begins = refl
-  along (Some rest) p value width byte forest begins = only-child byte (node p value width forest) rest begins
+  along (Some rest) p value width byte forest begins =
+      only-child byte (node p value width forest) rest begins
 
-  pub cut-found : (s : Shape V) (at : ℕ) (q : List ℕ) → at < length (prefix_of s) → found (cut_at at s) q ≡ found s q
+  pub cut-found : (s : Shape V) (at : ℕ) (q : List ℕ) → at < length (prefix_of s)
+      → found (cut_at at s) q ≡ found s q
   cut-found (node prefix value width forest) at q lt =
-      along (strip_prefix (take at prefix) q) (drop at prefix) value width (slice_index_or prefix at 0) forest (begins-drop prefix at lt)
-      ∙ ap (option_and_then (inside value forest)) (sym (behind-append (take at prefix) (drop at prefix) q))
-      ∙ ap (λ z. option_and_then (inside value forest) (strip_prefix z q)) (take-append-drop at prefix)
+      along (strip_prefix (take at prefix) q) (drop at prefix) value width
+          (slice_index_or prefix at 0) forest (begins-drop prefix at lt)
+      ∙ ap (option_and_then (inside value forest))
+      (sym (behind-append (take at prefix) (drop at prefix) q))
+      ∙ ap (λ z. option_and_then (inside value forest) (strip_prefix z q))
+      (take-append-drop at prefix)
 
-  -- Under the next byte of a string that leaves the prefix, the node that was cut there has no child.
-  pub cut-absent : (s : Shape V) (at : ℕ) (key : List ℕ) (byte : ℕ) → at ≡ common_length (prefix_of s) key → at < length (prefix_of s) → slice_get (drop at key) 0 ≡ Some byte → child_at byte (children_of (cut_at at s)) ≡ None
+  -- Under the next byte of a string that leaves the prefix, the node that was cut there has no
+  -- child.
+  pub cut-absent : (s : Shape V) (at : ℕ) (key : List ℕ) (byte : ℕ)
+      → at ≡ common_length (prefix_of s) key → at < length (prefix_of s)
+      → slice_get (drop at key) 0 ≡ Some byte → child_at byte (children_of (cut_at at s)) ≡ None
   cut-absent (node prefix value width forest) at key byte is lt next =
-      let Differs : ℕ → Type 0 = λ z. z < length prefix → slice_get (drop z key) 0 ≡ Some byte → (byte == slice_index_or prefix z 0) ≡ false in
-      rw (unsigned_tied byte (slice_index_or prefix at 0), subst Differs (sym is) (differs-strip_prefix prefix key byte) lt next) refl
+      let Differs : ℕ → Type 0 = λ z. z < length prefix → slice_get (drop z key) 0 ≡ Some byte
+          → (byte == slice_index_or prefix z 0) ≡ false in
+      rw (unsigned_tied byte (slice_index_or prefix at 0),
+          subst Differs (sym is) (differs-strip_prefix prefix key byte) lt next) refl
 
   -- what is put into the node that was cut where the key leaves its prefix
-  pub put-cut : (s after : Shape V) (at : ℕ) (key : List ℕ) (value : V) → at ≡ common_length (prefix_of s) key → at < length (prefix_of s) → IsPut (prefix_of (cut_at at s) ++ drop at key) value (cut_at at s) after → IsPut key value s after
+  pub put-cut : (s after : Shape V) (at : ℕ) (key : List ℕ) (value : V)
+      → at ≡ common_length (prefix_of s) key → at < length (prefix_of s)
+      → IsPut (prefix_of (cut_at at s) ++ drop at key) value (cut_at at s) after
+      → IsPut key value s after
   put-cut (node prefix old width forest) after at key value is lt puts =
       let s = node prefix old width forest in
-      let whole : take at prefix ++ drop at key ≡ key = subst (λ z. take z prefix ++ drop z key ≡ key) (sym is) (sym (split-common prefix key)) in
+      let whole : take at prefix ++ drop at key ≡ key =
+          subst (λ z. take z prefix ++ drop z key ≡ key) (sym is) (sym (split-common prefix key)) in
       let same = subst (λ z. IsPut z value (cut_at at s) after) whole puts in (
         same.0,
         (λ q. same.1 q ∙ ap (cond (bytes_eq q key) (Some value)) (cut-found s at q lt)),
-        λ byte begins also. same.2 byte (subst (λ z. BeginsWith byte (take z prefix)) (sym is) (begins-common prefix key byte begins also)) also,
+        λ byte begins also. same.2 byte
+            (subst (λ z. BeginsWith byte (take z prefix)) (sym is)
+            (begins-common prefix key byte begins also)) also,
       )

@@ -35,14 +35,16 @@ pub fn insert_below<K: KeyTrait, V: Clone + Drop>(
         (pointer_shape K.PartialType.bytes at.old) (pointer_shape K.PartialType.bytes at.new)) }
     ensures replaced { IfOk result (λ old. old ≡ found (pointer_shape K.PartialType.bytes at.old)
         (drop depth (K.bytes key.now))) }
-    ensures refused { OnErr result (pointer_shape K.PartialType.bytes at.new ≡ pointer_shape K.PartialType.bytes
+    ensures refused { OnErr result
+        (pointer_shape K.PartialType.bytes at.new ≡ pointer_shape K.PartialType.bytes
         at.old) }
     ensures counted { CountsUpTo (path_bound (pointer_shape K.PartialType.bytes at.old)
         (drop depth (K.bytes key.now))) (length (drop depth (K.bytes key.now)) + 2) work.old
         work.new }
     ensures entered { work.old.entered < work.new.entered }
     ensures made { work.old.made < work.new.made }
-    ensures made_below { (byte : ℕ) → BeginsWith byte (prefix_of (pointer_shape K.PartialType.bytes at.old))
+    ensures made_below { (byte : ℕ)
+        → BeginsWith byte (prefix_of (pointer_shape K.PartialType.bytes at.old))
         → BeginsWith byte (drop depth (K.bytes key.now)) → work.new.made ≤ work.old.made + length
         (drop depth (K.bytes key.now)) + 1 }
 {
@@ -83,7 +85,8 @@ fn split<K: KeyTrait, V: Clone + Drop>(
         (node_shape K.PartialType.bytes node.old) (node_shape K.PartialType.bytes node.new)) }
     ensures replaced { IfOk result (λ old. old ≡ found (node_shape K.PartialType.bytes node.old)
         (drop depth (K.bytes key.now))) }
-    ensures refused { OnErr result (node_shape K.PartialType.bytes node.new ≡ node_shape K.PartialType.bytes
+    ensures refused { OnErr result
+        (node_shape K.PartialType.bytes node.new ≡ node_shape K.PartialType.bytes
         node.old) }
     ensures counted { CountsUpTo 0 (length (drop end (K.bytes key.now)) + 1) work.old work.new }
 {
@@ -109,11 +112,13 @@ fn finish<K: KeyTrait, V: Clone + Drop>(
     requires absent { (byte : ℕ) → slice_get (drop depth (K.bytes key.now)) 0 ≡ Some byte
         → child_at byte (children_of (node_shape K.PartialType.bytes node.old)) ≡ None }
     ensures put { OnOk result
-        (IsPut (prefix_of (node_shape K.PartialType.bytes node.old) ++ drop depth (K.bytes key.now)) value
+        (IsPut (prefix_of (node_shape K.PartialType.bytes node.old) ++ drop depth (K.bytes key.now))
+        value
         (node_shape K.PartialType.bytes node.old) (node_shape K.PartialType.bytes node.new)) }
     ensures replaced { IfOk result (λ old. old ≡ found (node_shape K.PartialType.bytes node.old)
         (prefix_of (node_shape K.PartialType.bytes node.old) ++ drop depth (K.bytes key.now))) }
-    ensures refused { OnErr result (node_shape K.PartialType.bytes node.new ≡ node_shape K.PartialType.bytes
+    ensures refused { OnErr result
+        (node_shape K.PartialType.bytes node.new ≡ node_shape K.PartialType.bytes
         node.old) }
     ensures counted { CountsUpTo 0 (ending (node_shape K.PartialType.bytes node.old)
         (drop depth (K.bytes key.now))) work.old work.new }
@@ -138,7 +143,8 @@ fn cut<P: Partial, V: Clone + Drop>(
 ) -> Result<VersionedNode<P, V>, AllocError>
     requires clones { ClonesEqual V.is_clone }
     requires inside { at < length (prefix_of (node_shape P.bytes node.now)) }
-    ensures cut { IfOk result (λ upper. node_shape P.bytes upper ≡ cut_at at (node_shape P.bytes node.now)) }
+    ensures cut { IfOk result (λ upper. node_shape P.bytes upper
+        ≡ cut_at at (node_shape P.bytes node.now)) }
     ensures counted { CountsUpTo 0 1 work.old work.new }
 {
     let prefix = node.prefix();

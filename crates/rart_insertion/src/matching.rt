@@ -17,7 +17,8 @@ pub(crate) fn match_end<K: KeyTrait, V: Drop>(
     depth: usize,
 ) -> usize
     requires { depth ≤ length (K.bytes key.now) }
-    ensures end { result ≡ depth + common_length (prefix_of (node_shape K.PartialType.bytes node.now))
+    ensures end { result ≡ depth + common_length
+        (prefix_of (node_shape K.PartialType.bytes node.now))
         (drop depth (K.bytes key.now)) }
     ensures within { result ≤ length (K.bytes key.now) }
 {

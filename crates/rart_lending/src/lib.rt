@@ -9,13 +9,13 @@ ghost use Rattle.rart_node.specs.Counts.{CountsUpTo};
 ghost use Rattle.rart_node.specs.NodeShapes.{pointer_shape};
 ghost use Rattle.rart_shape.specs.Trees.{IsTree, found};
 
-mod descent;
+mod path;
 mod search;
 
-use descent::{Descent, Whole};
+use path::{Path, Whole};
 use rart_below::Partial;
 use rart_node::{NodeRef, Work};
-pub use search::steps_to;
+pub use search::path_length;
 use std::alloc::AllocError;
 
 /// Lends the value of a key that ends so many nodes below a pointer, for writing.
@@ -32,7 +32,8 @@ pub fn lend_below<'a, P: Partial, V: Clone + Drop>(
     requires tree { IsTree (pointer_shape P.bytes at.old) }
     requires arrives { Arrives steps key.now (pointer_shape P.bytes at.old) }
     ensures* writes_back { sem 𝓛 (LendsAlong P.row V.row P.bytes at.entry key.now result) }
-    ensures value { IfOk result (λ value. found (pointer_shape P.bytes at.old) key.now ≡ Some value.now) }
+    ensures value { IfOk result (λ value. found (pointer_shape P.bytes at.old) key.now
+        ≡ Some value.now) }
     ensures counted { CountsUpTo (steps + 1) (steps + 1) work.old work.new }
 {
     let mut depth = 0;

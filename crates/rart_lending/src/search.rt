@@ -11,15 +11,17 @@ use rart_shape::strip_prefix;
 
 /// How many nodes below a pointer a key ends, or `None` where it has no value there. It takes no
 /// memory.
-pub fn steps_to<P: Partial, V: Drop>(
+pub fn path_length<P: Partial, V: Drop>(
     root: &NodeRef<P, V>,
     key: &[u8],
     work: &mut Work,
 ) -> Option<usize>
     requires tree { IsTree (pointer_shape P.bytes root.now) }
-    ensures arrives { IfSome result (λ steps. Arrives steps key.now (pointer_shape P.bytes root.now)) }
+    ensures arrives { IfSome result
+        (λ steps. Arrives steps key.now (pointer_shape P.bytes root.now)) }
     ensures absent { result ≡ None → found (pointer_shape P.bytes root.now) key.now ≡ None }
-    ensures few { IfSome result (λ steps. steps + 1 ≤ path_bound (pointer_shape P.bytes root.now) key.now) }
+    ensures few { IfSome result (λ steps. steps + 1
+        ≤ path_bound (pointer_shape P.bytes root.now) key.now) }
     ensures counted { CountsUpTo (path_bound (pointer_shape P.bytes root.now) key.now) 0
         work.old work.new }
     ensures entered { work.old.entered < work.new.entered }

@@ -8,32 +8,51 @@ use Rattle.std.specs.declared.cmp.Ordering.TheVariants.{Less, Equal, Greater}
 use Rattle.rart_below.specs.Children.{child_at, with_child, without_child, children_from, first_of, map_children}
 
 module _ {X Y : Type 0} (f : X → Y) where
-  pub child_at-map_children : (b : ℕ) (es : List (ℕ × X)) → child_at b (map_children f es) ≡ option_map f (child_at b es)
+  pub child_at-map_children : (b : ℕ) (es : List (ℕ × X))
+      → child_at b (map_children f es) ≡ option_map f (child_at b es)
   child_at-map_children b [] = refl
-  child_at-map_children b (e ∷ es) = elim (eq_by_cmp nat_cmp b e.0) as (λ t. cond t (Some (f e.1)) (find nat_cmp b (map_children f es)) ≡ option_map f (cond t (Some e.1) (find nat_cmp b es)))
+  child_at-map_children b (e ∷ es) =
+      elim (eq_by_cmp nat_cmp b e.0)
+      as (λ t. cond t (Some (f e.1)) (find nat_cmp b (map_children f es))
+      ≡ option_map f (cond t (Some e.1) (find nat_cmp b es)))
       [ true ↦ refl | false ↦ child_at-map_children b es ]
 
-  pub with_child-map_children : (b : ℕ) (x : X) (es : List (ℕ × X)) → map_children f (with_child b x es) ≡ with_child b (f x) (map_children f es)
+  pub with_child-map_children : (b : ℕ) (x : X) (es : List (ℕ × X))
+      → map_children f (with_child b x es) ≡ with_child b (f x) (map_children f es)
   with_child-map_children b x [] = refl
   with_child-map_children b x (e ∷ es) =
-      elim (nat_cmp b e.0) as (λ o. map_children f (by_order o ((b, x) ∷ e ∷ es) ((e.0, x) ∷ es) (e ∷ put nat_cmp b x es)) ≡ by_order o ((b, f x) ∷ map_children f (e ∷ es)) ((e.0, f x) ∷ map_children f es) ((e.0, f e.1) ∷ put nat_cmp b (f x) (map_children f es))) [
+      elim (nat_cmp b e.0) as (λ o. map_children f
+          (by_order o ((b, x) ∷ e ∷ es) ((e.0, x) ∷ es) (e ∷ put nat_cmp b x es))
+          ≡ by_order o ((b, f x) ∷ map_children f (e ∷ es)) ((e.0, f x) ∷ map_children f es)
+          ((e.0, f e.1) ∷ put nat_cmp b (f x) (map_children f es))) [
         | Less ↦ refl
         | Equal ↦ refl
-        | Greater ↦ ap (λ (rest : List (ℕ × Y)). (e.0, f e.1) ∷ rest) (with_child-map_children b x es)
+        | Greater ↦ ap (λ (rest : List (ℕ × Y)). (e.0, f e.1) ∷ rest)
+        (with_child-map_children b x es)
       ]
 
-  pub without_child-map_children : (b : ℕ) (es : List (ℕ × X)) → map_children f (without_child b es) ≡ without_child b (map_children f es)
+  pub without_child-map_children : (b : ℕ) (es : List (ℕ × X))
+      → map_children f (without_child b es) ≡ without_child b (map_children f es)
   without_child-map_children b [] = refl
   without_child-map_children b (e ∷ es) =
-      elim (not (e.0 == b)) as (λ t. map_children f (cond t (e ∷ without_child b es) (without_child b es)) ≡ cond t ((e.0, f e.1) ∷ without_child b (map_children f es)) (without_child b (map_children f es)))
-      [ true ↦ ap (λ rest. (e.0, f e.1) ∷ rest) (without_child-map_children b es) | false ↦ without_child-map_children b es ]
+      elim (not (e.0 == b)) as (λ t.
+          map_children f (cond t (e ∷ without_child b es) (without_child b es))
+          ≡ cond t ((e.0, f e.1) ∷ without_child b (map_children f es))
+          (without_child b (map_children f es)))
+      [ true ↦ ap (λ rest. (e.0, f e.1) ∷ rest) (without_child-map_children b es)
+          | false ↦ without_child-map_children b es ]
 
-  pub children_from-map_children : (n : ℕ) (es : List (ℕ × X)) → children_from n (map_children f es) ≡ map_children f (children_from n es)
+  pub children_from-map_children : (n : ℕ) (es : List (ℕ × X))
+      → children_from n (map_children f es) ≡ map_children f (children_from n es)
   children_from-map_children n [] = refl
   children_from-map_children n (e ∷ es) =
-      elim (nat_le n e.0) as (λ t. cond t ((e.0, f e.1) ∷ children_from n (map_children f es)) (children_from n (map_children f es)) ≡ map_children f (cond t (e ∷ children_from n es) (children_from n es)))
-      [ true ↦ ap (λ rest. (e.0, f e.1) ∷ rest) (children_from-map_children n es) | false ↦ children_from-map_children n es ]
+      elim (nat_le n e.0) as (λ t. cond t ((e.0, f e.1) ∷ children_from n (map_children f es))
+          (children_from n (map_children f es))
+          ≡ map_children f (cond t (e ∷ children_from n es) (children_from n es)))
+      [ true ↦ ap (λ rest. (e.0, f e.1) ∷ rest) (children_from-map_children n es)
+          | false ↦ children_from-map_children n es ]
 
-  pub first_of-map_children : (es : List (ℕ × X)) → first_of (map_children f es) ≡ option_map (λ e. (e.0, f e.1)) (first_of es)
+  pub first_of-map_children : (es : List (ℕ × X))
+      → first_of (map_children f es) ≡ option_map (λ e. (e.0, f e.1)) (first_of es)
   first_of-map_children [] = refl
   first_of-map_children (e ∷ es) = refl

@@ -15,7 +15,8 @@ use Rattle.rart_node.specs.NodeShapes.{node_shape, pointer_shape, entry_shape, s
 use Rattle.rart_node.proofs.ChildMapLemmas.{child_at-map_children, with_child-map_children, without_child-map_children, children_from-map_children, first_of-map_children}
 
 -- a list that ascends is none that stands for disorder
-in_order-ascending : {V : Type 0} (in_order : Bool) (children : List (ℕ × Shape V)) → IsRising (if_in_order in_order children) → in_order ≡ true
+in_order-ascending : {V : Type 0} (in_order : Bool) (children : List (ℕ × Shape V))
+    → IsRising (if_in_order in_order children) → in_order ≡ true
 in_order-ascending true children order = refl
 in_order-ascending false children order = cc
 
@@ -33,19 +34,24 @@ of_lent None given says = tt
 of_lent (Some reference) given says = says given
 
 module _ {V : Type 0} where
-  with_children-parts : (children : List (ℕ × Shape V)) (s : Shape V) → with_children children s ≡ node_of (prefix_of s) (value_of s) (width_of s) children
+  with_children-parts : (children : List (ℕ × Shape V)) (s : Shape V)
+      → with_children children s ≡ node_of (prefix_of s) (value_of s) (width_of s) children
   with_children-parts children (node prefix value width forest) = refl
 
-  with_added-parts : (byte : ℕ) (child s : Shape V) → with_added byte child s ≡ node_of (prefix_of s) (value_of s) (widened (width_of s) (length (children_of s))) (with_child byte child (children_of s))
+  with_added-parts : (byte : ℕ) (child s : Shape V)
+      → with_added byte child s ≡ node_of (prefix_of s) (value_of s)
+      (widened (width_of s) (length (children_of s))) (with_child byte child (children_of s))
   with_added-parts byte child (node prefix value width forest) = refl
 
-  pub widenings-parts : (s : Shape V) → widenings s ≡ cond (is_full_at (width_of s) (length (children_of s))) 1 0
+  pub widenings-parts : (s : Shape V)
+      → widenings s ≡ cond (is_full_at (width_of s) (length (children_of s))) 1 0
   widenings-parts (node prefix value width forest) = refl
 
 module _ {P V : Type 0} (bytes : P → List ℕ) where
   -- a node with this content in place of its own
   abbrev pub with_content : VersionedNode P V → Content (NodeRef P V) → VersionedNode P V
-  with_content n content = roll-VersionedNode P V (record (out-VersionedNode P V n) { content = content })
+  with_content n content =
+      roll-VersionedNode P V (record (out-VersionedNode P V n) { content = content })
 
   module _ (n : VersionedNode P V) where
     abbrev pub content_of : Content (NodeRef P V)
@@ -57,98 +63,159 @@ module _ {P V : Type 0} (bytes : P → List ℕ) where
     pub width-node_shape : width_of (node_shape bytes n) ≡ (content_shape content_of).width
     width-node_shape = ap width_of (node_shape_out bytes n)
 
-    pub children-node_shape : children_of (node_shape bytes n) ≡ if_in_order (content_shape content_of).in_order (map_children (pointer_shape bytes) children_in)
+    pub children-node_shape : children_of (node_shape bytes n)
+        ≡ if_in_order (content_shape content_of).in_order
+        (map_children (pointer_shape bytes) children_in)
     children-node_shape = ap children_of (node_shape_out bytes n) ∙ entries_of-forest_of _
 
     -- what asks for an ascending node asks for a content whose lists are in step
     pub in_order : IsAscending (node_shape bytes n) → (content_shape content_of).in_order ≡ true
     in_order order = in_order-ascending _ _ (subst IsRising children-node_shape order)
 
-    pub children-pointer_shape : IsAscending (node_shape bytes n) → children_of (node_shape bytes n) ≡ map_children (pointer_shape bytes) children_in
-    children-pointer_shape order = children-node_shape ∙ ap (λ t. if_in_order t (map_children (pointer_shape bytes) children_in)) (in_order order)
+    pub children-pointer_shape : IsAscending (node_shape bytes n)
+        → children_of (node_shape bytes n) ≡ map_children (pointer_shape bytes) children_in
+    children-pointer_shape order =
+        children-node_shape ∙ ap (λ t.
+        if_in_order t (map_children (pointer_shape bytes) children_in)) (in_order order)
 
-    pub length-node_shape : IsAscending (node_shape bytes n) → length (children_of (node_shape bytes n)) ≡ length children_in
-    length-node_shape order = ap length (children-pointer_shape order) ∙ length-map_children (pointer_shape bytes) children_in
+    pub length-node_shape : IsAscending (node_shape bytes n)
+        → length (children_of (node_shape bytes n)) ≡ length children_in
+    length-node_shape order = ap length (children-pointer_shape order)
+        ∙ length-map_children (pointer_shape bytes) children_in
 
-    pub child_at-node_shape : (byte : ℕ) → IsAscending (node_shape bytes n) → child_at byte (children_of (node_shape bytes n)) ≡ option_map (pointer_shape bytes) (child_at byte children_in)
-    child_at-node_shape byte order = ap (child_at byte) (children-pointer_shape order) ∙ child_at-map_children (pointer_shape bytes) byte children_in
+    pub child_at-node_shape : (byte : ℕ) → IsAscending (node_shape bytes n)
+        → child_at byte (children_of (node_shape bytes n))
+        ≡ option_map (pointer_shape bytes) (child_at byte children_in)
+    child_at-node_shape byte order = ap (child_at byte) (children-pointer_shape order)
+        ∙ child_at-map_children (pointer_shape bytes) byte children_in
 
-    pub none-in : (byte : ℕ) → IsAscending (node_shape bytes n) → child_at byte (children_of (node_shape bytes n)) ≡ None → child_at byte children_in ≡ None
-    none-in byte order absent = none-back (pointer_shape bytes) _ (sym (child_at-node_shape byte order) ∙ absent)
+    pub none-in : (byte : ℕ) → IsAscending (node_shape bytes n)
+        → child_at byte (children_of (node_shape bytes n)) ≡ None → child_at byte children_in ≡ None
+    none-in byte order absent =
+        none-back (pointer_shape bytes) _ (sym (child_at-node_shape byte order) ∙ absent)
 
-    pub some-in : (byte : ℕ) → IsAscending (node_shape bytes n) → IsSome (child_at byte (children_of (node_shape bytes n))) → IsSome (child_at byte children_in)
-    some-in byte order present = some-back (pointer_shape bytes) _ (subst IsSome (child_at-node_shape byte order) present)
+    pub some-in : (byte : ℕ) → IsAscending (node_shape bytes n)
+        → IsSome (child_at byte (children_of (node_shape bytes n)))
+        → IsSome (child_at byte children_in)
+    some-in byte order present =
+        some-back (pointer_shape bytes) _ (subst IsSome (child_at-node_shape byte order) present)
 
     -- the first entry from a byte on
-    pub first-node_shape : (from : ℕ) → IsAscending (node_shape bytes n) → first_of (children_from from (children_of (node_shape bytes n))) ≡ option_map (λ e. (e.0, pointer_shape bytes e.1)) (first_of (children_from from children_in))
+    pub first-node_shape : (from : ℕ) → IsAscending (node_shape bytes n)
+        → first_of (children_from from (children_of (node_shape bytes n)))
+        ≡ option_map (λ e. (e.0, pointer_shape bytes e.1))
+        (first_of (children_from from children_in))
     first-node_shape from order =
         ap (λ es. first_of (children_from from es)) (children-pointer_shape order)
         ∙ ap first_of (children_from-map_children (pointer_shape bytes) from children_in)
         ∙ first_of-map_children (pointer_shape bytes) (children_from from children_in)
 
     -- ---- with another content
-    module _ (content : Content (NodeRef P V)) (width : ℕ) (entries : List (ℕ × NodeRef P V)) (holds : Holds content width entries) where
-      node_shape-with_content : node_shape bytes (with_content n content) ≡ node_of (prefix_of (node_shape bytes n)) (value_of (node_shape bytes n)) width (map_children (pointer_shape bytes) entries)
+    module _ (content : Content (NodeRef P V)) (width : ℕ) (entries : List (ℕ × NodeRef P V))
+        (holds : Holds content width entries) where
+      node_shape-with_content : node_shape bytes (with_content n content)
+          ≡ node_of (prefix_of (node_shape bytes n)) (value_of (node_shape bytes n)) width
+          (map_children (pointer_shape bytes) entries)
       node_shape-with_content =
           let layer = out-VersionedNode P V n in
           node_shape_roll bytes (record layer { content = content })
-          ∙ ap (λ h. node_of_content bytes (bytes layer.prefix) layer.value (shapes_of_content bytes h)) holds
-          ∙ ap (λ s. node_of (prefix_of s) (value_of s) width (map_children (pointer_shape bytes) entries)) (sym (node_shape_out bytes n))
+          ∙ ap (λ h. node_of_content bytes (bytes layer.prefix) layer.value
+          (shapes_of_content bytes h)) holds
+          ∙ ap (λ s. node_of (prefix_of s) (value_of s) width
+          (map_children (pointer_shape bytes) entries)) (sym (node_shape_out bytes n))
 
       -- other children at the same width
-      pub node_shape-children : width ≡ (content_shape content_of).width → (children : List (ℕ × Shape V)) → map_children (pointer_shape bytes) entries ≡ children → node_shape bytes (with_content n content) ≡ with_children children (node_shape bytes n)
+      pub node_shape-children : width ≡ (content_shape content_of).width
+          → (children : List (ℕ × Shape V)) → map_children (pointer_shape bytes) entries ≡ children
+          → node_shape bytes (with_content n content) ≡ with_children children (node_shape bytes n)
       node_shape-children same children is =
           node_shape-with_content
-          ∙ ap (λ w. node_of (prefix_of (node_shape bytes n)) (value_of (node_shape bytes n)) w (map_children (pointer_shape bytes) entries)) (same ∙ sym width-node_shape)
-          ∙ ap (node_of (prefix_of (node_shape bytes n)) (value_of (node_shape bytes n)) (width_of (node_shape bytes n))) is
+          ∙ ap (λ w. node_of (prefix_of (node_shape bytes n)) (value_of (node_shape bytes n)) w
+          (map_children (pointer_shape bytes) entries)) (same ∙ sym width-node_shape)
+          ∙ ap (node_of (prefix_of (node_shape bytes n)) (value_of (node_shape bytes n))
+          (width_of (node_shape bytes n))) is
           ∙ sym (with_children-parts children (node_shape bytes n))
 
       -- one more child
-      pub node_shape-added : (byte : ℕ) (child : NodeRef P V) → IsAscending (node_shape bytes n) → width ≡ widened (content_shape content_of).width (length children_in) → entries ≡ with_child byte child children_in
-          → node_shape bytes (with_content n content) ≡ with_added byte (pointer_shape bytes child) (node_shape bytes n)
+      pub node_shape-added : (byte : ℕ) (child : NodeRef P V) → IsAscending (node_shape bytes n)
+          → width ≡ widened (content_shape content_of).width (length children_in)
+          → entries ≡ with_child byte child children_in
+          → node_shape bytes (with_content n content)
+          ≡ with_added byte (pointer_shape bytes child) (node_shape bytes n)
       node_shape-added byte child order wide same =
           node_shape-with_content
-          ∙ ap (λ w. node_of (prefix_of (node_shape bytes n)) (value_of (node_shape bytes n)) w (map_children (pointer_shape bytes) entries)) (wide ∙ sym (λ i. widened (width-node_shape i) (length-node_shape order i)))
-          ∙ ap (node_of (prefix_of (node_shape bytes n)) (value_of (node_shape bytes n)) (widened (width_of (node_shape bytes n)) (length (children_of (node_shape bytes n)))))
-          (ap (map_children (pointer_shape bytes)) same ∙ with_child-map_children (pointer_shape bytes) byte child children_in ∙ ap (with_child byte (pointer_shape bytes child)) (sym (children-pointer_shape order)))
+          ∙ ap (λ w. node_of (prefix_of (node_shape bytes n)) (value_of (node_shape bytes n)) w
+          (map_children (pointer_shape bytes) entries))
+          (wide ∙ sym (λ i. widened (width-node_shape i) (length-node_shape order i)))
+          ∙ ap (node_of (prefix_of (node_shape bytes n)) (value_of (node_shape bytes n))
+          (widened (width_of (node_shape bytes n)) (length (children_of (node_shape bytes n)))))
+          (ap (map_children (pointer_shape bytes)) same
+              ∙ with_child-map_children (pointer_shape bytes) byte child children_in
+              ∙ ap (with_child byte (pointer_shape bytes child))
+              (sym (children-pointer_shape order)))
           ∙ sym (with_added-parts byte (pointer_shape bytes child) (node_shape bytes n))
 
     -- a content that holds what the node's own holds
-    pub node_shape-content_shape : (content : Content (NodeRef P V)) → content_shape content ≡ content_shape content_of → node_shape bytes (with_content n content) ≡ node_shape bytes n
+    pub node_shape-content_shape : (content : Content (NodeRef P V))
+        → content_shape content ≡ content_shape content_of
+        → node_shape bytes (with_content n content) ≡ node_shape bytes n
     node_shape-content_shape content same =
         let layer = out-VersionedNode P V n in
         node_shape_roll bytes (record layer { content = content })
-        ∙ ap (λ h. node_of_content bytes (bytes layer.prefix) layer.value (shapes_of_content bytes h)) same
+        ∙ ap (λ h. node_of_content bytes (bytes layer.prefix) layer.value
+        (shapes_of_content bytes h)) same
         ∙ sym (node_shape_out bytes n)
 
-    pub node_shape-replaced : (content : Content (NodeRef P V)) (byte : ℕ) (child : NodeRef P V) → IsAscending (node_shape bytes n) → Holds content (content_shape content_of).width (with_child byte child children_in)
-        → node_shape bytes (with_content n content) ≡ with_replaced byte (pointer_shape bytes child) (node_shape bytes n)
+    pub node_shape-replaced : (content : Content (NodeRef P V)) (byte : ℕ) (child : NodeRef P V)
+        → IsAscending (node_shape bytes n)
+        → Holds content (content_shape content_of).width (with_child byte child children_in)
+        → node_shape bytes (with_content n content)
+        ≡ with_replaced byte (pointer_shape bytes child) (node_shape bytes n)
     node_shape-replaced content byte child order holds =
         node_shape-children content _ _ holds refl _
-        (with_child-map_children (pointer_shape bytes) byte child children_in ∙ ap (with_child byte (pointer_shape bytes child)) (sym (children-pointer_shape order)))
+        (with_child-map_children (pointer_shape bytes) byte child children_in
+            ∙ ap (with_child byte (pointer_shape bytes child)) (sym (children-pointer_shape order)))
 
-    pub node_shape-deleted : (content : Content (NodeRef P V)) (byte : ℕ) → IsAscending (node_shape bytes n) → Holds content (content_shape content_of).width (without_child byte children_in)
+    pub node_shape-deleted : (content : Content (NodeRef P V)) (byte : ℕ)
+        → IsAscending (node_shape bytes n)
+        → Holds content (content_shape content_of).width (without_child byte children_in)
         → node_shape bytes (with_content n content) ≡ with_deleted byte (node_shape bytes n)
     node_shape-deleted content byte order holds =
-        node_shape-children content _ _ holds refl _ (without_child-map_children (pointer_shape bytes) byte children_in ∙ ap (without_child byte) (sym (children-pointer_shape order)))
+        node_shape-children content _ _ holds refl _
+            (without_child-map_children (pointer_shape bytes) byte children_in
+            ∙ ap (without_child byte) (sym (children-pointer_shape order)))
 
-    pub full-node_shape : (answer : Bool) → IsAscending (node_shape bytes n) → IsTrue answer ↔ IsFullAt (content_shape content_of).width (length children_in) → IsTrue answer ↔ IsFull (node_shape bytes n)
+    pub full-node_shape : (answer : Bool) → IsAscending (node_shape bytes n) → IsTrue answer
+        ↔ IsFullAt (content_shape content_of).width (length children_in) → IsTrue answer
+        ↔ IsFull (node_shape bytes n)
     full-node_shape answer order says =
-        subst (λ w. IsTrue answer ↔ IsFullAt w (length (children_of (node_shape bytes n)))) (sym width-node_shape)
-        (subst (λ k. IsTrue answer ↔ IsFullAt (content_shape content_of).width k) (sym (length-node_shape order)) says)
+        subst (λ w. IsTrue answer ↔ IsFullAt w (length (children_of (node_shape bytes n))))
+            (sym width-node_shape)
+        (subst (λ k. IsTrue answer ↔ IsFullAt (content_shape content_of).width k)
+            (sym (length-node_shape order)) says)
 
-    pub widenings-node_shape : IsAscending (node_shape bytes n) → widenings (node_shape bytes n) ≡ cond (is_full_at (content_shape content_of).width (length children_in)) 1 0
-    widenings-node_shape order = widenings-parts (node_shape bytes n) ∙ (λ i. cond (is_full_at (width-node_shape i) (length-node_shape order i)) 1 0)
+    pub widenings-node_shape : IsAscending (node_shape bytes n)
+        → widenings (node_shape bytes n)
+        ≡ cond (is_full_at (content_shape content_of).width (length children_in)) 1 0
+    widenings-node_shape order =
+        widenings-parts (node_shape bytes n)
+        ∙ (λ i. cond (is_full_at (width-node_shape i) (length-node_shape order i)) 1 0)
 
   -- ---- what is found by reference
-  pub pointer_shape-copied : (o : Option (Bor (NodeRef P V))) → option_map (λ child. pointer_shape bytes child.now) o ≡ option_map (pointer_shape bytes) (option_copied o)
+  pub pointer_shape-copied : (o : Option (Bor (NodeRef P V)))
+      → option_map (λ child. pointer_shape bytes child.now) o
+      ≡ option_map (pointer_shape bytes) (option_copied o)
   pointer_shape-copied None = refl
   pointer_shape-copied (Some child) = refl
 
-  pub pointer_shape-copied_mut : (o : Option (MutBor (NodeRef P V))) → option_map (λ child. pointer_shape bytes child.now) o ≡ option_map (pointer_shape bytes) (option_copied_mut o)
+  pub pointer_shape-copied_mut : (o : Option (MutBor (NodeRef P V)))
+      → option_map (λ child. pointer_shape bytes child.now) o
+      ≡ option_map (pointer_shape bytes) (option_copied_mut o)
   pointer_shape-copied_mut None = refl
   pointer_shape-copied_mut (Some child) = refl
 
-  pub entry-copied : (o : Option (ℕ × Bor (NodeRef P V))) → option_map (entry_shape bytes) o ≡ option_map (λ e. (e.0, pointer_shape bytes e.1)) (entry_copied o)
+  pub entry-copied : (o : Option (ℕ × Bor (NodeRef P V)))
+      → option_map (entry_shape bytes) o
+      ≡ option_map (λ e. (e.0, pointer_shape bytes e.1)) (entry_copied o)
   entry-copied None = refl
   entry-copied (Some entry) = refl

@@ -13,12 +13,14 @@ use Rattle.rart_node.specs.Shape.{IsAscending, children_of, widened, with_added}
 use Rattle.rart_node.proofs.ContentLemmas.{content_of, children_in, with_content, in_order, none-in, node_shape-added}
 
 -- a width with a next one, once it is widened where it is full
-next_has_room : (width next count : ℕ) → count ≤ width → width < next → count < cond (nat_le width count) next width
+next_has_room : (width next count : ℕ) → count ≤ width → width < next
+    → count < cond (nat_le width count) next width
 next_has_room width next count fits less = grind (arith)
 
 module _ {C : Type 0} where
   -- a content never has more children than its width
-  pub fits : (content : Content C) → (content_shape content).in_order ≡ true → length (content_shape content).children ≤ (content_shape content).width
+  pub fits : (content : Content C) → (content_shape content).in_order ≡ true
+      → length (content_shape content).children ≤ (content_shape content).width
   fits Leaf order = omega arith
   fits (Node4 mapping) order = sorted-fits mapping.value order
   fits (Node16 mapping) order = sorted-fits mapping.boxed.value order
@@ -26,11 +28,17 @@ module _ {C : Type 0} where
   fits (Node256 mapping) order = direct-fits mapping.boxed.value order
 
   -- a byte that is absent has room once a full content is widened
-  pub room : (content : Content C) (byte : ℕ) (child : C) → (content_shape content).in_order ≡ true → byte < 256 → child_at byte (content_shape content).children ≡ None → length (content_shape content).children < widened (content_shape content).width (length (content_shape content).children)
+  pub room : (content : Content C) (byte : ℕ) (child : C) → (content_shape content).in_order ≡ true
+      → byte < 256 → child_at byte (content_shape content).children ≡ None
+      → length (content_shape content).children
+      < widened (content_shape content).width (length (content_shape content).children)
   room Leaf byte child order small absent = lit< tt
-  room (Node4 mapping) byte child order small absent = next_has_room 4 16 _ (sorted-fits mapping.value order) (lit< tt)
-  room (Node16 mapping) byte child order small absent = next_has_room 16 48 _ (sorted-fits mapping.boxed.value order) (lit< tt)
-  room (Node48 mapping) byte child order small absent = next_has_room 48 256 _ (indexed-fits mapping.boxed.value order) (lit< tt)
+  room (Node4 mapping) byte child order small absent =
+      next_has_room 4 16 _ (sorted-fits mapping.value order) (lit< tt)
+  room (Node16 mapping) byte child order small absent =
+      next_has_room 16 48 _ (sorted-fits mapping.boxed.value order) (lit< tt)
+  room (Node48 mapping) byte child order small absent =
+      next_has_room 48 256 _ (indexed-fits mapping.boxed.value order) (lit< tt)
   room (Node256 mapping) byte child order small absent =
       let m = mapping.boxed.value in
       let kept = kept_from_order m.children.slots m.count order in
@@ -44,20 +52,32 @@ pub record IsReady {C : Type 0} (content : Content C) (byte : ℕ) : Type 0 wher
   pub room : length (content_shape content).children < (content_shape content).width
 
 module _ {P V : Type 0} (bytes : P → List ℕ) (n : VersionedNode P V) where
-  pub ready : (content : Content (NodeRef P V)) (byte : ℕ) (child : NodeRef P V) → IsAscending (node_shape bytes n) → byte < 256 → child_at byte (children_of (node_shape bytes n)) ≡ None
-      → Holds content (widened (content_shape (content_of bytes n)).width (length (children_in bytes n))) (children_in bytes n) → IsReady content byte
+  pub ready : (content : Content (NodeRef P V)) (byte : ℕ) (child : NodeRef P V)
+      → IsAscending (node_shape bytes n) → byte < 256
+      → child_at byte (children_of (node_shape bytes n)) ≡ None
+      → Holds content (widened (content_shape (content_of bytes n)).width
+      (length (children_in bytes n))) (children_in bytes n) → IsReady content byte
   ready content byte child order small absent roomy =
       let still = none-in bytes n byte order absent in
       record {
         order = ap (λ h. h.in_order) roomy;
         absent = ap (λ h. child_at byte h.children) roomy ∙ still;
-        room = subst (λ h. length h.children < h.width) (sym roomy) (room (content_of bytes n) byte child (in_order bytes n order) small still);
+        room =
+            subst (λ h. length h.children < h.width) (sym roomy)
+            (room (content_of bytes n) byte child (in_order bytes n order) small still);
       }
 
   -- the content once the child is added to it
-  pub added : (content after : Content (NodeRef P V)) (byte : ℕ) (child : NodeRef P V) → IsAscending (node_shape bytes n)
-      → Holds content (widened (content_shape (content_of bytes n)).width (length (children_in bytes n))) (children_in bytes n) → Holds after (content_shape content).width (with_child byte child (content_shape content).children)
-      → node_shape bytes (with_content bytes n after) ≡ with_added byte (pointer_shape bytes child) (node_shape bytes n)
+  pub added : (content after : Content (NodeRef P V)) (byte : ℕ) (child : NodeRef P V)
+      → IsAscending (node_shape bytes n)
+      → Holds content (widened (content_shape (content_of bytes n)).width
+      (length (children_in bytes n))) (children_in bytes n)
+      → Holds after (content_shape content).width
+      (with_child byte child (content_shape content).children)
+      → node_shape bytes (with_content bytes n after)
+      ≡ with_added byte (pointer_shape bytes child) (node_shape bytes n)
   added content after byte child order roomy holds =
-      let both = holds ∙ ap (λ h. record { width = h.width; in_order = true; children = with_child byte child h.children }) roomy in
+      let both =
+          holds ∙ ap (λ h. record { width = h.width; in_order = true;
+          children = with_child byte child h.children }) roomy in
       node_shape-added bytes n after _ _ both byte child order refl refl

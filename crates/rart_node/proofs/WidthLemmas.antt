@@ -25,18 +25,23 @@ none_made false none = refl
 none_made true none = cc
 
 module _ {V : Type 0} where
-  not_full-widenings : (shape : Shape V) → is_full_at (width_of shape) (length (children_of shape)) ≡ false → widenings shape ≡ 0
+  not_full-widenings : (shape : Shape V) → is_full_at (width_of shape) (length (children_of shape))
+      ≡ false → widenings shape ≡ 0
   not_full-widenings shape open_room = rw (widenings-parts shape, open_room) refl
 
-  widenings-not_full : (shape : Shape V) → widenings shape ≡ 0 → is_full_at (width_of shape) (length (children_of shape)) ≡ false
+  widenings-not_full : (shape : Shape V) → widenings shape ≡ 0
+      → is_full_at (width_of shape) (length (children_of shape)) ≡ false
   widenings-not_full shape none = none_made _ (sym (widenings-parts shape) ∙ none)
 
-  pub few_children : (shape : Shape V) → FitsWidth shape → 0 < width_of shape → length (children_of shape) < 4 → widenings shape ≡ 0
+  pub few_children : (shape : Shape V) → FitsWidth shape → 0 < width_of shape
+      → length (children_of shape) < 4 → widenings shape ≡ 0
   few_children shape fit inner few =
       let is_width = fit.is_width in
-      not_full-widenings shape (not_full (width_of shape) (length (children_of shape)) (omega (arith, is_width)))
+      not_full-widenings shape (not_full (width_of shape) (length (children_of shape))
+          (omega (arith, is_width)))
 
-  pub inner_room : (shape : Shape V) → FitsWidth shape → 0 < width_of shape → ¬ IsFull shape → widenings shape ≡ 0
+  pub inner_room : (shape : Shape V) → FitsWidth shape → 0 < width_of shape → ¬ IsFull shape
+      → widenings shape ≡ 0
   inner_room shape fit inner open_room =
       let width : ℕ = width_of shape in
       let count : ℕ = length (children_of shape) in
@@ -44,7 +49,8 @@ module _ {V : Type 0} where
         | inl narrow ↦
             elim (cases_lt count width) [
               | inl less ↦ not_full width count less
-              | inr more ↦ let most = fit.has_room in absurd (open_room (inner, narrow, omega (arith, more, most)))
+              | inr more ↦ let most = fit.has_room in
+              absurd (open_room (inner, narrow, omega (arith, more, most)))
             ]
         | inr wide ↦ widest-not_full width count wide
       ])
@@ -60,7 +66,8 @@ module _ {C : Type 0} where
   width-content_shape (Node256 mapping) = inr (inr (inr (inr refl)))
 
   -- a content whose lists are out of step has room for two children
-  two-fit : (content : Content C) → (content_shape content).in_order ≡ false → 2 ≤ (content_shape content).width
+  two-fit : (content : Content C) → (content_shape content).in_order ≡ false
+      → 2 ≤ (content_shape content).width
   two-fit Leaf out_of_step = cc
   two-fit (Node4 mapping) out_of_step = lit≤ tt
   two-fit (Node16 mapping) out_of_step = lit≤ tt
@@ -69,22 +76,35 @@ module _ {C : Type 0} where
 
 module _ {P V : Type 0} (bytes : P → List ℕ) where
   -- also where the lists are out of step: two children are shown then
-  content_shape-fits : (content : Content (NodeRef P V)) (in_order : Bool) → (content_shape content).in_order ≡ in_order
-      → length (if_in_order in_order (map_children (pointer_shape bytes) (content_shape content).children)) ≤ (content_shape content).width
-  content_shape-fits content true is = subst (λ k. k ≤ (content_shape content).width) (sym (length-map_children (pointer_shape bytes) (content_shape content).children)) (fits content is)
+  content_shape-fits : (content : Content (NodeRef P V)) (in_order : Bool)
+      → (content_shape content).in_order ≡ in_order
+      → length (if_in_order in_order
+      (map_children (pointer_shape bytes) (content_shape content).children))
+      ≤ (content_shape content).width
+  content_shape-fits content true is =
+      subst (λ k. k ≤ (content_shape content).width)
+      (sym (length-map_children (pointer_shape bytes) (content_shape content).children))
+      (fits content is)
   content_shape-fits content false is = two-fit content is
 
   pub fits_width : (n : VersionedNode P V) → FitsWidth (node_shape bytes n)
   fits_width n =
       let content = content_of bytes n in
       let shown_fits = content_shape-fits content (content_shape content).in_order refl in
-      let all : length (children_of (node_shape bytes n)) ≤ (content_shape content).width = subst (λ es. length es ≤ (content_shape content).width) (sym (children-node_shape bytes n)) shown_fits in
+      let all : length (children_of (node_shape bytes n)) ≤ (content_shape content).width =
+          subst (λ es. length es ≤ (content_shape content).width)
+          (sym (children-node_shape bytes n)) shown_fits in
       record {
         is_width = subst IsWidth (sym (width-node_shape bytes n)) (width-content_shape content);
-        has_room = subst (λ w. length (children_of (node_shape bytes n)) ≤ w) (sym (width-node_shape bytes n)) all;
+        has_room =
+            subst (λ w. length (children_of (node_shape bytes n)) ≤ w)
+            (sym (width-node_shape bytes n)) all;
       }
 
   -- where one more child makes no node, the content is not full
-  pub content_shape-not_full : (n : VersionedNode P V) → IsAscending (node_shape bytes n) → widenings (node_shape bytes n) ≡ 0
+  pub content_shape-not_full : (n : VersionedNode P V) → IsAscending (node_shape bytes n)
+      → widenings (node_shape bytes n) ≡ 0
       → is_full_at (content_shape (content_of bytes n)).width (length (children_in bytes n)) ≡ false
-  content_shape-not_full n order none = (λ i. is_full_at (sym (width-node_shape bytes n) i) (sym (length-node_shape bytes n order) i)) ∙ widenings-not_full (node_shape bytes n) none
+  content_shape-not_full n order none =
+      (λ i. is_full_at (sym (width-node_shape bytes n) i) (sym (length-node_shape bytes n order) i))
+      ∙ widenings-not_full (node_shape bytes n) none

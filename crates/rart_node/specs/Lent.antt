@@ -32,31 +32,38 @@ module _ (P V : RattleType) where
   abbrev Pointer : Type 0
   Pointer = NodeRef P.Denot V.Denot
 
-  -- The content has the child as it was left behind the result, and where there is none holds what it held.
+  -- The content has the child as it was left behind the result, and where there is none holds what
+  -- it held.
   abbrev pub LendsContentChild : MutBor (Content Pointer) → ℕ → Option (MutBor Pointer) → Fml
   LendsContentChild lender byte result =
       LendsSo (content_row (pointer.the_row P V)) (pointer.the_row P V) lender result
-      (λ after left. OnSome result (Holds after (content_shape lender.now).width (with_child byte left (content_shape lender.now).children)))
+      (λ after left. OnSome result (Holds after (content_shape lender.now).width
+          (with_child byte left (content_shape lender.now).children)))
       (λ after. content_shape after ≡ content_shape lender.now)
 
 module _ (P V : RattleType) (bytes : P.Denot → List ℕ) where
-  -- The pointer shows the node as it was left behind the result, and where there was no memory what it showed.
-  abbrev pub LendsNode : MutBor (NodeRef P.Denot V.Denot) → Result (MutBor (VersionedNode P.Denot V.Denot)) AllocError → Fml
+  -- The pointer shows the node as it was left behind the result, and where there was no memory what
+  -- it showed.
+  abbrev pub LendsNode : MutBor (NodeRef P.Denot V.Denot)
+      → Result (MutBor (VersionedNode P.Denot V.Denot)) AllocError → Fml
   LendsNode lender result =
       LendsSoOk (pointer.the_row P V) (node.the_row P V) lender result
       (λ after left. pointer_shape bytes after ≡ node_shape bytes left)
       (λ after. pointer_shape bytes after ≡ pointer_shape bytes lender.now)
 
   -- The node has the child as it was left behind the result, and where there is none is as before.
-  abbrev pub LendsChild : MutBor (VersionedNode P.Denot V.Denot) → ℕ → Option (MutBor (NodeRef P.Denot V.Denot)) → Fml
+  abbrev pub LendsChild : MutBor (VersionedNode P.Denot V.Denot) → ℕ
+      → Option (MutBor (NodeRef P.Denot V.Denot)) → Fml
   LendsChild lender byte result =
       LendsSo (node.the_row P V) (pointer.the_row P V) lender result
-      (λ after left. OnSome result (node_shape bytes after ≡ with_replaced byte (pointer_shape bytes left) (node_shape bytes lender.now)))
+      (λ after left. OnSome result (node_shape bytes after
+          ≡ with_replaced byte (pointer_shape bytes left) (node_shape bytes lender.now)))
       (λ after. node_shape bytes after ≡ node_shape bytes lender.now)
 
   -- The node has the value as it was left behind the result, and where there is none is as before.
   abbrev pub LendsValue : MutBor (VersionedNode P.Denot V.Denot) → Option (MutBor V.Denot) → Fml
   LendsValue lender result =
       LendsSo (node.the_row P V) V lender result
-      (λ after left. OnSome result (node_shape bytes after ≡ with_value (Some left) (node_shape bytes lender.now)))
+      (λ after left. OnSome result (node_shape bytes after
+          ≡ with_value (Some left) (node_shape bytes lender.now)))
       (λ after. node_shape bytes after ≡ node_shape bytes lender.now)

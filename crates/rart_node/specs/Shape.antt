@@ -1,4 +1,5 @@
--- What a node is, whatever it keeps its children in: a prefix, an optional value, a width, and children, each under its byte.
+-- What a node is, whatever it keeps its children in: a prefix, an optional value, a width, and
+-- children, each under its byte.
 use Rattle.std.specs.Prelude.{◌≡◌, ◌<◌, ◌≤◌, ◌⊎◌, ℕ, suc, max, List, [], ◌∷◌, Option, Bool, length, if◌then◌else◌, ◌==◌, nat_lt, nat_le, ◌&&◌, refl}
 use Rattle.std.proofs.Common.{ap}
 use Rattle.rart_below.specs.Children as children
@@ -86,7 +87,8 @@ module _ {V : Type 0} where
   with_prefix prefix (node old value width forest) = node prefix value width forest
 
   abbrev pub with_children : List (ℕ × Shape V) → Shape V → Shape V
-  with_children children (node prefix value width forest) = node prefix value width (forest_of children)
+  with_children children (node prefix value width forest) =
+      node prefix value width (forest_of children)
 
   -- the same node at another width
   abbrev pub with_width : ℕ → Shape V → Shape V
@@ -103,12 +105,17 @@ module _ {V : Type 0} where
   -- the same node with one more child, at the width that has room for it
   abbrev pub with_added : ℕ → Shape V → Shape V → Shape V
   with_added byte child (node prefix value width forest) =
-      node prefix value (widened width (length (entries_of forest))) (forest_of (with_child byte child (entries_of forest)))
+      node prefix value (widened width (length (entries_of forest)))
+          (forest_of (with_child byte child (entries_of forest)))
 
-  -- how many nodes a change of width makes where one more child is added: one where the node is full or a leaf
+  -- how many nodes a change of width makes where one more child is added: one where the node is
+  -- full or a leaf
   abbrev pub widenings : Shape V → ℕ
-  widenings (node prefix value width forest) = if is_full_at width (length (entries_of forest)) then 1 else 0
+  widenings (node prefix value width forest) =
+      if is_full_at width (length (entries_of forest)) then 1 else 0
 
-  pub entries_of-forest_of : (children : List (ℕ × Shape V)) → entries_of (forest_of children) ≡ children
+  pub entries_of-forest_of : (children : List (ℕ × Shape V))
+      → entries_of (forest_of children) ≡ children
   entries_of-forest_of [] = refl
-  entries_of-forest_of (child ∷ children) = ap (λ rest. child ∷ rest) (entries_of-forest_of children)
+  entries_of-forest_of (child ∷ children) =
+      ap (λ rest. child ∷ rest) (entries_of-forest_of children)

@@ -95,7 +95,8 @@ impl<P: Partial, V: Drop> Content<P, V> {
     /// The child of the least byte that is not below the number, with that byte.
     pub(crate) fn next_from(&self, from: usize) -> Option<(u8, &NodeRef<P, V>)>
         requires { IsTrue (content_shape self.now).in_order }
-        ensures { entry_copied result ≡ first_of (children_from from (content_shape self.now).children) }
+        ensures { entry_copied result ≡ first_of
+            (children_from from (content_shape self.now).children) }
     {
         match self {
             Layout::Leaf => None,
@@ -111,7 +112,8 @@ impl<P: Partial, V: Drop> Content<P, V> {
         requires order { IsTrue (content_shape self.old).in_order }
         requires absent { child_at byte (content_shape self.old).children ≡ None }
         requires room { length (content_shape self.old).children < (content_shape self.old).width }
-        ensures { Holds self.new (content_shape self.old).width (with_child byte child (content_shape self.old).children) }
+        ensures { Holds self.new (content_shape self.old).width
+            (with_child byte child (content_shape self.old).children) }
     {
         match self {
             Layout::Leaf => unreachable!(),
@@ -126,7 +128,8 @@ impl<P: Partial, V: Drop> Content<P, V> {
     pub(crate) fn replace_child(&mut self, byte: u8, child: NodeRef<P, V>) -> NodeRef<P, V>
         requires order { IsTrue (content_shape self.old).in_order }
         requires present { IsSome (child_at byte (content_shape self.old).children) }
-        ensures content { Holds self.new (content_shape self.old).width (with_child byte child (content_shape self.old).children) }
+        ensures content { Holds self.new (content_shape self.old).width
+            (with_child byte child (content_shape self.old).children) }
         ensures replaced { Some result ≡ child_at byte (content_shape self.old).children }
     {
         match self {
@@ -141,7 +144,8 @@ impl<P: Partial, V: Drop> Content<P, V> {
     /// Takes out the child under the byte. The width stays.
     pub(crate) fn delete_child(&mut self, byte: u8) -> Option<NodeRef<P, V>>
         requires { IsTrue (content_shape self.old).in_order }
-        ensures content { Holds self.new (content_shape self.old).width (without_child byte (content_shape self.old).children) }
+        ensures content { Holds self.new (content_shape self.old).width
+            (without_child byte (content_shape self.old).children) }
         ensures deleted { result ≡ child_at byte (content_shape self.old).children }
     {
         match self {
@@ -157,7 +161,8 @@ impl<P: Partial, V: Drop> Content<P, V> {
     /// widest mapping.
     pub(crate) fn is_full(&self) -> bool
         requires { IsTrue (content_shape self.now).in_order }
-        ensures { IsTrue result ↔ IsFullAt (content_shape self.now).width (length (content_shape self.now).children) }
+        ensures { IsTrue result ↔ IsFullAt (content_shape self.now).width
+            (length (content_shape self.now).children) }
     {
         let width = self.width();
         0 < width && width < 256 && self.num_children() == width
@@ -166,7 +171,8 @@ impl<P: Partial, V: Drop> Content<P, V> {
     /// Whether one more child asks for the next width, as it does of a leaf and of a full mapping.
     fn must_widen(&self) -> bool
         requires { IsTrue (content_shape self.now).in_order }
-        ensures { result ≡ is_full_at (content_shape self.now).width (length (content_shape self.now).children) }
+        ensures { result ≡ is_full_at (content_shape self.now).width
+            (length (content_shape self.now).children) }
     {
         let width = self.width();
         width < 256 && width <= self.num_children()
@@ -176,11 +182,17 @@ impl<P: Partial, V: Drop> Content<P, V> {
     /// nothing has changed. Where the width stays, the call succeeds.
     pub(crate) fn make_room(&mut self, alloc: Global, work: &mut Work) -> Result<(), AllocError>
         requires { IsTrue (content_shape self.old).in_order }
-        ensures ok { OnOk result (Holds self.new (widened (content_shape self.old).width (length (content_shape self.old).children)) (content_shape self.old).children) }
+        ensures ok { OnOk result (Holds self.new
+            (widened (content_shape self.old).width (length (content_shape self.old).children))
+            (content_shape self.old).children) }
         ensures refused { OnErr result (self.new ≡ self.old) }
-        ensures succeeds { is_full_at (content_shape self.old).width (length (content_shape self.old).children) ≡ false
+        ensures succeeds { is_full_at (content_shape self.old).width
+            (length (content_shape self.old).children) ≡ false
             → IsOk result }
-        ensures work { work.new ≡ record work.old { made = work.old.made + (if is_full_at (content_shape self.old).width (length (content_shape self.old).children) then 1 else 0) } }
+        ensures work { work.new ≡ record work.old
+            { made =
+            work.old.made + (if is_full_at (content_shape self.old).width
+            (length (content_shape self.old).children) then 1 else 0) } }
     {
         let must_widen = self.must_widen();
         work.make_if(must_widen);
@@ -194,7 +206,8 @@ impl<P: Partial, V: Drop> Content<P, V> {
     pub(crate) fn widen(&mut self, alloc: Global) -> Result<(), AllocError>
         requires order { IsTrue (content_shape self.old).in_order }
         requires narrow { (content_shape self.old).width < 256 }
-        ensures ok { OnOk result (Holds self.new (wider (content_shape self.old).width) (content_shape self.old).children) }
+        ensures ok { OnOk result (Holds self.new (wider (content_shape self.old).width)
+            (content_shape self.old).children) }
         ensures refused { OnErr result (self.new ≡ self.old) }
     {
         match self {
@@ -225,7 +238,8 @@ impl<P: Partial, V: Drop> Content<P, V> {
 
     /// The same children at the same width: a copy of each pointer.
     pub(crate) fn copy(&self) -> Result<Content<P, V>, AllocError>
-        ensures { IfOk result (λ copy. shapes_of_content P.bytes (content_shape copy) ≡ shapes_of_content P.bytes (content_shape self.now)) }
+        ensures { IfOk result (λ copy. shapes_of_content P.bytes (content_shape copy)
+            ≡ shapes_of_content P.bytes (content_shape self.now)) }
     {
         match self {
             Layout::Leaf => Ok(Layout::Leaf),

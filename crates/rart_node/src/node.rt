@@ -57,7 +57,8 @@ impl<P: Partial, V: Drop> VersionedNode<P, V> {
         prefix: P,
         version: u64,
     ) -> Result<VersionedNode<P, V>, AllocError>
-        ensures { IfOk result (λ node. node_shape P.bytes node ≡ node_of (P.bytes prefix) None 4 []) }
+        ensures { IfOk result (λ node. node_shape P.bytes node ≡ node_of (P.bytes prefix) None 4 [])
+            }
     {
         Ok(VersionedNode {
             prefix,
@@ -120,7 +121,8 @@ impl<P: Partial, V: Drop> VersionedNode<P, V> {
     /// The pointer under the byte.
     pub fn seek_child(&self, byte: u8) -> Option<&NodeRef<P, V>>
         requires { IsAscending (node_shape P.bytes self.now) }
-        ensures { option_map (λ child. pointer_shape P.bytes child.now) result ≡ child_at byte (children_of (node_shape P.bytes self.now)) }
+        ensures { option_map (λ child. pointer_shape P.bytes child.now) result
+            ≡ child_at byte (children_of (node_shape P.bytes self.now)) }
     {
         self.content.seek_child(byte)
     }
@@ -129,7 +131,8 @@ impl<P: Partial, V: Drop> VersionedNode<P, V> {
     pub fn iter(&self) -> VersionedNodeIter<'_, P, V>
         requires { IsAscending (node_shape P.bytes self.now) }
         ensures order { IsAscending (node_shape P.bytes result.node.now) }
-        ensures children { children_left P.bytes result ≡ children_of (node_shape P.bytes self.now) }
+        ensures children { children_left P.bytes result
+            ≡ children_of (node_shape P.bytes self.now) }
     {
         self.iter_from(0)
     }
@@ -139,7 +142,8 @@ impl<P: Partial, V: Drop> VersionedNode<P, V> {
     pub fn iter_from(&self, least: u8) -> VersionedNodeIter<'_, P, V>
         requires { IsAscending (node_shape P.bytes self.now) }
         ensures order { IsAscending (node_shape P.bytes result.node.now) }
-        ensures children { children_left P.bytes result ≡ children_from least (children_of (node_shape P.bytes self.now)) }
+        ensures children { children_left P.bytes result
+            ≡ children_from least (children_of (node_shape P.bytes self.now)) }
     {
         VersionedNodeIter {
             node: self,
@@ -150,7 +154,8 @@ impl<P: Partial, V: Drop> VersionedNode<P, V> {
     /// The child of the least byte that is not below the number.
     pub(crate) fn next_from(&self, from: usize) -> Option<(u8, &NodeRef<P, V>)>
         requires { IsAscending (node_shape P.bytes self.now) }
-        ensures { option_map (entry_shape P.bytes) result ≡ first_of (children_from from (children_of (node_shape P.bytes self.now))) }
+        ensures { option_map (entry_shape P.bytes) result
+            ≡ first_of (children_from from (children_of (node_shape P.bytes self.now))) }
     {
         self.content.next_from(from)
     }
@@ -159,7 +164,8 @@ impl<P: Partial, V: Drop> VersionedNode<P, V> {
     pub fn seek_child_mut(&mut self, byte: u8) -> Option<&mut NodeRef<P, V>>
         requires { IsAscending (node_shape P.bytes self.old) }
         ensures* writes_back { sem 𝓛 (LendsChild P.row V.row P.bytes self.entry byte result) }
-        ensures value { option_map (λ child. pointer_shape P.bytes child.now) result ≡ child_at byte (children_of (node_shape P.bytes self.old)) }
+        ensures value { option_map (λ child. pointer_shape P.bytes child.now) result
+            ≡ child_at byte (children_of (node_shape P.bytes self.old)) }
     {
         self.content.seek_child_mut(byte)
     }
@@ -177,7 +183,8 @@ impl<P: Partial, V: Drop> VersionedNode<P, V> {
     ) -> Result<(), AllocError>
         requires order { IsAscending (node_shape P.bytes self.old) }
         requires absent { child_at byte (children_of (node_shape P.bytes self.old)) ≡ None }
-        ensures ok { OnOk result (node_shape P.bytes self.new ≡ with_added byte (pointer_shape P.bytes child) (node_shape P.bytes self.old)) }
+        ensures ok { OnOk result (node_shape P.bytes self.new
+            ≡ with_added byte (pointer_shape P.bytes child) (node_shape P.bytes self.old)) }
         ensures refused { OnErr result (node_shape P.bytes self.new ≡ node_shape P.bytes self.old) }
         ensures succeeds { widenings (node_shape P.bytes self.old) ≡ 0 → IsOk result }
         ensures entered { work.new.entered ≡ work.old.entered }
@@ -194,8 +201,10 @@ impl<P: Partial, V: Drop> VersionedNode<P, V> {
     pub fn replace_child(&mut self, byte: u8, child: NodeRef<P, V>) -> NodeRef<P, V>
         requires order { IsAscending (node_shape P.bytes self.old) }
         requires present { IsSome (child_at byte (children_of (node_shape P.bytes self.old))) }
-        ensures seen { node_shape P.bytes self.new ≡ with_replaced byte (pointer_shape P.bytes child) (node_shape P.bytes self.old) }
-        ensures replaced { Some (pointer_shape P.bytes result) ≡ child_at byte (children_of (node_shape P.bytes self.old)) }
+        ensures seen { node_shape P.bytes self.new
+            ≡ with_replaced byte (pointer_shape P.bytes child) (node_shape P.bytes self.old) }
+        ensures replaced { Some (pointer_shape P.bytes result)
+            ≡ child_at byte (children_of (node_shape P.bytes self.old)) }
     {
         self.content.replace_child(byte, child)
     }
@@ -203,8 +212,10 @@ impl<P: Partial, V: Drop> VersionedNode<P, V> {
     /// Takes out the child under the byte. The width stays.
     pub fn delete_child(&mut self, byte: u8) -> Option<NodeRef<P, V>>
         requires { IsAscending (node_shape P.bytes self.old) }
-        ensures seen { node_shape P.bytes self.new ≡ with_deleted byte (node_shape P.bytes self.old) }
-        ensures deleted { option_map (pointer_shape P.bytes) result ≡ child_at byte (children_of (node_shape P.bytes self.old)) }
+        ensures seen { node_shape P.bytes self.new
+            ≡ with_deleted byte (node_shape P.bytes self.old) }
+        ensures deleted { option_map (pointer_shape P.bytes) result
+            ≡ child_at byte (children_of (node_shape P.bytes self.old)) }
     {
         self.content.delete_child(byte)
     }
@@ -213,7 +224,8 @@ impl<P: Partial, V: Drop> VersionedNode<P, V> {
     /// the field is lent.
     pub fn value_mut(&mut self) -> Option<&mut V>
         ensures* writes_back { sem 𝓛 (LendsValue P.row V.row P.bytes self.entry result) }
-        ensures value { option_map (λ value. value.now) result ≡ value_of (node_shape P.bytes self.old) }
+        ensures value { option_map (λ value. value.now) result
+            ≡ value_of (node_shape P.bytes self.old) }
     {
         self.value.as_mut()
     }
@@ -222,7 +234,8 @@ impl<P: Partial, V: Drop> VersionedNode<P, V> {
     /// is replaced.
     pub fn set_value(&mut self, value: V) -> Option<V>
         ensures old { result ≡ value_of (node_shape P.bytes self.old) }
-        ensures new { node_shape P.bytes self.new ≡ with_value (Some value) (node_shape P.bytes self.old) }
+        ensures new { node_shape P.bytes self.new
+            ≡ with_value (Some value) (node_shape P.bytes self.old) }
     {
         self.value.replace(value)
     }
@@ -237,7 +250,8 @@ impl<P: Partial, V: Drop> VersionedNode<P, V> {
 
     /// The same node with this prefix. rart has no such call: there the field is assigned.
     pub fn with_prefix(self, prefix: P) -> VersionedNode<P, V>
-        ensures { node_shape P.bytes result ≡ with_prefix (P.bytes prefix) (node_shape P.bytes self) }
+        ensures { node_shape P.bytes result
+            ≡ with_prefix (P.bytes prefix) (node_shape P.bytes self) }
     {
         VersionedNode {
             prefix,
@@ -263,7 +277,8 @@ impl<P: Partial, V: Clone + Drop> VersionedNode<P, V> {
         alloc: Global,
         new_version: u64,
     ) -> Result<VersionedNode<P, V>, AllocError>
-        ensures { IfOk result (λ copy. ClonesEqual V.is_clone → node_shape P.bytes copy ≡ node_shape P.bytes self.now) }
+        ensures { IfOk result (λ copy. ClonesEqual V.is_clone
+            → node_shape P.bytes copy ≡ node_shape P.bytes self.now) }
     {
         let content = self.content.copy()?;
         self.copy_with(alloc, new_version, content)
@@ -276,9 +291,13 @@ impl<P: Partial, V: Clone + Drop> VersionedNode<P, V> {
     /// where memory is refused `GrowError::Memory`. They are tested in this order.
     pub fn grow(&self, alloc: Global, new_version: u64) -> Result<VersionedNode<P, V>, GrowError>
         requires { IsAscending (node_shape P.bytes self.now) }
-        ensures grown { IfOk result (λ node. ClonesEqual V.is_clone → node_shape P.bytes node ≡ with_width (wider (width_of (node_shape P.bytes self.now))) (node_shape P.bytes self.now)) }
-        ensures leaf { IsErrOf result GrowError.Leaf ↔ (width_of (node_shape P.bytes self.now) ≡ 0) }
-        ensures widest { IsErrOf result GrowError.Widest ↔ (width_of (node_shape P.bytes self.now) ≡ 256) }
+        ensures grown { IfOk result (λ node. ClonesEqual V.is_clone
+            → node_shape P.bytes node ≡ with_width (wider (width_of (node_shape P.bytes self.now)))
+            (node_shape P.bytes self.now)) }
+        ensures leaf { IsErrOf result GrowError.Leaf
+            ↔ (width_of (node_shape P.bytes self.now) ≡ 0) }
+        ensures widest { IsErrOf result GrowError.Widest
+            ↔ (width_of (node_shape P.bytes self.now) ≡ 256) }
     {
         match self.content.width() {
             0 => return Err(GrowError::Leaf),
@@ -297,7 +316,10 @@ impl<P: Partial, V: Clone + Drop> VersionedNode<P, V> {
         new_version: u64,
         content: Content<P, V>,
     ) -> Result<VersionedNode<P, V>, AllocError>
-        ensures { IfOk result (λ copy. ClonesEqual V.is_clone → node_shape P.bytes copy ≡ node_of_content P.bytes (prefix_of (node_shape P.bytes self.now)) (value_of (node_shape P.bytes self.now)) (shapes_of_content P.bytes (content_shape content))) }
+        ensures { IfOk result (λ copy. ClonesEqual V.is_clone
+            → node_shape P.bytes copy ≡ node_of_content P.bytes
+            (prefix_of (node_shape P.bytes self.now)) (value_of (node_shape P.bytes self.now))
+            (shapes_of_content P.bytes (content_shape content))) }
     {
         let prefix = self.prefix.copy(alloc)?;
         let value = clone_of(&self.value)?;
@@ -315,7 +337,8 @@ impl<P: Partial, V: Clone + Drop> Clone for VersionedNode<P, V> {
     ghost use Rattle.rart_node.specs.NodeShapes.{node_shape};
     ghost use Rattle.rart_below.specs.Clones.{ClonesEqual};
 
-    ghost is_clone = { λ node copy. ClonesEqual V.is_clone → node_shape P.bytes copy ≡ node_shape P.bytes node };
+    ghost is_clone =
+        { λ node copy. ClonesEqual V.is_clone → node_shape P.bytes copy ≡ node_shape P.bytes node };
 
     fn clone(&self) -> Result<VersionedNode<P, V>, AllocError> {
         self.cow_clone_inner(self.alloc, self.version)

@@ -29,7 +29,8 @@ impl<P: Partial, V: Drop> NodeRef<P, V> {
         node: VersionedNode<P, V>,
         work: &mut Work,
     ) -> Result<NodeRef<P, V>, AllocError>
-        ensures shown { IfOk result (λ pointer. pointer_shape P.bytes pointer ≡ node_shape P.bytes node) }
+        ensures shown { IfOk result (λ pointer. pointer_shape P.bytes pointer
+            ≡ node_shape P.bytes node) }
         ensures work { work.new ≡ record work.old { made = work.old.made + 1 } }
     {
         work.make();
@@ -50,7 +51,8 @@ impl<P: Partial, V: Drop> NodeRef<P, V> {
     /// Another pointer to the same node. Refused where the count of pointers to it is at its
     /// greatest, and nothing has changed then. In Rust this is `Arc::clone`.
     pub fn copy(&self) -> Result<NodeRef<P, V>, AllocError>
-        ensures { IfOk result (λ copy. pointer_shape P.bytes copy ≡ pointer_shape P.bytes self.now) }
+        ensures { IfOk result (λ copy. pointer_shape P.bytes copy ≡ pointer_shape P.bytes self.now)
+            }
     {
         Ok(NodeRef {
             shared: self.shared.clone()?,
@@ -82,8 +84,10 @@ impl<P: Partial, V: Clone + Drop> NodeRef<P, V> {
     pub fn open_mut(&mut self, work: &mut Work) -> Result<&mut VersionedNode<P, V>, AllocError>
         requires clones { ClonesEqual V.is_clone }
         ensures* writes_back { sem 𝓛 (LendsNode P.row V.row P.bytes self.entry result) }
-        ensures shown { IfOk result (λ node. node_shape P.bytes node.now ≡ pointer_shape P.bytes self.old) }
-        ensures work { work.new ≡ record { entered = work.old.entered + 1; made = work.old.made + 1 } }
+        ensures shown { IfOk result (λ node. node_shape P.bytes node.now
+            ≡ pointer_shape P.bytes self.old) }
+        ensures work { work.new ≡ record { entered = work.old.entered + 1;
+            made = work.old.made + 1 } }
     {
         work.enter();
         work.make();

@@ -50,9 +50,12 @@ pub fn remove_below<P: Partial, V: Clone + Drop>(
     requires clones { ClonesEqual V.is_clone }
     requires tree { IsTree (pointer_shape P.bytes at.old) }
     requires present { IsSome (found (pointer_shape P.bytes at.old) key.now) }
-    ensures taken { OnOk result (IsTaken key.now (pointer_shape P.bytes at.old) (pointer_shape P.bytes at.new)) }
-    ensures value { IfOk result (λ taken. taken.value ≡ found (pointer_shape P.bytes at.old) key.now) }
-    ensures unused { IfOk result (λ taken. taken.left_unused ≡ is_unused (pointer_shape P.bytes at.new)) }
+    ensures taken { OnOk result (IsTaken key.now (pointer_shape P.bytes at.old)
+        (pointer_shape P.bytes at.new)) }
+    ensures value { IfOk result (λ taken. taken.value
+        ≡ found (pointer_shape P.bytes at.old) key.now) }
+    ensures unused { IfOk result (λ taken. taken.left_unused
+        ≡ is_unused (pointer_shape P.bytes at.new)) }
     ensures refused { OnErr result (pointer_shape P.bytes at.new ≡ pointer_shape P.bytes at.old) }
     ensures counted { CountsUpTo (path_bound (pointer_shape P.bytes at.old) key.now)
         (path_bound (pointer_shape P.bytes at.old) key.now) work.old work.new }

@@ -12,18 +12,25 @@ module _ {V : Type 0} where
     pub key : List ℕ
     pub there : IsSome (found s key)
 
-  key-below : (prefix : List ℕ) (width byte : ℕ) (child : Shape V) (forest : Forest V) (key : List ℕ) → IsSome (found child key) → BeginsWith byte (prefix_of child) → HasKey (node prefix None width (grown byte child forest))
-  key-below prefix width byte child forest [] there begins = absurd (false≢true (ap is_some (sym (found-empty child byte begins)) ∙ there))
+  key-below : (prefix : List ℕ) (width byte : ℕ) (child : Shape V) (forest : Forest V)
+      (key : List ℕ) → IsSome (found child key) → BeginsWith byte (prefix_of child)
+      → HasKey (node prefix None width (grown byte child forest))
+  key-below prefix width byte child forest [] there begins =
+      absurd (false≢true (ap is_some (sym (found-empty child byte begins)) ∙ there))
   key-below prefix width byte child forest (c ∷ key) there begins =
-      let P : Bool → Type 0 = λ t. (c == byte) ≡ t → HasKey (node prefix None width (grown byte child forest)) in
+      let P : Bool → Type 0 =
+          λ t. (c == byte) ≡ t → HasKey (node prefix None width (grown byte child forest)) in
       let both : (t : Bool) → P t = elim [
-        | true ↦ (λ same. record { key = prefix ++ (c ∷ key); there = rw (strip_prefix-own prefix (c ∷ key), same) there })
-        | false ↦ (λ differs. absurd (false≢true (ap is_some (sym (found-other child byte c key begins differs)) ∙ there)))
+        | true ↦ (λ same. record { key = prefix ++ (c ∷ key);
+        there = rw (strip_prefix-own prefix (c ∷ key), same) there })
+        | false ↦ (λ differs. absurd (false≢true
+        (ap is_some (sym (found-other child byte c key begins differs)) ∙ there)))
       ] in
       both (c == byte) refl
 
   pub tree-has-key : (s : Shape V) → IsTree s → HasKey s
-  tree-has-key (node prefix (Some value) width forest) tree = record { key = prefix ++ []; there = rw (strip_prefix-own prefix []) refl }
+  tree-has-key (node prefix (Some value) width forest) tree =
+      record { key = prefix ++ []; there = rw (strip_prefix-own prefix []) refl }
   tree-has-key (node prefix None width bare) tree = absurd (false≢true tree.2)
   tree-has-key (node prefix None width (grown byte child forest)) tree =
       let below = tree-has-key child tree.1.1 in

@@ -28,13 +28,17 @@ at_end (b ∷ w) here below = below
 
 module _ {V : Type 0} where
   abbrev mutual
-    -- the value of a string: a node's own where the string ends with its prefix, else what the child under the next byte has
+    -- the value of a string: a node's own where the string ends with its prefix, else what the
+    -- child under the next byte has
     pub found : Shape V → List ℕ → Option V
-    found (node prefix value width forest) q = option_and_then (λ rest. at_end rest value (found_below forest rest)) (strip_prefix prefix q)
+    found (node prefix value width forest) q =
+        option_and_then (λ rest. at_end rest value (found_below forest rest))
+        (strip_prefix prefix q)
 
     pub found_below : Forest V → List ℕ → Option V
     found_below bare q = None
-    found_below (grown byte child forest) q = if is_first byte q then found child q else found_below forest q
+    found_below (grown byte child forest) q =
+        if is_first byte q then found child q else found_below forest q
 
   -- whether there is a value or a child
   abbrev pub is_used : Option V → Forest V → Bool
@@ -43,37 +47,51 @@ module _ {V : Type 0} where
   is_used None (grown byte child forest) = true
 
   abbrev mutual
-    -- At each node the children ascend, the prefix of each begins with its byte, and there is a value or a child.
+    -- At each node the children ascend, the prefix of each begins with its byte, and there is a
+    -- value or a child.
     pub IsTree : Shape V → Type 0
-    IsTree (node prefix value width forest) = children.IsAscending (entries_of forest) × AreBranches forest × IsTrue (is_used value forest)
+    IsTree (node prefix value width forest) =
+        children.IsAscending (entries_of forest) × AreBranches forest
+        × IsTrue (is_used value forest)
 
     pub AreBranches : Forest V → Type 0
     AreBranches bare = ⊤
-    AreBranches (grown byte child forest) = BeginsWith byte (prefix_of child) × IsTree child × AreBranches forest
+    AreBranches (grown byte child forest) =
+        BeginsWith byte (prefix_of child) × IsTree child × AreBranches forest
 
   -- The same but for the node itself, which may have been left without value and child.
   abbrev pub IsOrdered : Shape V → Type 0
-  IsOrdered (node prefix value width forest) = children.IsAscending (entries_of forest) × AreBranches forest
+  IsOrdered (node prefix value width forest) =
+      children.IsAscending (entries_of forest) × AreBranches forest
 
   -- A first byte that a node's prefix shares with the key stays.
   abbrev pub KeepsFirst : List ℕ → Shape V → Shape V → Type 0
-  KeepsFirst key before after = (byte : ℕ) → BeginsWith byte (prefix_of before) → BeginsWith byte key → BeginsWith byte (prefix_of after)
+  KeepsFirst key before after = (byte : ℕ) → BeginsWith byte (prefix_of before)
+      → BeginsWith byte key → BeginsWith byte (prefix_of after)
 
   -- After, the tree has the value at the key, and else what it had.
   abbrev pub IsPut : List ℕ → V → Shape V → Shape V → Type 0
   IsPut key value before after =
-      IsTree after × ((q : List ℕ) → found after q ≡ (if bytes_eq q key then Some value else found before q)) × KeepsFirst key before after
+      IsTree after × ((q : List ℕ) → found after q
+          ≡ (if bytes_eq q key then Some value else found before q)) × KeepsFirst key before after
 
-  -- After, nothing is at the key, and else what was there. The node itself may be left without value and child.
+  -- After, nothing is at the key, and else what was there. The node itself may be left without
+  -- value and child.
   abbrev pub IsTaken : List ℕ → Shape V → Shape V → Type 0
   IsTaken key before after =
-      IsOrdered after × ((q : List ℕ) → found after q ≡ (if bytes_eq q key then None else found before q)) × (prefix_of after ≡ prefix_of before)
+      IsOrdered after × ((q : List ℕ)
+          → found after q ≡ (if bytes_eq q key then None else found before q))
+          × (prefix_of after ≡ prefix_of before)
 
-  -- the node cut inside its prefix: a parent of width 4 with the first bytes, over the node with the others
+  -- the node cut inside its prefix: a parent of width 4 with the first bytes, over the node with
+  -- the others
   abbrev pub cut_at : ℕ → Shape V → Shape V
-  cut_at at (node prefix value width forest) = node (take at prefix) None 4 (grown (slice_index_or prefix at 0) (node (drop at prefix) value width forest) bare)
+  cut_at at (node prefix value width forest) =
+      node (take at prefix) None 4 (grown (slice_index_or prefix at 0)
+      (node (drop at prefix) value width forest) bare)
 
-  -- how many nodes are made where a value is put at the end of a node's prefix, or in a new leaf below the node
+  -- how many nodes are made where a value is put at the end of a node's prefix, or in a new leaf
+  -- below the node
   abbrev pub ending : Shape V → List ℕ → ℕ
   ending s rest = at_end rest 0 (widenings s + 1)
 
@@ -89,7 +107,8 @@ module _ {V : Type 0} where
   abbrev mutual
     -- all pairs, a node's own before those of its children
     pub pairs_of : Shape V → List (List ℕ × V)
-    pairs_of (node prefix value width forest) = map (λ pair. (prefix ++ pair.0, pair.1)) (own_pair value ++ pairs_below forest)
+    pairs_of (node prefix value width forest) =
+        map (λ pair. (prefix ++ pair.0, pair.1)) (own_pair value ++ pairs_below forest)
 
     pub pairs_below : Forest V → List (List ℕ × V)
     pairs_below bare = []

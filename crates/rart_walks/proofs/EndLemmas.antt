@@ -7,7 +7,7 @@ use Rattle.rart_below.specs.Bytes.{common_length}
 use Rattle.rart_node.specs.Shape.{Shape, prefix_of, children_of}
 use Rattle.rart_shape.specs.Trees.{IsTree, own_pair, pairs_of}
 use Rattle.rart_shape.proofs.PrefixLemmas.{common_fits}
-use Rattle.rart_walks.specs.declared.walk.ways.Part.{Part}
+use Rattle.rart_walks.specs.declared.walk.path.Part.{Part}
 use Rattle.rart_walks.specs.Frames.{behind_path, pairs_of_all, pairs_inside}
 use Rattle.rart_walks.specs.Parts.{keeps, reaches, goes_on, is_strict}
 use Rattle.rart_walks.specs.Walks.{nodes_of, paths_of}

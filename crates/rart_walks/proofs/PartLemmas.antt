@@ -11,8 +11,8 @@ use Rattle.rart_below.specs.Bytes.{begins, byte_order}
 use Rattle.rart_below.specs.Children.{child_at, children_from}
 use Rattle.rart_node.specs.Shape.{Shape, Forest, node, bare, grown, prefix_of, value_of, children_of}
 use Rattle.rart_shape.specs.Trees.{BeginsWith, IsTree, own_pair}
-use Rattle.rart_walks.specs.declared.walk.ways.Part.{Part}
-use Rattle.rart_walks.specs.declared.walk.ways.Part.TheVariants.{Under, From, Behind}
+use Rattle.rart_walks.specs.declared.walk.path.Part.{Part}
+use Rattle.rart_walks.specs.declared.walk.path.Part.TheVariants.{Under, From, Behind}
 use Rattle.rart_walks.specs.Frames.{behind_path}
 use Rattle.rart_walks.specs.Parts.{keeps, reaches, goes_on, is_strict}
 use Rattle.rart_walks.proofs.GatherLemmas.{keeping, keeping-behind, keeping-either, keeping-same, keeping-append, behind-either, gathered, gathered_all, gathered-is, kept_at, keeping-children, keeping-inside, tree-begun, tree-ascending}

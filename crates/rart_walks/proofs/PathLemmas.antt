@@ -10,7 +10,7 @@ use Rattle.rart_node.specs.Shape.{Shape, height, prefix_of, value_of, children_o
 use Rattle.rart_shape.specs.Trees.{strip_prefix, IsTree, own_pair, pairs_of, path_bound}
 use Rattle.rart_shape.proofs.PrefixLemmas.{strip_prefix-whole, split-common, split-whole}
 use Rattle.rart_shape.proofs.SearchLemmas.{IsSearchAt, search-start, search-lower, search-child}
-use Rattle.rart_walks.specs.declared.walk.ways.Part.{Part}
+use Rattle.rart_walks.specs.declared.walk.path.Part.{Part}
 use Rattle.rart_walks.specs.Frames.{OpenNode, behind_path, pairs_of_all, nodes_of_all, AreTrees, segments_of, pairs_ahead, nodes_ahead, TreesAhead, pending_pair, pairs_inside}
 use Rattle.rart_walks.specs.Parts.{keeps, reaches, goes_on, is_strict}
 use Rattle.rart_walks.specs.Walks.{AreShort, nodes_of, paths_of}

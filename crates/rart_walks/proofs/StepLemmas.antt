@@ -10,7 +10,7 @@ use Rattle.rart_node.specs.Shape.{Shape, height, prefix_of, children_of}
 use Rattle.rart_shape.specs.Trees.{strip_prefix, pairs_of, path_bound}
 use Rattle.rart_shape.proofs.PrefixLemmas.{strip_prefix-whole, split-whole, common_fits}
 use Rattle.rart_shape.proofs.SearchLemmas.{IsSearchAt, search-counted, search-lower, search-child}
-use Rattle.rart_walks.specs.declared.walk.ways.Part.{Part}
+use Rattle.rart_walks.specs.declared.walk.path.Part.{Part}
 use Rattle.rart_walks.specs.Frames.{OpenNode, behind_path, segments_of, pairs_ahead, nodes_ahead, TreesAhead}
 use Rattle.rart_walks.specs.Parts.{keeps, reaches, goes_on}
 use Rattle.rart_walks.specs.Walks.{AreShort, paths_of}

@@ -4,8 +4,8 @@ use Rattle.std.specs.Ordering.{is_le, is_lt}
 use Rattle.std.specs.declared.ops.Bound.{Bound}
 use Rattle.std.specs.declared.ops.Bound.TheVariants.{Included, Excluded, Unbounded}
 use Rattle.rart_below.specs.Bytes.{byte_order, begins}
-use Rattle.rart_walks.specs.declared.walk.ways.Part.{Part}
-use Rattle.rart_walks.specs.declared.walk.ways.Part.TheVariants.{Under, From, Behind}
+use Rattle.rart_walks.specs.declared.walk.path.Part.{Part}
+use Rattle.rart_walks.specs.declared.walk.path.Part.TheVariants.{Under, From, Behind}
 
 -- whether a key is in the part
 abbrev pub keeps : Part → List ℕ → List ℕ → Bool

@@ -11,7 +11,7 @@ ghost use Rattle.rart_walks.specs.Walks.{Gives, AreShort, walk_end, nodes_of};
 ghost use Rattle.rart_walks.specs.Frames.{OpenNode, TakesChild, segments_of, behind_path};
 ghost use Rattle.rart_walks.specs.WalkFields.{open_nodes, position, IsWalk};
 
-mod ways;
+mod path;
 
 use crate::trail::Trail;
 use rart_below::Partial;

@@ -89,7 +89,8 @@ impl<C: Drop> NodeMapping<C> for DirectMapping<C> {
 }
 
 impl<C: Clone + Drop> Clone for DirectMapping<C> {
-    ghost is_clone = { λ mapping copy. SameBytes C.is_clone (direct_children mapping) (direct_children copy)
+    ghost is_clone =
+        { λ mapping copy. SameBytes C.is_clone (direct_children mapping) (direct_children copy)
         × (direct_in_order copy ≡ direct_in_order mapping) };
 
     fn clone(&self) -> Result<Self, AllocError> {

@@ -7,7 +7,8 @@ use std::mem;
 pub(crate) fn insert_slot<C: Drop>(slots: &mut [Option<C>], place: usize, len: usize, child: C)
     requires within { place ≤ len }
     requires room { len < length slots.old }
-    ensures { slots.new ≡ insert (take len slots.old) place (Some child) ++ drop (len + 1) slots.old }
+    ensures { slots.new ≡ insert (take len slots.old) place (Some child)
+        ++ drop (len + 1) slots.old }
 {
     slots[len] = Some(child);
     slots[place..len + 1].rotate_right(1);

@@ -18,7 +18,8 @@ pub struct SortedKeyedMapping<C, const WIDTH: usize> {
     children: SlotArray<Option<C>, WIDTH>,
 }
 
-/// How many of the keys are below the byte. It looks at each key, so that no branch depends on them.
+/// How many of the keys are below the byte. It looks at each key, so that no branch depends on
+/// them.
 fn rank_of(keys: &[u8], byte: u8) -> usize
     ensures value { result ≡ rank byte keys.now }
     ensures fits { result ≤ length keys.now }
@@ -129,7 +130,8 @@ impl<C: Drop, const WIDTH: usize> NodeMapping<C> for SortedKeyedMapping<C, WIDTH
 }
 
 impl<C: Clone + Drop, const WIDTH: usize> Clone for SortedKeyedMapping<C, WIDTH> {
-    ghost is_clone = { λ mapping copy. SameBytes C.is_clone (sorted_children mapping) (sorted_children copy)
+    ghost is_clone =
+        { λ mapping copy. SameBytes C.is_clone (sorted_children mapping) (sorted_children copy)
         × (sorted_in_order copy ≡ sorted_in_order mapping) };
 
     fn clone(&self) -> Result<Self, AllocError> {

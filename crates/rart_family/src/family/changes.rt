@@ -10,7 +10,7 @@ ghost use Rattle.rart_family.specs.Families.{version_at};
 ghost use Rattle.rart_family.specs.PlaceChanges.{ChangesAt, CountsChangeAt};
 ghost use Rattle.rart_family.specs.declared.family.command.Command.TheVariants.{GetMut, Insert, Replace, Remove, Delete};
 
-use super::slot::write_slot;
+use super::writing::write_value;
 use super::{Family, Reply};
 use rart_versioned::{KeyTrait, VersionedAdaptiveRadixTree, Work};
 use std::alloc::AllocError;
@@ -132,7 +132,7 @@ fn rewrite_at<K: KeyTrait, V: Clone + Drop>(
     let Some(version) = &mut versions[place] else {
         unreachable!();
     };
-    write_slot(version, key, value, changes)
+    write_value(version, key, value, changes)
 }
 
 fn insert_at<K: KeyTrait, V: Clone + Drop>(

@@ -144,7 +144,7 @@ fn try_update_at<K: KeyTrait, V: Clone + Drop>(
     let Some(version) = &mut versions[place] else {
         unreachable!();
     };
-    let slot_attempt = version.try_update_k_counted(
+    let tried = version.try_update_k_counted(
         key,
         move |slot: &mut Slot<V>| -> Result<SlotUpdate<V>, Failure> {
             write_slot(slot, write);
@@ -152,7 +152,7 @@ fn try_update_at<K: KeyTrait, V: Clone + Drop>(
         },
         changes,
     );
-    match slot_attempt {
+    match tried {
         Ok(is_there) => Ok(Ok(is_there)),
         Err(Refusal::Callback(failure)) => Ok(Err(failure)),
         Err(Refusal::Memory(refused)) => Err(refused),

@@ -9,12 +9,17 @@ use Rattle.rart_insertion.proofs.InsertionStepLemmas.{cut-at-absent, put-at-cut,
 use Rattle.rart_insertion.proofs.split.Goals as goal
 
 pub finish-requires-clause-tree : goal.finish-requires-clause-tree
-finish-requires-clause-tree g c = subst IsTree (sym c.in_ok-upper.ensures.cut) (cut-tree (node_shape g.K.PartialType.Partial.bytes c.args.node.now) _ c.requires.tree c.requires.inside)
+finish-requires-clause-tree g c =
+    subst IsTree (sym c.in_ok-upper.ensures.cut)
+    (cut-tree (node_shape g.K.PartialType.Partial.bytes c.args.node.now) _ c.requires.tree
+    c.requires.inside)
 
 pub finish-requires-clause-absent : goal.finish-requires-clause-absent
 finish-requires-clause-absent g c byte next =
     let s = node_shape g.K.PartialType.Partial.bytes c.args.node.now in
-    ap (λ z. child_at byte (children_of z)) c.in_ok-upper.ensures.cut ∙ cut-at-absent s _ c.args.depth c.args.end c.requires.depth c.requires.end byte c.requires.inside next
+    ap (λ z. child_at byte (children_of z)) c.in_ok-upper.ensures.cut
+        ∙ cut-at-absent s _ c.args.depth c.args.end c.requires.depth c.requires.end byte
+        c.requires.inside next
 
 pub returns-clause-put : goal.returns-clause-put
 returns-clause-put g c =
@@ -22,19 +27,27 @@ returns-clause-put g c =
     let upper = node_shape g.K.PartialType.Partial.bytes c.in_ok-upper.upper in
     let after = node_shape g.K.PartialType.Partial.bytes c.finish.new.node in
     let rest = drop c.args.end (g.K.KeyTrait.bytes c.args.key.now) in
-    let puts : IsPut (prefix_of (cut_at (c.args.end - c.args.depth) s) ++ rest) c.args.value (cut_at (c.args.end - c.args.depth) s) after =
-    subst (λ (z : Shape g.row.V.Denot). IsPut (prefix_of z ++ rest) c.args.value z after) c.in_ok-upper.ensures.cut c.in_ok-old.ensures.put in
-    put-at-cut s _ c.args.depth c.args.end c.requires.depth c.requires.end after c.args.value c.requires.inside puts
+    let puts : IsPut (prefix_of (cut_at (c.args.end - c.args.depth) s) ++ rest) c.args.value
+        (cut_at (c.args.end - c.args.depth) s) after =
+    subst (λ (z : Shape g.row.V.Denot). IsPut (prefix_of z ++ rest) c.args.value z after)
+        c.in_ok-upper.ensures.cut c.in_ok-old.ensures.put in
+    put-at-cut s _ c.args.depth c.args.end c.requires.depth c.requires.end after c.args.value
+        c.requires.inside puts
 
 pub returns-clause-replaced : goal.returns-clause-replaced
 returns-clause-replaced g c =
     let s = node_shape g.K.PartialType.Partial.bytes c.args.node.now in
     let rest = drop c.args.end (g.K.KeyTrait.bytes c.args.key.now) in
-    c.in_ok-old.ensures.replaced ∙ ap (λ (z : Shape g.row.V.Denot). found z (prefix_of z ++ rest)) c.in_ok-upper.ensures.cut ∙ found-at-cut s _ c.args.depth c.args.end c.requires.depth c.requires.end c.requires.inside
+    c.in_ok-old.ensures.replaced ∙ ap (λ (z : Shape g.row.V.Denot). found z (prefix_of z ++ rest))
+        c.in_ok-upper.ensures.cut ∙ found-at-cut s _ c.args.depth c.args.end c.requires.depth
+        c.requires.end c.requires.inside
 
 pub returns-clause-counted : goal.returns-clause-counted
 returns-clause-counted g c =
     let s = node_shape g.K.PartialType.Partial.bytes c.args.node.now in
     let rest = drop c.args.end (g.K.KeyTrait.bytes c.args.key.now) in
-    let most = subst (λ (z : Shape g.row.V.Denot). ending z rest ≤ length rest) (sym c.in_ok-upper.ensures.cut) (ending-cut s (c.args.end - c.args.depth) rest) in
-    counts-then c.in_ok-upper.ensures.counted c.in_ok-old.ensures.counted (omega arith) (omega (arith, most))
+    let most =
+        subst (λ (z : Shape g.row.V.Denot). ending z rest ≤ length rest)
+        (sym c.in_ok-upper.ensures.cut) (ending-cut s (c.args.end - c.args.depth) rest) in
+    counts-then c.in_ok-upper.ensures.counted c.in_ok-old.ensures.counted (omega arith)
+        (omega (arith, most))

@@ -15,7 +15,7 @@ ghost use Rattle.rart_maps.specs.Versions.{HasRoom, has_key, value_at};
 use crate::counted::missing::{Missing, found_of};
 use crate::counted::tree::VersionedAdaptiveRadixTree;
 use rart_below::{KeyTrait, Partial};
-use rart_lending::{lend_below, steps_to};
+use rart_lending::{lend_below, path_length};
 use rart_node::{NodeRef, Work};
 use std::alloc::AllocError;
 
@@ -45,7 +45,7 @@ fn lend_in<'a, P: Partial, V: Clone + Drop>(
 {
     match root.as_mut() {
         None => Err(Missing::Absent),
-        Some(at) => match steps_to(at, key, work) {
+        Some(at) => match path_length(at, key, work) {
             None => Err(Missing::Absent),
             Some(steps) => match lend_below(at, key, steps, work) {
                 Ok(value) => {

@@ -5,7 +5,8 @@ use Rattle.rart_below.proofs.prefix_length.prefix_length.Given as goal
 abbrev pub invariant-loop-matched : goal.invariant-loop-matched
 invariant-loop-matched l =
     (l.matched ≤ length l.left) × (l.matched ≤ length l.right)
-    × (l.matched + common_length (drop l.matched l.left) (drop l.matched l.right) ≡ common_length l.left l.right)
+    × (l.matched + common_length (drop l.matched l.left) (drop l.matched l.right)
+    ≡ common_length l.left l.right)
 
 abbrev pub decreases-loop-matched : goal.decreases-loop-matched
 decreases-loop-matched l = length l.left - l.matched

@@ -24,7 +24,8 @@ returns-in_default c =
     let later = byte_order (joined_bytes (drop (at + 1) segments.result.now)) split.result.1.now in
     sym (ordering_then-decided compared.result later c.in_default.not-Equal)
     ∙ ap (λ first. ordering_then first later) compared.ensures
-    ∙ sym (joined_bytes-order segments.result.now at _ c.loop-segment.rest.now c.loop-segment-test.true
+    ∙ sym (joined_bytes-order segments.result.now at _ c.loop-segment.rest.now
+    c.loop-segment-test.true
     split.result.0.now split.result.1.now c.if-rest-segment.false
     split.ensures.front split.ensures.back)
     ∙ c.loop-segment.invariant
@@ -37,7 +38,8 @@ loop-segment-preserved c =
     let split = c.split_at in
     let later = byte_order (joined_bytes (drop (at + 1) segments.result.now)) split.result.1.now in
     ap (λ first. ordering_then first later) (sym c.in-Equal.is ∙ c.cmp-in-loop-segment.ensures)
-    ∙ sym (joined_bytes-order segments.result.now at _ c.loop-segment.rest.now c.loop-segment-test.true
+    ∙ sym (joined_bytes-order segments.result.now at _ c.loop-segment.rest.now
+    c.loop-segment-test.true
     split.result.0.now split.result.1.now c.if-rest-segment.false
     split.ensures.front split.ensures.back)
     ∙ c.loop-segment.invariant

@@ -12,9 +12,12 @@ replace_child-requires g c =
     (omega arith, (omega arith, (omega arith, (omega arith, (order, present)))))
 
 pub returns-clause-seen : goal.returns-clause-seen
-returns-clause-seen g c = node_shape-replaced g.P.Partial.bytes c.args.self.now c.replace_child.new.self c.args.byte c.args.child c.requires.order c.replace_child.ensures.content
+returns-clause-seen g c =
+    node_shape-replaced g.P.Partial.bytes c.args.self.now c.replace_child.new.self c.args.byte
+    c.args.child c.requires.order c.replace_child.ensures.content
 
 pub returns-clause-replaced : goal.returns-clause-replaced
 returns-clause-replaced g c =
     let bytes = g.P.Partial.bytes in
-    ap (option_map (pointer_shape bytes)) c.replace_child.ensures.replaced ∙ sym (child_at-node_shape bytes c.args.self.now c.args.byte c.requires.order)
+    ap (option_map (pointer_shape bytes)) c.replace_child.ensures.replaced
+        ∙ sym (child_at-node_shape bytes c.args.self.now c.args.byte c.requires.order)

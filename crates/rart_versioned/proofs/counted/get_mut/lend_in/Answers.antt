@@ -11,8 +11,8 @@ use Rattle.rart_versioned.proofs.SoundLemmas.{sound-again}
 use Rattle.rart_lending.proofs.PathLemmas.{there-arrived}
 use Rattle.rart_versioned.proofs.counted.get_mut.lend_in.Goals as goal
 
-pub returns-in-None-steps_to : goal.returns-in-None-steps_to
-returns-in-None-steps_to g c =
+pub returns-in-None-path_length : goal.returns-in-None-path_length
+returns-in-None-path_length g c =
     let f = pointer_shape g.P.Partial.bytes in
     let w = c.args.key.now in
     let s = f c.in-Some.at.now in
@@ -26,12 +26,12 @@ returns-in-None-steps_to g c =
       record {
         writes_back = tt;
         value = tt;
-        missing = subst (λ o. found_in o w ≡ None) root-is (c.in-None-steps_to.ensures.absent refl);
+        missing = subst (λ o. found_in o w ≡ None) root-is (c.in-None-path_length.ensures.absent refl);
         raised = tt;
         kept = refl;
-        counted = counts-most c.in-None-steps_to.ensures.counted (omega (arith, few)) (omega arith);
-        entered_least = λ rooted. c.in-None-steps_to.ensures.entered;
-        absent_makes_none = λ absent. made-none c.in-None-steps_to.ensures.counted;
+        counted = counts-most c.in-None-path_length.ensures.counted (omega (arith, few)) (omega arith);
+        entered_least = λ rooted. c.in-None-path_length.ensures.entered;
+        absent_makes_none = λ absent. made-none c.in-None-path_length.ensures.counted;
       },
     )
 
@@ -44,7 +44,7 @@ returns-in-Ok g c =
     let there : IsSome (found s w) = subst IsSome (sym c.in-Ok.ensures.value) refl in
     let put : (value : g.row.V.Denot) → IsPut w value s (f (c.lend_below.follows.lender value)) = λ value. c.lend_below.follows.holds value (ap is_ok c.in-Ok.is) in
     let most-path = path-most s w in
-    let few = c.in-Some-steps_to.ensures.few in (
+    let few = c.in-Some-path_length.ensures.few in (
       (
         refl,
         (λ value. (
@@ -59,8 +59,8 @@ returns-in-Ok g c =
         missing = tt;
         raised = refl;
         kept = tt;
-        counted = counts-then c.in-Some-steps_to.ensures.counted c.in-Ok.ensures.counted (omega (arith, most-path, few)) (omega (arith, most-path, few));
-        entered_least = λ rooted. entered-then c.args.work.now c.in-Some-steps_to.ensures.entered c.in-Ok.ensures.counted;
+        counted = counts-then c.in-Some-path_length.ensures.counted c.in-Ok.ensures.counted (omega (arith, most-path, few)) (omega (arith, most-path, few));
+        entered_least = λ rooted. entered-then c.args.work.now c.in-Some-path_length.ensures.entered c.in-Ok.ensures.counted;
         absent_makes_none = λ absent. absurd (false≢true (ap is_some (sym absent) ∙ subst (λ o. IsSome (found_in o w)) root-is there));
       },
     )
@@ -74,9 +74,9 @@ returns-in-Err g c =
     let root-is : Some s ≡ option_map f c.args.root.now = ap (option_map f) c.in-Some.ensures.value in
     let kept : after ≡ s = subst (λ r. OnErr r (after ≡ s)) c.in-Err.is c.lend_below.follows.holds-at-none in
     let same : Some after ≡ option_map f c.args.root.now = ap Some kept ∙ root-is in
-    let there = there-arrived c.in-Some-steps_to.steps w s c.in-Some-steps_to.ensures.arrives in
+    let there = there-arrived c.in-Some-path_length.steps w s c.in-Some-path_length.ensures.arrives in
     let most-path = path-most s w in
-    let few = c.in-Some-steps_to.ensures.few in (
+    let few = c.in-Some-path_length.ensures.few in (
       (
         refl,
         (λ value. ((λ no. absurd (false≢true no)), (λ most count sound. sound))),
@@ -88,8 +88,8 @@ returns-in-Err g c =
         missing = subst (λ o. IsSome (found_in o w)) root-is there;
         raised = tt;
         kept = refl;
-        counted = counts-then c.in-Some-steps_to.ensures.counted c.in-Err.ensures.counted (omega (arith, most-path, few)) (omega (arith, most-path, few));
-        entered_least = λ rooted. entered-then c.args.work.now c.in-Some-steps_to.ensures.entered c.in-Err.ensures.counted;
+        counted = counts-then c.in-Some-path_length.ensures.counted c.in-Err.ensures.counted (omega (arith, most-path, few)) (omega (arith, most-path, few));
+        entered_least = λ rooted. entered-then c.args.work.now c.in-Some-path_length.ensures.entered c.in-Err.ensures.counted;
         absent_makes_none = λ absent. absurd (false≢true (ap is_some (sym absent) ∙ subst (λ o. IsSome (found_in o w)) root-is there));
       },
     )

@@ -5,5 +5,7 @@ use Rattle.rart_below.proofs.mapping.direct.DirectMappingNodeMapping.seek_child.
 pub returns : goal.returns
 returns g c =
     let kept = kept_from_order c.args.self.now.children.slots c.args.self.now.count c.requires in
-    let within : c.args.byte < length c.args.self.now.children.slots = omega (arith, kept.wide, c.ranges.byte.fits) in
-    c.as_ref.ensures.value ∙ (sym c.index-self-byte.is ∙ found c.args.byte _ _ within c.index-self-byte.is)
+    let within : c.args.byte < length c.args.self.now.children.slots =
+        omega (arith, kept.wide, c.ranges.byte.fits) in
+    c.as_ref.ensures.value ∙ (sym c.index-self-byte.is
+        ∙ found c.args.byte _ _ within c.index-self-byte.is)

@@ -4,7 +4,7 @@ use Rattle.rart_node.specs.Shape.{height}
 use Rattle.rart_walks.specs.Frames.{segments_of}
 use Rattle.rart_walks.specs.WalkFields.{open_nodes}
 use Rattle.rart_walks.proofs.PathLemmas.{IsOnWay}
-use Rattle.rart_walks.proofs.walk.ways.way_to.Given as goal
+use Rattle.rart_walks.proofs.walk.path.along_path.Given as goal
 
 abbrev pub invariant-down : goal.invariant-down
 invariant-down g l = record {

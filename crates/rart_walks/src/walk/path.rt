@@ -77,7 +77,7 @@ impl<'a, P: Partial, V: Drop, T: Trail<'a>> Walk<'a, P, V, T> {
             ≤ count_by (begins prefix.now) (paths_of (pointer_shape P.bytes root.now))) }
         ensures counted { CountsUpTo (length prefix.now + 1) 0 work.old work.new }
     {
-        way_to(alloc, root, Part::Under, prefix, work)
+        along_path(alloc, root, Part::Under, prefix, work)
     }
 
     /// A walk over the keys that meet a lower bound. It enters the nodes on the way down to the
@@ -104,15 +104,15 @@ impl<'a, P: Partial, V: Drop, T: Trail<'a>> Walk<'a, P, V, T> {
             (length (start_of (bound_map (λ low. low.now) low.entry)) + 1) 0 work.old work.new }
     {
         match low {
-            Bound::Included(low) => way_to(alloc, root, Part::From, low, work),
-            Bound::Excluded(low) => way_to(alloc, root, Part::Behind, low, work),
-            Bound::Unbounded => way_to(alloc, root, Part::From, &[], work),
+            Bound::Included(low) => along_path(alloc, root, Part::From, low, work),
+            Bound::Excluded(low) => along_path(alloc, root, Part::Behind, low, work),
+            Bound::Unbounded => along_path(alloc, root, Part::From, &[], work),
         }
     }
 }
 
 // The way down to the part of a tree that a string picks.
-fn way_to<'a, P: Partial, V: Drop, T: Trail<'a>>(
+fn along_path<'a, P: Partial, V: Drop, T: Trail<'a>>(
     alloc: Global,
     root: &'a NodeRef<P, V>,
     part: Part,

@@ -11,7 +11,7 @@ use Rattle.rart_walks.specs.Frames.{segments_of, behind_path, pairs_ahead, pairs
 use Rattle.rart_walks.specs.WalkFields.{open_nodes, position}
 use Rattle.rart_walks.specs.Parts.{is_strict, goes_on, reaches}
 use Rattle.rart_walks.proofs.EndLemmas.{IsFront, PartsAt, common-front, parts-at, end-within, end-within-counted, end-above, end-below, end-off, end-above-counted}
-use Rattle.rart_walks.proofs.walk.ways.finish.Goals as goal
+use Rattle.rart_walks.proofs.walk.path.finish.Goals as goal
 
 pub bounds-rest-common : goal.bounds-rest-common
 bounds-rest-common g c =

@@ -5,7 +5,7 @@ use Rattle.rart_node.specs.Shape.{prefix_of, children_of}
 use Rattle.rart_walks.specs.Frames.{segments_of, behind_path, pairs_of_all, pairs_ahead, pairs_inside}
 use Rattle.rart_walks.specs.WalkFields.{open_nodes}
 use Rattle.rart_walks.proofs.WalkLemmas.{ahead-push, behind-behind}
-use Rattle.rart_walks.proofs.walk.ways.enter_end.Goals as goal
+use Rattle.rart_walks.proofs.walk.path.enter_end.Goals as goal
 
 pub returns-then-is_passed-clause-pairs : goal.returns-then-is_passed-clause-pairs
 returns-then-is_passed-clause-pairs g c =

@@ -2,7 +2,7 @@ use Rattle.std.proofs.Common.{◌≡◌, sym, ap, ◌∙◌}
 use Rattle.rart_node.specs.NodeShapes.{node_shape, pointer_shape, entry_shape}
 use Rattle.rart_node.specs.Shape.{children_of}
 use Rattle.rart_walks.proofs.SkipLemmas.{skipped, unskipped}
-use Rattle.rart_walks.proofs.walk.ways.later_children.Goals as goal
+use Rattle.rart_walks.proofs.walk.path.later_children.Goals as goal
 
 pub returns-in-Some : goal.returns-in-Some
 returns-in-Some g c =

@@ -7,14 +7,14 @@ ghost use Rattle.rart_maps.specs.Changes.{Changes, writing};
 ghost use Rattle.rart_maps.specs.Bounds.{lookup_bound};
 ghost use Rattle.rart_versioned.specs.ChangeCounts.{CountsChange};
 ghost use Rattle.rart_versioned.specs.Lent.{LendsValue};
-ghost use Rattle.rart_family.specs.Slots.{slot_value, Explains};
+ghost use Rattle.rart_family.specs.Writing.{value_or_why, Explains};
 
 use rart_versioned::{KeyTrait, VersionedAdaptiveRadixTree, Work};
 use std::alloc::AllocError;
 
 /// Why there is no value to write to.
 #[derive(Drop)]
-pub(super) enum NoSlot {
+pub(super) enum NoValue {
     /// The key is absent.
     Absent,
     /// A copy was refused.
@@ -22,7 +22,7 @@ pub(super) enum NoSlot {
 }
 
 // Writes the value of a key that is there, and says whether it was.
-pub(super) fn write_slot<K: KeyTrait, V: Clone + Drop>(
+pub(super) fn write_value<K: KeyTrait, V: Clone + Drop>(
     version: &mut VersionedAdaptiveRadixTree<K, V>,
     key: &K,
     value: V,
@@ -36,22 +36,22 @@ pub(super) fn write_slot<K: KeyTrait, V: Clone + Drop>(
     ensures counted { CountsChange (2 * lookup_bound (K.bytes key.now)) version.old
         (K.bytes key.now) changes.old changes.new }
 {
-    match slot(version, key, changes) {
-        Ok(slot) => {
-            *slot = value;
+    match value_mut(version, key, changes) {
+        Ok(to) => {
+            *to = value;
             Ok(true)
         }
-        Err(NoSlot::Absent) => Ok(false),
-        Err(NoSlot::Memory(error)) => Err(error),
+        Err(NoValue::Absent) => Ok(false),
+        Err(NoValue::Memory(error)) => Err(error),
     }
 }
 
 // The value of a key for writing, an absent key an error of its own.
-fn slot<'a, K: KeyTrait, V: Clone + Drop>(
+fn value_mut<'a, K: KeyTrait, V: Clone + Drop>(
     version: &'a mut VersionedAdaptiveRadixTree<K, V>,
     key: &K,
     changes: &mut Work,
-) -> Result<&'a mut V, NoSlot>
+) -> Result<&'a mut V, NoValue>
     requires clones { ClonesEqual V.is_clone }
     requires room { HasRoom version.old 1 }
     ensures* writes_back { sem 𝓛 (LendsValue K.row V.row K.PartialType.row K.MAXIMUM_SIZE K.bytes K.eq K.cmp K.partial_cmp K.PartialType.Partial V.Clone version.entry (K.bytes key.now) result) }
@@ -60,15 +60,15 @@ fn slot<'a, K: KeyTrait, V: Clone + Drop>(
     ensures counted { CountsChange (2 * lookup_bound (K.bytes key.now)) version.old
         (K.bytes key.now) changes.old changes.new }
 {
-    slot_of(version.get_mut_k_counted(key, changes))
+    value_or_lack(version.get_mut_k_counted(key, changes))
 }
 
-fn slot_of<'a, V>(found: Result<Option<&'a mut V>, AllocError>) -> Result<&'a mut V, NoSlot>
-    ensures { result ≡ slot_value found.entry }
+fn value_or_lack<'a, V>(found: Result<Option<&'a mut V>, AllocError>) -> Result<&'a mut V, NoValue>
+    ensures { result ≡ value_or_why found.entry }
 {
     match found {
         Ok(Some(value)) => Ok(value),
-        Ok(None) => Err(NoSlot::Absent),
-        Err(error) => Err(NoSlot::Memory(error)),
+        Ok(None) => Err(NoValue::Absent),
+        Err(error) => Err(NoValue::Memory(error)),
     }
 }

@@ -17,17 +17,17 @@ use Rattle.rart_maps.specs.Versions.{with_key, value_at}
 use Rattle.rart_versioned.specs.contracts.counted.tree.VersionedAdaptiveRadixTree.{the_row}
 use Rattle.rart_versioned.specs.contracts.counted.tree.VersionedAdaptiveRadixTree.get_mut_k_counted as g
 use Rattle.rart_versioned.proofs.counted.tree.VersionedAdaptiveRadixTree.get_mut_k_counted.Met as g-met
-use Rattle.rart_family.specs.Slots.{Explains, slot_value}
-use Rattle.rart_family.proofs.SlotLemmas.{same-name, slot-there, slot-missing}
-use Rattle.rart_family.proofs.family.slot.NoSlot.TheLaws as NoSlot-laws
-use Rattle.rart_family.specs.contracts.family.slot.slot as f
-use Rattle.rart_family.proofs.family.slot.slot.Statement.{statement}
-use Rattle.rart_family.proofs.family.slot.slot.Code as code
-use Rattle.rart_family.specs.contracts.family.slot.slot_of as h
-use Rattle.rart_family.proofs.family.slot.slot_of.Met as h-met
+use Rattle.rart_family.specs.Writing.{Explains, value_or_why}
+use Rattle.rart_family.proofs.WritingLemmas.{same-name, value-there, value-missing}
+use Rattle.rart_family.proofs.family.writing.NoValue.TheLaws as NoValue-laws
+use Rattle.rart_family.specs.contracts.family.writing.value_mut as f
+use Rattle.rart_family.proofs.family.writing.value_mut.Statement.{statement}
+use Rattle.rart_family.proofs.family.writing.value_mut.Code as code
+use Rattle.rart_family.specs.contracts.family.writing.value_or_lack as h
+use Rattle.rart_family.proofs.family.writing.value_or_lack.Met as h-met
 
-pub slot_spec : {M : Type 1} → statement M
-slot_spec 𝓤 𝓛 𝓜 𝓡 wired K V P LK LV LP k k-d e e-d q q-d o o-d r r-d p p-d v v-d x-d y-d z-d mk me mq mo mr mp mv mx my mz =
+pub value_mut_spec : {M : Type 1} → statement M
+value_mut_spec 𝓤 𝓛 𝓜 𝓡 wired K V P LK LV LP k k-d e e-d q q-d o o-d r r-d p p-d v v-d x-d y-d z-d mk me mq mo mr mp mv mx my mz =
     let ended = f.ended K V P k k-d e e-d q q-d o o-d r r-d p p-d v v-d x-d y-d z-d in
     let R : RattleType = the_row (param 0 K) (param 1 V) (param 2 P) k q o r p v in
     let T : RattleType = param 1 V in
@@ -51,7 +51,7 @@ slot_spec 𝓤 𝓛 𝓜 𝓡 wired K V P LK LV LP k k-d e e-d q q-d o o-d r r-d
     let Given : RattleType = type_at ended.signature.result κs in
     let laws = reference-laws (named_lft 6 0 tt κs) T (param_laws 1 V LV) in
     let found_laws = Result-laws.the_row_laws _ _ (Option-laws.the_row_laws _ laws) Err-laws.the_row_laws in
-    let given_laws = Result-laws.the_row_laws _ _ laws NoSlot-laws.the_row_laws in
+    let given_laws = Result-laws.the_row_laws _ _ laws NoValue-laws.the_row_laws in
     let z : G.Ghost = ((κs, qs, bounds, a, (mut_vals a.0, (shr_vals a.1.0, (mut_vals a.1.1.0, tt)))), tt) in
     let in-K = fact 𝓤 (κs.1.1.1.0 ⊑ K.lives) in
     let in-V = fact 𝓤 (κ-V ⊑ V.lives) in
@@ -76,9 +76,9 @@ slot_spec 𝓤 𝓛 𝓜 𝓡 wired K V P LK LV LP k k-d e e-d q q-d o o-d r r-d
     let z' : H.Ghost = (((κs.0, (κ-V, tt)), (qs.0, (q-V, tt)), (bounds.1.0, tt), (found, tt), (u ∷ [], tt)), tt) in
     nothing ! $ move ! (1 ∷ 0 ∷ []) $ fjoin ! $ move ! (1 ∷ 3 ∷ []) $ join ! $ move ! (5 ∷ 0 ∷ []) $ join ! $ join ! $
     use0 𝓛 (raw in-V) (fact_i 𝓤 (κ-V ⊑ V.lives) (emp 𝓤) within) $ nothing ! $ move ! (1 ∷ 0 ∷ []) $ join ! $ move ! (1 ∷ 0 ∷ []) $ join ! $ use1 𝓛 (raw (H.pre z')) (id⊢ 𝓤 _) $
-    calls_at ! fr H (h-met.met 𝓤 𝓛 𝓜 𝓡 (code.calls-rart_family::family::slot::slot_of 𝓡.env wired) V LV) z' (and_then ! (get ! refl) (no_more !)) (λ u'.
+    calls_at ! fr H (h-met.met 𝓤 𝓛 𝓜 𝓡 (code.calls-rart_family::family::writing::value_or_lack 𝓡.env wired) V LV) z' (and_then ! (get ! refl) (no_more !)) (λ u'.
     use1 𝓛 (later (some (λ (slot : Given.Denot). ((‵ (flft κs.0 qs.0) ⊛ ‵ (flft κ-V q-V) ⊛ ‵ ftrue) ⊛ ‵ (Given.own_val slot (u' ∷ []))) ⊛
-    some (λ (ws' : Lasts (h.ended V) z'.0.0 (found, tt)). ‵ (lasts (h.ended V) z'.0.0 (found, tt) ws') ⊛ raw (fact 𝓤 (slot ≡ slot_value found)))))) (id⊢ 𝓤 _) $
+    some (λ (ws' : Lasts (h.ended V) z'.0.0 (found, tt)). ‵ (lasts (h.ended V) z'.0.0 (found, tt) ws') ⊛ raw (fact 𝓤 (slot ≡ value_or_why found)))))) (id⊢ 𝓤 _) $
     await ! tt $ pick ! (λ slot. split ! $ split ! $ move ! (2 ∷ []) $ pick ! (λ ws'. split ! $ drop ! $ heard ! _ (λ same. split3 ! $
     -- [κ₀; κ₄; nothing; the result; κ₅; κ₂; κ₃; κ₁; what follows; what the work ends as]
     move ! (4 ∷ 2 ∷ []) $ join ! $ move ! (2 ∷ 0 ∷ []) $ join ! $ move ! (4 ∷ 0 ∷ []) $ join ! $ move ! (3 ∷ 0 ∷ []) $ join ! $ move ! (3 ∷ 0 ∷ []) $ join ! $ move ! (1 ∷ 0 ∷ []) $ join ! $ move ! (1 ∷ 2 ∷ 0 ∷ []) $
@@ -88,6 +88,6 @@ slot_spec 𝓤 𝓛 𝓜 𝓡 wired K V P LK LV LP k k-d e e-d q q-d o o-d r r-d
     suffices ! _ (ends_at 𝓛 ended stayed c z u' slot ws (tt, (tt, (tt, tt)))) $
     move ! (3 ∷ 0 ∷ []) $ join ! $ move ! (2 ∷ 0 ∷ []) $ join ! $ frame ! $
     use0 𝓛 (raw (fact 𝓤 (Counted ws))) (fact_i 𝓤 (Counted ws) (emp 𝓤) counted) $
-    use0 𝓛 (raw (fact 𝓤 (IfErr slot (λ why. Explains why was)))) (fact_i 𝓤 (IfErr slot (λ why. Explains why was)) (emp 𝓤) (subst (λ x. IfErr x (λ why. Explains why was)) (sym same) (slot-missing was found is present))) $ join ! $
-    use0 𝓛 (raw (fact 𝓤 (OnOk slot (is_some was ≡ true)))) (fact_i 𝓤 (OnOk slot (is_some was ≡ true)) (emp 𝓤) (subst (λ x. OnOk x (is_some was ≡ true)) (sym same) (slot-there was found is))) $
+    use0 𝓛 (raw (fact 𝓤 (IfErr slot (λ why. Explains why was)))) (fact_i 𝓤 (IfErr slot (λ why. Explains why was)) (emp 𝓤) (subst (λ x. IfErr x (λ why. Explains why was)) (sym same) (value-missing was found is present))) $ join ! $
+    use0 𝓛 (raw (fact 𝓤 (OnOk slot (is_some was ≡ true)))) (fact_i 𝓤 (OnOk slot (is_some was ≡ true)) (emp 𝓤) (subst (λ x. OnOk x (is_some was ≡ true)) (sym same) (value-there was found is))) $
     join ! $ move ! (1 ∷ []) $ frame ! $ done !))))))))))))))))

@@ -12,7 +12,7 @@ use Rattle.rart_walks.specs.Walks.{paths_of}
 use Rattle.std.specs.Prelude.{count_by}
 use Rattle.rart_walks.proofs.StepLemmas.{goes-on, goes-some, step-counted, step-fits, step-lower, step-child, step-missing, step-trees, step-short}
 use Rattle.rart_walks.proofs.PathLemmas.{IsOnWay, way-start, way-counted}
-use Rattle.rart_walks.proofs.walk.ways.way_to.Goals as goal
+use Rattle.rart_walks.proofs.walk.path.along_path.Goals as goal
 
 pub down-init : goal.down-init
 down-init g c =

@@ -20,7 +20,7 @@ use std::marker::PhantomData;
 /// A recursion over the nodes can't lend what it comes to: what is written there would have to be
 /// told through calls of the function within its own proof. So the way is cut in halves by types,
 /// each of which calls the ones below it and none itself.
-pub(crate) trait Descent<P: Partial, V: Clone + Drop> {
+pub(crate) trait Path<P: Partial, V: Clone + Drop> {
     ghost most: { ℕ };
 
     /// Lends the node that is so many nodes down on the way of a key. `depth` bytes of the key
@@ -36,11 +36,13 @@ pub(crate) trait Descent<P: Partial, V: Clone + Drop> {
         requires depth { depth.old ≤ length key.now }
         requires tree { IsTree (pointer_shape P.bytes at.old) }
         requires few { steps ≤ most }
-        requires there { IsSome (path_end steps (drop depth.old key.now) (pointer_shape P.bytes at.old)) }
+        requires there { IsSome (path_end steps (drop depth.old key.now)
+            (pointer_shape P.bytes at.old)) }
         ensures* writes_back { sem 𝓛 (LendsPathEnd P.row V.row P.bytes at.entry steps
             (drop depth.entry.now key.now) result) }
         ensures reached { IfOk result (λ end. path_end steps (drop depth.old key.now)
-            (pointer_shape P.bytes at.old) ≡ Some (node_shape P.bytes end.now, drop depth.new key.now)) }
+            (pointer_shape P.bytes at.old)
+            ≡ Some (node_shape P.bytes end.now, drop depth.new key.now)) }
         ensures within { depth.new ≤ length key.now }
         ensures counted { CountsUpTo (steps + 1) (steps + 1) work.old work.new };
 }
@@ -53,7 +55,7 @@ pub(crate) struct Twice<L> {
     below: PhantomData<L>,
 }
 
-impl<P: Partial, V: Clone + Drop> Descent<P, V> for Here {
+impl<P: Partial, V: Clone + Drop> Path<P, V> for Here {
     ghost most = { 0 };
 
     fn down<'a>(
@@ -67,7 +69,7 @@ impl<P: Partial, V: Clone + Drop> Descent<P, V> for Here {
     }
 }
 
-impl<P: Partial, V: Clone + Drop, L: Descent<P, V>> Descent<P, V> for Twice<L> {
+impl<P: Partial, V: Clone + Drop, L: Path<P, V>> Path<P, V> for Twice<L> {
     ghost most = { 2 * L.most + 1 };
 
     fn down<'a>(

@@ -1,6 +1,6 @@
-//! Times of the versioned tree beside those of std's `BTreeMap`, over the same loops, in nanoseconds
-//! an operation, the least of five passes. With the word `run` as argument it measures; else it says
-//! how to.
+//! Times of the versioned tree beside those of std's `BTreeMap`, over the same loops, in
+//! nanoseconds an operation, the least of five passes. With the word `run` as argument it measures;
+//! else it says how to.
 #![tactic(auto)]
 
 ghost use Rattle.std.specs.Prelude.{◌<◌};

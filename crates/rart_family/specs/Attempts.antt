@@ -8,8 +8,10 @@ use Rattle.rart_family.specs.Families.{Family, Outcome, reply_to, after}
 use Rattle.rart_family.specs.Runs.{may_want_memory}
 
 module _ {K V : Type 0} (bytes : K → List ℕ) where
-  -- The reply and what it leaves; or want of memory where it may be replied, which leaves the family.
-  abbrev pub Tries : Family V → Command K V → Result (program.Reply K V) AllocError → Family V → Type 0
+  -- The reply and what it leaves; or want of memory where it may be replied, which leaves the
+  -- family.
+  abbrev pub Tries : Family V → Command K V → Result (program.Reply K V) AllocError → Family V
+      → Type 0
   Tries old c (Ok r) new = (reply_value bytes r ≡ reply_to bytes old c) × (new ≡ after bytes old c)
   Tries old c (Err e) new = (new ≡ old) × IsTrue (may_want_memory c (reply_to bytes old c))
 

@@ -92,7 +92,8 @@ module _ {K V : Type 0} (bytes : K → List ℕ) where
       ChangesBetween (change_least_of f c r) (change_cost_of f c r) (touch_least_of f c r)
 
   -- costs added up along a run, each at the family before its command
-  abbrev pub along : (Family V → Command K V → Reply V → ℕ) → Family V → List (Command K V) → List (Reply V) → ℕ
+  abbrev pub along : (Family V → Command K V → Reply V → ℕ) → Family V → List (Command K V)
+      → List (Reply V) → ℕ
   along cost f (c ∷ cs) (r ∷ rs) = cost f c r + along cost (next bytes f c r) cs rs
   along cost f cs rs = 0
 

@@ -44,7 +44,8 @@ module _ {V : Type 0} (family : Family V) where
 
   -- a call that replaces the version at its place
   abbrev pub change_outcome : ℕ → ℕ → (Version V → Reply V × Version V) → Outcome V
-  change_outcome place room call = at_place place (λ v. with_room v room ((call v).0, slice_set family place (Some (call v).1)))
+  change_outcome place room call =
+      at_place place (λ v. with_room v room ((call v).0, slice_set family place (Some (call v).1)))
 
 module _ {V : Type 0} where
   -- what a command's callback leaves of the value in its slot
@@ -74,17 +75,25 @@ module _ {K V : Type 0} (bytes : K → List ℕ) where
   outcome f (IsEmpty place) = read_outcome f place (λ v. Flag (has_no_key v))
   outcome f (Get place key) = read_outcome f place (λ v. Value (value_at v (bytes key)))
   outcome f (GetMut place key value) =
-      change_outcome f place 1 (λ v. (Flag (has_key v (bytes key)), after_writing v (bytes key) value))
-  outcome f (Insert place key value) = change_outcome f place 1 (λ v. (Flag (has_key v (bytes key)), with_key v (bytes key) value 1))
-  outcome f (Replace place key value) = change_outcome f place 1 (λ v. (Value (value_at v (bytes key)), with_key v (bytes key) value 1))
+      change_outcome f place 1 (λ v.
+          (Flag (has_key v (bytes key)), after_writing v (bytes key) value))
+  outcome f (Insert place key value) =
+      change_outcome f place 1 (λ v. (Flag (has_key v (bytes key)), with_key v (bytes key) value 1))
+  outcome f (Replace place key value) =
+      change_outcome f place 1 (λ v.
+      (Value (value_at v (bytes key)), with_key v (bytes key) value 1))
   outcome f (Remove place key) =
       change_outcome f place 1 (λ v. (Value (value_at v (bytes key)), after_removal v (bytes key)))
   outcome f (Delete place key) =
       change_outcome f place 1 (λ v. (Flag (has_key v (bytes key)), after_removal v (bytes key)))
   outcome f (Update place key write answer) = change_outcome f place 1 (λ v.
-      let after = slot_update v (bytes key) (slot_of (value_after_write (value_at v (bytes key)) write)) answer in (Flag after.0, after.1))
+      let after =
+          slot_update v (bytes key) (slot_of (value_after_write (value_at v (bytes key)) write))
+          answer in (Flag after.0, after.1))
   outcome f (TryUpdate place key write answer) = change_outcome f place 2 (λ v.
-      let after = slot_attempt v (bytes key) (slot_of (value_after_write (value_at v (bytes key)) write)) (callback_answer answer) in (tried_reply after.0, after.1))
+      let after =
+          slot_attempt v (bytes key) (slot_of (value_after_write (value_at v (bytes key)) write))
+          (callback_answer answer) in (tried_reply after.0, after.1))
 
   abbrev pub reply_to : Family V → Command K V → Reply V
   reply_to f c = (outcome f c).0

@@ -24,19 +24,23 @@ module _ (K V : Type 0) (bytes : K → List ℕ) where
   abbrev pub StepsAreIsolated : Type 0
   StepsAreIsolated =
       (old new : Family V) (c : Command K V) (r : Reply V) (place : ℕ)
-      → Step bytes old c r new → place < length old → place_changed c ≢ Some place → slice_get new place ≡ slice_get old place
+      → Step bytes old c r new → place < length old → place_changed c ≢ Some place
+      → slice_get new place ≡ slice_get old place
 
   -- No step takes a place away.
   abbrev pub PlacesStay : Type 0
-  PlacesStay = (old new : Family V) (c : Command K V) (r : Reply V) → Step bytes old c r new → length old ≤ length new
+  PlacesStay = (old new : Family V) (c : Command K V) (r : Reply V) → Step bytes old c r new
+      → length old ≤ length new
 
   -- A reply fixes the family after it.
   abbrev pub RepliesFixSteps : Type 0
-  RepliesFixSteps = (old new other : Family V) (c : Command K V) (r : Reply V) → Step bytes old c r new → Step bytes old c r other → new ≡ other
+  RepliesFixSteps = (old new other : Family V) (c : Command K V) (r : Reply V)
+      → Step bytes old c r new → Step bytes old c r other → new ≡ other
 
   -- The replies fix the family after a run.
   abbrev pub RepliesFixRuns : Type 0
-  RepliesFixRuns = (old new other : Family V) (cs : List (Command K V)) (rs : List (Reply V)) → Run bytes old cs rs new → Run bytes old cs rs other → new ≡ other
+  RepliesFixRuns = (old new other : Family V) (cs : List (Command K V)) (rs : List (Reply V))
+      → Run bytes old cs rs new → Run bytes old cs rs other → new ≡ other
 
   -- Want of memory is no command's own reply.
   abbrev pub NoReplyIsWant : Type 0

@@ -75,10 +75,10 @@ impl<K: KeyTrait, V: Clone + Drop> Family<K, V> {
 
     /// Does the commands in order, and answers as many replies.
     ///
-    /// The replies are those of separate sorted maps, each copied when its version was made. `reads`
-    /// counts the nodes that lookups enter, `changes` those that changes enter and make. `Err` comes
-    /// before the first command, where memory for the replies was refused: the family and both
-    /// counts are then as before.
+    /// The replies are those of separate sorted maps, each copied when its version was made.
+    /// `reads` counts the nodes that lookups enter, `changes` those that changes enter and make.
+    /// `Err` comes before the first command, where memory for the replies was refused: the family
+    /// and both counts are then as before.
     pub fn run(
         &mut self,
         commands: &[Command<K, V>],
@@ -113,7 +113,8 @@ impl<K: KeyTrait, V: Clone + Drop> Family<K, V> {
         ensures entered_to_change_at_most { IfOk result (λ replies.
             changes.new.entered
             ≤ changes.old.entered
-            + 3 * change_cost K.bytes self.old commands.now (map (reply_value K.bytes) replies.items)) }
+            + 3 * change_cost K.bytes self.old commands.now
+            (map (reply_value K.bytes) replies.items)) }
 
         ensures refused { OnErr result (self.new ≡ self.old) }
         ensures refused_reads { OnErr result (reads.new ≡ reads.old) }
@@ -190,7 +191,8 @@ impl<K: KeyTrait, V: Clone + Drop> Family<K, V> {
         &mut self,
         version: VersionedAdaptiveRadixTree<K, V>,
     ) -> Result<Reply<K, V>, AllocError>
-        ensures ok { IfOk result (λ reply. Gives K.bytes (placement self.old version) reply self.new) }
+        ensures ok { IfOk result (λ reply.
+            Gives K.bytes (placement self.old version) reply self.new) }
         ensures refused { OnErr result (self.new ≡ self.old) }
     {
         let place = self.len();
@@ -198,7 +200,8 @@ impl<K: KeyTrait, V: Clone + Drop> Family<K, V> {
         Ok(Reply::Place(place))
     }
 
-    // The version at a place, where its number can be raised by so much; else the reply that refuses.
+    // The version at a place, where its number can be raised by so much; else the reply that
+    // refuses.
     fn version_with_room(
         &self,
         place: usize,

@@ -23,7 +23,8 @@ less-before [] [] is = absurd (false≢true (ap is_lt is))
 less-before [] (c ∷ w) is = tt
 less-before (b ∷ u) [] is = absurd (false≢true (ap is_lt is))
 less-before (b ∷ u) (c ∷ w) is =
-    elim (nat_cmp b c) as (λ r. r ≡ nat_cmp b c → ordering_then r (byte_order u w) ≡ Less → (b < c) ⊎ ((b ≡ c) × IsBefore u w)) [
+    elim (nat_cmp b c) as (λ r. r ≡ nat_cmp b c → ordering_then r (byte_order u w) ≡ Less
+        → (b < c) ⊎ ((b ≡ c) × IsBefore u w)) [
       | Less ↦ λ here _. inl (ranked b c Less here)
       | Equal ↦ λ here more. inr (ranked b c Equal here, less-before u w more)
       | Greater ↦ λ _ more. absurd (false≢true (ap is_lt more))
@@ -36,7 +37,8 @@ before-less [] (c ∷ w) before = refl
 before-less (b ∷ u) (c ∷ w) before =
     ⊎_elim
     (λ less. ap (λ r. ordering_then r (byte_order u w)) (sym (nat_cmp_is b c Less less)))
-    (λ both. ap (λ r. ordering_then r (byte_order u w)) (sym (nat_cmp_is b c Equal both.0)) ∙ before-less u w both.1)
+    (λ both. ap (λ r. ordering_then r (byte_order u w)) (sym (nat_cmp_is b c Equal both.0))
+        ∙ before-less u w both.1)
     before
 
 pub order_is_of_first_difference : OrderIsOfFirstDifference
@@ -45,7 +47,8 @@ order_is_of_first_difference u w = (less-before u w, before-less u w)
 -- No string stands before itself, nor two each before the other.
 pub IsBefore-itself : (u : List ℕ) → IsBefore u u → ⊥
 IsBefore-itself [] before = before
-IsBefore-itself (b ∷ u) before = ⊎_elim (λ less. omega (arith, less)) (λ both. IsBefore-itself u both.1) before
+IsBefore-itself (b ∷ u) before =
+    ⊎_elim (λ less. omega (arith, less)) (λ both. IsBefore-itself u both.1) before
 
 pub IsBefore-back : (u w : List ℕ) → IsBefore u w → IsBefore w u → ⊥
 IsBefore-back u [] before back = before
@@ -53,7 +56,8 @@ IsBefore-back [] (c ∷ w) before back = back
 IsBefore-back (b ∷ u) (c ∷ w) before back =
     ⊎_elim
     (λ less. ⊎_elim (λ more. omega (arith, less, more)) (λ both. omega (arith, less, both.0)) back)
-    (λ here. ⊎_elim (λ more. omega (arith, here.0, more)) (λ both. IsBefore-back u w here.1 both.1) back)
+    (λ here. ⊎_elim (λ more. omega (arith, here.0, more))
+        (λ both. IsBefore-back u w here.1 both.1) back)
     before
 
 pub lt-less : (r : Ordering) → is_lt r ≡ true → r ≡ Less
@@ -76,31 +80,43 @@ le-at_most u w is =
     ] refl is
 
 at_most-le : (u w : List ℕ) → IsAtMost u w → is_le (byte_order u w) ≡ true
-at_most-le u w most = ⊎_elim (λ same. ap (λ v. is_le (byte_order u v)) (sym same) ∙ ap is_le (tied_itself nat_list_cmp_total u)) (λ before. ap is_le (before-less u w before)) most
+at_most-le u w most =
+    ⊎_elim (λ same. ap (λ v. is_le (byte_order u v)) (sym same)
+    ∙ ap is_le (tied_itself nat_list_cmp_total u))
+    (λ before. ap is_le (before-less u w before)) most
 
-low-meets : (low : Bound (List ℕ)) (key : List ℕ) → (is_from_start (as_partial_cmp byte_order) low key ≡ true) ↔ MeetsLow low key
+low-meets : (low : Bound (List ℕ)) (key : List ℕ)
+    → (is_from_start (as_partial_cmp byte_order) low key ≡ true) ↔ MeetsLow low key
 low-meets (Included a) key = (le-at_most a key, at_most-le a key)
 low-meets (Excluded a) key = (lt-before a key, before-lt a key)
 low-meets Unbounded key = (λ _. tt, λ _. refl)
 
-high-meets : (high : Bound (List ℕ)) (key : List ℕ) → (is_up_to_end (as_partial_cmp byte_order) high key ≡ true) ↔ MeetsHigh high key
+high-meets : (high : Bound (List ℕ)) (key : List ℕ)
+    → (is_up_to_end (as_partial_cmp byte_order) high key ≡ true) ↔ MeetsHigh high key
 high-meets (Included a) key = (le-at_most key a, at_most-le key a)
 high-meets (Excluded a) key = (lt-before key a, before-lt key a)
 high-meets Unbounded key = (λ _. tt, λ _. refl)
 
 -- A key is within two bounds exactly where it meets both.
-pub bounds_contain-is : (low high : Bound (List ℕ)) (key : List ℕ) → (bounds_contain (as_partial_cmp byte_order) low high key ≡ true) ↔ (MeetsLow low key × MeetsHigh high key)
+pub bounds_contain-is : (low high : Bound (List ℕ)) (key : List ℕ)
+    → (bounds_contain (as_partial_cmp byte_order) low high key ≡ true)
+    ↔ (MeetsLow low key × MeetsHigh high key)
 bounds_contain-is low high key = (
-  λ is. let parts = and_parts (is_from_start (as_partial_cmp byte_order) low key) (is_up_to_end (as_partial_cmp byte_order) high key) is in
+  λ is. let parts =
+      and_parts (is_from_start (as_partial_cmp byte_order) low key)
+      (is_up_to_end (as_partial_cmp byte_order) high key) is in
       ((low-meets low key).0 parts.0, (high-meets high key).0 parts.1),
-  λ both. and_from (is_from_start (as_partial_cmp byte_order) low key) (is_up_to_end (as_partial_cmp byte_order) high key) ((low-meets low key).1 both.0) ((high-meets high key).1 both.1),
+  λ both. and_from (is_from_start (as_partial_cmp byte_order) low key)
+      (is_up_to_end (as_partial_cmp byte_order) high key) ((low-meets low key).1 both.0)
+      ((high-meets high key).1 both.1),
 )
 
 -- ---- beginnings
 
 pub begins-append : (u rest : List ℕ) → begins u (u ++ rest) ≡ true
 begins-append [] rest = refl
-begins-append (b ∷ u) rest = and_from (b == b) (begins u (u ++ rest)) (eq-eqb b b refl) (begins-append u rest)
+begins-append (b ∷ u) rest =
+    and_from (b == b) (begins u (u ++ rest)) (eq-eqb b b refl) (begins-append u rest)
 
 pub begins-rest : (u w : List ℕ) → begins u w ≡ true → (rest : List ℕ) × (w ≡ u ++ rest)
 begins-rest [] w is = (w, refl)

@@ -9,42 +9,56 @@ use Rattle.std.proofs.lemmas.List.Sums.{sum_by-cons, sum_by-le-sum_by}
 use Rattle.rart_maps.proofs.ElementLemmas.{Contains-nil, Contains-cases}
 
 -- what a test keeps of a set with one more element, as the set's own test says it
-kept_more : (tie there keeps first : Bool) → (tie ≡ true → keeps ≡ first) → ((tie || there) && keeps) ≡ cond first (tie || (there && keeps)) (there && keeps)
+kept_more : (tie there keeps first : Bool) → (tie ≡ true → keeps ≡ first)
+    → ((tie || there) && keeps) ≡ cond first (tie || (there && keeps)) (there && keeps)
 kept_more true there keeps true same = same refl
 kept_more true true keeps false same = refl
 kept_more true false keeps false same = same refl
 kept_more false there keeps true same = refl
 kept_more false there keeps false same = refl
 
-module _ {K : Type 0} {R : K → K → Ordering} (o : IsTotalOrder R) (same : set.IsAntisymmetric R) where
+module _ {K : Type 0} {R : K → K → Ordering} (o : IsTotalOrder R)
+    (same : set.IsAntisymmetric R) where
   -- A test keeps of a set what is there and passes.
-  pub contains-kept : (s : set.FinSet R) (p : K → Bool) (q : K) → set.contains (set.retain s p) q ≡ (set.contains s q && p q)
+  pub contains-kept : (s : set.FinSet R) (p : K → Bool) (q : K)
+      → set.contains (set.retain s p) q ≡ (set.contains s q && p q)
   contains-kept s p q = set.contains-retain s p q (λ x tie. ap p (sym (same q x tie)))
 
   pub retain-empty : (p : K → Bool) → set.retain (set.empty {R = R}) p ≡ set.empty
-  retain-empty p = set.same_set o same _ _ (λ q. contains-kept set.empty p q ∙ ap (λ b. b && p q) (set.contains-empty R q) ∙ sym (set.contains-empty R q))
+  retain-empty p =
+      set.same_set o same _ _ (λ q. contains-kept set.empty p q
+      ∙ ap (λ b. b && p q) (set.contains-empty R q) ∙ sym (set.contains-empty R q))
 
-  contains-cond : (b : Bool) (s t : set.FinSet R) (q : K) → set.contains (cond b s t) q ≡ cond b (set.contains s q) (set.contains t q)
+  contains-cond : (b : Bool) (s t : set.FinSet R) (q : K)
+      → set.contains (cond b s t) q ≡ cond b (set.contains s q) (set.contains t q)
   contains-cond true s t q = refl
   contains-cond false s t q = refl
 
-  pub retain-insert : (s : set.FinSet R) (k : K) (p : K → Bool) → set.retain (set.insert s k) p ≡ cond (p k) (set.insert (set.retain s p) k) (set.retain s p)
+  pub retain-insert : (s : set.FinSet R) (k : K) (p : K → Bool)
+      → set.retain (set.insert s k) p ≡ cond (p k) (set.insert (set.retain s p) k) (set.retain s p)
   retain-insert s k p =
       set.same_set o same _ _ (λ q.
       contains-kept (set.insert s k) p q
       ∙ ap (λ b. b && p q) (set.contains-insert o s k q)
-      ∙ kept_more (eq_by_cmp R q k) (set.contains s q) (p q) (p k) (λ tie. ap p (same q k ((Equal-is (R q k)).0 tie)))
-      ∙ (λ i. cond (p k) (eq_by_cmp R q k || sym (contains-kept s p q) i) (sym (contains-kept s p q) i))
-      ∙ ap (λ b. cond (p k) b (set.contains (set.retain s p) q)) (sym (set.contains-insert o (set.retain s p) k q))
+      ∙ kept_more (eq_by_cmp R q k) (set.contains s q) (p q) (p k)
+      (λ tie. ap p (same q k ((Equal-is (R q k)).0 tie)))
+      ∙ (λ i. cond (p k) (eq_by_cmp R q k || sym (contains-kept s p q) i)
+      (sym (contains-kept s p q) i))
+      ∙ ap (λ b. cond (p k) b (set.contains (set.retain s p) q))
+      (sym (set.contains-insert o (set.retain s p) k q))
       ∙ sym (contains-cond (p k) (set.insert (set.retain s p) k) (set.retain s p) q))
 
   met_kept : (s t : set.FinSet R) → set.intersection s t ≡ set.retain s (set.contains t)
-  met_kept s t = set.same_set o same _ _ (λ q. set.contains-intersection o s t q ∙ sym (contains-kept s (set.contains t) q))
+  met_kept s t =
+      set.same_set o same _ _ (λ q. set.contains-intersection o s t q
+      ∙ sym (contains-kept s (set.contains t) q))
 
   pub intersection-empty : (t : set.FinSet R) → set.intersection set.empty t ≡ set.empty
   intersection-empty t = met_kept set.empty t ∙ retain-empty (set.contains t)
 
-  pub intersection-insert : (s t : set.FinSet R) (k : K) → set.intersection (set.insert s k) t ≡ cond (set.contains t k) (set.insert (set.intersection s t) k) (set.intersection s t)
+  pub intersection-insert : (s t : set.FinSet R) (k : K)
+      → set.intersection (set.insert s k) t
+      ≡ cond (set.contains t k) (set.insert (set.intersection s t) k) (set.intersection s t)
   intersection-insert s t k =
       met_kept (set.insert s k) t
       ∙ retain-insert s k (set.contains t)
@@ -55,7 +69,8 @@ module _ {K : Type 0} {R : K → K → Ordering} (o : IsTotalOrder R) (same : se
   insert_again s k there =
       set.same_set o same _ _ (λ q.
       set.contains-insert o s k q
-      ∙ elim (eq_by_cmp R q k) as (λ t. eq_by_cmp R q k ≡ t → (t || set.contains s q) ≡ set.contains s q) [
+      ∙ elim (eq_by_cmp R q k) as (λ t. eq_by_cmp R q k ≡ t
+      → (t || set.contains s q) ≡ set.contains s q) [
         | true ↦ λ tie. sym (ap (set.contains s) (same q k ((Equal-is (R q k)).0 tie)) ∙ there)
         | false ↦ λ _. refl
       ] refl)
@@ -63,34 +78,44 @@ module _ {K : Type 0} {R : K → K → Ordering} (o : IsTotalOrder R) (same : se
   -- the elements of the list, each where it stands last
   abbrev each_once : List K → List K
   each_once [] = []
-  each_once (k ∷ ks) = cond (set.contains (set.from_list {R = R} ks) k) (each_once ks) (k ∷ each_once ks)
+  each_once (k ∷ ks) =
+      cond (set.contains (set.from_list {R = R} ks) k) (each_once ks) (k ∷ each_once ks)
 
-  count-each_once : (ks : List K) (p : K → Bool) → set.len (set.retain (set.from_list {R = R} ks) p) ≡ count_by p (each_once ks)
+  count-each_once : (ks : List K) (p : K → Bool)
+      → set.len (set.retain (set.from_list {R = R} ks) p) ≡ count_by p (each_once ks)
   count-each_once [] p = ap set.len (retain-empty p) ∙ set.len-empty R
   count-each_once (k ∷ ks) p =
       let more = count-each_once ks p in
       let s : set.FinSet R = set.from_list ks in
-      elim (set.contains s k) as (λ t. set.contains s k ≡ t → set.len (set.retain (set.insert s k) p) ≡ count_by p (cond t (each_once ks) (k ∷ each_once ks))) [
+      elim (set.contains s k) as (λ t. set.contains s k ≡ t
+          → set.len (set.retain (set.insert s k) p)
+          ≡ count_by p (cond t (each_once ks) (k ∷ each_once ks))) [
         | true ↦ λ there. ap (λ t. set.len (set.retain t p)) (insert_again s k there) ∙ more
         | false ↦ λ missing.
             ap set.len (retain-insert s k p)
-            ∙ elim (p k) as (λ b. set.len (cond b (set.insert (set.retain s p) k) (set.retain s p)) ≡ cond b 1 0 + count_by p (each_once ks)) [
+            ∙ elim (p k) as (λ b. set.len (cond b (set.insert (set.retain s p) k) (set.retain s p))
+            ≡ cond b 1 0 + count_by p (each_once ks)) [
               | true ↦ set.len-insert o (set.retain s p) k
-                  ∙ ap (λ t. cond t (set.len (set.retain s p)) (set.len (set.retain s p) + 1)) (contains-kept s p k ∙ ap (λ b. b && p k) missing)
+                  ∙ ap (λ t. cond t (set.len (set.retain s p)) (set.len (set.retain s p) + 1))
+                  (contains-kept s p k ∙ ap (λ b. b && p k) missing)
                   ∙ omega (arith, more)
               | false ↦ omega (arith, more)
             ]
             ∙ sym (sum_by-cons (λ x. cond (p x) 1 0) k (each_once ks))
       ] refl
 
-  each_once-there : (ks : List K) (k : K) → Contains (each_once ks) k → set.contains (set.from_list {R = R} ks) k ≡ true
+  each_once-there : (ks : List K) (k : K) → Contains (each_once ks) k
+      → set.contains (set.from_list {R = R} ks) k ≡ true
   each_once-there [] k there = absurd (Contains-nil k there)
   each_once-there (x ∷ ks) k there =
       set.contains-insert o (set.from_list {R = R} ks) x k
-      ∙ elim (set.contains (set.from_list {R = R} ks) x) as (λ t. Contains (cond t (each_once ks) (x ∷ each_once ks)) k → (eq_by_cmp R k x || set.contains (set.from_list {R = R} ks) k) ≡ true) [
+      ∙ elim (set.contains (set.from_list {R = R} ks) x)
+      as (λ t. Contains (cond t (each_once ks) (x ∷ each_once ks)) k
+      → (eq_by_cmp R k x || set.contains (set.from_list {R = R} ks) k) ≡ true) [
         | true ↦ λ there. later_or (eq_by_cmp R k x) (each_once-there ks k there)
         | false ↦ λ there. ⊎_elim
-            (λ is. ap (λ r. is_eq r || set.contains (set.from_list {R = R} ks) k) (ap (R k) is ∙ tied_itself o k))
+            (λ is. ap (λ r. is_eq r || set.contains (set.from_list {R = R} ks) k)
+                (ap (R k) is ∙ tied_itself o k))
             (λ later. later_or (eq_by_cmp R k x) (each_once-there ks k later))
             (Contains-cases x (each_once ks) k there)
       ] there
@@ -100,19 +125,23 @@ module _ {K : Type 0} {R : K → K → Ordering} (o : IsTotalOrder R) (same : se
       later_or false is = is
 
   listed : (s : set.FinSet R) → s ≡ set.from_list (set.items s)
-  listed s = set.same_set o same _ _ (λ q. set.contains-items s q ∙ sym (set.contains-from_list o (set.items s) q))
+  listed s =
+      set.same_set o same _ _ (λ q. set.contains-items s q
+      ∙ sym (set.contains-from_list o (set.items s) q))
 
   -- the elements of a set, each once
   pub elements : set.FinSet R → List K
   elements s = each_once (set.items s)
 
   -- As many pass a test as it keeps.
-  pub len-retain : (s : set.FinSet R) (p : K → Bool) → set.len (set.retain s p) ≡ count_by p (elements s)
+  pub len-retain : (s : set.FinSet R) (p : K → Bool)
+      → set.len (set.retain s p) ≡ count_by p (elements s)
   unfolding elements
   len-retain s p = ap (λ t. set.len (set.retain t p)) (listed s) ∙ count-each_once (set.items s) p
 
   -- A weaker test keeps no fewer.
-  pub len-retain-weaker : (s : set.FinSet R) (p q : K → Bool) → ((k : K) → p k ≡ true → q k ≡ true) → set.len (set.retain s p) ≤ set.len (set.retain s q)
+  pub len-retain-weaker : (s : set.FinSet R) (p q : K → Bool) → ((k : K) → p k ≡ true → q k ≡ true)
+      → set.len (set.retain s p) ≤ set.len (set.retain s q)
   len-retain-weaker s p q weaker =
       let few = len-retain s p in
       let many = len-retain s q in
@@ -124,6 +153,8 @@ module _ {K : Type 0} {R : K → K → Ordering} (o : IsTotalOrder R) (same : se
       omega (arith, few, many, fewer)
 
   -- Each of the elements is in the set.
-  pub Contains-elements : (s : set.FinSet R) (k : K) → Contains (elements s) k → set.contains s k ≡ true
+  pub Contains-elements : (s : set.FinSet R) (k : K) → Contains (elements s) k
+      → set.contains s k ≡ true
   unfolding elements
-  Contains-elements s k there = ap (λ t. set.contains t k) (listed s) ∙ each_once-there (set.items s) k there
+  Contains-elements s k there =
+      ap (λ t. set.contains t k) (listed s) ∙ each_once-there (set.items s) k there

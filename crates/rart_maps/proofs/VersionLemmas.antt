@@ -22,23 +22,28 @@ chosen q w apart x y =
 
 module _ {V : Type 0} where
   -- A key that was set has the value.
-  pub value_at-with_key : (v : Version V) (w : List ℕ) (x : V) (more : ℕ) → value_at (with_key v w x more) w ≡ Some x
+  pub value_at-with_key : (v : Version V) (w : List ℕ) (x : V) (more : ℕ)
+      → value_at (with_key v w x more) w ≡ Some x
   value_at-with_key v w x more =
       finite.get-insert nat_list_cmp_total v.content w x w
       ∙ ap (λ o. cond (is_eq o) (Some x) (value_at v w)) (tied_itself nat_list_cmp_total w)
 
   -- Each other key has what it had.
-  pub value_at-with_other_key : (v : Version V) (w : List ℕ) (x : V) (more : ℕ) (q : List ℕ) → q ≢ w → value_at (with_key v w x more) q ≡ value_at v q
+  pub value_at-with_other_key : (v : Version V) (w : List ℕ) (x : V) (more : ℕ) (q : List ℕ) → q ≢ w
+      → value_at (with_key v w x more) q ≡ value_at v q
   value_at-with_other_key v w x more q apart =
-      finite.get-insert nat_list_cmp_total v.content w x q ∙ chosen q w apart (Some x) (value_at v q)
+      finite.get-insert nat_list_cmp_total v.content w x q
+          ∙ chosen q w apart (Some x) (value_at v q)
 
   -- A key that was taken out has none.
-  pub value_at-without_key : (v : Version V) (w : List ℕ) (more : ℕ) → value_at (without_key v w more) w ≡ None
+  pub value_at-without_key : (v : Version V) (w : List ℕ) (more : ℕ)
+      → value_at (without_key v w more) w ≡ None
   value_at-without_key v w more =
       finite.get-remove nat_list_cmp_total v.content w w
       ∙ ap (λ o. cond (is_eq o) None (value_at v w)) (tied_itself nat_list_cmp_total w)
 
   -- Each other key has what it had.
-  pub value_at-without_other_key : (v : Version V) (w : List ℕ) (more : ℕ) (q : List ℕ) → q ≢ w → value_at (without_key v w more) q ≡ value_at v q
+  pub value_at-without_other_key : (v : Version V) (w : List ℕ) (more : ℕ) (q : List ℕ) → q ≢ w
+      → value_at (without_key v w more) q ≡ value_at v q
   value_at-without_other_key v w more q apart =
       finite.get-remove nat_list_cmp_total v.content w q ∙ chosen q w apart None (value_at v q)

@@ -53,9 +53,10 @@ module _ {V : Type 0} where
   left_behind old Vacant = old
   left_behind old (Occupied x) = x
 
-  -- An update, by the value at entry, what the callback left in the slot and what it answered: whether
-  -- the key was there or is now, and the version after.
-  abbrev pub slot_update_from : Version V → List ℕ → Option V → Slot V → SlotUpdate V → Bool × Version V
+  -- An update, by the value at entry, what the callback left in the slot and what it answered:
+  -- whether the key was there or is now, and the version after.
+  abbrev pub slot_update_from : Version V → List ℕ → Option V → Slot V → SlotUpdate V
+      → Bool × Version V
   slot_update_from v w None left Keep = (false, v)
   slot_update_from v w None left (Insert x) = (true, with_key v w x 1)
   slot_update_from v w None left Remove = (false, v)
@@ -66,9 +67,10 @@ module _ {V : Type 0} where
   abbrev pub slot_update : Version V → List ℕ → Slot V → SlotUpdate V → Bool × Version V
   slot_update v w left told = slot_update_from v w (value_at v w) left told
 
-  -- The same for a callback that may answer an error. Where the key was there, the number is two greater
-  -- for whatever else than `Keep` it answers.
-  abbrev pub slot_attempt_from : {E : Type 0} → Version V → List ℕ → Option V → Slot V → Result (SlotUpdate V) E → Result Bool E × Version V
+  -- The same for a callback that may answer an error. Where the key was there, the number is two
+  -- greater for whatever else than `Keep` it answers.
+  abbrev pub slot_attempt_from : {E : Type 0} → Version V → List ℕ → Option V → Slot V
+      → Result (SlotUpdate V) E → Result Bool E × Version V
   slot_attempt_from v w None left (Ok Keep) = (Ok false, v)
   slot_attempt_from v w None left (Ok (Insert x)) = (Ok true, with_key v w x 1)
   slot_attempt_from v w None left (Ok Remove) = (Ok false, v)
@@ -78,5 +80,6 @@ module _ {V : Type 0} where
   slot_attempt_from v w (Some old) left (Ok Remove) = (Ok true, without_key v w 2)
   slot_attempt_from v w (Some old) left (Err e) = (Err e, with_rise v 2)
 
-  abbrev pub slot_attempt : {E : Type 0} → Version V → List ℕ → Slot V → Result (SlotUpdate V) E → Result Bool E × Version V
+  abbrev pub slot_attempt : {E : Type 0} → Version V → List ℕ → Slot V → Result (SlotUpdate V) E
+      → Result Bool E × Version V
   slot_attempt v w left told = slot_attempt_from v w (value_at v w) left told

@@ -21,7 +21,8 @@ module _ (V : Type 0) where
 
   -- What is read off one map are pairs of it, in their order.
   abbrev pub WithinIsSublist : Type 0
-  WithinIsSublist = (m : Map V) (low high : Bound (List ℕ)) → IsSublist (within m low high) (pairs m)
+  WithinIsSublist = (m : Map V) (low high : Bound (List ℕ))
+      → IsSublist (within m low high) (pairs m)
 
   abbrev pub UnderIsSublist : Type 0
   UnderIsSublist = (m : Map V) (p : List ℕ) → IsSublist (under m p) (pairs m)
@@ -31,15 +32,21 @@ module _ (V : Type 0) where
 
   -- With the maps swapped, the same keys come in the same order with their values swapped.
   abbrev pub CommonSwaps : Type 0
-  CommonSwaps = (left right : Map V) → common right left ≡ map (λ entry. (entry.0, entry.2, entry.1)) (common left right)
+  CommonSwaps =
+      (left right : Map V) → common right left
+      ≡ map (λ entry. (entry.0, entry.2, entry.1)) (common left right)
 
   -- Each beginning of a string that begins a key begins that key too.
   abbrev pub StartsShorten : Type 0
-  StartsShorten = (m : Map V) (u v : List ℕ) → IsTrue (set.contains (starts m) (u ++ v)) → IsTrue (set.contains (starts m) u)
+  StartsShorten = (m : Map V) (u v : List ℕ) → IsTrue (set.contains (starts m) (u ++ v))
+      → IsTrue (set.contains (starts m) u)
 
   abbrev pub SharedShorten : Type 0
-  SharedShorten = (left right : Map V) (u v : List ℕ) → IsTrue (set.contains (shared left right) (u ++ v)) → IsTrue (set.contains (shared left right) u)
+  SharedShorten =
+      (left right : Map V) (u v : List ℕ) → IsTrue (set.contains (shared left right) (u ++ v))
+      → IsTrue (set.contains (shared left right) u)
 
   -- No string begins a key of both exactly where either map has no key.
   abbrev pub SharedIsEmpty : Type 0
-  SharedIsEmpty = (left right : Map V) → (set.len (shared left right) ≡ 0) ↔ ((left ≡ finite.empty) ⊎ (right ≡ finite.empty))
+  SharedIsEmpty = (left right : Map V) → (set.len (shared left right) ≡ 0)
+      ↔ ((left ≡ finite.empty) ⊎ (right ≡ finite.empty))

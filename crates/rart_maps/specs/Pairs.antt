@@ -18,7 +18,8 @@ module _ {V : Type 0} where
 
   -- the pairs whose key meets both bounds
   abbrev pub within : Map V → Bound (List ℕ) → Bound (List ℕ) → List (List ℕ × V)
-  within m low high = filter (λ pair. bounds_contain (as_partial_cmp byte_order) low high pair.0) (pairs m)
+  within m low high =
+      filter (λ pair. bounds_contain (as_partial_cmp byte_order) low high pair.0) (pairs m)
 
   -- the pairs whose key p begins
   abbrev pub under : Map V → List ℕ → List (List ℕ × V)
@@ -30,7 +31,9 @@ module _ {V : Type 0} where
 
   -- each key of both with what either has there, strictly ascending by key
   abbrev pub common : Map V → Map V → List (List ℕ × V × V)
-  common left right = filter_map (λ pair. option_map (λ x. (pair.0, pair.1, x)) (finite.get right pair.0)) (pairs left)
+  common left right =
+      filter_map (λ pair. option_map (λ x. (pair.0, pair.1, x)) (finite.get right pair.0))
+      (pairs left)
 
 -- the strings that begin w, from the empty one to w
 abbrev pub beginnings_of : List ℕ → List (List ℕ)

@@ -14,7 +14,9 @@ pub record Version (V : Type 0) : Type 0 where
   pub number : ℕ
 
 abbrev pub version_code : {V : Type 0} → Coded V → Coded (Version V)
-version_code {V} values = code_by (Map V × ℕ) (coded× (finite.code (coded_list coded_ℕ) values) coded_ℕ) (λ v. (v.content, v.number)) (λ p. record { content = p.0; number = p.1 }) (λ _. refl)
+version_code {V} values =
+    code_by (Map V × ℕ) (coded× (finite.code (coded_list coded_ℕ) values) coded_ℕ)
+    (λ v. (v.content, v.number)) (λ p. record { content = p.0; number = p.1 }) (λ _. refl)
 
 module _ {V : Type 0} where
   -- no key, and this number

@@ -78,7 +78,8 @@ module _ {F A X E : Type 0} (g : Mut F A (Result VisitControl E)) (Shows : A →
   VisitUntil f members (Ok Stop) f' = VisitUpTo f members (Ok Stop) f'
   VisitUntil f members (Err e) f' = VisitUpTo f members (Err e) f'
 
-  -- what a refusal leaves: f is called on the members of a beginning, and on each answers `Continue`
+  -- what a refusal leaves: f is called on the members of a beginning, and on each answers
+  -- `Continue`
   abbrev pub VisitUntilFront : F → List X → F → Type 0
   VisitUntilFront f members f' =
       (rest : List X) × AnswersUpTo g Shows (Ok Continue) f members rest f'

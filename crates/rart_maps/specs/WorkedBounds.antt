@@ -71,7 +71,8 @@ ReachOfFive = reach_bound (map_of (codes "a" ∷ codes "ab" ∷ codes "abc" ∷ 
 
 -- Under b is b alone.
 abbrev pub ReachOfOne : Type 0
-ReachOfOne = reach_bound (map_of (codes "a" ∷ codes "ab" ∷ codes "abc" ∷ codes "b" ∷ [])) (codes "b") ≡ 3
+ReachOfOne =
+    reach_bound (map_of (codes "a" ∷ codes "ab" ∷ codes "abc" ∷ codes "b" ∷ [])) (codes "b") ≡ 3
 
 -- Under abcd is no start, and the prefix has four bytes.
 abbrev pub ReachPastKeys : Type 0

@@ -11,9 +11,11 @@ use Rattle.rart_versioned.specs.Roots.{map_of}
 use Rattle.rart_versioned.proofs.MapLemmas.{get-found}
 
 module _ {V : Type 0} where
-  pub some-key : (s : Shape V) (number : ℕ) → IsTree s → has_no_key (record { content = map_of (Some s); number = number }) ≡ false
+  pub some-key : (s : Shape V) (number : ℕ) → IsTree s
+      → has_no_key (record { content = map_of (Some s); number = number }) ≡ false
   some-key s number tree =
       let has = tree-has-key s tree in
       ne_eqb (finite.len (map_of (Some s))) 0 (λ none.
-      let gone = ap (λ m. finite.get m has.key) (finite.empty_of_len (map_of (Some s)) none) ∙ finite.get-empty byte_order has.key in
+      let gone = ap (λ m. finite.get m has.key) (finite.empty_of_len (map_of (Some s)) none)
+          ∙ finite.get-empty byte_order has.key in
       false≢true (sym (ap is_some (sym (get-found (Some s) has.key tree) ∙ gone)) ∙ has.there))

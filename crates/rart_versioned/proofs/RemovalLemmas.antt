@@ -23,31 +23,51 @@ one-less false m n le = le
 module _ {V : Type 0} where
   -- After, nothing is at the key below the root, if there still is one, and else what was there.
   abbrev pub IsTakenIn : List ℕ → Option (Shape V) → Option (Shape V) → Type 0
-  IsTakenIn key before after = IsTreeIn after × ((q : List ℕ) → found_in after q ≡ cond (bytes_eq q key) None (found_in before q))
+  IsTakenIn key before after =
+      IsTreeIn after × ((q : List ℕ)
+      → found_in after q ≡ cond (bytes_eq q key) None (found_in before q))
 
   -- a root that is left unused goes
   abbrev pub kept : Bool → Shape V → Option (Shape V)
   kept left_unused root = cond left_unused None (Some root)
 
-  pub root-taken : (key : List ℕ) (root after : Shape V) (left_unused : Bool) (o : Option (Shape V)) → IsTaken key root after → left_unused ≡ is_unused after → o ≡ kept left_unused after → IsTakenIn key (Some root) o
-  root-taken key root after true o taken unused is = subst (IsTakenIn key (Some root)) (sym is) (tt, λ q. sym (found-unused after q (sym unused)) ∙ taken.1 q)
-  root-taken key root after false o taken unused is = subst (IsTakenIn key (Some root)) (sym is) (used-tree after taken.0 (sym unused), taken.1)
+  pub root-taken : (key : List ℕ) (root after : Shape V) (left_unused : Bool) (o : Option (Shape V))
+      → IsTaken key root after → left_unused ≡ is_unused after → o ≡ kept left_unused after
+      → IsTakenIn key (Some root) o
+  root-taken key root after true o taken unused is =
+      subst (IsTakenIn key (Some root)) (sym is) (tt, λ q. sym (found-unused after q (sym unused))
+      ∙ taken.1 q)
+  root-taken key root after false o taken unused is =
+      subst (IsTakenIn key (Some root)) (sym is) (used-tree after taken.0 (sym unused), taken.1)
 
   -- ---- in the words of the map
-  pub there-found : (o : Option (Shape V)) (key : List ℕ) → IsTreeIn o → IsSome (finite.get (map_of o) key) → IsSome (found_in o key)
+  pub there-found : (o : Option (Shape V)) (key : List ℕ) → IsTreeIn o
+      → IsSome (finite.get (map_of o) key) → IsSome (found_in o key)
   there-found o key tree there = subst IsSome (get-found o key tree) there
 
-  pub map-taken : (before after : Option (Shape V)) (key : List ℕ) → IsTreeIn before → IsTakenIn key before after → map_of after ≡ finite.remove (map_of before) key
+  pub map-taken : (before after : Option (Shape V)) (key : List ℕ) → IsTreeIn before
+      → IsTakenIn key before after → map_of after ≡ finite.remove (map_of before) key
   map-taken before after key tree taken =
       same-map (map_of after) (finite.remove (map_of before) key) (λ q.
-      get-found after q taken.0 ∙ taken.1 q ∙ ap (λ t. cond t None (found_in before q)) (sym (is_eq-slice_cmp q key)) ∙ ap (cond (eq_by_cmp byte_order q key) None) (sym (get-found before q tree))
+      get-found after q taken.0 ∙ taken.1 q
+          ∙ ap (λ t. cond t None (found_in before q)) (sym (is_eq-slice_cmp q key))
+          ∙ ap (cond (eq_by_cmp byte_order q key) None) (sym (get-found before q tree))
       ∙ sym (finite.get-remove nat_list_cmp_total (map_of before) key q))
 
-  pub sound-taken : (most : Option ℕ) (count later : ℕ) (before after : Option (Shape V)) (key : List ℕ) → IsSound most count before → count ≤ later → IsTakenIn key before after → IsSound most later after
+  pub sound-taken : (most : Option ℕ) (count later : ℕ) (before after : Option (Shape V))
+      (key : List ℕ) → IsSound most count before → count ≤ later → IsTakenIn key before after
+      → IsSound most later after
   sound-taken most count later before None key sound le taken = tt
   sound-taken most count later before (Some root) key sound le taken =
-      let Keys : Bool → List ℕ → Type 0 = λ t q. IsSome (cond t None (found_in before q)) → IsKeyLength most (length q) in
-      let both : (q : List ℕ) (t : Bool) → Keys t q = λ q. elim [ true ↦ (λ there. absurd (false≢true there)) | false ↦ (λ there. admitted most count before sound q there) ] in
+      let Keys : Bool → List ℕ → Type 0 = λ t q. IsSome (cond t None (found_in before q))
+          → IsKeyLength most (length q) in
+      let both : (q : List ℕ) (t : Bool) → Keys t q =
+          λ q. elim [ true ↦ (λ there. absurd (false≢true there))
+          | false ↦ (λ there. admitted most count before sound q there) ] in
       let fewer : finite.len (map_of (Some root)) ≤ count =
-      rw (map-taken before (Some root) key (tree-in most count before sound) taken, finite.len-remove nat_list_cmp_total (map_of before) key) (one-less (finite.contains_key (map_of before) key) _ count (few most count before sound)) in
-      (taken.0, (λ q there. both q (bytes_eq q key) (subst IsSome (taken.1 q) there)), omega (arith, fewer, le))
+      rw (map-taken before (Some root) key (tree-in most count before sound) taken,
+          finite.len-remove nat_list_cmp_total (map_of before) key)
+          (one-less (finite.contains_key (map_of before) key) _ count (few most count before sound))
+          in
+      (taken.0, (λ q there. both q (bytes_eq q key) (subst IsSome (taken.1 q) there)),
+          omega (arith, fewer, le))

@@ -29,18 +29,23 @@ tied Greater e = absurd (false≢true e)
 
 module _ {V : Type 0} where
   -- A map in which the key is set to the value that it has is the same map.
-  insert-same : (m : Map V) (key : List ℕ) (value : V) → finite.get m key ≡ Some value → finite.insert m key value ≡ m
+  insert-same : (m : Map V) (key : List ℕ) (value : V) → finite.get m key ≡ Some value
+      → finite.insert m key value ≡ m
   insert-same m key value is =
       same-map (finite.insert m key value) m (λ q.
-      let P : Bool → Type 0 = λ t. eq_by_cmp byte_order q key ≡ t → cond t (Some value) (finite.get m q) ≡ finite.get m q in
+      let P : Bool → Type 0 =
+          λ t. eq_by_cmp byte_order q key ≡ t
+          → cond t (Some value) (finite.get m q) ≡ finite.get m q in
       let both : (t : Bool) → P t = elim [
-        | true ↦ (λ same. sym is ∙ finite.get_tied nat_list_cmp_total m q key (tied (byte_order q key) same))
+        | true ↦ (λ same. sym is ∙ finite.get_tied nat_list_cmp_total m q key
+        (tied (byte_order q key) same))
         | false ↦ (λ differs. refl)
       ] in
       finite.get-insert nat_list_cmp_total m key value q ∙ both (eq_by_cmp byte_order q key) refl)
 
   -- ---- whether the key was there, by the slot that the callback is lent
-  occupied : (o : Option V) (slot : Slot V) → slot ≡ slot_of o → is_occupied slot ≡ true → (value : V) × (o ≡ Some value)
+  occupied : (o : Option V) (slot : Slot V) → slot ≡ slot_of o → is_occupied slot ≡ true
+      → (value : V) × (o ≡ Some value)
   occupied None slot is there = absurd (false≢true (sym (ap is_occupied is) ∙ there))
   occupied (Some value) slot is there = (value, refl)
 
@@ -49,10 +54,12 @@ module _ {V : Type 0} where
   vacant (Some value) slot is absent = absurd (false≢true (sym absent ∙ ap is_occupied is))
 
   module _ (v : Version V) (w : List ℕ) where
-    pub there-by-slot : (slot : Slot V) → slot ≡ slot_of (value_at v w) → is_occupied slot ≡ true → has_key v w ≡ true
+    pub there-by-slot : (slot : Slot V) → slot ≡ slot_of (value_at v w) → is_occupied slot ≡ true
+        → has_key v w ≡ true
     there-by-slot slot is there = ap is_some (occupied (value_at v w) slot is there).1
 
-    pub absent-by-slot : (slot : Slot V) → slot ≡ slot_of (value_at v w) → is_occupied slot ≡ false → has_key v w ≡ false
+    pub absent-by-slot : (slot : Slot V) → slot ≡ slot_of (value_at v w) → is_occupied slot ≡ false
+        → has_key v w ≡ false
     absent-by-slot slot is absent = ap is_some (vacant (value_at v w) slot is absent)
 
     -- ---- what an answer makes of a version
@@ -64,60 +71,99 @@ module _ {V : Type 0} where
     some there None is = absurd (false≢true (ap is_some is ∙ there))
     some there (Some value) is = (value, refl)
 
-    kept : (more : ℕ) (value : V) → value_at v w ≡ Some value → with_rise v more ≡ record { content = finite.insert v.content w value; number = v.number + more }
-    kept more value is = ap (λ m. record { content = m; number = v.number + more }) (sym (insert-same v.content w value is))
+    kept : (more : ℕ) (value : V) → value_at v w ≡ Some value
+        → with_rise v more ≡ record { content = finite.insert v.content w value;
+        number = v.number + more }
+    kept more value is =
+        ap (λ m. record { content = m; number = v.number + more })
+        (sym (insert-same v.content w value is))
 
-    updated-there : (value : V) → value_at v w ≡ Some value → (left : Slot V) (told : SlotUpdate V) → (true, version_after v w (change_of left told) 1) ≡ slot_update v w left told
+    updated-there : (value : V) → value_at v w ≡ Some value → (left : Slot V) (told : SlotUpdate V)
+        → (true, version_after v w (change_of left told) 1) ≡ slot_update v w left told
     updated-there value is left (Insert x) = rw is refl
     updated-there value is left Remove = rw is refl
     updated-there value is Vacant Keep = rw is (ap (λ z. (true, z)) (kept 1 value is))
     updated-there value is (Occupied x) Keep = rw is refl
 
-    updated-absent : value_at v w ≡ None → (left : Slot V) (told : SlotUpdate V) → outcome_of_absent v w told ≡ slot_update v w left told
+    updated-absent : value_at v w ≡ None → (left : Slot V) (told : SlotUpdate V)
+        → outcome_of_absent v w told ≡ slot_update v w left told
     updated-absent is left (Insert x) = rw is refl
     updated-absent is left Remove = rw is refl
     updated-absent is left Keep = rw is refl
 
-    pub there-updated : (left : Slot V) (told : SlotUpdate V) → has_key v w ≡ true → (true, version_after v w (change_of left told) 1) ≡ slot_update v w left told
-    there-updated left told there = let is = some there (value_at v w) refl in updated-there is.0 is.1 left told
+    pub there-updated : (left : Slot V) (told : SlotUpdate V) → has_key v w ≡ true
+        → (true, version_after v w (change_of left told) 1) ≡ slot_update v w left told
+    there-updated left told there = let is = some there (value_at v w) refl in
+        updated-there is.0 is.1 left told
 
-    pub absent-updated : (left : Slot V) (told : SlotUpdate V) → has_key v w ≡ false → outcome_of_absent v w told ≡ slot_update v w left told
+    pub absent-updated : (left : Slot V) (told : SlotUpdate V) → has_key v w ≡ false
+        → outcome_of_absent v w told ≡ slot_update v w left told
     absent-updated left told absent = updated-absent (none absent (value_at v w) refl) left told
 
     module _ {E : Type 0} where
-      tried-there : (value : V) → value_at v w ≡ Some value → (left : Slot V) (told : SlotUpdate V) → IsTried {E = E} v w left (Ok told) (Ok true) (version_after v w (change_of left told) (rise_of told))
+      tried-there : (value : V) → value_at v w ≡ Some value → (left : Slot V) (told : SlotUpdate V)
+          → IsTried {E = E} v w left (Ok told) (Ok true)
+          (version_after v w (change_of left told) (rise_of told))
       tried-there value is left (Insert x) = rw is refl
       tried-there value is left Remove = rw is refl
       tried-there value is Vacant Keep = rw is (ap (λ z. (Ok true, z)) (kept 1 value is))
       tried-there value is (Occupied x) Keep = rw is refl
 
-      pub there-tried : (left : Slot V) (told : SlotUpdate V) (after : Version V) → has_key v w ≡ true → after ≡ version_after v w (change_of left told) (rise_of told) → IsTried {E = E} v w left (Ok told) (Ok true) after
-      there-tried left told after there is = let value = some there (value_at v w) refl in subst (IsTried {E = E} v w left (Ok told) (Ok true)) (sym is) (tried-there value.0 value.1 left told)
+      pub there-tried : (left : Slot V) (told : SlotUpdate V) (after : Version V)
+          → has_key v w ≡ true → after ≡ version_after v w (change_of left told) (rise_of told)
+          → IsTried {E = E} v w left (Ok told) (Ok true) after
+      there-tried left told after there is = let value = some there (value_at v w) refl in
+          subst (IsTried {E = E} v w left (Ok told) (Ok true)) (sym is)
+              (tried-there value.0 value.1 left told)
 
 -- ---- what a call of the callback allows
-module _ {F V : Type 0} (callback : Once F (MutBor (Slot V) × Unit {0}) (SlotUpdate V × (MutBor (Slot V) × Unit {0}))) (f : F) (v : Version V) (w : List ℕ) where
-  pub tells : (lent left : MutBor (Slot V)) (told : SlotUpdate V) → lent.now ≡ slot_of (value_at v w) → callback.post f (lent, tt) (told, (left, tt)) → Tells callback f v w left.now told
-  tells lent left told is met = record { shown = lent; shows = is; left = left; met = met; leaves = refl }
+module _ {F V : Type 0} (callback : Once F (MutBor (Slot V) × Unit {0})
+    (SlotUpdate V × (MutBor (Slot V) × Unit {0}))) (f : F) (v : Version V) (w : List ℕ) where
+  pub tells : (lent left : MutBor (Slot V)) (told : SlotUpdate V)
+      → lent.now ≡ slot_of (value_at v w) → callback.post f (lent, tt) (told, (left, tt))
+      → Tells callback f v w left.now told
+  tells lent left told is met =
+      record { shown = lent; shows = is; left = left; met = met; leaves = refl }
 
-  pub updates-there : (E : Type 0) (left : Slot V) (told : SlotUpdate V) (after : Version V) → Tells callback f v w left told → has_key v w ≡ true → after ≡ version_after v w (change_of left told) 1 → Updates callback {E = E} f v w (Ok true) after
-  updates-there E left told after tell there is = (left, told, tell, ap (λ z. (true, z)) is ∙ there-updated v w left told there)
+  pub updates-there : (E : Type 0) (left : Slot V) (told : SlotUpdate V) (after : Version V)
+      → Tells callback f v w left told → has_key v w ≡ true
+      → after ≡ version_after v w (change_of left told) 1
+      → Updates callback {E = E} f v w (Ok true) after
+  updates-there E left told after tell there is =
+      (left, told, tell, ap (λ z. (true, z)) is ∙ there-updated v w left told there)
 
-  pub updates-absent : {E : Type 0} (left : Slot V) (told : SlotUpdate V) (answer : Result Bool E) (after : Version V) → Tells callback f v w left told → has_key v w ≡ false → Changes answer v after (outcome_of_absent v w told) → OnErr answer (AsksMemory told)
+  pub updates-absent : {E : Type 0} (left : Slot V) (told : SlotUpdate V) (answer : Result Bool E)
+      (after : Version V) → Tells callback f v w left told → has_key v w ≡ false
+      → Changes answer v after (outcome_of_absent v w told) → OnErr answer (AsksMemory told)
       → Updates callback f v w answer after
   updates-absent left told (Ok answer) after tell absent is asks =
-      (left, told, tell, ap (λ z. (z, after)) is.0 ∙ ap (λ z. ((outcome_of_absent v w told).0, z)) is.1 ∙ absent-updated v w left told absent)
-  updates-absent left told (Err refusal) after tell absent is asks = (is, inr (left, asks.0, subst (λ t. Tells callback f v w left t) asks.1 tell))
+      (left, told, tell, ap (λ z. (z, after)) is.0
+          ∙ ap (λ z. ((outcome_of_absent v w told).0, z)) is.1
+          ∙ absent-updated v w left told absent)
+  updates-absent left told (Err refusal) after tell absent is asks =
+      (is, inr (left, asks.0, subst (λ t. Tells callback f v w left t) asks.1 tell))
 
-module _ {F V E : Type 0} (callback : Once F (MutBor (Slot V) × Unit {0}) (Result (SlotUpdate V) E × (MutBor (Slot V) × Unit {0}))) (f : F) (v : Version V) (w : List ℕ) where
-  pub tells-or-fails : (lent left : MutBor (Slot V)) (told : Result (SlotUpdate V) E) → lent.now ≡ slot_of (value_at v w) → callback.post f (lent, tt) (told, (left, tt)) → TellsOrFails callback f v w left.now told
-  tells-or-fails lent left told is met = record { shown = lent; shows = is; left = left; met = met; leaves = refl }
+module _ {F V E : Type 0} (callback : Once F (MutBor (Slot V) × Unit {0})
+    (Result (SlotUpdate V) E × (MutBor (Slot V) × Unit {0}))) (f : F) (v : Version V)
+    (w : List ℕ) where
+  pub tells-or-fails : (lent left : MutBor (Slot V)) (told : Result (SlotUpdate V) E)
+      → lent.now ≡ slot_of (value_at v w) → callback.post f (lent, tt) (told, (left, tt))
+      → TellsOrFails callback f v w left.now told
+  tells-or-fails lent left told is met =
+      record { shown = lent; shows = is; left = left; met = met; leaves = refl }
 
-  pub tries-there : (left : Slot V) (told : Result (SlotUpdate V) E) (answer : Result Bool (Refusal E)) (after : Version V) → TellsOrFails callback f v w left told → has_key v w ≡ true → Tries v w left told answer after → TriesUpdate callback f v w answer after
+  pub tries-there : (left : Slot V) (told : Result (SlotUpdate V) E)
+      (answer : Result Bool (Refusal E)) (after : Version V) → TellsOrFails callback f v w left told
+      → has_key v w ≡ true → Tries v w left told answer after
+      → TriesUpdate callback f v w answer after
   tries-there left told (Ok answer) after tell there is = (left, told, tell, is)
   tries-there left told (Err (Callback e)) after tell there is = (left, told, tell, is)
   tries-there left told (Err (Memory refusal)) after tell there is = (is, inl there)
 
-  pub tries-absent : (left : Slot V) (told : Result (SlotUpdate V) E) (answer : Result Bool (Refusal E)) (after : Version V) → TellsOrFails callback f v w left told → TriesAbsent v w told answer after → TriesUpdate callback f v w answer after
+  pub tries-absent : (left : Slot V) (told : Result (SlotUpdate V) E)
+      (answer : Result Bool (Refusal E)) (after : Version V) → TellsOrFails callback f v w left told
+      → TriesAbsent v w told answer after → TriesUpdate callback f v w answer after
   tries-absent left told (Ok answer) after tell is = (left, told, tell, is left)
   tries-absent left told (Err (Callback e)) after tell is = (left, told, tell, is left)
-  tries-absent left told (Err (Memory refusal)) after tell is = (is.0, inr (left, is.1.0, subst (λ t. TellsOrFails callback f v w left t) is.1.1 tell))
+  tries-absent left told (Err (Memory refusal)) after tell is =
+      (is.0, inr (left, is.1.0, subst (λ t. TellsOrFails callback f v w left t) is.1.1 tell))

@@ -15,16 +15,26 @@ found_name (Ok found) = ghost_name_of found
 found_name (Err error) = maybe.none
 
 -- Over the rows of keys, values and prefixes, and the ghosts of their traits.
-module _ (K V P : RattleType) (most : Option ℕ) (bytes : K.Denot → List ℕ) (eq : K.Denot → K.Denot → Bool) (cmp : K.Denot → K.Denot → Ordering) (partial_cmp : K.Denot → K.Denot → Option Ordering) (prefixes : Prefixes P.Denot)
+module _ (K V P : RattleType) (most : Option ℕ) (bytes : K.Denot → List ℕ)
+    (eq : K.Denot → K.Denot → Bool) (cmp : K.Denot → K.Denot → Ordering)
+    (partial_cmp : K.Denot → K.Denot → Option Ordering) (prefixes : Prefixes P.Denot)
     (clones : Clones V.Denot) where
   -- the row of trees of such keys, values and prefixes
   abbrev pub tree_row : RattleType
-  tree_row = the_row K V P (record { MAXIMUM_SIZE = most; bytes = bytes }) (record { eq = eq }) (record { cmp = cmp }) (record { partial_cmp = partial_cmp }) prefixes clones
+  tree_row =
+      the_row K V P (record { MAXIMUM_SIZE = most; bytes = bytes }) (record { eq = eq })
+      (record { cmp = cmp }) (record { partial_cmp = partial_cmp }) prefixes clones
 
-  -- The version has the key set to the value as it was left behind the reference, and its number is one greater. Where there is no reference it stays.
-  abbrev pub LendsValue : {E : Type 0} → MutBor (Version V.Denot) → List ℕ → Result (MutBor V.Denot) E → Fml
-  LendsValue version w result = LendsIfOk tree_row V version result (λ left. with_key version.now w left 1) version.now
+  -- The version has the key set to the value as it was left behind the reference, and its number is
+  -- one greater. Where there is no reference it stays.
+  abbrev pub LendsValue : {E : Type 0} → MutBor (Version V.Denot) → List ℕ
+      → Result (MutBor V.Denot) E → Fml
+  LendsValue version w result =
+      LendsIfOk tree_row V version result (λ left. with_key version.now w left 1) version.now
 
   -- the same where an absent key is no failure
-  abbrev pub LendsFound : {E : Type 0} → MutBor (Version V.Denot) → List ℕ → Result (Option (MutBor V.Denot)) E → Fml
-  LendsFound version w result = follows_if tree_row V version.ghost_name (found_name result) (λ left. with_key version.now w left 1) version.now
+  abbrev pub LendsFound : {E : Type 0} → MutBor (Version V.Denot) → List ℕ
+      → Result (Option (MutBor V.Denot)) E → Fml
+  LendsFound version w result =
+      follows_if tree_row V version.ghost_name (found_name result)
+      (λ left. with_key version.now w left 1) version.now

@@ -36,8 +36,8 @@ module _ {V : Type 0} where
   IsTreeIn None = ⊤
   IsTreeIn (Some root) = IsTree root
 
-  -- Below the root all is in order, each key has a length that it may have, and there are at most so
-  -- many keys.
+  -- Below the root all is in order, each key has a length that it may have, and there are at most
+  -- so many keys.
   abbrev pub IsSound : Option ℕ → ℕ → Option (Shape V) → Type 0
   IsSound most count None = ⊤
   IsSound most count (Some root) =
@@ -60,7 +60,8 @@ module _ (P V : RattleType) (bytes : P.Denot → List ℕ) where
   abbrev pub below_root : Option (NodeRef P.Denot V.Denot) → Option (Shape V.Denot)
   below_root = option_map (pointer_shape bytes)
 
-  -- The root has the key set to the value as it was left behind the result, and refused, what it had.
+  -- The root has the key set to the value as it was left behind the result, and refused, what it
+  -- had.
   -- It stays sound.
   abbrev pub LendsBelow : {E : Type 0} →
       MutBor (Option (NodeRef P.Denot V.Denot)) → List ℕ → Result (MutBor V.Denot) E → Fml

@@ -29,7 +29,8 @@ module _ {V : Type 0} where
   is_occupied Vacant = false
   is_occupied (Occupied x) = true
 
-  -- What becomes of an absent key by a callback's answer: whether it is there now, and the version after.
+  -- What becomes of an absent key by a callback's answer: whether it is there now, and the version
+  -- after.
   abbrev pub outcome_of_absent : Version V → List ℕ → SlotUpdate V → Bool × Version V
   outcome_of_absent v w (Insert x) = (true, with_key v w x 1)
   outcome_of_absent v w Remove = (false, v)
@@ -63,8 +64,8 @@ module _ {V : Type 0} where
   Tries before w left told (Err (Callback e)) after = IsTried before w left told (Err e) after
   Tries before w left told (Err (Memory refusal)) after = after ≡ before
 
-  -- The same of an absent key, whatever was left in its vacant slot. Only a value that is to be stored
-  -- can be refused.
+  -- The same of an absent key, whatever was left in its vacant slot. Only a value that is to be
+  -- stored can be refused.
   abbrev pub TriesAbsent : {E : Type 0} →
       Version V → List ℕ → Result (SlotUpdate V) E → Result Bool (Refusal E) → Version V → Type 0
   TriesAbsent before w told (Ok answer) after =

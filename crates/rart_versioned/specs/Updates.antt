@@ -10,7 +10,8 @@ use Rattle.rart_below.specs.declared.slot.Refusal.TheVariants.{Callback, Memory}
 use Rattle.rart_maps.specs.Versions.{Version, value_at}
 use Rattle.rart_maps.specs.Changes.{slot_of, slot_update, slot_attempt}
 
-module _ {F V : Type 0} (callback : Once F (MutBor (Slot V) × Unit {0}) (SlotUpdate V × (MutBor (Slot V) × Unit {0}))) where
+module _ {F V : Type 0} (callback : Once F (MutBor (Slot V) × Unit {0})
+    (SlotUpdate V × (MutBor (Slot V) × Unit {0}))) where
   -- The callback, called on the slot of the key, may leave the slot so and answer so.
   abbrev pub Tells : F → Version V → List ℕ → Slot V → SlotUpdate V → Type 0
   Tells f v w left told = FnOnceReturnsAtMut callback f (slot_of (value_at v w)) told left
@@ -21,15 +22,16 @@ module _ {F V : Type 0} (callback : Once F (MutBor (Slot V) × Unit {0}) (SlotUp
   UpdateTakesMemory f v w =
       IsSome (value_at v w) ⊎ ((left : Slot V) × (x : V) × Tells f v w left (Insert x))
 
-  -- Some outcome that the callback allows leads from the version before to the answer and the version
-  -- after. Refused for memory, which was taken then, the version is as before.
+  -- Some outcome that the callback allows leads from the version before to the answer and the
+  -- version after. Refused for memory, which was taken then, the version is as before.
   abbrev pub Updates : {E : Type 0} → F → Version V → List ℕ → Result Bool E → Version V → Type 0
   Updates f before w (Ok answer) after =
       (left : Slot V) × (told : SlotUpdate V) × Tells f before w left told
       × ((answer, after) ≡ slot_update before w left told)
   Updates f before w (Err refusal) after = (after ≡ before) × UpdateTakesMemory f before w
 
-module _ {F V E : Type 0} (callback : Once F (MutBor (Slot V) × Unit {0}) (Result (SlotUpdate V) E × (MutBor (Slot V) × Unit {0}))) where
+module _ {F V E : Type 0} (callback : Once F (MutBor (Slot V) × Unit {0})
+    (Result (SlotUpdate V) E × (MutBor (Slot V) × Unit {0}))) where
   -- The same for a callback that may answer an error.
   abbrev pub TellsOrFails : F → Version V → List ℕ → Slot V → Result (SlotUpdate V) E → Type 0
   TellsOrFails f v w left told = FnOnceReturnsAtMut callback f (slot_of (value_at v w)) told left

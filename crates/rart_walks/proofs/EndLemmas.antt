@@ -1,4 +1,5 @@
--- The end of a way: a node inside whose prefix the string ends, or with it, or whose prefix it leaves.
+-- The end of a way: a node inside whose prefix the string ends, or with it, or whose prefix it
+-- leaves.
 use Rattle.std.proofs.Common.{◌≡◌, ◌+◌, ◌<◌, ◌≤◌, ◌⊎◌, ⊎_elim, inl, inr, ◌≢◌, ℕ, suc, Bool, true, false, cond, ◌&&◌, List, [], ◌∷◌, ◌++◌, Option, map, length, take, drop, refl, arith, sym, ap, subst, ◌∙◌}
 use Rattle.std.specs.Prelude.{◌==◌, nat_lt, slice_index_or, count_by}
 use Rattle.std.proofs.lemmas.Bool.{eqb-true, eqb-false, cases_order}
@@ -21,13 +22,17 @@ pub record IsFront (rest prefix : List ℕ) : Type 0 where
   pub is : prefix ≡ rest ++ more
 
 -- a string that is matched to its end
-pub common-front : (prefix rest : List ℕ) → common_length prefix rest ≡ length rest → IsFront rest prefix
+pub common-front : (prefix rest : List ℕ) → common_length prefix rest ≡ length rest
+    → IsFront rest prefix
 common-front prefix [] all = record { more = prefix; is = refl }
 common-front [] (c ∷ rest) all = absurd (omega (arith, all))
 common-front (b ∷ prefix) (c ∷ rest) all =
-    let P : Bool → Type 0 = λ t. (b == c) ≡ t → cond t (suc (common_length prefix rest)) 0 ≡ suc (length rest) → IsFront (c ∷ rest) (b ∷ prefix) in
+    let P : Bool → Type 0 =
+        λ t. (b == c) ≡ t → cond t (suc (common_length prefix rest)) 0 ≡ suc (length rest)
+        → IsFront (c ∷ rest) (b ∷ prefix) in
     let both : (t : Bool) → P t = elim [
-      | true ↦ (λ same e. let front = common-front prefix rest (omega (arith, e)) in record { more = front.more; is = λ i. eqb-true b c same i ∷ front.is i })
+      | true ↦ (λ same e. let front = common-front prefix rest (omega (arith, e)) in
+      record { more = front.more; is = λ i. eqb-true b c same i ∷ front.is i })
       | false ↦ (λ differs e. absurd (omega (arith, e)))
     ] in
     both (b == c) refl all
@@ -42,31 +47,44 @@ pub record PartsAt (prefix rest : List ℕ) (b c : ℕ) : Type 0 where
   pub differs : b ≢ c
 
 -- strings that are matched to the end of neither
-pub common-parts : (prefix rest : List ℕ) → common_length prefix rest < length prefix → common_length prefix rest < length rest
-    → PartsAt prefix rest (slice_index_or prefix (common_length prefix rest) 0) (slice_index_or rest (common_length prefix rest) 0)
+pub common-parts : (prefix rest : List ℕ) → common_length prefix rest < length prefix
+    → common_length prefix rest < length rest
+    → PartsAt prefix rest (slice_index_or prefix (common_length prefix rest) 0)
+    (slice_index_or rest (common_length prefix rest) 0)
 common-parts [] rest short also = absurd (omega (arith, short))
 common-parts (b ∷ prefix) [] short also = absurd (omega (arith, also))
 common-parts (b ∷ prefix) (c ∷ rest) short also =
-    let P : Bool → Type 0 = λ t. (b == c) ≡ t → cond t (suc (common_length prefix rest)) 0 < suc (length prefix) → cond t (suc (common_length prefix rest)) 0 < suc (length rest)
-    → PartsAt (b ∷ prefix) (c ∷ rest) (slice_index_or (b ∷ prefix) (cond t (suc (common_length prefix rest)) 0) 0) (slice_index_or (c ∷ rest) (cond t (suc (common_length prefix rest)) 0) 0) in
+    let P : Bool → Type 0 =
+        λ t. (b == c) ≡ t → cond t (suc (common_length prefix rest)) 0 < suc (length prefix)
+        → cond t (suc (common_length prefix rest)) 0 < suc (length rest)
+    → PartsAt (b ∷ prefix) (c ∷ rest)
+    (slice_index_or (b ∷ prefix) (cond t (suc (common_length prefix rest)) 0) 0)
+    (slice_index_or (c ∷ rest) (cond t (suc (common_length prefix rest)) 0) 0) in
     let both : (t : Bool) → P t = elim [
       | true ↦ (λ same s a.
           let parts = common-parts prefix rest (omega (arith, s)) (omega (arith, a)) in
-          record { front = b ∷ parts.front; more = parts.more; left = parts.left; is = ap (λ z. b ∷ z) parts.is; also = λ i. sym (eqb-true b c same) i ∷ parts.also i; differs = parts.differs })
-      | false ↦ (λ differs s a. record { front = []; more = prefix; left = rest; is = refl; also = refl; differs = eqb-false b c differs })
+          record { front = b ∷ parts.front; more = parts.more; left = parts.left;
+              is = ap (λ z. b ∷ z) parts.is; also = λ i. sym (eqb-true b c same) i ∷ parts.also i;
+              differs = parts.differs })
+      | false ↦ (λ differs s a. record { front = []; more = prefix; left = rest; is = refl;
+      also = refl; differs = eqb-false b c differs })
     ] in
     both (b == c) refl short also
 
-pub parts-at : (prefix rest : List ℕ) (common : ℕ) → common ≡ common_length prefix rest → (common ≡ length rest) ⊎ (common < length prefix) → (common ≡ length rest → ⊥)
+pub parts-at : (prefix rest : List ℕ) (common : ℕ) → common ≡ common_length prefix rest
+    → (common ≡ length rest) ⊎ (common < length prefix) → (common ≡ length rest → ⊥)
     → PartsAt prefix rest (slice_index_or prefix common 0) (slice_index_or rest common 0)
 parts-at prefix rest common is ends goes_on =
     let fits = common_fits prefix rest in
-    let short : common_length prefix rest < length prefix = ⊎_elim (λ end. absurd (goes_on end)) (λ less. omega (arith, less, is)) ends in
+    let short : common_length prefix rest < length prefix =
+        ⊎_elim (λ end. absurd (goes_on end)) (λ less. omega (arith, less, is)) ends in
     let also : common_length prefix rest < length rest = omega (arith, fits, is, goes_on) in
-    subst (λ n. PartsAt prefix rest (slice_index_or prefix n 0) (slice_index_or rest n 0)) (sym is) (common-parts prefix rest short also)
+    subst (λ n. PartsAt prefix rest (slice_index_or prefix n 0) (slice_index_or rest n 0)) (sym is)
+        (common-parts prefix rest short also)
 
 either-less : (b c : ℕ) → b ≢ c → (b < c) ⊎ (c < b)
-either-less b c differs = elim (cases_order b c) [ inl same ↦ absurd (differs same) | inr less ↦ less ]
+either-less b c differs =
+    elim (cases_order b c) [ inl same ↦ absurd (differs same) | inr less ↦ less ]
 
 module _ {V : Type 0} (part : Part) (s : Shape V) (rest : List ℕ) where
   abbrev kept : List (List ℕ × V)
@@ -78,51 +96,73 @@ module _ {V : Type 0} (part : Part) (s : Shape V) (rest : List ℕ) where
   -- ---- the string ends inside the prefix, or with it
   module _ (front : IsFront rest (prefix_of s)) where
     within-all : ((key : List ℕ) → keeps part [] (front.more ++ key) ≡ true) → kept ≡ pairs_of s
-    within-all each = kept-gathered ∙ parted-all own_pair own_pair-ends (keeps part) (goes_on part) (keeps-goes part) s rest front.more front.is each ∙ sym (pairs-gathered s)
+    within-all each =
+        kept-gathered ∙ parted-all own_pair own_pair-ends (keeps part) (goes_on part)
+        (keeps-goes part) s rest front.more front.is each ∙ sym (pairs-gathered s)
 
     within-inside : IsTree s → front.more ≡ [] → is_strict part ≡ true → kept ≡ pairs_inside s
     within-inside tree end strict =
-        kept-gathered ∙ parted-inside own_pair own_pair-ends (keeps part) (goes_on part) (keeps-goes part) s rest front.more front.is tree end (strict-itself part strict)
+        kept-gathered ∙ parted-inside own_pair own_pair-ends (keeps part) (goes_on part)
+            (keeps-goes part) s rest front.more front.is tree end (strict-itself part strict)
         ∙ ap (behind_path (prefix_of s)) (sym (all-gathered (children_of s)))
 
-    beyond : (more : List ℕ) → front.more ≡ more → (length rest == length (prefix_of s)) ≡ false → (key : List ℕ) → keeps part [] (more ++ key) ≡ true
-    beyond [] none differs key = absurd (eqb-false (length rest) (length (prefix_of s)) differs (sym (ap length (front.is ∙ ap (λ z. rest ++ z) none ∙ append-nil rest))))
+    beyond : (more : List ℕ) → front.more ≡ more → (length rest == length (prefix_of s)) ≡ false
+        → (key : List ℕ) → keeps part [] (more ++ key) ≡ true
+    beyond [] none differs key =
+        absurd (eqb-false (length rest) (length (prefix_of s)) differs
+        (sym (ap length (front.is ∙ ap (λ z. rest ++ z) none ∙ append-nil rest))))
     beyond (b ∷ more) some differs key = (keeps-goes part).inside b (more ++ key)
 
-    ended : (more : List ℕ) → front.more ≡ more → (length rest == length (prefix_of s)) ≡ true → more ≡ []
+    ended : (more : List ℕ) → front.more ≡ more → (length rest == length (prefix_of s)) ≡ true
+        → more ≡ []
     ended [] is same = refl
     ended (b ∷ more) is same =
         let long = ap length (front.is ∙ ap (λ z. rest ++ z) is) ∙ length-append rest (b ∷ more) in
         let equal = eqb-true (length rest) (length (prefix_of s)) same in
         absurd (omega (arith, long, equal))
 
-    pub end-within : IsTree s → kept ≡ cond (is_strict part && (length rest == length (prefix_of s))) (pairs_inside s) (pairs_of s)
+    pub end-within : IsTree s → kept
+        ≡ cond (is_strict part && (length rest == length (prefix_of s))) (pairs_inside s)
+        (pairs_of s)
     end-within tree =
-        let P : Bool → Bool → Type 0 = λ t u. is_strict part ≡ t → (length rest == length (prefix_of s)) ≡ u → kept ≡ cond (t && u) (pairs_inside s) (pairs_of s) in
+        let P : Bool → Bool → Type 0 =
+            λ t u. is_strict part ≡ t → (length rest == length (prefix_of s)) ≡ u
+            → kept ≡ cond (t && u) (pairs_inside s) (pairs_of s) in
         let strict : (u : Bool) → P true u = elim [
           | true ↦ (λ is same. within-inside tree (ended front.more refl same) is)
           | false ↦ (λ is differs. within-all (beyond front.more refl differs))
         ] in
-        let both : (t u : Bool) → P t u = elim [ true ↦ strict | false ↦ (λ u is _. within-all (λ key. keeps-itself part is (front.more ++ key))) ] in
+        let both : (t u : Bool) → P t u =
+            elim [ true ↦ strict | false ↦
+            (λ u is _. within-all (λ key. keeps-itself part is (front.more ++ key))) ] in
         both (is_strict part) (length rest == length (prefix_of s)) refl refl
 
     pub end-within-counted : count_by (reaches part rest) (paths_of s) ≡ nodes_of s
     end-within-counted =
         paths-counted (reaches part rest) s
-        ∙ ap length (parted-all own_place own_place-ends (reaches part) (goes_on part) (reaches-goes part) s rest front.more front.is (λ key. reaches-itself part (front.more ++ key)))
+        ∙ ap length (parted-all own_place own_place-ends (reaches part) (goes_on part)
+        (reaches-goes part) s rest front.more front.is
+        (λ key. reaches-itself part (front.more ++ key)))
         ∙ places-counted s
 
   -- ---- the string leaves the prefix
   module _ (b c : ℕ) (parts : PartsAt (prefix_of s) rest b c) where
-    at-front : (own : Option V → List (List ℕ × V)) → keeping (keeps part rest) (gathered own s) ≡ keeping (keeps part (parts.front ++ (c ∷ parts.left))) (gathered own s)
+    at-front : (own : Option V → List (List ℕ × V))
+        → keeping (keeps part rest) (gathered own s)
+        ≡ keeping (keeps part (parts.front ++ (c ∷ parts.left))) (gathered own s)
     at-front own = ap (λ z. keeping (keeps part z) (gathered own s)) parts.also
 
     beside-lower : b < c → kept ≡ []
-    beside-lower less = kept-gathered ∙ at-front own_pair ∙ parted-lower own_pair own_pair-ends (keeps part) (goes_on part) (keeps-goes part) s parts.front b parts.more c parts.left parts.is less
+    beside-lower less =
+        kept-gathered ∙ at-front own_pair
+        ∙ parted-lower own_pair own_pair-ends (keeps part) (goes_on part)
+        (keeps-goes part) s parts.front b parts.more c parts.left parts.is less
 
     beside-upper : c < b → kept ≡ cond (goes_on part) (pairs_of s) []
     beside-upper less =
-        kept-gathered ∙ at-front own_pair ∙ parted-upper own_pair own_pair-ends (keeps part) (goes_on part) (keeps-goes part) s parts.front b parts.more c parts.left parts.is less
+        kept-gathered ∙ at-front own_pair
+            ∙ parted-upper own_pair own_pair-ends (keeps part) (goes_on part)
+            (keeps-goes part) s parts.front b parts.more c parts.left parts.is less
         ∙ ap (λ z. cond (goes_on part) z []) (sym (pairs-gathered s))
 
     pub end-above : c < b → goes_on part ≡ true → kept ≡ pairs_of s
@@ -139,9 +179,12 @@ module _ {V : Type 0} (part : Part) (s : Shape V) (rest : List ℕ) where
         (λ more. beside-upper more ∙ ap (λ t. cond t (pairs_of s) []) off)
         (let differs = parts.differs in either-less b c differs)
 
-    pub end-above-counted : c < b → goes_on part ≡ true → count_by (reaches part rest) (paths_of s) ≡ nodes_of s
+    pub end-above-counted : c < b → goes_on part ≡ true
+        → count_by (reaches part rest) (paths_of s) ≡ nodes_of s
     end-above-counted less on =
         paths-counted (reaches part rest) s
         ∙ ap (λ z. length (keeping (reaches part z) (gathered own_place s))) parts.also
-        ∙ ap length (parted-upper own_place own_place-ends (reaches part) (goes_on part) (reaches-goes part) s parts.front b parts.more c parts.left parts.is less ∙ ap (λ t. cond t (gathered own_place s) []) on)
+        ∙ ap length (parted-upper own_place own_place-ends (reaches part) (goes_on part)
+        (reaches-goes part) s parts.front b parts.more c parts.left parts.is less
+        ∙ ap (λ t. cond t (gathered own_place s) []) on)
         ∙ places-counted s

@@ -17,21 +17,30 @@ pub own_place-ends : {V : Type 0} → StandsAtEnd {V = V} own_place
 own_place-ends value test true is = rw is refl
 own_place-ends value test false is = rw is refl
 
-length-behind : (path : List ℕ) (pairs : List (List ℕ × Unit {0})) → length (behind_path path pairs) ≡ length pairs
+length-behind : (path : List ℕ) (pairs : List (List ℕ × Unit {0}))
+    → length (behind_path path pairs) ≡ length pairs
 length-behind path [] = refl
 length-behind path (pair ∷ pairs) = ap suc (length-behind path pairs)
 
-keys-behind : (path : List ℕ) (pairs : List (List ℕ × Unit {0})) → map (λ key. path ++ key) (map (λ pair. pair.0) pairs) ≡ map (λ pair. pair.0) (behind_path path pairs)
+keys-behind : (path : List ℕ) (pairs : List (List ℕ × Unit {0}))
+    → map (λ key. path ++ key) (map (λ pair. pair.0) pairs)
+    ≡ map (λ pair. pair.0) (behind_path path pairs)
 keys-behind path [] = refl
 keys-behind path (pair ∷ pairs) = ap (λ rest. (path ++ pair.0) ∷ rest) (keys-behind path pairs)
 
-counted-kept : (test : List ℕ → Bool) (pairs : List (List ℕ × Unit {0})) → count_by test (map (λ pair. pair.0) pairs) ≡ length (keeping test pairs)
+counted-kept : (test : List ℕ → Bool) (pairs : List (List ℕ × Unit {0}))
+    → count_by test (map (λ pair. pair.0) pairs) ≡ length (keeping test pairs)
 counted-kept test [] = refl
 counted-kept test (pair ∷ pairs) =
-    let first : count_by test (map (λ (pair : List ℕ × Unit {0}). pair.0) (pair ∷ pairs)) ≡ cond (test pair.0) 1 0 + count_by test (map (λ (pair : List ℕ × Unit {0}). pair.0) pairs) =
-    sum_by-cons (λ (key : List ℕ). cond (test key) 1 0) pair.0 (map (λ (pair : List ℕ × Unit {0}). pair.0) pairs) in
+    let first : count_by test (map (λ (pair : List ℕ × Unit {0}). pair.0) (pair ∷ pairs))
+        ≡ cond (test pair.0) 1 0 + count_by test
+        (map (λ (pair : List ℕ × Unit {0}). pair.0) pairs) =
+    sum_by-cons (λ (key : List ℕ). cond (test key) 1 0) pair.0
+        (map (λ (pair : List ℕ × Unit {0}). pair.0) pairs) in
     first ∙ ap (λ n. cond (test pair.0) 1 0 + n) (counted-kept test pairs)
-    ∙ elim (test pair.0) as (λ t. cond t 1 0 + length (keeping test pairs) ≡ length (cond t (pair ∷ keeping test pairs) (keeping test pairs))) [ true ↦ omega arith | false ↦ omega arith ]
+    ∙ elim (test pair.0) as (λ t. cond t 1 0 + length (keeping test pairs)
+    ≡ length (cond t (pair ∷ keeping test pairs) (keeping test pairs))) [ true ↦ omega arith
+    | false ↦ omega arith ]
 
 module _ {V : Type 0} where
   mutual
@@ -41,7 +50,8 @@ module _ {V : Type 0} where
         let below = below-counted forest in
         omega (arith, behind, below)
 
-    below-counted : (forest : Forest V) → length (gathered_below own_place forest) ≡ nodes_below forest
+    below-counted : (forest : Forest V)
+        → length (gathered_below own_place forest) ≡ nodes_below forest
     below-counted bare = refl
     below-counted (grown byte child forest) =
         let first = places-counted child in
@@ -49,7 +59,8 @@ module _ {V : Type 0} where
         let long = length-append (gathered own_place child) (gathered_below own_place forest) in
         omega (arith, first, rest, long)
 
-  pub all-counted : (children : List (ℕ × Shape V)) → length (gathered_all own_place children) ≡ nodes_of_all children
+  pub all-counted : (children : List (ℕ × Shape V))
+      → length (gathered_all own_place children) ≡ nodes_of_all children
   all-counted [] = refl
   all-counted (child ∷ children) =
       let first = places-counted child.1 in
@@ -60,17 +71,25 @@ module _ {V : Type 0} where
   mutual
     paths-places : (s : Shape V) → paths_of s ≡ map (λ pair. pair.0) (gathered own_place s)
     paths-places (node prefix value width forest) =
-        ap (λ rest. map (λ key. prefix ++ key) ([] ∷ rest)) (below-places forest) ∙ keys-behind prefix (([], tt) ∷ gathered_below own_place forest)
+        ap (λ rest. map (λ key. prefix ++ key) ([] ∷ rest)) (below-places forest)
+            ∙ keys-behind prefix (([], tt) ∷ gathered_below own_place forest)
 
-    below-places : (forest : Forest V) → paths_below forest ≡ map (λ pair. pair.0) (gathered_below own_place forest)
+    below-places : (forest : Forest V)
+        → paths_below forest ≡ map (λ pair. pair.0) (gathered_below own_place forest)
     below-places bare = refl
     below-places (grown byte child forest) =
-        (λ i. paths-places child i ++ below-places forest i) ∙ sym (map-append (λ (pair : List ℕ × Unit {0}). pair.0) (gathered own_place child) (gathered_below own_place forest))
+        (λ i. paths-places child i ++ below-places forest i)
+            ∙ sym (map-append (λ (pair : List ℕ × Unit {0}). pair.0) (gathered own_place child)
+            (gathered_below own_place forest))
 
   -- how many nodes have such a path
-  pub paths-counted : (test : List ℕ → Bool) (s : Shape V) → count_by test (paths_of s) ≡ length (keeping test (gathered own_place s))
-  paths-counted test s = ap (count_by test) (paths-places s) ∙ counted-kept test (gathered own_place s)
+  pub paths-counted : (test : List ℕ → Bool) (s : Shape V)
+      → count_by test (paths_of s) ≡ length (keeping test (gathered own_place s))
+  paths-counted test s =
+      ap (count_by test) (paths-places s) ∙ counted-kept test (gathered own_place s)
 
   -- as many nodes as paths
   pub nodes-paths : (s : Shape V) → length (paths_of s) ≡ nodes_of s
-  nodes-paths s = ap length (paths-places s) ∙ length-map (gathered own_place s) (λ (pair : List ℕ × Unit {0}). pair.0) ∙ places-counted s
+  nodes-paths s =
+      ap length (paths-places s) ∙ length-map (gathered own_place s)
+      (λ (pair : List ℕ × Unit {0}). pair.0) ∙ places-counted s

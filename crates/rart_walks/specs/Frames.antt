@@ -1,5 +1,5 @@
--- The nodes that a walk has open, from the root down: each with its prefix and the children that are
--- left.
+-- The nodes that a walk has open, from the root down: each with its prefix and the children that
+-- are left.
 use Rattle.std.specs.Prelude.{◌≡◌, ℕ, ◌+◌, List, [], ◌∷◌, ◌++◌, Option, Some, None, map, ⊤}
 use Rattle.std.specs.List.{concat}
 use Rattle.rart_node.specs.Shape.{Shape, prefix_of, children_of}

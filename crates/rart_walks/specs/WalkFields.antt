@@ -18,8 +18,8 @@ module _ {P V : Type 0} {partial : _} (bytes : P → List ℕ) where
     abbrev pub position : Walk P V T partial → Position V
     position walk = position_of (open_nodes walk.frames.items) (option_copied walk.pending)
 
-    -- What is left of a walk are trees, no key of which is too long for the trail, and the trail keeps
-    -- the way to where the walk stands.
+    -- What is left of a walk are trees, no key of which is too long for the trail, and the trail
+    -- keeps the way to where the walk stands.
     pub record IsWalk (holds : T → List (List ℕ) → Type 0) (greatest : Option ℕ)
         (walk : Walk P V T partial) : Type 0 where
       pub holds_way : holds walk.trail (segments_of (open_nodes walk.frames.items))

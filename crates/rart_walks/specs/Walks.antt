@@ -35,8 +35,8 @@ module _ {V : Type 0} where
   abbrev pub walk_end : Position V
   walk_end = record { segments = []; pairs = []; nodes = 0 }
 
-  -- The walk gave the first pair of what was left, and stands at its node, or there was none, and it
-  -- has ended.
+  -- The walk gave the first pair of what was left, and stands at its node, or there was none, and
+  -- it has ended.
   abbrev pub Gives : Position V → Option (Bor V) → Position V → Type 0
   Gives before None after = (before.pairs ≡ []) × (after ≡ walk_end)
   Gives before (Some value) after = before.pairs ≡ (concat after.segments, value.now) ∷ after.pairs

@@ -57,7 +57,8 @@ impl<'a, P: Partial, V: Drop, T: Trail<'a>> Walk<'a, P, V, T> {
         requires pending { self.old.pending ≡ None }
         requires tree { IsTree (node_shape P.bytes node.now) }
         requires short { AreShort T.greatest (behind_path
-            (concat (position P.bytes self.old).segments) (pairs_of (node_shape P.bytes node.now))) }
+            (concat (position P.bytes self.old).segments) (pairs_of (node_shape P.bytes node.now)))
+            }
         ensures walk { OnOk result (IsWalk P.bytes T.holds T.greatest self.new) }
         ensures pairs { OnOk result ((position P.bytes self.new).pairs
             ≡ behind_path (concat (position P.bytes self.old).segments)
@@ -67,7 +68,8 @@ impl<'a, P: Partial, V: Drop, T: Trail<'a>> Walk<'a, P, V, T> {
             ≡ (position P.bytes self.old).nodes + nodes_of (node_shape P.bytes node.now)) }
         ensures frames { OnOk result (open_nodes P.bytes self.new.frames.items
             ≡ open_nodes P.bytes self.old.frames.items
-            ++ (prefix_of (node_shape P.bytes node.now), children_of (node_shape P.bytes node.now)) ∷ []) }
+            ++ (prefix_of (node_shape P.bytes node.now), children_of (node_shape P.bytes node.now))
+            ∷ []) }
         ensures pending { OnOk result (option_copied self.new.pending
             ≡ value_of (node_shape P.bytes node.now)) }
     {

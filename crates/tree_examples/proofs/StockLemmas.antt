@@ -15,10 +15,14 @@ pub record AddsTo (found : Option ℕ) (more : ℕ) (left : Slot ℕ) (told : Sl
   pub occupied : (count : ℕ) → slot_of found ≡ Occupied count → left ≡ Occupied (count + more)
   pub kept : (count : ℕ) → slot_of found ≡ Occupied count → told ≡ Keep
 
-module _ (v after : Version ℕ) (w : List ℕ) (more : ℕ) (left : Slot ℕ) (told : SlotUpdate ℕ) (answer : Bool) where
-  added_by : (found : Option ℕ) → AddsTo found more left told → (answer, after) ≡ slot_update_from v w found left told → value_at after w ≡ Some (unwrap_or found 0 + more)
+module _ (v after : Version ℕ) (w : List ℕ) (more : ℕ) (left : Slot ℕ) (told : SlotUpdate ℕ)
+    (answer : Bool) where
+  added_by : (found : Option ℕ) → AddsTo found more left told
+      → (answer, after) ≡ slot_update_from v w found left told
+      → value_at after w ≡ Some (unwrap_or found 0 + more)
   added_by None adds is =
-      ap (λ p. value_at p.1 w) (is ∙ ap (λ told. slot_update_from v w None left told) (adds.vacant refl))
+      ap (λ p. value_at p.1 w) (is ∙ ap (λ told. slot_update_from v w None left told)
+          (adds.vacant refl))
       ∙ value_at-with_key v w more 1
       ∙ ap Some (sym (zero-add more))
   added_by (Some count) adds is =
@@ -29,5 +33,6 @@ module _ (v after : Version ℕ) (w : List ℕ) (more : ℕ) (left : Slot ℕ) (
       ∙ value_at-with_key v w (count + more) 1
 
   -- After the update the key has so many more.
-  pub added : AddsTo (value_at v w) more left told → (answer, after) ≡ slot_update v w left told → value_at after w ≡ Some (unwrap_or (value_at v w) 0 + more)
+  pub added : AddsTo (value_at v w) more left told → (answer, after) ≡ slot_update v w left told
+      → value_at after w ≡ Some (unwrap_or (value_at v w) 0 + more)
   added = added_by (value_at v w)

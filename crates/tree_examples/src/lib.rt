@@ -1,4 +1,5 @@
-//! What a caller of the tree writes and proves, from the public contracts of `rart_versioned` alone.
+//! What a caller of the tree writes and proves, from the public contracts of `rart_versioned`
+//! alone.
 //! `docs/USING.md` shows these functions.
 #![tactic(auto)]
 

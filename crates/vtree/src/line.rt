@@ -41,7 +41,8 @@ impl From<AllocError> for LineError {
 /// | `insert P K V`, `replace P K V` | `Insert`, `Replace` |
 /// | `remove P K`, `delete P K` | `Remove`, `Delete` |
 /// | `update P K W A` | `Update` |
-/// | `try-update P K W A`, `try-update P K W fail` | `TryUpdate`, which answers its error for `fail` |
+/// | `try-update P K W A`, `try-update P K W fail` | `TryUpdate`, which answers its error for
+/// `fail` |
 pub fn parse(alloc: Global, line: &[u8]) -> Result<LineCommand, LineError> {
     let words = words_of(alloc, line)?;
     match words.as_slice() {

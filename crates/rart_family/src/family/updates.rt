@@ -24,7 +24,8 @@ impl<K: KeyTrait, V: Clone + Drop> Family<K, V> {
         changes: &mut Work,
     ) -> Result<Reply<K, V>, AllocError>
         requires clones { ClonesEqual V.is_clone }
-        ensures tries { Tries K.bytes self.old (Update place key.now write.now answer.now) result self.new }
+        ensures tries { Tries K.bytes self.old
+            (Update place key.now write.now answer.now) result self.new }
         ensures changes { CountsChanges K.bytes self.old (Update place key.now write.now answer.now)
             (reply_or_want K.bytes result) changes.old changes.new }
     {
@@ -46,8 +47,10 @@ impl<K: KeyTrait, V: Clone + Drop> Family<K, V> {
         changes: &mut Work,
     ) -> Result<Reply<K, V>, AllocError>
         requires clones { ClonesEqual V.is_clone }
-        ensures tries { Tries K.bytes self.old (TryUpdate place key.now write.now answer.now) result self.new }
-        ensures changes { CountsChanges K.bytes self.old (TryUpdate place key.now write.now answer.now)
+        ensures tries { Tries K.bytes self.old
+            (TryUpdate place key.now write.now answer.now) result self.new }
+        ensures changes { CountsChanges K.bytes self.old
+            (TryUpdate place key.now write.now answer.now)
             (reply_or_want K.bytes result) changes.old changes.new }
     {
         if let Err(refusal) = self.version_with_room(place, 2) {
@@ -89,7 +92,8 @@ fn answer_copy<V: Clone + Drop>(answer: &SlotUpdate<V>) -> Result<SlotUpdate<V>,
 // What a command's callback does to its slot: it writes where there is something to write, and a
 // value to write over.
 fn write_slot<V: Drop>(slot: &mut Slot<V>, write: Option<V>)
-    ensures { (found : _) → slot.old ≡ slot_of found → slot.new ≡ slot_of (value_after_write found write) }
+    ensures { (found : _) → slot.old ≡ slot_of found
+        → slot.new ≡ slot_of (value_after_write found write) }
 {
     if let (Slot::Occupied(old), Some(value)) = (slot, write) {
         *old = value;
@@ -107,7 +111,8 @@ fn update_at<K: KeyTrait, V: Clone + Drop>(
     requires clones { ClonesEqual V.is_clone }
     requires there { IsSomeAnd (version_at versions.old place) (λ v. HasRoom v 1) }
     ensures changes { ChangesAt place result versions.old versions.new (λ v.
-        slot_update v (K.bytes key.now) (slot_of (value_after_write (value_at v (K.bytes key.now)) write))
+        slot_update v (K.bytes key.now)
+        (slot_of (value_after_write (value_at v (K.bytes key.now)) write))
         answer) }
     ensures counted { CountsChangeAt (touch_bound (K.bytes key.now)) versions.old place
         (K.bytes key.now) changes.old changes.new }
@@ -136,7 +141,8 @@ fn try_update_at<K: KeyTrait, V: Clone + Drop>(
     requires clones { ClonesEqual V.is_clone }
     requires there { IsSomeAnd (version_at versions.old place) (λ v. HasRoom v 2) }
     ensures changes { ChangesAt place result versions.old versions.new (λ v.
-        slot_attempt v (K.bytes key.now) (slot_of (value_after_write (value_at v (K.bytes key.now)) write))
+        slot_attempt v (K.bytes key.now)
+        (slot_of (value_after_write (value_at v (K.bytes key.now)) write))
         (callback_answer answer)) }
     ensures counted { CountsChangeAt (touch_bound (K.bytes key.now)) versions.old place
         (K.bytes key.now) changes.old changes.new }

@@ -54,7 +54,9 @@ fn value_mut<'a, K: KeyTrait, V: Clone + Drop>(
 ) -> Result<&'a mut V, NoValue>
     requires clones { ClonesEqual V.is_clone }
     requires room { HasRoom version.old 1 }
-    ensures* writes_back { sem 𝓛 (LendsValue K.row V.row K.PartialType.row K.MAXIMUM_SIZE K.bytes K.eq K.cmp K.partial_cmp K.PartialType.Partial V.Clone version.entry (K.bytes key.now) result) }
+    ensures* writes_back { sem 𝓛 (LendsValue K.row V.row K.PartialType.row K.MAXIMUM_SIZE K.bytes
+        K.eq K.cmp K.partial_cmp K.PartialType.Partial V.Clone version.entry
+        (K.bytes key.now) result) }
     ensures there { OnOk result (has_key version.old (K.bytes key.now) ≡ true) }
     ensures missing { IfErr result (λ why. Explains why (value_at version.old (K.bytes key.now))) }
     ensures counted { CountsChange (2 * lookup_bound (K.bytes key.now)) version.old

@@ -31,16 +31,19 @@ fn lend_in<'a, P: Partial, V: Clone + Drop>(
     requires room { number.old + 1 < 2 ^ 64 }
     requires tree { IsTreeIn (option_map (pointer_shape P.bytes) root.old) }
     ensures* writes_back { sem 𝓛 (LendsBelow P.row V.row P.bytes root.entry key.now result) }
-    ensures value { IfOk result (λ value. found_in (option_map (pointer_shape P.bytes) root.old) key.now
+    ensures value { IfOk result (λ value.
+        found_in (option_map (pointer_shape P.bytes) root.old) key.now
         ≡ Some value.now) }
     ensures missing { IfErr result
-        (λ missing. Explains missing (found_in (option_map (pointer_shape P.bytes) root.old) key.now)) }
+        (λ missing. Explains missing (found_in
+        (option_map (pointer_shape P.bytes) root.old) key.now)) }
     ensures raised { OnOk result (number.new ≡ number.old + 1) }
     ensures kept { OnErr result (number.new ≡ number.old) }
     ensures counted { CountsUpTo (2 * lookup_bound key.now) (lookup_bound key.now) work.old
         work.new }
     ensures entered_least { IsSome root.old → work.old.entered < work.new.entered }
-    ensures absent_makes_none { found_in (option_map (pointer_shape P.bytes) root.old) key.now ≡ None
+    ensures absent_makes_none { found_in (option_map (pointer_shape P.bytes) root.old) key.now
+        ≡ None
         → work.new.made ≡ work.old.made }
 {
     match root.as_mut() {
@@ -59,9 +62,9 @@ fn lend_in<'a, P: Partial, V: Clone + Drop>(
 }
 
 impl<K: KeyTrait, V: Clone + Drop> VersionedAdaptiveRadixTree<K, V> {
-    /// As `get_mut_k`, with the nodes entered and made counted into `work`: at most two more entered
-    /// than twice the bytes of the key, and at most two more made than it has. None is made where
-    /// the key is absent.
+    /// As `get_mut_k`, with the nodes entered and made counted into `work`: at most two more
+    /// entered than twice the bytes of the key, and at most two more made than it has. None is made
+    /// where the key is absent.
     pub fn get_mut_k_counted(
         &mut self,
         key: &K,

@@ -9,8 +9,8 @@ use std::marker::Model;
 
 /// An ordered map from keys to values, with a number that every change raises.
 ///
-/// Contracts see it as a finite map from the keys' bytes, and the number. What a snapshot or a clone
-/// shows is copied where either is changed, so neither sees what the other becomes.
+/// Contracts see it as a finite map from the keys' bytes, and the number. What a snapshot or a
+/// clone shows is copied where either is changed, so neither sees what the other becomes.
 #[derive(Drop)]
 pub struct VersionedAdaptiveRadixTree<K: KeyTrait, V: Clone> {
     pub(crate) alloc: Global,
@@ -28,9 +28,14 @@ impl<K: KeyTrait, V: Clone> Model for VersionedAdaptiveRadixTree<K, V> {
 
     ghost coded = { version_code V.code };
 
-    ghost view = { λ tree. record { content = map_of (option_map (pointer_shape K.PartialType.bytes) tree.root); number = tree.version } };
+    ghost view =
+        { λ tree. record { content =
+        map_of (option_map (pointer_shape K.PartialType.bytes) tree.root); number =
+        tree.version } };
 
-    ghost invariant = { λ tree. IsSound K.MAXIMUM_SIZE tree.version (option_map (pointer_shape K.PartialType.bytes) tree.root) };
+    ghost invariant =
+        { λ tree. IsSound K.MAXIMUM_SIZE tree.version
+        (option_map (pointer_shape K.PartialType.bytes) tree.root) };
 }
 
 impl<K: KeyTrait, V: Clone + Drop> VersionedAdaptiveRadixTree<K, V> {

@@ -17,9 +17,9 @@ use rart_node::Work;
 use std::alloc::AllocError;
 
 impl<K: KeyTrait, V: Clone + Drop> VersionedAdaptiveRadixTree<K, V> {
-    /// As `update_k`, with the nodes entered and made counted into `work`: at most three more entered
-    /// than three times the bytes of the key, and at most two more made than it has. None is made
-    /// where the key is absent and stays so.
+    /// As `update_k`, with the nodes entered and made counted into `work`: at most three more
+    /// entered than three times the bytes of the key, and at most two more made than it has. None
+    /// is made where the key is absent and stays so.
     pub fn update_k_counted<F: FnOnce(&mut Slot<V>) -> SlotUpdate<V>>(
         &mut self,
         key: &K,

@@ -64,10 +64,10 @@ impl<K: KeyTrait, V: Clone + Drop> VersionedAdaptiveRadixTree<K, V> {
 
     /// As `update_k` for a callback that may fail.
     ///
-    /// Its error is answered as `Refusal::Callback`: nothing that it wrote is stored, and no further
-    /// memory is taken. Where the key is there the number is two greater for an error and for each
-    /// answer but `Keep`. Refused for memory the answer is `Refusal::Memory`, map and number are as
-    /// before, and the callback may have run.
+    /// Its error is answered as `Refusal::Callback`: nothing that it wrote is stored, and no
+    /// further memory is taken. Where the key is there the number is two greater for an error and
+    /// for each answer but `Keep`. Refused for memory the answer is `Refusal::Memory`, map and
+    /// number are as before, and the callback may have run.
     pub fn try_update_k<E: Drop, F: FnOnce(&mut Slot<V>) -> Result<SlotUpdate<V>, E>>(
         &mut self,
         key: &K,

@@ -72,7 +72,8 @@ impl<'a, P: Partial, V: Drop, T: Trail<'a>> Walk<'a, P, V, T> {
         requires short { AreShort T.greatest (pairs_of (pointer_shape P.bytes root.now)) }
         ensures walk { IfOk result (IsWalk P.bytes T.holds T.greatest) }
         ensures pairs { IfOk result (λ walk. (position P.bytes walk).pairs
-            ≡ filter (λ pair. begins prefix.now pair.0) (pairs_of (pointer_shape P.bytes root.now))) }
+            ≡ filter (λ pair. begins prefix.now pair.0) (pairs_of (pointer_shape P.bytes root.now)))
+            }
         ensures nodes { IfOk result (λ walk. (position P.bytes walk).nodes
             ≤ count_by (begins prefix.now) (paths_of (pointer_shape P.bytes root.now))) }
         ensures counted { CountsUpTo (length prefix.now + 1) 0 work.old work.new }
@@ -95,7 +96,8 @@ impl<'a, P: Partial, V: Drop, T: Trail<'a>> Walk<'a, P, V, T> {
         ensures walk { IfOk result (IsWalk P.bytes T.holds T.greatest) }
         ensures pairs { IfOk result (λ walk. (position P.bytes walk).pairs
             ≡ filter (λ pair. is_from_start (as_partial_cmp byte_order)
-            (bound_map (λ low. low.now) low.entry) pair.0) (pairs_of (pointer_shape P.bytes root.now))) }
+            (bound_map (λ low. low.now) low.entry) pair.0)
+            (pairs_of (pointer_shape P.bytes root.now))) }
         ensures nodes { IfOk result (λ walk. (position P.bytes walk).nodes
             ≤ count_by (λ path. is_le (byte_order
             (start_of (bound_map (λ low. low.now) low.entry)) path))
@@ -123,7 +125,8 @@ fn along_path<'a, P: Partial, V: Drop, T: Trail<'a>>(
     requires short { AreShort T.greatest (pairs_of (pointer_shape P.bytes root.now)) }
     ensures walk { IfOk result (IsWalk P.bytes T.holds T.greatest) }
     ensures pairs { IfOk result (λ walk. (position P.bytes walk).pairs
-        ≡ filter (λ pair. keeps part probe.now pair.0) (pairs_of (pointer_shape P.bytes root.now))) }
+        ≡ filter (λ pair. keeps part probe.now pair.0) (pairs_of (pointer_shape P.bytes root.now)))
+        }
     ensures nodes { IfOk result (λ walk. (position P.bytes walk).nodes
         ≤ count_by (reaches part probe.now) (paths_of (pointer_shape P.bytes root.now))) }
     ensures counted { CountsUpTo (path_bound (pointer_shape P.bytes root.now) probe.now) 0
@@ -232,7 +235,8 @@ fn later_children<'a, P: Partial, V: Drop>(
 ) -> VersionedNodeIter<'a, P, V>
     requires { IsAscending (node_shape P.bytes node.now) }
     ensures { children_left P.bytes result
-        ≡ (if goes_on then children_from (byte + 1) (children_of (node_shape P.bytes node.now)) else []) }
+        ≡ (if goes_on then children_from (byte + 1) (children_of (node_shape P.bytes node.now)) else
+        []) }
 {
     if !goes_on {
         return no_more(node.iter_from(u8::MAX));

@@ -41,9 +41,9 @@ fn discarded_place_has_no_version(rt: HostRuntime) -> Result<(), Fail> {
         "new-at 18446744073709551615 / discard 0 / snapshot 0 / clone 0 / discard 0 / \
          version 0 / empty 0 / get 0 'a / get-mut 0 'a 1 / insert 0 'a 1 / replace 0 'a 1 / \
          remove 0 'a / delete 0 'a / update 0 'a - keep / try-update 0 'a - fail",
-        "at 0 / discarded / no version / no version / no version / no version / no version / no version / \
+        "at 0 / discarded / no version / no version / no version / no version / no version / \
          no version / no version / no version / no version / no version / no version / \
-         no version",
+         no version / no version / no version",
         Served::Clean,
     )
 }
@@ -56,8 +56,8 @@ fn greatest_number_has_no_room(rt: HostRuntime) -> Result<(), Fail> {
         "new-at 18446744073709551615 / snapshot 0 / get-mut 0 'a 1 / insert 0 'a 1 / \
          replace 0 'a 1 / remove 0 'a / delete 0 'a / update 0 'a - keep / \
          try-update 0 'a - keep / clone 0 / version 1 / empty 1 / get 1 'a / discard 1",
-        "at 0 / no room / no room / no room / no room / no room / no room / no room / no room / at 1 / \
-         version 18446744073709551615 / true / none / discarded",
+        "at 0 / no room / no room / no room / no room / no room / no room / no room / no room / \
+         at 1 / version 18446744073709551615 / true / none / discarded",
         Served::Clean,
     )
 }
@@ -72,8 +72,8 @@ fn number_before_the_greatest_has_room_for_one(rt: HostRuntime) -> Result<(), Fa
          clone 0 / replace 2 'a 1 / version 2 / clone 0 / update 3 'a - insert 1 / \
          version 3 / insert 0 'a 1 / version 0",
         "at 0 / no room / at 1 / version 18446744073709551615 / false / false / none / \
-         false / version 18446744073709551614 / at 2 / none / version 18446744073709551615 / at 3 / \
-         true / version 18446744073709551615 / false / version 18446744073709551615",
+         false / version 18446744073709551614 / at 2 / none / version 18446744073709551615 / \
+         at 3 / true / version 18446744073709551615 / false / version 18446744073709551615",
         Served::Clean,
     )
 }

@@ -16,13 +16,15 @@ returns-clause-replacement_gives_old_value c = replacement_gives_old_value
 pub returns-clause-absent_key_stays_absent : goal.returns-clause-absent_key_stays_absent
 returns-clause-absent_key_stays_absent c = absent_key_stays_absent
 
-pub returns-clause-deletion_is_not_seen_in_snapshot : goal.returns-clause-deletion_is_not_seen_in_snapshot
+pub returns-clause-deletion_is_not_seen_in_snapshot
+    : goal.returns-clause-deletion_is_not_seen_in_snapshot
 returns-clause-deletion_is_not_seen_in_snapshot c = deletion_is_not_seen_in_snapshot
 
 pub returns-clause-failed_update_keeps_value : goal.returns-clause-failed_update_keeps_value
 returns-clause-failed_update_keeps_value c = failed_update_keeps_value
 
-pub returns-clause-discarded_place_is_not_used_again : goal.returns-clause-discarded_place_is_not_used_again
+pub returns-clause-discarded_place_is_not_used_again
+    : goal.returns-clause-discarded_place_is_not_used_again
 returns-clause-discarded_place_is_not_used_again c = discarded_place_is_not_used_again
 
 pub returns-clause-answer_outweighs_write : goal.returns-clause-answer_outweighs_write

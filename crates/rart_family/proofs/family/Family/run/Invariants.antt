@@ -13,8 +13,11 @@ invariant-loop-command g l =
     let replies = map (reply_value bytes) l.replies.items in
     record {
       run : Run bytes old done replies l.self;
-      reads : ReadsBetween (read_least bytes old done replies) (read_cost bytes old done replies) l.fn.reads l.reads;
-      changes : ChangesBetween (change_least bytes old done replies) (change_cost bytes old done replies) (touch_least bytes old done replies) l.fn.changes l.changes;
+      reads : ReadsBetween (read_least bytes old done replies)
+          (read_cost bytes old done replies) l.fn.reads l.reads;
+      changes : ChangesBetween (change_least bytes old done replies)
+          (change_cost bytes old done replies)
+          (touch_least bytes old done replies) l.fn.changes l.changes;
       count : vec_len l.replies ≡ l.command-index;
       room : length l.commands ≤ vec_capacity l.replies;
     }

@@ -16,7 +16,8 @@ returns-in-None-path_length g c =
     let f = pointer_shape g.P.Partial.bytes in
     let w = c.args.key.now in
     let s = f c.in-Some.at.now in
-    let root-is : Some s ≡ option_map f c.args.root.now = ap (option_map f) c.in-Some.ensures.value in
+    let root-is : Some s ≡ option_map f c.args.root.now =
+        ap (option_map f) c.in-Some.ensures.value in
     let few = path-most s w in (
       (
         refl,
@@ -26,10 +27,12 @@ returns-in-None-path_length g c =
       record {
         writes_back = tt;
         value = tt;
-        missing = subst (λ o. found_in o w ≡ None) root-is (c.in-None-path_length.ensures.absent refl);
+        missing =
+            subst (λ o. found_in o w ≡ None) root-is (c.in-None-path_length.ensures.absent refl);
         raised = tt;
         kept = refl;
-        counted = counts-most c.in-None-path_length.ensures.counted (omega (arith, few)) (omega arith);
+        counted =
+            counts-most c.in-None-path_length.ensures.counted (omega (arith, few)) (omega arith);
         entered_least = λ rooted. c.in-None-path_length.ensures.entered;
         absent_makes_none = λ absent. made-none c.in-None-path_length.ensures.counted;
       },
@@ -40,16 +43,21 @@ returns-in-Ok g c =
     let f = pointer_shape g.P.Partial.bytes in
     let w = c.args.key.now in
     let s = f c.in-Some.at.now in
-    let root-is : Some s ≡ option_map f c.args.root.now = ap (option_map f) c.in-Some.ensures.value in
+    let root-is : Some s ≡ option_map f c.args.root.now =
+        ap (option_map f) c.in-Some.ensures.value in
     let there : IsSome (found s w) = subst IsSome (sym c.in-Ok.ensures.value) refl in
-    let put : (value : g.row.V.Denot) → IsPut w value s (f (c.lend_below.follows.lender value)) = λ value. c.lend_below.follows.holds value (ap is_ok c.in-Ok.is) in
+    let put : (value : g.row.V.Denot) → IsPut w value s (f (c.lend_below.follows.lender value)) =
+        λ value. c.lend_below.follows.holds value (ap is_ok c.in-Ok.is) in
     let most-path = path-most s w in
     let few = c.in-Some-path_length.ensures.few in (
       (
         refl,
         (λ value. (
-          (λ ok q. subst (λ o. found (f (c.lend_below.follows.lender value)) q ≡ cond (bytes_eq q w) (Some value) (found_in o q)) root-is ((put value).1 q)),
-          (λ most count sound. sound-again most count s (f (c.lend_below.follows.lender value)) w value there (put value) (subst (IsSound most count) (sym root-is) sound)),
+          (λ ok q. subst (λ o. found (f (c.lend_below.follows.lender value)) q
+              ≡ cond (bytes_eq q w) (Some value) (found_in o q)) root-is ((put value).1 q)),
+          (λ most count sound. sound-again most count s
+              (f (c.lend_below.follows.lender value)) w value there (put value)
+              (subst (IsSound most count) (sym root-is) sound)),
         )),
         (tt, (λ most count sound. sound)),
       ),
@@ -59,9 +67,15 @@ returns-in-Ok g c =
         missing = tt;
         raised = refl;
         kept = tt;
-        counted = counts-then c.in-Some-path_length.ensures.counted c.in-Ok.ensures.counted (omega (arith, most-path, few)) (omega (arith, most-path, few));
-        entered_least = λ rooted. entered-then c.args.work.now c.in-Some-path_length.ensures.entered c.in-Ok.ensures.counted;
-        absent_makes_none = λ absent. absurd (false≢true (ap is_some (sym absent) ∙ subst (λ o. IsSome (found_in o w)) root-is there));
+        counted =
+            counts-then c.in-Some-path_length.ensures.counted c.in-Ok.ensures.counted
+            (omega (arith, most-path, few)) (omega (arith, most-path, few));
+        entered_least =
+            λ rooted. entered-then c.args.work.now c.in-Some-path_length.ensures.entered
+            c.in-Ok.ensures.counted;
+        absent_makes_none =
+            λ absent. absurd (false≢true (ap is_some (sym absent)
+            ∙ subst (λ o. IsSome (found_in o w)) root-is there));
       },
     )
 
@@ -71,10 +85,13 @@ returns-in-Err g c =
     let w = c.args.key.now in
     let s = f c.in-Some.at.now in
     let after = f c.lend_below.follows.lender-at-none in
-    let root-is : Some s ≡ option_map f c.args.root.now = ap (option_map f) c.in-Some.ensures.value in
-    let kept : after ≡ s = subst (λ r. OnErr r (after ≡ s)) c.in-Err.is c.lend_below.follows.holds-at-none in
+    let root-is : Some s ≡ option_map f c.args.root.now =
+        ap (option_map f) c.in-Some.ensures.value in
+    let kept : after ≡ s =
+        subst (λ r. OnErr r (after ≡ s)) c.in-Err.is c.lend_below.follows.holds-at-none in
     let same : Some after ≡ option_map f c.args.root.now = ap Some kept ∙ root-is in
-    let there = there-arrived c.in-Some-path_length.steps w s c.in-Some-path_length.ensures.arrives in
+    let there =
+        there-arrived c.in-Some-path_length.steps w s c.in-Some-path_length.ensures.arrives in
     let most-path = path-most s w in
     let few = c.in-Some-path_length.ensures.few in (
       (
@@ -88,8 +105,14 @@ returns-in-Err g c =
         missing = subst (λ o. IsSome (found_in o w)) root-is there;
         raised = tt;
         kept = refl;
-        counted = counts-then c.in-Some-path_length.ensures.counted c.in-Err.ensures.counted (omega (arith, most-path, few)) (omega (arith, most-path, few));
-        entered_least = λ rooted. entered-then c.args.work.now c.in-Some-path_length.ensures.entered c.in-Err.ensures.counted;
-        absent_makes_none = λ absent. absurd (false≢true (ap is_some (sym absent) ∙ subst (λ o. IsSome (found_in o w)) root-is there));
+        counted =
+            counts-then c.in-Some-path_length.ensures.counted c.in-Err.ensures.counted
+            (omega (arith, most-path, few)) (omega (arith, most-path, few));
+        entered_least =
+            λ rooted. entered-then c.args.work.now c.in-Some-path_length.ensures.entered
+            c.in-Err.ensures.counted;
+        absent_makes_none =
+            λ absent. absurd (false≢true (ap is_some (sym absent)
+            ∙ subst (λ o. IsSome (found_in o w)) root-is there));
       },
     )

@@ -4,4 +4,6 @@ use Rattle.rart_walks.proofs.TrailLemmas.{bytes-push}
 use Rattle.rart_walks.proofs.trail.KeyTrailTrail.push.Goals as goal
 
 pub returns : goal.returns
-returns c = λ segments holds. bytes-push (is_ok c.extend_from_slice.result) _ _ c.args.segment.now segments c.extend_from_slice.ensures.items (c.self.view_is ∙ holds)
+returns c =
+    λ segments holds. bytes-push (is_ok c.extend_from_slice.result) _ _ c.args.segment.now segments
+    c.extend_from_slice.ensures.items (c.self.view_is ∙ holds)

@@ -18,7 +18,9 @@ pub returns-in-Included-clause-nodes : goal.returns-in-Included-clause-nodes
 returns-in-Included-clause-nodes g c = rw c.in-Included.is c.along_path.ensures.nodes
 
 pub returns-in-Included-clause-counted : goal.returns-in-Included-clause-counted
-returns-in-Included-clause-counted g c = rw c.in-Included.is (counts-most c.along_path.ensures.counted (path-most (pointer_shape g.P.Partial.bytes c.args.root.now) c.in-Included.low.now) (le_refl 0))
+returns-in-Included-clause-counted g c =
+    rw c.in-Included.is (counts-most c.along_path.ensures.counted
+    (path-most (pointer_shape g.P.Partial.bytes c.args.root.now) c.in-Included.low.now) (le_refl 0))
 
 pub returns-in-Excluded-clause-pairs : goal.returns-in-Excluded-clause-pairs
 returns-in-Excluded-clause-pairs g c = rw c.in-Excluded.is c.along_path-in-Excluded.ensures.pairs
@@ -27,13 +29,21 @@ pub returns-in-Excluded-clause-nodes : goal.returns-in-Excluded-clause-nodes
 returns-in-Excluded-clause-nodes g c = rw c.in-Excluded.is c.along_path-in-Excluded.ensures.nodes
 
 pub returns-in-Excluded-clause-counted : goal.returns-in-Excluded-clause-counted
-returns-in-Excluded-clause-counted g c = rw c.in-Excluded.is (counts-most c.along_path-in-Excluded.ensures.counted (path-most (pointer_shape g.P.Partial.bytes c.args.root.now) c.in-Excluded.low.now) (le_refl 0))
+returns-in-Excluded-clause-counted g c =
+    rw c.in-Excluded.is (counts-most c.along_path-in-Excluded.ensures.counted
+    (path-most (pointer_shape g.P.Partial.bytes c.args.root.now) c.in-Excluded.low.now) (le_refl 0))
 
 pub returns-in-Unbounded-clause-pairs : goal.returns-in-Unbounded-clause-pairs
-returns-in-Unbounded-clause-pairs g c = rw c.in-Unbounded.is (IfOk-weaker c.along_path-in-Unbounded.result _ _ (λ walk is. is ∙ keeping-same (λ key. is_le (byte_order [] key)) (λ key. true) (pairs_of (pointer_shape g.P.Partial.bytes c.args.root.now)) (reaches-itself From)) c.along_path-in-Unbounded.ensures.pairs)
+returns-in-Unbounded-clause-pairs g c =
+    rw c.in-Unbounded.is (IfOk-weaker c.along_path-in-Unbounded.result _ _
+    (λ walk is. is ∙ keeping-same (λ key. is_le (byte_order [] key)) (λ key. true)
+    (pairs_of (pointer_shape g.P.Partial.bytes c.args.root.now)) (reaches-itself From))
+    c.along_path-in-Unbounded.ensures.pairs)
 
 pub returns-in-Unbounded-clause-nodes : goal.returns-in-Unbounded-clause-nodes
 returns-in-Unbounded-clause-nodes g c = rw c.in-Unbounded.is c.along_path-in-Unbounded.ensures.nodes
 
 pub returns-in-Unbounded-clause-counted : goal.returns-in-Unbounded-clause-counted
-returns-in-Unbounded-clause-counted g c = rw c.in-Unbounded.is (counts-most c.along_path-in-Unbounded.ensures.counted (path-most (pointer_shape g.P.Partial.bytes c.args.root.now) []) (le_refl 0))
+returns-in-Unbounded-clause-counted g c =
+    rw c.in-Unbounded.is (counts-most c.along_path-in-Unbounded.ensures.counted
+    (path-most (pointer_shape g.P.Partial.bytes c.args.root.now) []) (le_refl 0))

@@ -6,8 +6,11 @@ use Rattle.rart_walks.proofs.walk.Walk.next_value.Given as goal
 
 abbrev pub invariant-step : goal.invariant-step
 invariant-step g l = record {
-  holds_way : g.T.Trail.holds l.self.trail (segments_of (open_nodes g.P.Partial.bytes l.self.frames.items));
-  going : IsGoing g.T.Trail.greatest (open_nodes g.P.Partial.bytes l.initial.self.frames.items) l.initial.work.entered (open_nodes g.P.Partial.bytes l.self.frames.items) l.work.entered;
+  holds_way : g.T.Trail.holds l.self.trail
+      (segments_of (open_nodes g.P.Partial.bytes l.self.frames.items));
+  going : IsGoing g.T.Trail.greatest
+      (open_nodes g.P.Partial.bytes l.initial.self.frames.items) l.initial.work.entered
+      (open_nodes g.P.Partial.bytes l.self.frames.items) l.work.entered;
   none : l.self.pending ≡ None;
   made : l.work.made ≡ l.initial.work.made;
 }

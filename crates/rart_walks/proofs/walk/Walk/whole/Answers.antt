@@ -18,7 +18,9 @@ enter_whole-requires g c =
         c.new-walk.ensures.walk,
         (
           c.new-walk.ensures.pending,
-          (rw c.open.ensures.shown c.requires.tree, rw (c.open.ensures.shown, c.new-walk.ensures.frames, behind-none (pairs_of s)) c.requires.short),
+          (rw c.open.ensures.shown c.requires.tree,
+              rw (c.open.ensures.shown, c.new-walk.ensures.frames,
+              behind-none (pairs_of s)) c.requires.short),
         ),
       ),
     )
@@ -28,5 +30,7 @@ returns-clause-pairs g c =
     let s = pointer_shape g.P.Partial.bytes c.args.root.now in
     let start = c.new-walk.ensures.ended in
     c.in_ok-enter_whole.ensures.pairs
-    ∙ ap (λ (at : Position g.row.V.Denot). behind_path (concat at.segments) (pairs_of (node_shape g.P.Partial.bytes c.open.result.now)) ++ at.pairs) start
-    ∙ append-nil _ ∙ ap (λ z. behind_path [] (pairs_of z)) c.open.ensures.shown ∙ behind-none (pairs_of s)
+    ∙ ap (λ (at : Position g.row.V.Denot). behind_path (concat at.segments)
+    (pairs_of (node_shape g.P.Partial.bytes c.open.result.now)) ++ at.pairs) start
+    ∙ append-nil _ ∙ ap (λ z. behind_path [] (pairs_of z)) c.open.ensures.shown
+    ∙ behind-none (pairs_of s)

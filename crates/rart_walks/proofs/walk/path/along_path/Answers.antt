@@ -19,8 +19,11 @@ down-init g c =
     let root = pointer_shape g.P.Partial.bytes c.args.root.now in
     record {
       holds_way = c.new-walk.ensures.walk.holds_way;
-      way = subst (λ f. IsOnWay c.args.part g.T.Trail.greatest c.args.probe.now root c.args.work.now root c.args.probe.now f c.args.work.now) (sym c.new-walk.ensures.frames)
-          (way-start c.args.part g.T.Trail.greatest c.args.probe.now root c.args.work.now c.requires.tree c.requires.short);
+      way =
+          subst (λ f. IsOnWay c.args.part g.T.Trail.greatest c.args.probe.now root c.args.work.now
+          root c.args.probe.now f c.args.work.now) (sym c.new-walk.ensures.frames)
+          (way-start c.args.part g.T.Trail.greatest c.args.probe.now root c.args.work.now
+              c.requires.tree c.requires.short);
       none = c.new-walk.ensures.pending;
     }
 
@@ -30,7 +33,8 @@ returns-in_err-finish-clause-counted g c =
     let s = pointer_shape bytes c.down.at.now in
     let o = node_shape bytes c.open-node.result.now in
     let same : o ≡ s = c.open-node.ensures.shown in
-    step-counted _ _ _ _ _ _ _ _ _ c.down.invariant.way o c.open-node.new.work c.open-node.ensures.work same
+    step-counted _ _ _ _ _ _ _ _ _ c.down.invariant.way o c.open-node.new.work
+        c.open-node.ensures.work same
 
 pub returns-then-common-rest-clause-nodes : goal.returns-then-common-rest-clause-nodes
 returns-then-common-rest-clause-nodes g c =
@@ -49,7 +53,8 @@ returns-then-common-rest-clause-counted g c =
     let s = pointer_shape bytes c.down.at.now in
     let o = node_shape bytes c.open-node.result.now in
     let same : o ≡ s = c.open-node.ensures.shown in
-    step-counted _ _ _ _ _ _ _ _ _ c.down.invariant.way o c.open-node.new.work c.open-node.ensures.work same
+    step-counted _ _ _ _ _ _ _ _ _ c.down.invariant.way o c.open-node.new.work
+        c.open-node.ensures.work same
 
 pub rest_of-rest-requires : goal.rest_of-rest-requires
 rest_of-rest-requires g c =
@@ -64,9 +69,15 @@ bounds-rest-0 g c =
     let s = pointer_shape bytes c.down.at.now in
     let o = node_shape bytes c.open-node.result.now in
     let same : o ≡ s = c.open-node.ensures.shown in
-    let matched : c.prefix_length_slice-common.result ≡ common_length (prefix_of o) c.down.rest.now = c.prefix_length_slice-common.ensures ∙ ap (λ p. common_length p c.down.rest.now) c.prefix.ensures in
-    let long : c.len.result ≡ length (prefix_of o) = c.len.ensures ∙ ap length c.prefix-else-common-rest.ensures in
-    let goes = goes-on (prefix_of o) c.down.rest.now c.rest_of-rest.result.now c.prefix_length_slice-common.result c.rest_of-rest.ensures matched c.if-common-rest.false (let most = c.if-common-len.false in omega (arith, long, most)) in
+    let matched : c.prefix_length_slice-common.result
+        ≡ common_length (prefix_of o) c.down.rest.now = c.prefix_length_slice-common.ensures
+        ∙ ap (λ p. common_length p c.down.rest.now) c.prefix.ensures in
+    let long : c.len.result ≡ length (prefix_of o) =
+        c.len.ensures ∙ ap length c.prefix-else-common-rest.ensures in
+    let goes =
+        goes-on (prefix_of o) c.down.rest.now c.rest_of-rest.result.now
+        c.prefix_length_slice-common.result c.rest_of-rest.ensures matched c.if-common-rest.false
+        (let most = c.if-common-len.false in omega (arith, long, most)) in
     goes-some _ _ _ _ goes
 
 pub enter_part-requires : goal.enter_part-requires
@@ -75,7 +86,9 @@ enter_part-requires g c =
     let s = pointer_shape bytes c.down.at.now in
     let o = node_shape bytes c.open-node.result.now in
     let same : o ≡ s = c.open-node.ensures.shown in
-    λ _. ((refl, tt), (c.down.invariant.holds_way, step-fits _ _ _ _ _ _ _ _ _ c.down.invariant.way o c.open-node.new.work c.open-node.ensures.work same _ (c.as_ref.ensures ∙ c.prefix-in-down.ensures)))
+    λ _. ((refl, tt), (c.down.invariant.holds_way,
+        step-fits _ _ _ _ _ _ _ _ _ c.down.invariant.way o c.open-node.new.work
+        c.open-node.ensures.work same _ (c.as_ref.ensures ∙ c.prefix-in-down.ensures)))
 
 pub returns-in_err-enter_part-clause-counted : goal.returns-in_err-enter_part-clause-counted
 returns-in_err-enter_part-clause-counted g c =
@@ -83,7 +96,8 @@ returns-in_err-enter_part-clause-counted g c =
     let s = pointer_shape bytes c.down.at.now in
     let o = node_shape bytes c.open-node.result.now in
     let same : o ≡ s = c.open-node.ensures.shown in
-    step-counted _ _ _ _ _ _ _ _ _ c.down.invariant.way o c.open-node.new.work c.open-node.ensures.work same
+    step-counted _ _ _ _ _ _ _ _ _ c.down.invariant.way o c.open-node.new.work
+        c.open-node.ensures.work same
 
 pub returns-in-None-clause-walk : goal.returns-in-None-clause-walk
 returns-in-None-clause-walk g c =
@@ -91,17 +105,33 @@ returns-in-None-clause-walk g c =
     let s = pointer_shape bytes c.down.at.now in
     let o = node_shape bytes c.open-node.result.now in
     let same : o ≡ s = c.open-node.ensures.shown in
-    let matched : c.prefix_length_slice-common.result ≡ common_length (prefix_of o) c.down.rest.now = c.prefix_length_slice-common.ensures ∙ ap (λ p. common_length p c.down.rest.now) c.prefix.ensures in
-    let long : c.len.result ≡ length (prefix_of o) = c.len.ensures ∙ ap length c.prefix-else-common-rest.ensures in
-    let goes = goes-on (prefix_of o) c.down.rest.now c.rest_of-rest.result.now c.prefix_length_slice-common.result c.rest_of-rest.ensures matched c.if-common-rest.false (let most = c.if-common-len.false in omega (arith, long, most)) in
-    let leaves : children_left bytes c.later_children-later.result ≡ cond (goes_on c.args.part) (children_from (slice_index_or c.rest_of-rest.result.now 0 0 + 1) (children_of o)) [] =
-    c.later_children-later.ensures ∙ ap (λ t. cond t (children_from (slice_index_or c.rest_of-rest.result.now 0 0 + 1) (children_of o)) []) c.goes_on.ensures in
+    let matched : c.prefix_length_slice-common.result
+        ≡ common_length (prefix_of o) c.down.rest.now = c.prefix_length_slice-common.ensures
+        ∙ ap (λ p. common_length p c.down.rest.now) c.prefix.ensures in
+    let long : c.len.result ≡ length (prefix_of o) =
+        c.len.ensures ∙ ap length c.prefix-else-common-rest.ensures in
+    let goes =
+        goes-on (prefix_of o) c.down.rest.now c.rest_of-rest.result.now
+        c.prefix_length_slice-common.result c.rest_of-rest.ensures matched c.if-common-rest.false
+        (let most = c.if-common-len.false in omega (arith, long, most)) in
+    let leaves : children_left bytes c.later_children-later.result
+        ≡ cond (goes_on c.args.part) (children_from
+        (slice_index_or c.rest_of-rest.result.now 0 0 + 1) (children_of o)) [] =
+    c.later_children-later.ensures
+        ∙ ap (λ t. cond t (children_from (slice_index_or c.rest_of-rest.result.now 0 0 + 1)
+        (children_of o)) []) c.goes_on.ensures in
     let inner = open_nodes bytes c.enter_part.new.self.frames.items in
     let segment = c.as_ref.ensures ∙ c.prefix-in-down.ensures in
     record {
       holds_way = c.in_ok-enter_part.ensures.holds;
-      trees = step-trees _ _ _ _ _ _ _ _ _ c.down.invariant.way o c.open-node.new.work c.open-node.ensures.work same _ _ goes inner _ _ c.in_ok-enter_part.ensures.frames segment leaves;
-      short = step-short _ _ _ _ _ _ _ _ _ c.down.invariant.way o c.open-node.new.work c.open-node.ensures.work same _ _ goes inner _ _ c.in_ok-enter_part.ensures.frames segment leaves;
+      trees =
+          step-trees _ _ _ _ _ _ _ _ _ c.down.invariant.way o c.open-node.new.work
+          c.open-node.ensures.work same _ _ goes inner _ _ c.in_ok-enter_part.ensures.frames segment
+          leaves;
+      short =
+          step-short _ _ _ _ _ _ _ _ _ c.down.invariant.way o c.open-node.new.work
+          c.open-node.ensures.work same _ _ goes inner _ _ c.in_ok-enter_part.ensures.frames segment
+          leaves;
     }
 
 pub returns-in-None-clause-pairs : goal.returns-in-None-clause-pairs
@@ -110,14 +140,27 @@ returns-in-None-clause-pairs g c =
     let s = pointer_shape bytes c.down.at.now in
     let o = node_shape bytes c.open-node.result.now in
     let same : o ≡ s = c.open-node.ensures.shown in
-    let matched : c.prefix_length_slice-common.result ≡ common_length (prefix_of o) c.down.rest.now = c.prefix_length_slice-common.ensures ∙ ap (λ p. common_length p c.down.rest.now) c.prefix.ensures in
-    let long : c.len.result ≡ length (prefix_of o) = c.len.ensures ∙ ap length c.prefix-else-common-rest.ensures in
-    let goes = goes-on (prefix_of o) c.down.rest.now c.rest_of-rest.result.now c.prefix_length_slice-common.result c.rest_of-rest.ensures matched c.if-common-rest.false (let most = c.if-common-len.false in omega (arith, long, most)) in
-    let leaves : children_left bytes c.later_children-later.result ≡ cond (goes_on c.args.part) (children_from (slice_index_or c.rest_of-rest.result.now 0 0 + 1) (children_of o)) [] =
-    c.later_children-later.ensures ∙ ap (λ t. cond t (children_from (slice_index_or c.rest_of-rest.result.now 0 0 + 1) (children_of o)) []) c.goes_on.ensures in
+    let matched : c.prefix_length_slice-common.result
+        ≡ common_length (prefix_of o) c.down.rest.now = c.prefix_length_slice-common.ensures
+        ∙ ap (λ p. common_length p c.down.rest.now) c.prefix.ensures in
+    let long : c.len.result ≡ length (prefix_of o) =
+        c.len.ensures ∙ ap length c.prefix-else-common-rest.ensures in
+    let goes =
+        goes-on (prefix_of o) c.down.rest.now c.rest_of-rest.result.now
+        c.prefix_length_slice-common.result c.rest_of-rest.ensures matched c.if-common-rest.false
+        (let most = c.if-common-len.false in omega (arith, long, most)) in
+    let leaves : children_left bytes c.later_children-later.result
+        ≡ cond (goes_on c.args.part) (children_from
+        (slice_index_or c.rest_of-rest.result.now 0 0 + 1) (children_of o)) [] =
+    c.later_children-later.ensures
+        ∙ ap (λ t. cond t (children_from (slice_index_or c.rest_of-rest.result.now 0 0 + 1)
+        (children_of o)) []) c.goes_on.ensures in
     let inner = open_nodes bytes c.enter_part.new.self.frames.items in
     let segment = c.as_ref.ensures ∙ c.prefix-in-down.ensures in
-    let missing = step-missing _ _ _ _ _ _ _ _ _ c.down.invariant.way o c.open-node.new.work c.open-node.ensures.work same _ _ goes inner _ _ c.in_ok-enter_part.ensures.frames segment leaves c.in-None.ensures in
+    let missing =
+        step-missing _ _ _ _ _ _ _ _ _ c.down.invariant.way o c.open-node.new.work
+        c.open-node.ensures.work same _ _ goes inner _ _ c.in_ok-enter_part.ensures.frames segment
+        leaves c.in-None.ensures in
     rw (c.in_ok-enter_part.ensures.pending, c.down.invariant.none) (sym missing.0)
 
 pub returns-in-None-clause-nodes : goal.returns-in-None-clause-nodes
@@ -126,14 +169,26 @@ returns-in-None-clause-nodes g c =
     let s = pointer_shape bytes c.down.at.now in
     let o = node_shape bytes c.open-node.result.now in
     let same : o ≡ s = c.open-node.ensures.shown in
-    let matched : c.prefix_length_slice-common.result ≡ common_length (prefix_of o) c.down.rest.now = c.prefix_length_slice-common.ensures ∙ ap (λ p. common_length p c.down.rest.now) c.prefix.ensures in
-    let long : c.len.result ≡ length (prefix_of o) = c.len.ensures ∙ ap length c.prefix-else-common-rest.ensures in
-    let goes = goes-on (prefix_of o) c.down.rest.now c.rest_of-rest.result.now c.prefix_length_slice-common.result c.rest_of-rest.ensures matched c.if-common-rest.false (let most = c.if-common-len.false in omega (arith, long, most)) in
-    let leaves : children_left bytes c.later_children-later.result ≡ cond (goes_on c.args.part) (children_from (slice_index_or c.rest_of-rest.result.now 0 0 + 1) (children_of o)) [] =
-    c.later_children-later.ensures ∙ ap (λ t. cond t (children_from (slice_index_or c.rest_of-rest.result.now 0 0 + 1) (children_of o)) []) c.goes_on.ensures in
+    let matched : c.prefix_length_slice-common.result
+        ≡ common_length (prefix_of o) c.down.rest.now = c.prefix_length_slice-common.ensures
+        ∙ ap (λ p. common_length p c.down.rest.now) c.prefix.ensures in
+    let long : c.len.result ≡ length (prefix_of o) =
+        c.len.ensures ∙ ap length c.prefix-else-common-rest.ensures in
+    let goes =
+        goes-on (prefix_of o) c.down.rest.now c.rest_of-rest.result.now
+        c.prefix_length_slice-common.result c.rest_of-rest.ensures matched c.if-common-rest.false
+        (let most = c.if-common-len.false in omega (arith, long, most)) in
+    let leaves : children_left bytes c.later_children-later.result
+        ≡ cond (goes_on c.args.part) (children_from
+        (slice_index_or c.rest_of-rest.result.now 0 0 + 1) (children_of o)) [] =
+    c.later_children-later.ensures
+        ∙ ap (λ t. cond t (children_from (slice_index_or c.rest_of-rest.result.now 0 0 + 1)
+        (children_of o)) []) c.goes_on.ensures in
     let inner = open_nodes bytes c.enter_part.new.self.frames.items in
     let segment = c.as_ref.ensures ∙ c.prefix-in-down.ensures in
-    (step-missing _ _ _ _ _ _ _ _ _ c.down.invariant.way o c.open-node.new.work c.open-node.ensures.work same _ _ goes inner _ _ c.in_ok-enter_part.ensures.frames segment leaves c.in-None.ensures).1
+    (step-missing _ _ _ _ _ _ _ _ _ c.down.invariant.way o c.open-node.new.work
+        c.open-node.ensures.work same _ _ goes inner _ _ c.in_ok-enter_part.ensures.frames segment
+        leaves c.in-None.ensures).1
 
 pub returns-in-None-clause-counted : goal.returns-in-None-clause-counted
 returns-in-None-clause-counted g c =
@@ -141,7 +196,8 @@ returns-in-None-clause-counted g c =
     let s = pointer_shape bytes c.down.at.now in
     let o = node_shape bytes c.open-node.result.now in
     let same : o ≡ s = c.open-node.ensures.shown in
-    step-counted _ _ _ _ _ _ _ _ _ c.down.invariant.way o c.open-node.new.work c.open-node.ensures.work same
+    step-counted _ _ _ _ _ _ _ _ _ c.down.invariant.way o c.open-node.new.work
+        c.open-node.ensures.work same
 
 pub down-smaller : goal.down-smaller
 down-smaller g c =
@@ -149,10 +205,18 @@ down-smaller g c =
     let s = pointer_shape bytes c.down.at.now in
     let o = node_shape bytes c.open-node.result.now in
     let same : o ≡ s = c.open-node.ensures.shown in
-    let matched : c.prefix_length_slice-common.result ≡ common_length (prefix_of o) c.down.rest.now = c.prefix_length_slice-common.ensures ∙ ap (λ p. common_length p c.down.rest.now) c.prefix.ensures in
-    let long : c.len.result ≡ length (prefix_of o) = c.len.ensures ∙ ap length c.prefix-else-common-rest.ensures in
-    let goes = goes-on (prefix_of o) c.down.rest.now c.rest_of-rest.result.now c.prefix_length_slice-common.result c.rest_of-rest.ensures matched c.if-common-rest.false (let most = c.if-common-len.false in omega (arith, long, most)) in
-    step-lower _ _ _ _ _ _ _ _ _ c.down.invariant.way o c.open-node.new.work c.open-node.ensures.work same _ _ goes (pointer_shape bytes c.in-Some.child.now) c.in-Some.ensures
+    let matched : c.prefix_length_slice-common.result
+        ≡ common_length (prefix_of o) c.down.rest.now = c.prefix_length_slice-common.ensures
+        ∙ ap (λ p. common_length p c.down.rest.now) c.prefix.ensures in
+    let long : c.len.result ≡ length (prefix_of o) =
+        c.len.ensures ∙ ap length c.prefix-else-common-rest.ensures in
+    let goes =
+        goes-on (prefix_of o) c.down.rest.now c.rest_of-rest.result.now
+        c.prefix_length_slice-common.result c.rest_of-rest.ensures matched c.if-common-rest.false
+        (let most = c.if-common-len.false in omega (arith, long, most)) in
+    step-lower _ _ _ _ _ _ _ _ _ c.down.invariant.way o c.open-node.new.work
+        c.open-node.ensures.work same _ _ goes
+        (pointer_shape bytes c.in-Some.child.now) c.in-Some.ensures
 
 pub down-preserved : goal.down-preserved
 down-preserved g c =
@@ -160,15 +224,28 @@ down-preserved g c =
     let s = pointer_shape bytes c.down.at.now in
     let o = node_shape bytes c.open-node.result.now in
     let same : o ≡ s = c.open-node.ensures.shown in
-    let matched : c.prefix_length_slice-common.result ≡ common_length (prefix_of o) c.down.rest.now = c.prefix_length_slice-common.ensures ∙ ap (λ p. common_length p c.down.rest.now) c.prefix.ensures in
-    let long : c.len.result ≡ length (prefix_of o) = c.len.ensures ∙ ap length c.prefix-else-common-rest.ensures in
-    let goes = goes-on (prefix_of o) c.down.rest.now c.rest_of-rest.result.now c.prefix_length_slice-common.result c.rest_of-rest.ensures matched c.if-common-rest.false (let most = c.if-common-len.false in omega (arith, long, most)) in
-    let leaves : children_left bytes c.later_children-later.result ≡ cond (goes_on c.args.part) (children_from (slice_index_or c.rest_of-rest.result.now 0 0 + 1) (children_of o)) [] =
-    c.later_children-later.ensures ∙ ap (λ t. cond t (children_from (slice_index_or c.rest_of-rest.result.now 0 0 + 1) (children_of o)) []) c.goes_on.ensures in
+    let matched : c.prefix_length_slice-common.result
+        ≡ common_length (prefix_of o) c.down.rest.now = c.prefix_length_slice-common.ensures
+        ∙ ap (λ p. common_length p c.down.rest.now) c.prefix.ensures in
+    let long : c.len.result ≡ length (prefix_of o) =
+        c.len.ensures ∙ ap length c.prefix-else-common-rest.ensures in
+    let goes =
+        goes-on (prefix_of o) c.down.rest.now c.rest_of-rest.result.now
+        c.prefix_length_slice-common.result c.rest_of-rest.ensures matched c.if-common-rest.false
+        (let most = c.if-common-len.false in omega (arith, long, most)) in
+    let leaves : children_left bytes c.later_children-later.result
+        ≡ cond (goes_on c.args.part) (children_from
+        (slice_index_or c.rest_of-rest.result.now 0 0 + 1) (children_of o)) [] =
+    c.later_children-later.ensures
+        ∙ ap (λ t. cond t (children_from (slice_index_or c.rest_of-rest.result.now 0 0 + 1)
+        (children_of o)) []) c.goes_on.ensures in
     let inner = open_nodes bytes c.enter_part.new.self.frames.items in
     let segment = c.as_ref.ensures ∙ c.prefix-in-down.ensures in
     record {
       holds_way = c.in_ok-enter_part.ensures.holds;
-      way = step-child _ _ _ _ _ _ _ _ _ c.down.invariant.way o c.open-node.new.work c.open-node.ensures.work same _ _ goes inner _ _ c.in_ok-enter_part.ensures.frames segment leaves (pointer_shape bytes c.in-Some.child.now) c.in-Some.ensures;
+      way =
+          step-child _ _ _ _ _ _ _ _ _ c.down.invariant.way o c.open-node.new.work
+          c.open-node.ensures.work same _ _ goes inner _ _ c.in_ok-enter_part.ensures.frames segment
+          leaves (pointer_shape bytes c.in-Some.child.now) c.in-Some.ensures;
       none = c.in_ok-enter_part.ensures.pending ∙ c.down.invariant.none;
     }

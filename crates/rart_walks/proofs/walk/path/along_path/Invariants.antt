@@ -8,8 +8,12 @@ use Rattle.rart_walks.proofs.walk.path.along_path.Given as goal
 
 abbrev pub invariant-down : goal.invariant-down
 invariant-down g l = record {
-  holds_way : g.T.Trail.holds l.walk.trail (segments_of (open_nodes g.P.Partial.bytes l.walk.frames.items));
-  way : IsOnWay l.part g.T.Trail.greatest l.fn.probe (pointer_shape g.P.Partial.bytes l.fn.root) l.fn.work (pointer_shape g.P.Partial.bytes l.at) l.rest (open_nodes g.P.Partial.bytes l.walk.frames.items) l.work;
+  holds_way : g.T.Trail.holds l.walk.trail
+      (segments_of (open_nodes g.P.Partial.bytes l.walk.frames.items));
+  way : IsOnWay l.part g.T.Trail.greatest l.fn.probe
+      (pointer_shape g.P.Partial.bytes l.fn.root) l.fn.work
+      (pointer_shape g.P.Partial.bytes l.at) l.rest
+      (open_nodes g.P.Partial.bytes l.walk.frames.items) l.work;
   none : l.walk.pending ≡ None;
 }
 

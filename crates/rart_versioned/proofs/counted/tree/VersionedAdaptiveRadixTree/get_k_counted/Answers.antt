@@ -11,11 +11,14 @@ use Rattle.rart_versioned.proofs.SoundLemmas.{value-in, no-key}
 use Rattle.rart_versioned.proofs.counted.tree.VersionedAdaptiveRadixTree.get_k_counted.Goals as goal
 
 pub returns-in-None-clause-value : goal.returns-in-None-clause-value
-returns-in-None-clause-value g c = rw (← c.self.view_is, c.in-None.is) (sym (get-found None (g.K.KeyTrait.bytes c.args.key.now) tt))
+returns-in-None-clause-value g c =
+    rw (← c.self.view_is, c.in-None.is)
+    (sym (get-found None (g.K.KeyTrait.bytes c.args.key.now) tt))
 
 pub returns-in-None-clause-entered : goal.returns-in-None-clause-entered
 returns-in-None-clause-entered g c keyed =
-    let none : has_no_key c.args.self.now ≡ true = rw (← c.self.view_is, c.in-None.is) (no-key g.row.V.Denot c.self.inside.version) in
+    let none : has_no_key c.args.self.now ≡ true =
+        rw (← c.self.view_is, c.in-None.is) (no-key g.row.V.Denot c.self.inside.version) in
     absurd (true≢false (sym none ∙ keyed))
 
 pub returns-in-Some-clause-value : goal.returns-in-Some-clause-value
@@ -23,11 +26,15 @@ returns-in-Some-clause-value g c =
     let f = pointer_shape g.K.PartialType.Partial.bytes in
     let w = g.K.KeyTrait.bytes c.args.key.now in
     let o = option_map f c.self.inside.root in
-    rw (← c.self.view_is) (c.get_below.ensures.value ∙ ap (found (f c.in-Some.root)) c.as_ref.ensures
-    ∙ sym (value-in g.K.KeyTrait.MAXIMUM_SIZE c.self.inside.version o c.self.inside.version w c.self.invariant ∙ ap (λ z. found_in (option_map f z) w) c.in-Some.is))
+    rw (← c.self.view_is) (c.get_below.ensures.value
+        ∙ ap (found (f c.in-Some.root)) c.as_ref.ensures
+    ∙ sym (value-in g.K.KeyTrait.MAXIMUM_SIZE c.self.inside.version o c.self.inside.version w
+    c.self.invariant ∙ ap (λ z. found_in (option_map f z) w) c.in-Some.is))
 
 pub returns-in-Some-clause-counted : goal.returns-in-Some-clause-counted
 returns-in-Some-clause-counted g c =
     let s = pointer_shape g.K.PartialType.Partial.bytes c.in-Some.root in
-    let most : path_bound s c.as_ref.result.now ≤ length (g.K.KeyTrait.bytes c.args.key.now) + 1 = subst (λ (k : List ℕ). path_bound s c.as_ref.result.now ≤ length k + 1) c.as_ref.ensures (path-most s c.as_ref.result.now) in
+    let most : path_bound s c.as_ref.result.now ≤ length (g.K.KeyTrait.bytes c.args.key.now) + 1 =
+        subst (λ (k : List ℕ). path_bound s c.as_ref.result.now ≤ length k + 1) c.as_ref.ensures
+        (path-most s c.as_ref.result.now) in
     counts-most c.get_below.ensures.counted most (omega arith)

@@ -17,10 +17,13 @@ invariant_of-self-lent g c =
     let most = g.K.KeyTrait.MAXIMUM_SIZE in
     let n = c.self.inside.version in
     let later = c.lend_in.new.number in
-    let grown : n ≤ later = not-fallen c.lend_in.result n later c.lend_in.ensures.raised c.lend_in.ensures.kept in
+    let grown : n ≤ later =
+        not-fallen c.lend_in.result n later c.lend_in.ensures.raised c.lend_in.ensures.kept in
     λ result. (
-      (λ value. sound-later most n later (option_map f (c.lend_in.follows.lender value)) ((c.lend_in.follows.holds value).1 most n c.self.invariant) grown),
-      sound-later most n later (option_map f c.lend_in.follows.lender-at-none) (c.lend_in.follows.holds-at-none.1 most n c.self.invariant) grown,
+      (λ value. sound-later most n later (option_map f (c.lend_in.follows.lender value))
+          ((c.lend_in.follows.holds value).1 most n c.self.invariant) grown),
+      sound-later most n later (option_map f c.lend_in.follows.lender-at-none)
+          (c.lend_in.follows.holds-at-none.1 most n c.self.invariant) grown,
     )
 
 pub returns : goal.returns
@@ -33,22 +36,33 @@ returns g c =
     let long : length key ≡ length w = ap length same in
     let n = c.self.inside.version in
     let before = option_map f c.self.inside.root in
-    let here : value_at c.args.self.now w ≡ found_in before key = rw (← c.self.view_is) (value-in most n before n w c.self.invariant ∙ ap (found_in before) (sym same)) in (
+    let here : value_at c.args.self.now w ≡ found_in before key =
+        rw (← c.self.view_is) (value-in most n before n w c.self.invariant
+        ∙ ap (found_in before) (sym same)) in (
       same-ends _ c.lend_in.result _ _ _ _
           (λ ok value.
           let after = option_map f (c.lend_in.follows.lender value) in
           let holds = c.lend_in.follows.holds value in
           let content : map_of after ≡ finite.insert (map_of before) w value =
-          map-below before after key value (tree-in most n before c.self.invariant) (tree-in most n after (holds.1 most n c.self.invariant)) (holds.0 ok) ∙ ap (λ z. finite.insert (map_of before) z value) same in
+          map-below before after key value (tree-in most n before c.self.invariant)
+              (tree-in most n after (holds.1 most n c.self.invariant)) (holds.0 ok)
+              ∙ ap (λ z. finite.insert (map_of before) z value) same in
           rw (← c.self.view_is, content, at-ok c.lend_in.result ok c.lend_in.ensures.raised) refl)
-          (both-at-err c.lend_in.result c.lend_in.follows.holds-at-none.0 c.lend_in.ensures.kept (λ same kept. rw (← c.self.view_is, same, kept) refl)),
+          (both-at-err c.lend_in.result c.lend_in.follows.holds-at-none.0 c.lend_in.ensures.kept
+              (λ same kept. rw (← c.self.view_is, same, kept) refl)),
       record {
         writes_back = tt;
         value = IfOk-weaker c.lend_in.result _ _ (λ value is. here ∙ is) c.lend_in.ensures.value;
-        missing = IfErr-weaker c.lend_in.result _ _ (λ missing explains. subst (Explains missing) (sym here) explains) c.lend_in.ensures.missing;
+        missing =
+            IfErr-weaker c.lend_in.result _ _
+            (λ missing explains. subst (Explains missing) (sym here) explains)
+            c.lend_in.ensures.missing;
         counted = record {
-          at_most = counts-most c.lend_in.ensures.counted (omega (arith, long)) (omega (arith, long));
-          at_least = λ keyed. c.lend_in.ensures.entered_least (has-root f c.self.inside.root n c.args.self.now c.self.view_is keyed);
+          at_most =
+              counts-most c.lend_in.ensures.counted (omega (arith, long)) (omega (arith, long));
+          at_least =
+              λ keyed. c.lend_in.ensures.entered_least
+              (has-root f c.self.inside.root n c.args.self.now c.self.view_is keyed);
         };
         absent_makes_none = λ absent. c.lend_in.ensures.absent_makes_none (sym here ∙ absent);
       },

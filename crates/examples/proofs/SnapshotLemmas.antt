@@ -5,7 +5,8 @@ use Rattle.std.specs.FinMap as finite
 use Rattle.std.specs.Ordering.{is_eq}
 use Rattle.std.specs.Cmp.{tied_itself}
 use Rattle.std.proofs.lemmas.Cmp.{nat_list_cmp_total}
-use Rattle.rart_family.specs.Given.{byte_order, empty_at, with_rise, with_key}
+use Rattle.rart_family.specs.Bytes.{byte_order}
+use Rattle.rart_family.specs.Versions.{empty_at, with_rise, with_key}
 use Rattle.rart_family.specs.declared.family.command.Command.{Command}
 use Rattle.rart_family.specs.declared.family.command.Command.TheVariants.{New, Snapshot, Insert, Get}
 use Rattle.rart_family.specs.Replies.{Reply, Value, NoMemory}

@@ -1,7 +1,7 @@
 //! A snapshot answers with the value that its version had when it was taken, whatever the version
 //! is told afterwards.
 ghost use Rattle.std.specs.Prelude.{◌≡◌, ◌≢◌, Some, IfOk, All, map, length, slice_get};
-ghost use Rattle.rart_family.specs.Given.{ClonesEqual};
+ghost use Rattle.rart_family.specs.Clones.{ClonesEqual};
 ghost use Rattle.rart_family.specs.Replies.{Value, NoMemory, reply_value};
 
 use rart_family::{Command, Family, KeyTrait, Reply, Work};

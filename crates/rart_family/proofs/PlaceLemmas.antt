@@ -6,7 +6,7 @@ use Rattle.rart_maps.specs.Changes.{Changes}
 use Rattle.rart_maps.specs.Versions.{Version, has_no_key}
 use Rattle.rart_family.specs.Families.{Family, version_at}
 use Rattle.rart_versioned.specs.ChangeCounts.{CountsChange}
-use Rattle.rart_versioned.specs.Given.{Counts}
+use Rattle.rart_versioned.specs.Counts.{Counts}
 use Rattle.rart_family.specs.Costs.{one_with_key}
 use Rattle.rart_family.specs.PlaceChanges.{ChangesAt, CountsChangeAt}
 

@@ -1,6 +1,6 @@
 -- How many nodes a run enters and makes: at most, and at least.
 use Rattle.std.specs.Prelude.{◌≡◌, ℕ, ◌+◌, ◌*◌, ◌≤◌, List, ◌∷◌, Option, Some, None, if◌then◌else◌}
-use Rattle.rart_versioned.specs.Given.{Counts}
+use Rattle.rart_versioned.specs.Counts.{Counts}
 use Rattle.rart_maps.specs.Versions.{Version, has_no_key}
 use Rattle.rart_maps.specs.Bounds.{lookup_bound, change_bound}
 use Rattle.rart_family.specs.declared.family.command.Command.{Command}

@@ -1,7 +1,6 @@
 pub mod Attempts
 pub mod Costs
 pub mod Families
-pub mod Given
 pub mod Laws
 pub mod PlaceChanges
 pub mod Replies
@@ -9,3 +8,6 @@ pub mod Runs
 pub mod Writing
 pub mod WorkedCosts
 pub mod WorkedRuns
+pub use Rattle.rart_maps.specs.Versions
+pub use Rattle.rart_versioned.specs.Bytes
+pub use Rattle.rart_versioned.specs.Clones

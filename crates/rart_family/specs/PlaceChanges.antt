@@ -2,7 +2,7 @@
 use Rattle.std.specs.Prelude.{◌≡◌, ◌+◌, ◌≤◌, ℕ, List, Result, Ok, Err, Some, IfSome, slice_set}
 use Rattle.rart_maps.specs.Bounds.{change_bound}
 use Rattle.rart_maps.specs.Versions.{Version}
-use Rattle.rart_versioned.specs.Given.{Counts, CountsUpTo}
+use Rattle.rart_versioned.specs.Counts.{Counts, CountsUpTo}
 use Rattle.rart_family.specs.Costs.{one_with_key}
 use Rattle.rart_family.specs.Families.{Family, version_at}
 

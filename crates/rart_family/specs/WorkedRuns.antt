@@ -1,6 +1,6 @@
 -- Worked runs: commands on a family without a place, and their replies where no memory is refused.
 use Rattle.std.specs.Prelude.{◌≡◌, ℕ, true, false, List, [], ◌∷◌, Some, None, codes}
-use Rattle.rart_versioned.specs.Given.{Keep, Insert as Put, Remove as TakeOut}
+use Rattle.rart_versioned.specs.SlotUpdate.TheVariants.{Keep, Insert as Put, Remove as TakeOut}
 use Rattle.rart_family.specs.declared.family.command.Command.{Command}
 use Rattle.rart_family.specs.declared.family.command.Command.TheVariants.{New, NewAt, Snapshot, Duplicate, Discard, Version as NumberOf, IsEmpty, Get, GetMut, Insert, Replace, Remove, Delete, Update, TryUpdate}
 use Rattle.rart_family.specs.Replies.{Reply, Place, Discarded, Number, Flag, Value, Failed, NoVersion, NoRoom}

@@ -1,7 +1,7 @@
 //! Families of versions: commands on them, and their replies.
 ghost use Rattle.std.specs.Prelude.{◌≡◌, ◌+◌, ◌*◌, ◌≤◌, [], map, length, Some, IfOk, IfErr, OnOk, OnErr, MatchOption};
 ghost use Rattle.std.specs.Option.{option_copied};
-ghost use Rattle.rart_versioned.specs.Given.{ClonesEqual};
+ghost use Rattle.rart_versioned.specs.Clones.{ClonesEqual};
 ghost use Rattle.rart_maps.specs.Versions.{HasRoom};
 ghost use Rattle.rart_family.specs.Attempts.{Tries, Gives, reply_or_want};
 ghost use Rattle.rart_family.specs.Costs.{read_cost, read_least, change_cost, change_least, touch_least, CountsReads, CountsChanges};

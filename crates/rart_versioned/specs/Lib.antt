@@ -1,8 +1,12 @@
 pub mod ChangeCounts
-pub mod Given
 pub mod Keys
 pub mod Lent
 pub mod Missing
 pub mod Roots
 pub mod SlotChanges
 pub mod Updates
+pub use Rattle.rart_below.specs.Bytes
+pub use Rattle.rart_below.specs.Clones
+pub use Rattle.rart_below.specs.declared.slot.SlotUpdate
+pub use Rattle.rart_node.specs.Counts
+pub use Rattle.rart_node.specs.contracts.work.Work

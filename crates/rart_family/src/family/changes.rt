@@ -1,6 +1,6 @@
 // Commands that change the version at their place by one key.
 ghost use Rattle.std.specs.Prelude.{◌*◌, ◌<◌, OnErr, OnOk, IsSomeAnd, IfSome, IsTrue};
-ghost use Rattle.rart_versioned.specs.Given.{ClonesEqual};
+ghost use Rattle.rart_versioned.specs.Clones.{ClonesEqual};
 ghost use Rattle.rart_maps.specs.Bounds.{lookup_bound};
 ghost use Rattle.rart_maps.specs.Changes.{writing, insertion, replacement, removal, deletion};
 ghost use Rattle.rart_maps.specs.Versions.{HasRoom, has_key};

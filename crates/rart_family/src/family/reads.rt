@@ -2,7 +2,7 @@
 ghost use Rattle.rart_family.specs.Attempts.{Tries, Gives, reply_or_want};
 ghost use Rattle.rart_family.specs.Costs.{CountsReads};
 ghost use Rattle.rart_family.specs.Families.{outcome};
-ghost use Rattle.rart_versioned.specs.Given.{ClonesEqual};
+ghost use Rattle.rart_versioned.specs.Clones.{ClonesEqual};
 ghost use Rattle.rart_family.specs.declared.family.command.Command.TheVariants.{Version, IsEmpty, Get};
 
 use super::{Family, Reply};

@@ -1,6 +1,6 @@
 // Commands that update the slot of a key by a callback.
 ghost use Rattle.std.specs.Prelude.{◌≡◌, IfOk, IsSomeAnd, option_map};
-ghost use Rattle.rart_versioned.specs.Given.{ClonesEqual};
+ghost use Rattle.rart_versioned.specs.Clones.{ClonesEqual};
 ghost use Rattle.rart_maps.specs.Versions.{HasRoom, value_at};
 ghost use Rattle.rart_maps.specs.Changes.{slot_of, slot_update, slot_attempt};
 ghost use Rattle.rart_maps.specs.Bounds.{touch_bound};

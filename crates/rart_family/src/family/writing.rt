@@ -1,7 +1,7 @@
 // A value written through the reference that a version lends.
 ghost use Rattle.std.specs.Prelude.{◌≡◌, ◌*◌, IfErr, OnOk, OnErr, IsTrue, true};
 ghost use Rattle.std.specs.Borrow.{sem};
-ghost use Rattle.rart_versioned.specs.Given.{ClonesEqual};
+ghost use Rattle.rart_versioned.specs.Clones.{ClonesEqual};
 ghost use Rattle.rart_maps.specs.Versions.{HasRoom, value_at, has_key};
 ghost use Rattle.rart_maps.specs.Changes.{Changes, writing};
 ghost use Rattle.rart_maps.specs.Bounds.{lookup_bound};

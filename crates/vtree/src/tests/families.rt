@@ -1,6 +1,6 @@
 // Each command with ample memory, on both types of keys.
 ghost use Rattle.std.specs.Prelude.{ℕ, ◌≤◌};
-ghost use Rattle.rart_family.specs.Given.{IsAdmitted};
+ghost use Rattle.rart_family.specs.Bytes.{IsAdmitted};
 
 use crate::server::write_reply;
 use rart_family::{ArrayKey, Command, Family, KeyTrait, SlotUpdate, VectorKey, Work};

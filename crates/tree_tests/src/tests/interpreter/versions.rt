@@ -1,6 +1,6 @@
 //! The list of versions that the calls go over.
 ghost use Rattle.std.specs.Prelude.{◌+◌, ◌<◌, ◌≤◌, ◌^◌, length, IsTrue};
-ghost use Rattle.rart_versioned.specs.Given.{IsAdmitted};
+ghost use Rattle.rart_versioned.specs.Bytes.{IsAdmitted};
 ghost use Rattle.rart_maps.specs.Versions.{HasRoom};
 
 use super::call::{Answer, Call, Change, Form};

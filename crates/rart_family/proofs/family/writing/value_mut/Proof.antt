@@ -14,7 +14,8 @@ use Rattle.std.proofs.alloc.AllocError.TheLaws as Err-laws
 use Rattle.rart_versioned.proofs.ProofSteps.{reference-laws}
 use Rattle.rart_maps.specs.Bounds.{lookup_bound}
 use Rattle.rart_versioned.specs.ChangeCounts.{CountsChange}
-use Rattle.rart_versioned.specs.Given.{ClonesEqual, work_row}
+use Rattle.rart_versioned.specs.Clones.{ClonesEqual}
+use Rattle.rart_versioned.specs.Work.{the_row as work_row}
 use Rattle.rart_versioned.specs.Lent.{LendsFound}
 use Rattle.rart_maps.specs.Versions.{with_key, value_at}
 use Rattle.rart_versioned.specs.contracts.counted.tree.VersionedAdaptiveRadixTree.{the_row}

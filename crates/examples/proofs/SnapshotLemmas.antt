@@ -52,20 +52,20 @@ module _ {K V : Type 0} (bytes : K → List ℕ) where
         let own1 = own run.0 run.2.0 (Insert 0 a first) r1 run.2.1 (told 1 r0 (omega arith)) in
         let own2 = own run.2.0 run.2.2.0 (Snapshot 0) r2 run.2.2.1 (told 2 r0 (omega arith)) in
         let own3 =
-            own run.2.2.0 run.2.2.2.0 (Insert 0 b second) r3 run.2.2.2.1
-            (told 3 r0 (omega arith)) in
+        own run.2.2.0 run.2.2.2.0 (Insert 0 b second) r3 run.2.2.2.1
+        (told 3 r0 (omega arith)) in
         let own4 =
-            own run.2.2.2.0 run.2.2.2.2.0 (Get 1 d) r4 run.2.2.2.2.1 (told 4 r0 (omega arith)) in
+        own run.2.2.2.0 run.2.2.2.2.0 (Get 1 d) r4 run.2.2.2.2.1 (told 4 r0 (omega arith)) in
         let made : run.0 ≡ Some (empty_at 0) ∷ [] = own0.1 in
         let inserted : run.2.0 ≡ Some (with_key (empty_at 0) (bytes a) first 1) ∷ [] =
-            own1.1 ∙ ap (λ f. after bytes f (Insert 0 a first)) made in
+        own1.1 ∙ ap (λ f. after bytes f (Insert 0 a first)) made in
         let copied : run.2.2.0 ≡ Some (with_key (empty_at 0) (bytes a) first 1)
-            ∷ Some (with_rise (with_key (empty_at 0) (bytes a) first 1) 1) ∷ [] =
-            own2.1 ∙ ap (λ f. after bytes f (Snapshot 0)) inserted in
+        ∷ Some (with_rise (with_key (empty_at 0) (bytes a) first 1) 1) ∷ [] =
+        own2.1 ∙ ap (λ f. after bytes f (Snapshot 0)) inserted in
         let changed : run.2.2.2.0 ≡ Some
-            (with_key (with_key (empty_at 0) (bytes a) first 1) (bytes b) second 1)
-            ∷ Some (with_rise (with_key (empty_at 0) (bytes a) first 1) 1) ∷ [] =
-            own3.1 ∙ ap (λ f. after bytes f (Insert 0 b second)) copied in
+        (with_key (with_key (empty_at 0) (bytes a) first 1) (bytes b) second 1)
+        ∷ Some (with_rise (with_key (empty_at 0) (bytes a) first 1) 1) ∷ [] =
+        own3.1 ∙ ap (λ f. after bytes f (Insert 0 b second)) copied in
         ap Some (own4.0 ∙ ap (λ f. reply_to bytes f (Get 1 d)) changed ∙ ap Value value_there)
     snapshot_replies [] new run told = absurd run
     snapshot_replies (r0 ∷ []) new run told = absurd run.2

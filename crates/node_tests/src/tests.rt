@@ -14,8 +14,8 @@ mod widths;
 ghost use Rattle.rart_node.specs.NodeShapes.{node_shape};
 ghost use Rattle.rart_node.specs.Shape.{IsAscending};
 
-use rart_node::{NodeRef, VersionedNode, VersionedNodeIter, Work};
 use rart_below::{ArrPartial, ArrayKey, KeyTrait, Partial};
+use rart_node::{NodeRef, VersionedNode, VersionedNodeIter, Work};
 use std::alloc::{AllocError, Global};
 use std::process::Abort;
 

@@ -69,7 +69,7 @@ module _ {C : Type 0} where
   child_at-below byte least (child ∷ children) le h =
       let parts = below_parts least child children h in
       child_at-before byte child.0 child.1 children (omega (arith, parts.0))
-          ∙ child_at-below byte least children le parts.1
+      ∙ child_at-below byte least children le parts.1
 
   -- ---- a child put under a byte
   pub with_child-later : (byte key : ℕ) (added child : C) (children : List (ℕ × C)) → key < byte
@@ -112,7 +112,7 @@ module _ {C : Type 0} where
       let parts = below_parts byte child children h in
       let ne : child.0 ≢ byte = omega (arith, parts.0) in
       without_child-other byte child.0 child.1 children ne
-          ∙ ap (λ (rest : List (ℕ × C)). child ∷ rest) (without_child-below byte children parts.1)
+      ∙ ap (λ (rest : List (ℕ × C)). child ∷ rest) (without_child-below byte children parts.1)
 
   pub held_and_not : (c : C) → Some c ≢ None
   held_and_not c e = cc
@@ -127,8 +127,8 @@ module _ {C : Type 0} where
   without_child-absent byte [] missing = refl
   without_child-absent byte (child ∷ children) missing =
       let differs : child.0 ≢ byte =
-          λ e. held_and_not child.1 (sym (child_at-here byte child.0 child.1 children e)
-          ∙ missing) in
+      λ e. held_and_not child.1 (sym (child_at-here byte child.0 child.1 children e)
+      ∙ missing) in
       without_child-other byte child.0 child.1 children differs
       ∙ ap (λ (rest : List (ℕ × C)). child ∷ rest)
       (without_child-absent byte children
@@ -152,7 +152,7 @@ module _ {C : Type 0} where
       let parts = below_parts byte child children h in
       let kept : nat_le least child.0 ≡ true = grind (arith, nat_tests, parts.0) in
       rw kept (ap (λ (rest : List (ℕ × C)). child ∷ rest)
-          (children_from-below least byte children le parts.1))
+      (children_from-below least byte children le parts.1))
 
   -- ---- the children from a byte on, found by asking for each byte in turn
   -- a byte with no child is passed
@@ -161,12 +161,16 @@ module _ {C : Type 0} where
   next_after_absent byte [] missing = refl
   next_after_absent byte (child ∷ children) missing =
       let differs : child.0 ≢ byte =
-          λ e. held_and_not child.1 (sym (child_at-here byte child.0 child.1 children e)
-          ∙ missing) in
+      λ e. held_and_not child.1 (sym (child_at-here byte child.0 child.1 children e)
+      ∙ missing) in
       let same : nat_le byte child.0 ≡ nat_le (suc byte) child.0 = grind (arith, nat_tests) in
-      rw (same, next_after_absent byte children
-          (absent_later (eq_by_cmp nat_cmp byte child.0) child.1 (child_at byte children) missing))
-          refl
+      rw (
+        same,
+        next_after_absent byte children
+            (absent_later (eq_by_cmp nat_cmp byte child.0) child.1
+            (child_at byte children) missing),
+      )
+      refl
 
   next_at : (byte : ℕ) (found : C) (children : List (ℕ × C)) → IsAscending children
       → child_at byte children ≡ Some found
@@ -176,7 +180,7 @@ module _ {C : Type 0} where
       elim (cases_order child.0 byte) [
         | inl same ↦
             let value : Some child.1 ≡ Some found =
-                sym (child_at-here byte child.0 child.1 children same) ∙ is in
+            sym (child_at-here byte child.0 child.1 children same) ∙ is in
             let value' : child.1 ≡ found = cc in
             children_from-kept byte child children (omega arith) ∙ λ i. Some (same i, value' i)
         | inr (inl lt) ↦
@@ -185,11 +189,11 @@ module _ {C : Type 0} where
             (sym (child_at-later byte child.0 child.1 children lt) ∙ is)
         | inr (inr gt) ↦
             let below =
-                below_from byte child children gt
-                (below_lower byte child.0 children (omega arith)
-                (ascending_parts child children order).0) in
+            below_from byte child children gt
+            (below_lower byte child.0 children (omega arith)
+            (ascending_parts child children order).0) in
             absurd (held_and_not found (sym is
-                ∙ child_at-below byte byte (child ∷ children) (omega arith) below))
+            ∙ child_at-below byte byte (child ∷ children) (omega arith) below))
       ]
 
   -- no child is under a byte from here on
@@ -200,11 +204,11 @@ module _ {C : Type 0} where
   next_past from (child ∷ children) none =
       elim (cases_lt child.0 from) [
         | inl lt ↦ children_from-passed from child children lt
-        ∙ next_past from children (λ byte le.
-        absent_later (eq_by_cmp nat_cmp byte child.0) child.1 (child_at byte children)
-        (none byte le))
+            ∙ next_past from children (λ byte le.
+            absent_later (eq_by_cmp nat_cmp byte child.0) child.1 (child_at byte children)
+            (none byte le))
         | inr le ↦ absurd (held_and_not child.1
-        (sym (child_at-here child.0 child.0 child.1 children refl) ∙ none child.0 le))
+            (sym (child_at-here child.0 child.0 child.1 children refl) ∙ none child.0 le))
       ]
 
   -- a walk from one byte on has come to another, and found no child between them

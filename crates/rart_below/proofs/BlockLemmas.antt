@@ -33,7 +33,7 @@ length-block : (count place : ℕ) (bytes : List ℕ) → HasBlock count place b
     → length (block count place bytes) ≡ count
 length-block count place bytes has =
     let long : count ≤ length (drop place bytes) =
-        omega (arith, length-drop place bytes, has.within) in
+    omega (arith, length-drop place bytes, has.within) in
     length-take-le count (drop place bytes) long
 
 AreBytes-block : (count place : ℕ) (bytes : List ℕ) → HasBlock count place bytes
@@ -54,13 +54,13 @@ past_block : (count place : ℕ) (left right : List ℕ) → HasBlock count plac
 past_block count place left right has same =
     let in_left = block-rest count place left in
     let in_right =
-        block-rest count place right ∙ ap (λ front. front ++ drop (place + count) right)
-        (sym same) in
+    block-rest count place right ∙ ap (λ front. front ++ drop (place + count) right)
+    (sym same) in
     let whole : common_length (drop place left) (drop place right)
-        ≡ length (block count place left) + common_length (drop (place + count) left)
-        (drop (place + count) right) =
+    ≡ length (block count place left) + common_length (drop (place + count) left)
+    (drop (place + count) right) =
     (λ i. common_length (in_left i) (in_right i))
-        ∙ common_length-append (block count place left) _ _ in
+    ∙ common_length-append (block count place left) _ _ in
     omega (arith, whole, length-block count place left has)
 
 module _ (place number : ℕ) (left right : List ℕ) where
@@ -72,11 +72,11 @@ module _ (place number : ℕ) (left right : List ℕ) where
       ≡ place + common_length (drop place left) (drop place right)
   common_length-past_eight has_left has_right is_left is_right =
       let bytes_left =
-          le_bytes_8 (block 8 place left) number (length-block 8 place left has_left)
-          (AreBytes-block 8 place left has_left) is_left in
+      le_bytes_8 (block 8 place left) number (length-block 8 place left has_left)
+      (AreBytes-block 8 place left has_left) is_left in
       let bytes_right =
-          le_bytes_8 (block 8 place right) number (length-block 8 place right has_right)
-          (AreBytes-block 8 place right has_right) is_right in
+      le_bytes_8 (block 8 place right) number (length-block 8 place right has_right)
+      (AreBytes-block 8 place right has_right) is_right in
       past_block 8 place left right has_left (sym bytes_left ∙ bytes_right)
 
   pub common_length-past_four : HasBlock 4 place left → HasBlock 4 place right
@@ -86,9 +86,9 @@ module _ (place number : ℕ) (left right : List ℕ) where
       ≡ place + common_length (drop place left) (drop place right)
   common_length-past_four has_left has_right is_left is_right =
       let bytes_left =
-          le_bytes_4 (block 4 place left) number (length-block 4 place left has_left)
-          (AreBytes-block 4 place left has_left) is_left in
+      le_bytes_4 (block 4 place left) number (length-block 4 place left has_left)
+      (AreBytes-block 4 place left has_left) is_left in
       let bytes_right =
-          le_bytes_4 (block 4 place right) number (length-block 4 place right has_right)
-          (AreBytes-block 4 place right has_right) is_right in
+      le_bytes_4 (block 4 place right) number (length-block 4 place right has_right)
+      (AreBytes-block 4 place right has_right) is_right in
       past_block 4 place left right has_left (sym bytes_left ∙ bytes_right)

@@ -65,7 +65,7 @@ keyed-order Tied width keys keys' slots copies same h =
     let tied = keyed-tied Tied keys slots copies h in
     let filled = tied.1 in
     let sorted =
-        sorted-SameBytes Tied (keyed_children keys slots) (keyed_children keys copies) tied.0 in
+    sorted-SameBytes Tied (keyed_children keys slots) (keyed_children keys copies) tied.0 in
     rw same (tied.0, rw (filled, sorted) refl)
 
 module _ {C : Type 0} (Tied : C → C → Type 0) where
@@ -141,8 +141,8 @@ module _ {C : Type 0} (Tied : C → C → Type 0) where
       × (indexed.in_order index copies used ≡ indexed.in_order index slots used)
   indexed-order index slots copies used h =
       let tied =
-          slots-tied 0 (named_slots slots index) (named_slots copies index)
-          (named_slots-tied slots copies index h) in
+      slots-tied 0 (named_slots slots index) (named_slots copies index)
+      (named_slots-tied slots copies index h) in
       let long = (slots-tied 0 slots copies h).1 in
       let marks = marks-tied slots copies h in
       let named = named-tied 0 slots copies index h in

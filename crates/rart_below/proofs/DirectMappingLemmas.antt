@@ -22,8 +22,10 @@ module _ {C : Type 0} where
       → IsKept slots count
   kept_from_order slots count order =
       let parts = and_parts (length slots == 256) (count == length (slot_children 0 slots)) order in
-      record { wide = eqb-true (length slots) 256 parts.0;
-          counted = eqb-true count (length (slot_children 0 slots)) parts.1 }
+      record {
+        wide = eqb-true (length slots) 256 parts.0;
+        counted = eqb-true count (length (slot_children 0 slots)) parts.1;
+      }
 
   pub order_from : (slots : List (Option C)) (count : ℕ) → length slots ≡ 256
       → count ≡ length (slot_children 0 slots) → in_order slots count ≡ true
@@ -39,20 +41,20 @@ module _ {C : Type 0} where
       → child_at byte (slot_children 0 slots) ≡ get_or slots byte None
   child_at-place byte slots = let same : 0 + byte ≡ byte = omega arith in
       subst (λ (n : ℕ). child_at n (slot_children 0 slots) ≡ get_or slots byte None) same
-          (child_at-slot 0 byte slots)
+      (child_at-slot 0 byte slots)
 
   pub with_child-place : (byte : ℕ) (child : C) (slots : List (Option C)) → byte < length slots
       → slot_children 0 (set slots byte (Some child))
       ≡ with_child byte child (slot_children 0 slots)
   with_child-place byte child slots lt = let same : 0 + byte ≡ byte = omega arith in
       subst (λ (n : ℕ). slot_children 0 (set slots byte (Some child))
-          ≡ with_child n child (slot_children 0 slots)) same (with_child-slot 0 byte child slots lt)
+      ≡ with_child n child (slot_children 0 slots)) same (with_child-slot 0 byte child slots lt)
 
   pub without_child-place : (byte : ℕ) (slots : List (Option C))
       → slot_children 0 (set slots byte None) ≡ without_child byte (slot_children 0 slots)
   without_child-place byte slots = let same : 0 + byte ≡ byte = omega arith in
       subst (λ (n : ℕ). slot_children 0 (set slots byte None)
-          ≡ without_child n (slot_children 0 slots)) same (without_child-slot 0 byte slots)
+      ≡ without_child n (slot_children 0 slots)) same (without_child-slot 0 byte slots)
 
   pub found : (byte : ℕ) (slots : List (Option C)) (o : Option C) → byte < length slots
       → o ≡ get_or slots byte o → o ≡ child_at byte (slot_children 0 slots)
@@ -64,9 +66,15 @@ module _ {C : Type 0} where
   room_for_one byte child slots count kept lt absent =
       let within : byte < length slots = omega (arith, kept.wide) in
       let more =
-          length-slots_added 0 byte child slots within (sym (child_at-place byte slots) ∙ absent) in
-      omega (arith, more, kept.wide, kept.counted,
-          length-slot_children 0 (set slots byte (Some child)), length-set slots byte (Some child))
+      length-slots_added 0 byte child slots within (sym (child_at-place byte slots) ∙ absent) in
+      omega (
+        arith,
+        more,
+        kept.wide,
+        kept.counted,
+        length-slot_children 0 (set slots byte (Some child)),
+        length-set slots byte (Some child),
+      )
 
   -- ---- the slots after each change
   pub added : (byte count' : ℕ) (child : C) (slots slots' : List (Option C)) (count : ℕ)
@@ -76,9 +84,12 @@ module _ {C : Type 0} where
   added byte count' child slots slots' count kept lt absent s n =
       let within : byte < length slots = omega (arith, kept.wide) in
       let more =
-          length-slots_added 0 byte child slots within (sym (child_at-place byte slots) ∙ absent) in
-      rw s (order_from _ count' (length-set slots byte (Some child) ∙ kept.wide)
-          (omega (arith, n, more, kept.counted)), with_child-place byte child slots within)
+      length-slots_added 0 byte child slots within (sym (child_at-place byte slots) ∙ absent) in
+      rw s (
+        order_from _ count' (length-set slots byte (Some child) ∙ kept.wide)
+            (omega (arith, n, more, kept.counted)),
+        with_child-place byte child slots within,
+      )
 
   pub replaced : (byte : ℕ) (child old : C) (slots slots' : List (Option C)) (count : ℕ)
       → IsKept slots count → byte < 256 → Some old ≡ get_or slots byte None
@@ -86,17 +97,22 @@ module _ {C : Type 0} where
       → Shows slots' count (with_child byte child (slot_children 0 slots))
   replaced byte child old slots slots' count kept lt held s =
       let within : byte < length slots = omega (arith, kept.wide) in
-      rw s (order_from _ count (length-set slots byte (Some child) ∙ kept.wide)
-          (kept.counted ∙ sym (length-slots_replaced 0 byte child old slots (sym held))),
-          with_child-place byte child slots within)
+      rw s (
+        order_from _ count (length-set slots byte (Some child) ∙ kept.wide)
+            (kept.counted ∙ sym (length-slots_replaced 0 byte child old slots (sym held))),
+        with_child-place byte child slots within,
+      )
 
   pub removed : (byte count' : ℕ) (old : C) (slots slots' : List (Option C)) (count : ℕ)
       → IsKept slots count → Some old ≡ get_or slots byte None → slots' ≡ set slots byte None
       → count' ≡ count - 1 → Shows slots' count' (without_child byte (slot_children 0 slots))
   removed byte count' old slots slots' count kept held s n =
       let fewer = length-slots_removed 0 byte old slots (sym held) in
-      rw s (order_from _ count' (length-set slots byte None ∙ kept.wide)
-          (omega (arith, n, fewer, kept.counted)), without_child-place byte slots)
+      rw s (
+        order_from _ count' (length-set slots byte None ∙ kept.wide)
+            (omega (arith, n, fewer, kept.counted)),
+        without_child-place byte slots,
+      )
 
   -- emptying a slot that is empty changes nothing
   pub unchanged : (byte : ℕ) (slots slots' : List (Option C)) (count : ℕ) → IsKept slots count
@@ -104,11 +120,14 @@ module _ {C : Type 0} where
       → Shows slots' count (without_child byte (slot_children 0 slots))
   unchanged byte slots slots' count kept absent s =
       let same =
-          without_child-absent byte (slot_children 0 slots)
-          (child_at-place byte slots ∙ sym absent) in
+      without_child-absent byte (slot_children 0 slots)
+      (child_at-place byte slots ∙ sym absent) in
       let shown = without_child-place byte slots in
-      rw s (order_from _ count (length-set slots byte None ∙ kept.wide)
-          (kept.counted ∙ ap length (sym (shown ∙ same))), shown)
+      rw s (
+        order_from _ count (length-set slots byte None ∙ kept.wide)
+            (kept.counted ∙ ap length (sym (shown ∙ same))),
+        shown,
+      )
 
   pub holds_one : (byte : ℕ) (old : C) (slots : List (Option C)) (count : ℕ) → IsKept slots count
       → Some old ≡ get_or slots byte None → 0 < count

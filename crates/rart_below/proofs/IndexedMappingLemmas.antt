@@ -34,10 +34,10 @@ module _ {C : Type 0} where
       → in_order index slots used ≡ true → IsKept index slots used
   kept_from_order index slots used order =
       let outer =
-          and_parts (length index == 256 && length slots == 48 && used == marks_of slots)
-          (is_named_once 0 slots index) order in
+      and_parts (length index == 256 && length slots == 48 && used == marks_of slots)
+      (is_named_once 0 slots index) order in
       let lists =
-          and_parts (length index == 256 && length slots == 48) (used == marks_of slots) outer.0 in
+      and_parts (length index == 256 && length slots == 48) (used == marks_of slots) outer.0 in
       let lengths = and_parts (length index == 256) (length slots == 48) lists.0 in
       record {
         wide = eqb-true (length index) 256 lengths.0;
@@ -50,8 +50,8 @@ module _ {C : Type 0} where
       → IsKept index slots used → in_order index slots used ≡ true
   order_from_kept index slots used kept =
       and_from _ _ (and_from _ _ (and_from _ _ (eq-eqb (length index) 256 kept.wide)
-          (eq-eqb (length slots) 48 kept.enough)) (eq-eqb used (marks_of slots) kept.marked))
-          kept.named
+      (eq-eqb (length slots) 48 kept.enough)) (eq-eqb used (marks_of slots) kept.marked))
+      kept.named
 
   -- The mapping is in order, and shows these children.
   abbrev pub Shows : List ℕ → List (Option C) → ℕ → List (ℕ × C) → Type 0
@@ -85,7 +85,7 @@ module _ {C : Type 0} where
       → (trailing_ones w64 used < 48) × (get_or slots (trailing_ones w64 used) None ≡ None)
   free_place index slots used kept room =
       rw kept.marked (free_slot slots kept.enough
-          (omega (arith, room, length-named_slots slots index kept.named)))
+      (omega (arith, room, length-named_slots slots index kept.named)))
 
   -- a byte whose entry names a slot has the child of that slot, and no other byte does
   pub held_once : (byte place : ℕ) (index : List ℕ) (slots : List (Option C)) (used : ℕ)
@@ -110,8 +110,8 @@ module _ {C : Type 0} where
     | inl less ↦ less
     | inr le ↦
         let absent : child_at byte (slot_children 0 (named_slots slots index)) ≡ None =
-            child_at-named byte index slots used kept lt
-            ∙ get_or_past slots (get_or index byte 0) None (omega (arith, kept.enough)) in
+        child_at-named byte index slots used kept lt
+        ∙ get_or_past slots (get_or index byte 0) None (omega (arith, kept.enough)) in
         let none = subst IsSome absent present in
         cc
   ]
@@ -129,43 +129,49 @@ module _ {C : Type 0} where
       let byte_within : byte < length index = omega (arith, kept.wide) in
       let place_within : place < length slots = omega (arith, kept.enough) in
       let gone : get_or slots (get_or index byte 0) None ≡ None =
-          sym (child_at-named byte index slots used kept lt) ∙ absent in
+      sym (child_at-named byte index slots used kept lt) ∙ absent in
       let unnamed : names_of place index ≡ 0 = named_at place slots index kept.named place_within
-          ∙ ap one_if_some free in
+      ∙ ap one_if_some free in
       let other : get_or index byte 0 ≢ place =
-          λ e. absurd (omega (arith, names_positive place byte index byte_within e)) in
+      λ e. absurd (omega (arith, names_positive place byte index byte_within e)) in
       let shown : named_slots (set slots place (Some child)) (set index byte place)
-          ≡ set (named_slots slots index) byte (Some child) =
+      ≡ set (named_slots slots index) byte (Some child) =
       named-entry byte place (set slots place (Some child)) index
       ∙ λ j. set (named-set_unnamed place (Some child) slots index unnamed j) byte
       (get_or-set_same slots place (Some child) None place_within j)
       in
       let named : is_named_once 0 (set slots place (Some child)) (set index byte place) ≡ true =
       named_from (set slots place (Some child)) (set index byte place)
-          (λ n n_within. elim (cases_eq n place) [
+      (λ n n_within. elim (cases_eq n place) [
         | inl e ↦
             rw e (names-set_new place byte index byte_within other
-                ∙ (ap suc unnamed ∙ sym (ap one_if_some
-                (get_or-set_same slots place (Some child) None place_within))))
+            ∙ (ap suc unnamed ∙ sym (ap one_if_some
+            (get_or-set_same slots place (Some child) None place_within))))
         | inr ne ↦
             let n_in : n < length slots =
-                omega (arith, n_within, length-set slots place (Some child)) in
+            omega (arith, n_within, length-set slots place (Some child)) in
             let differs : get_or index byte 0 ≢ n =
-                λ e. absurd (omega (arith, names_positive n byte index byte_within e,
-                named_at n slots index kept.named n_in,
-                ap one_if_some (ap (λ (k : ℕ). get_or slots k None) (sym e) ∙ gone))) in
+            λ e. absurd (omega (
+              arith,
+              names_positive n byte index byte_within e,
+              named_at n slots index kept.named n_in,
+              ap one_if_some (ap (λ (k : ℕ). get_or slots k None) (sym e) ∙ gone),
+            )) in
             names-set_neither n byte place index byte_within differs (λ e. ne (sym e))
             ∙ (named_at n slots index kept.named n_in
             ∙ sym (ap one_if_some (get_or-set_other slots place n (Some child) None ne)))
       ])
       in
       let marks : used' ≡ marks_of (set slots place (Some child)) =
-          u ∙ (ap (λ (n : ℕ). bit_or n (1 * 2 ^ place % 2 ^ 64)) kept.marked
-          ∙ marks-added place child slots place_within (omega arith)) in
+      u ∙ (ap (λ (n : ℕ). bit_or n (1 * 2 ^ place % 2 ^ 64)) kept.marked
+      ∙ marks-added place child slots place_within (omega arith)) in
       rw (i, s) (
-        order_from_kept _ _ used' (record { wide = length-set index byte place ∙ kept.wide;
-            enough = length-set slots place (Some child) ∙ kept.enough; marked = marks;
-            named = named }),
+        order_from_kept _ _ used' (record {
+          wide = length-set index byte place ∙ kept.wide;
+          enough = length-set slots place (Some child) ∙ kept.enough;
+          marked = marks;
+          named = named;
+        }),
         ap (slot_children 0) shown ∙ with_child-place byte child (named_slots slots index)
             (omega (arith, length-named slots index)),
       )
@@ -179,21 +185,25 @@ module _ {C : Type 0} where
       let place_within : place < length slots = omega (arith, kept.enough) in
       let once = (held_once byte place index slots used kept lt at within).0 in
       let shown =
-          named-set_named place byte (Some child) slots index byte_within
-          (sym at) once place_within in
+      named-set_named place byte (Some child) slots index byte_within
+      (sym at) once place_within in
       let named : is_named_once 0 (set slots place (Some child)) index ≡ true =
       named_from (set slots place (Some child)) index (λ n n_within. elim (cases_eq n place) [
         | inl e ↦ rw e (once ∙ sym (ap one_if_some
-        (get_or-set_same slots place (Some child) None place_within)))
+            (get_or-set_same slots place (Some child) None place_within)))
         | inr ne ↦ named_at n slots index kept.named
-        (omega (arith, n_within, length-set slots place (Some child)))
-        ∙ sym (ap one_if_some (get_or-set_other slots place n (Some child) None ne))
+            (omega (arith, n_within, length-set slots place (Some child)))
+            ∙ sym (ap one_if_some (get_or-set_other slots place n (Some child) None ne))
       ])
       in
       rw s (
-        order_from_kept index _ used (record { wide = kept.wide;
-            enough = length-set slots place (Some child) ∙ kept.enough; marked = kept.marked
-            ∙ sym (marks-replaced place child held slots (sym is)); named = named }),
+        order_from_kept index _ used (record {
+          wide = kept.wide;
+          enough = length-set slots place (Some child) ∙ kept.enough;
+          marked = kept.marked
+              ∙ sym (marks-replaced place child held slots (sym is));
+          named = named;
+        }),
         ap (slot_children 0) shown ∙ with_child-place byte child (named_slots slots index)
             (omega (arith, length-named slots index)),
       )
@@ -209,10 +219,10 @@ module _ {C : Type 0} where
       let place_within : place < length slots = omega (arith, kept.enough) in
       let once = (held_once byte place index slots used kept lt at within).0 in
       let none_there : get_or (set slots place None) 48 None ≡ None =
-          get_or_past (set slots place None) 48 None
-          (omega (arith, kept.enough, length-set slots place None)) in
+      get_or_past (set slots place None) 48 None
+      (omega (arith, kept.enough, length-set slots place None)) in
       let shown : named_slots (set slots place None) (set index byte 48)
-          ≡ set (named_slots slots index) byte None =
+      ≡ set (named_slots slots index) byte None =
       named-entry byte 48 (set slots place None) index
       ∙ ((λ j. set (named-set_named place byte None slots index byte_within
       (sym at) once place_within j) byte (none_there j))
@@ -224,9 +234,14 @@ module _ {C : Type 0} where
       let not_new : 48 ≢ n = omega (arith, n_in, kept.enough) in
       elim (cases_eq n place) [
         | inl e ↦
-            rw e (omega (arith, names-set_old place byte 48 index byte_within (sym at)
-                (omega arith), once, ap one_if_some
-                (get_or-set_same slots place None None place_within)))
+            rw e (omega (
+              arith,
+              names-set_old place byte 48 index byte_within (sym at)
+                  (omega arith),
+              once,
+              ap one_if_some
+                  (get_or-set_same slots place None None place_within),
+            ))
         | inr ne ↦
             names-set_neither n byte 48 index byte_within (λ e. ne (sym e ∙ sym at)) not_new
             ∙ (named_at n slots index kept.named n_in
@@ -234,11 +249,15 @@ module _ {C : Type 0} where
       ])
       in
       let marks : used' ≡ marks_of (set slots place None) =
-          u ∙ (ap (λ (n : ℕ). bit_and n (bit_not w64 (1 * 2 ^ place % 2 ^ 64))) kept.marked
-          ∙ marks-removed place slots place_within (omega arith) (omega (arith, kept.enough))) in
+      u ∙ (ap (λ (n : ℕ). bit_and n (bit_not w64 (1 * 2 ^ place % 2 ^ 64))) kept.marked
+      ∙ marks-removed place slots place_within (omega arith) (omega (arith, kept.enough))) in
       rw (i, s) (
-        order_from_kept _ _ used' (record { wide = length-set index byte 48 ∙ kept.wide;
-            enough = length-set slots place None ∙ kept.enough; marked = marks; named = named }),
+        order_from_kept _ _ used' (record {
+          wide = length-set index byte 48 ∙ kept.wide;
+          enough = length-set slots place None ∙ kept.enough;
+          marked = marks;
+          named = named;
+        }),
         ap (slot_children 0) shown ∙ without_child-place byte (named_slots slots index),
       )
 
@@ -267,8 +286,11 @@ module _ {C : Type 0} where
       → ((place : ℕ) → place < length slots → get_or slots place None ≡ None) → marks_of slots ≡ 0
   no_marks [] empty = refl
   no_marks (slot ∷ slots) empty =
-      omega (arith, ap one_if_some (empty 0 (omega arith)),
-          no_marks slots (λ place lt. empty (suc place) (omega arith)))
+      omega (
+        arith,
+        ap one_if_some (empty 0 (omega arith)),
+        no_marks slots (λ place lt. empty (suc place) (omega arith)),
+      )
 
   pub starts : (count : ℕ) (slots : List (Option C)) → count ≡ 256 → length slots ≡ 48
       → ((place : ℕ) → place < length slots → get_or slots place None ≡ None)
@@ -276,11 +298,15 @@ module _ {C : Type 0} where
   starts count slots wide enough empty =
       let named : is_named_once 0 slots (replicate count 48) ≡ true =
       named_from slots (replicate count 48)
-          (λ place lt. no_names place count (omega (arith, lt, enough))
-          ∙ sym (ap one_if_some (empty place lt)))
+      (λ place lt. no_names place count (omega (arith, lt, enough))
+      ∙ sym (ap one_if_some (empty place lt)))
       in (
         order_from_kept (replicate count 48) slots 0
-            (record { wide = length-replicate count 48 ∙ wide; enough = enough;
-            marked = sym (no_marks slots empty); named = named }),
+            (record {
+              wide = length-replicate count 48 ∙ wide;
+              enough = enough;
+              marked = sym (no_marks slots empty);
+              named = named;
+            }),
         no_named 0 count slots (get_or_past slots 48 None (omega (arith, enough))),
       )

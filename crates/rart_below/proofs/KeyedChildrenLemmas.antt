@@ -40,7 +40,7 @@ module _ {C : Type 0} where
   rank-below byte least (key ∷ keys) (Some child ∷ slots) h le below =
       let parts = below_parts least (key, child) (keyed_children keys slots) below in
       rank-skip byte key keys (omega (arith, parts.0))
-          ∙ rank-below byte least keys slots h le parts.1
+      ∙ rank-below byte least keys slots h le parts.1
 
   -- the first key is not below the byte, and so none is
   rank-stop : (byte key : ℕ) (child : C) (keys : List ℕ) (slots : List (Option C))
@@ -48,7 +48,7 @@ module _ {C : Type 0} where
       → rank byte (key ∷ keys) ≡ 0
   rank-stop byte key child keys slots h order le =
       rank-skip byte key keys le ∙ rank-below byte key keys slots h le
-          (ascending_parts (key, child) (keyed_children keys slots) order).0
+      (ascending_parts (key, child) (keyed_children keys slots) order).0
 
   -- where the byte is among the keys, its child stands at its rank
   pub child_at-rank : (byte : ℕ) (keys : List ℕ) (slots : List (Option C)) → IsFilled keys slots
@@ -66,12 +66,12 @@ module _ {C : Type 0} where
             let e' : get_or keys (rank byte keys) 0 ≡ byte = rw later at e in
             let lt' : rank byte keys < length keys = omega (arith, rw later at lt) in
             child_at-later byte key child _ less ∙ child_at-rank byte keys slots h rest lt' e'
-                ∙ sym (ap (λ place. get_or (Some child ∷ slots) place None) later)
+            ∙ sym (ap (λ place. get_or (Some child ∷ slots) place None) later)
         | inr more ↦
             let stop = rank-stop byte key child keys slots h order more in
             let e' : key ≡ byte = rw stop at e in
             child_at-here byte key child _ e'
-                ∙ sym (ap (λ place. get_or (Some child ∷ slots) place None) stop)
+            ∙ sym (ap (λ place. get_or (Some child ∷ slots) place None) stop)
       ]
 
   pub child_at-no_rank : (byte : ℕ) (keys : List ℕ) (slots : List (Option C)) → IsFilled keys slots
@@ -87,17 +87,17 @@ module _ {C : Type 0} where
         | inl less ↦
             let later = rank-later byte key keys less in
             let ne' : rank byte keys < length keys → get_or keys (rank byte keys) 0 ≢ byte =
-                λ lt e. ne (omega (arith, later, lt))
-                (ap (λ place. get_or (key ∷ keys) place 0) later ∙ e) in
+            λ lt e. ne (omega (arith, later, lt))
+            (ap (λ place. get_or (key ∷ keys) place 0) later ∙ e) in
             child_at-later byte key child _ less ∙ child_at-no_rank byte keys slots h parts.1 ne'
         | inr more ↦
             let stop = rank-stop byte key child keys slots h order more in
             let differs : key ≢ byte =
-                λ e. ne (omega (arith, stop)) (ap (λ place. get_or (key ∷ keys) place 0) stop
-                ∙ e) in
+            λ e. ne (omega (arith, stop)) (ap (λ place. get_or (key ∷ keys) place 0) stop
+            ∙ e) in
             let before : IsBelow byte ((key, child) ∷ keyed_children keys slots) =
-                below_from byte (key, child) (keyed_children keys slots) (omega (arith, differs))
-                (below_lower byte key (keyed_children keys slots) more parts.0) in
+            below_from byte (key, child) (keyed_children keys slots) (omega (arith, differs))
+            (below_lower byte key (keyed_children keys slots) more parts.0) in
             child_at-below byte byte ((key, child) ∷ keyed_children keys slots) (omega arith) before
       ]
 
@@ -130,19 +130,25 @@ module _ {C : Type 0} where
         | inl less ↦
             let later : place ≡ suc (rank byte keys) = e ∙ rank-later byte key keys less in
             let absent' : child_at byte (keyed_children keys slots) ≡ None =
-                sym (child_at-later byte key child _ less) ∙ absent in
+            sym (child_at-later byte key child _ less) ∙ absent in
             let tail =
-                keyed-insert byte added keys slots rest (rank byte keys) h
-                (ascending_parts (key, child) (keyed_children keys slots) order).1 absent' refl in
-            rw later (tail.0, ap (λ (children : List (ℕ × C)). (key, child) ∷ children) tail.1
-                ∙ sym (with_child-later byte key added child _ less))
+            keyed-insert byte added keys slots rest (rank byte keys) h
+            (ascending_parts (key, child) (keyed_children keys slots) order).1 absent' refl in
+            rw later (
+              tail.0,
+              ap (λ (children : List (ℕ × C)). (key, child) ∷ children) tail.1
+                  ∙ sym (with_child-later byte key added child _ less),
+            )
         | inr more ↦
             let first : place ≡ 0 = e ∙ rank-stop byte key child keys slots h order more in
             let differs : byte ≢ key =
-                λ q. held_and_not child (sym (child_at-here byte key child _ (sym q)) ∙ absent) in
+            λ q. held_and_not child (sym (child_at-here byte key child _ (sym q)) ∙ absent) in
             let tail = keyed-taken (key ∷ keys) (Some child ∷ slots) rest h in
-            rw first (tail.0, ap (λ (children : List (ℕ × C)). (byte, added) ∷ children) tail.1
-                ∙ sym (with_child-before byte key added child _ (omega (arith, differs))))
+            rw first (
+              tail.0,
+              ap (λ (children : List (ℕ × C)). (byte, added) ∷ children) tail.1
+                  ∙ sym (with_child-before byte key added child _ (omega (arith, differs))),
+            )
       ]
 
   -- a child written over the one of its byte
@@ -161,11 +167,14 @@ module _ {C : Type 0} where
             let later : place ≡ suc (rank byte keys) = e ∙ rank-later byte key keys less in
             let is' : get_or keys (rank byte keys) 0 ≡ byte = rw later at is in
             let tail =
-                keyed-set byte added keys slots (rank byte keys) h
-                (ascending_parts (key, child) (keyed_children keys slots) order).1 refl
-                (omega arith) is' in
-            rw later (tail.0, ap (λ (children : List (ℕ × C)). (key, child) ∷ children) tail.1
-                ∙ sym (with_child-later byte key added child _ less))
+            keyed-set byte added keys slots (rank byte keys) h
+            (ascending_parts (key, child) (keyed_children keys slots) order).1 refl
+            (omega arith) is' in
+            rw later (
+              tail.0,
+              ap (λ (children : List (ℕ × C)). (key, child) ∷ children) tail.1
+                  ∙ sym (with_child-later byte key added child _ less),
+            )
         | inr more ↦
             let first : place ≡ 0 = e ∙ rank-stop byte key child keys slots h order more in
             let is' : key ≡ byte = rw first at is in
@@ -189,19 +198,25 @@ module _ {C : Type 0} where
             let later : place ≡ suc (rank byte keys) = e ∙ rank-later byte key keys less in
             let is' : get_or keys (rank byte keys) 0 ≡ byte = rw later at is in
             let tail =
-                keyed-remove byte keys slots rest (rank byte keys) h parts.1 refl
-                (omega arith) is' in
+            keyed-remove byte keys slots rest (rank byte keys) h parts.1 refl
+            (omega arith) is' in
             let differs : key ≢ byte = omega arith in
-            rw later (tail.0, ap (λ (children : List (ℕ × C)). (key, child) ∷ children) tail.1
-                ∙ sym (without_child-other byte key child _ differs))
+            rw later (
+              tail.0,
+              ap (λ (children : List (ℕ × C)). (key, child) ∷ children) tail.1
+                  ∙ sym (without_child-other byte key child _ differs),
+            )
         | inr more ↦
             let first : place ≡ 0 = e ∙ rank-stop byte key child keys slots h order more in
             let is' : key ≡ byte = rw first at is in
             let tail = keyed-taken keys slots rest h in
-            rw first (tail.0, tail.1 ∙ (sym
-                (without_child-below byte (keyed_children keys slots)
-                (below_lower byte key (keyed_children keys slots) more parts.0))
-                ∙ sym (without_child-here byte key child _ is')))
+            rw first (
+              tail.0,
+              tail.1 ∙ (sym
+                  (without_child-below byte (keyed_children keys slots)
+                  (below_lower byte key (keyed_children keys slots) more parts.0))
+                  ∙ sym (without_child-here byte key child _ is')),
+            )
       ]
 
   -- the child of the least byte that is not below a number stands at the rank of that number
@@ -219,16 +234,16 @@ module _ {C : Type 0} where
             let later = rank-later from key keys less in
             let is' : get_or slots (rank from keys) None ≡ Some child = rw later at is in
             rw later (ap (λ (children : List (ℕ × C)). first_of children)
-                (children_from-passed from (key, held) _ less)
-                ∙ children_from-rank from child keys slots h
-                (ascending_parts (key, held) (keyed_children keys slots) order).1
-                (omega (arith, later)) is')
+            (children_from-passed from (key, held) _ less)
+            ∙ children_from-rank from child keys slots h
+            (ascending_parts (key, held) (keyed_children keys slots) order).1
+            (omega (arith, later)) is')
         | inr more ↦
             let stop = rank-stop from key held keys slots h order more in
             let is' : Some held ≡ Some child = rw stop at is in
             let same : held ≡ child = cc in
             rw stop (children_from-kept from (key, held) _ more
-                ∙ ap (λ (c : C). Some (key, c)) same)
+            ∙ ap (λ (c : C). Some (key, c)) same)
       ]
 
   pub children_from-past : (from : ℕ) (keys : List ℕ) (slots : List (Option C))
@@ -240,10 +255,13 @@ module _ {C : Type 0} where
   children_from-past from (key ∷ keys) (Some held ∷ slots) h le =
       elim (cases_lt key from) [
         | inl less ↦ ap (λ (children : List (ℕ × C)). first_of children)
-        (children_from-passed from (key, held) _ less)
-        ∙ children_from-past from keys slots h (omega (arith, rank-later from key keys less))
-        | inr more ↦ absurd (omega (arith, rank-skip from key keys more,
-        count_by-le-length (λ k. nat_lt k from) keys))
+            (children_from-passed from (key, held) _ less)
+            ∙ children_from-past from keys slots h (omega (arith, rank-later from key keys less))
+        | inr more ↦ absurd (omega (
+          arith,
+          rank-skip from key keys more,
+          count_by-le-length (λ k. nat_lt k from) keys,
+        ))
       ]
 
   -- each key has its child beside it

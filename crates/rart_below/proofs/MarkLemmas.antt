@@ -22,7 +22,7 @@ module _ {C : Type 0} where
       ∙ omega (arith, one_if_some-bound slot)
   bit_at-marks (slot ∷ slots) (suc place) =
       let half : (one_if_some slot + 2 * marks_of slots) / 2 ≡ marks_of slots =
-          omega (arith, one_if_some-bound slot) in
+      omega (arith, one_if_some-bound slot) in
       bit_at-suc (one_if_some slot + 2 * marks_of slots) place ∙ rw half (bit_at-marks slots place)
 
   marks-lt : (slots : List (Option C)) → marks_of slots < 2 ^ length slots
@@ -37,12 +37,12 @@ module _ {C : Type 0} where
       let half : (0 + 2 * marks_of slots) / 2 ≡ marks_of slots = omega arith in
       let low : (0 + 2 * marks_of slots) % 2 ≡ 0 = omega arith in
       ones_step (0 + 2 * marks_of slots)
-          ∙ rw (half, low) (omega (arith, count_ones-marks (suc first) slots))
+      ∙ rw (half, low) (omega (arith, count_ones-marks (suc first) slots))
   count_ones-marks first (Some child ∷ slots) =
       let half : (1 + 2 * marks_of slots) / 2 ≡ marks_of slots = omega arith in
       let low : (1 + 2 * marks_of slots) % 2 ≡ 1 = omega arith in
       ones_step (1 + 2 * marks_of slots)
-          ∙ rw (half, low) (omega (arith, count_ones-marks (suc first) slots))
+      ∙ rw (half, low) (omega (arith, count_ones-marks (suc first) slots))
 
   one_if_some-set_same : (slots : List (Option C)) (place : ℕ) (slot : Option C)
       → place < length slots → one_if_some (get_or (set slots place slot) place None)
@@ -63,10 +63,10 @@ module _ {C : Type 0} where
   marks-added place child slots lt within =
       let after : List (Option C) = set slots place (Some child) in
       same_from_bits (bit_or (marks_of slots) (1 * 2 ^ place % 2 ^ 64)) (marks_of after)
-          (λ other. elim (cases_eq other place) [
+      (λ other. elim (cases_eq other place) [
         | inl e ↦
             rw e (bit_at_set_same w64 (marks_of slots) place within
-                ∙ sym (bit_at-marks after place ∙ one_if_some-set_same slots place (Some child) lt))
+            ∙ sym (bit_at-marks after place ∙ one_if_some-set_same slots place (Some child) lt))
         | inr ne ↦
             bit_at_set_other w64 (marks_of slots) place within other ne
             ∙ (bit_at-marks slots other ∙ sym
@@ -80,10 +80,10 @@ module _ {C : Type 0} where
   marks-removed place slots lt within few =
       let after : List (Option C) = set slots place None in
       same_from_bits (bit_and (marks_of slots) (bit_not w64 (1 * 2 ^ place % 2 ^ 64)))
-          (marks_of after) (λ other. elim (cases_eq other place) [
+      (marks_of after) (λ other. elim (cases_eq other place) [
         | inl e ↦
             rw e (bit_at_clear_same w64 (marks_of slots) place within
-                ∙ sym (bit_at-marks after place ∙ one_if_some-set_same slots place None lt))
+            ∙ sym (bit_at-marks after place ∙ one_if_some-set_same slots place None lt))
         | inr ne ↦ elim (cases_lt other 64) [
           | inl low ↦
               bit_at_clear_other w64 (marks_of slots) place within other low ne
@@ -91,12 +91,16 @@ module _ {C : Type 0} where
               (bit_at-marks after other ∙ one_if_some-set_other slots place other None ne))
           | inr high ↦
               let past : get_or slots other None ≡ None =
-                  get_or_past slots other None (omega arith) in
+              get_or_past slots other None (omega arith) in
               let gone : bit_at (marks_of slots) other ≡ 0 =
-                  bit_at-marks slots other ∙ ap one_if_some past in
+              bit_at-marks slots other ∙ ap one_if_some past in
               bit_at_and (marks_of slots) (bit_not w64 (1 * 2 ^ place % 2 ^ 64)) other
-              ∙ omega (arith, gone, bit_at-marks after other
-              ∙ (one_if_some-set_other slots place other None ne ∙ ap one_if_some past))
+              ∙ omega (
+                arith,
+                gone,
+                bit_at-marks after other
+                    ∙ (one_if_some-set_other slots place other None ne ∙ ap one_if_some past),
+              )
         ]
       ])
 
@@ -124,17 +128,23 @@ module _ {C : Type 0} where
       × (get_or slots (trailing_ones w64 (marks_of slots)) None ≡ None)
   free_slot slots wide room =
       let small : marks_of slots < 2 ^ 48 =
-          subst (λ (n : ℕ). marks_of slots < 2 ^ n) wide (marks-lt slots) in
+      subst (λ (n : ℕ). marks_of slots < 2 ^ n) wide (marks-lt slots) in
       let lowest = bit_at-trailing_ones w64 (marks_of slots) (omega (arith, small)) in
       let below : trailing_ones w64 (marks_of slots) < 48 =
-          elim (cases_lt (trailing_ones w64 (marks_of slots)) 48) [
+      elim (cases_lt (trailing_ones w64 (marks_of slots)) 48) [
         | inl lt ↦ lt
-        | inr le ↦ absurd (omega (arith,
-        full_from_marks 0 slots (λ place lt. sym (bit_at-marks slots place)
-        ∙ lowest.2 place (omega (arith, lt, wide, le))), wide, room))
-      ] in
-      (below, empty (get_or slots (trailing_ones w64 (marks_of slots)) None)
-          (sym (bit_at-marks slots (trailing_ones w64 (marks_of slots))) ∙ lowest.1))
+        | inr le ↦ absurd (omega (
+          arith,
+          full_from_marks 0 slots (λ place lt. sym (bit_at-marks slots place)
+              ∙ lowest.2 place (omega (arith, lt, wide, le))),
+          wide,
+          room,
+        ))
+      ] in (
+        below,
+        empty (get_or slots (trailing_ones w64 (marks_of slots)) None)
+            (sym (bit_at-marks slots (trailing_ones w64 (marks_of slots))) ∙ lowest.1),
+      )
     where
       empty : (slot : Option C) → one_if_some slot ≡ 0 → slot ≡ None
       empty None e = refl

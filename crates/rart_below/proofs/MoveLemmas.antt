@@ -53,7 +53,7 @@ module _ {C : Type 0} where
       let below : IsBelow byte left = subst (λ (n : ℕ). IsBelow n left) key parts.0 in
       let put = subst (λ (e : ℕ × C). with_child e.0 e.1 moved ≡ moved ++ e ∷ []) same last.1 in
       let out : without_child byte (first ∷ left) ≡ left =
-          without_child-here byte first.0 first.1 left key ∙ without_child-below byte left below in
+      without_child-here byte first.0 first.1 left key ∙ without_child-below byte left below in
       record {
         found = child_at-here byte first.0 first.1 left key ∙ ap (λ (c : C). Some c) value;
         absent = subst (λ (n : ℕ). child_at n moved ≡ None) key last.0;
@@ -77,12 +77,12 @@ module _ {C : Type 0} where
       → Moves byte child moved left all
   moves byte least seen child moved left all together walked order is taken =
       let first : first_of left ≡ Some (byte, seen) =
-          ap (λ (l : List (ℕ × C)). first_of l) (sym walked) ∙ sym is in
+      ap (λ (l : List (ℕ × C)). first_of l) (sym walked) ∙ sym is in
       let found : Some child ≡ Some seen =
-          taken ∙ (moves_first byte seen moved left all together order first).found in
+      taken ∙ (moves_first byte seen moved left all together order first).found in
       let same : seen ≡ child = cc in
       moves_first byte child moved left all together order
-          (first ∙ ap (λ (c : C). Some (byte, c)) same)
+      (first ∙ ap (λ (c : C). Some (byte, c)) same)
 
   pub children_from-zero : (children : List (ℕ × C)) → children_from 0 children ≡ children
   children_from-zero [] = refl

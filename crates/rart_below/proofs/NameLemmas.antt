@@ -71,14 +71,14 @@ module _ {C : Type 0} where
   named_at-from first place [] index named lt = absurd (omega arith)
   named_at-from first zero (slot ∷ slots) index named lt =
       let parts =
-          and_parts (names_of first index == one_if_some slot)
-          (is_named_once (suc first) slots index) named in
+      and_parts (names_of first index == one_if_some slot)
+      (is_named_once (suc first) slots index) named in
       let here : first + 0 ≡ first = omega arith in
       rw here (eqb-true (names_of first index) (one_if_some slot) parts.0)
   named_at-from first (suc place) (slot ∷ slots) index named lt =
       let parts =
-          and_parts (names_of first index == one_if_some slot)
-          (is_named_once (suc first) slots index) named in
+      and_parts (names_of first index == one_if_some slot)
+      (is_named_once (suc first) slots index) named in
       let next : first + suc place ≡ suc first + place = omega arith in
       rw next (named_at-from (suc first) place slots index parts.1 (omega arith))
 
@@ -120,8 +120,8 @@ module _ {C : Type 0} where
         | inl same ↦ absurd (omega (arith, names-same place entry index same))
         | inr differs ↦
             let rest =
-                named-set_unnamed place slot slots index
-                (omega (arith, names-other place entry index differs)) in
+            named-set_unnamed place slot slots index
+            (omega (arith, names-other place entry index differs)) in
             λ i. get_or-set_other slots place entry slot None differs i ∷ rest i
       ]
 
@@ -133,10 +133,10 @@ module _ {C : Type 0} where
   named-set_named place byte slot slots [] lt at once within = absurd (omega arith)
   named-set_named place zero slot slots (entry ∷ index) lt at once within =
       let rest =
-          named-set_unnamed place slot slots index
-          (omega (arith, names-same place entry index at)) in
+      named-set_unnamed place slot slots index
+      (omega (arith, names-same place entry index at)) in
       let here : get_or (set slots place slot) entry None ≡ slot =
-          rw at (get_or-set_same slots place slot None within) in
+      rw at (get_or-set_same slots place slot None within) in
       λ i. here i ∷ rest i
   named-set_named place (suc byte) slot slots (entry ∷ index) lt at once within =
       let later = names_positive place byte index (omega arith) at in
@@ -144,8 +144,8 @@ module _ {C : Type 0} where
         | inl same ↦ absurd (omega (arith, names-same place entry index same))
         | inr differs ↦
             let rest =
-                named-set_named place byte slot slots index (omega arith) at
-                (omega (arith, names-other place entry index differs)) within in
+            named-set_named place byte slot slots index (omega arith) at
+            (omega (arith, names-other place entry index differs)) within in
             λ i. get_or-set_other slots place entry slot None differs i ∷ rest i
       ]
 

@@ -52,12 +52,12 @@ module _ {X : Type 0} where
   inserted place len xs ys x le lt is =
       let count : len + 1 - place ≡ suc (len - place) = omega arith in
       let long : suc (len - place) ≤ length (drop place (set xs len x)) =
-          omega (arith, length-drop place (set xs len x), length-set xs len x) in
+      omega (arith, length-drop place (set xs len x), length-set xs len x) in
       let is' =
-          rw (count, length-take-le (suc (len - place)) (drop place (set xs len x)) long) at is in
+      rw (count, length-take-le (suc (len - place)) (drop place (set xs len x)) long) at is in
       let less : suc (len - place) - 1 ≡ len - place = omega arith in
       rw (count, add-one) (turned_in place len (len - place) xs ys x (omega arith) lt
-          (rw less at is'))
+      (rw less at is'))
 
   -- the first one of a part, just written, goes to its end
   turned_out : (place len : ℕ) (xs ys : List X) (x : X) → place < len → place < length xs
@@ -73,7 +73,7 @@ module _ {X : Type 0} where
   turned_out (suc place) (suc len) (z ∷ zs) ys x lt within is =
       let less : suc len - suc place ≡ len - place = omega arith in
       rw less (ap (λ (l : List X). z ∷ l)
-          (turned_out place len zs ys x (omega arith) (omega arith) (rw less at is)))
+      (turned_out place len zs ys x (omega arith) (omega arith) (rw less at is)))
 
   pub taken_out : (place len : ℕ) (xs ys : List X) (x : X) → place < len → len ≤ length xs
       → ys ≡ drop 1 (take (len - place) (drop place (set xs place x)))

@@ -12,7 +12,7 @@ use Rattle.rart_below.specs.LendingKeyView.{joined_bytes}
 pub joined_bytes-drop : (segments : List (Bor (List ℕ))) (i : ℕ) (other : Bor (List ℕ)) →
     i < length segments →
     joined_bytes (drop i segments) ≡ (get_or segments i other).now
-        ++ joined_bytes (drop (i + 1) segments)
+    ++ joined_bytes (drop (i + 1) segments)
 joined_bytes-drop segments i other inside =
     ap joined_bytes (drop-cons segments i other inside)
     ∙ ap (λ k. (get_or segments i other).now ++ joined_bytes (drop k segments)) (sym (add-one i))
@@ -76,7 +76,7 @@ module _ (segments : List (Bor (List ℕ))) (i : ℕ) (other : Bor (List ℕ)) (
   -- the same, and a shorter string
   pub joined_bytes-order_longer : length rest < length (get_or segments i other).now →
       byte_order (joined_bytes (drop i segments)) rest
-          ≡ byte_order (get_or segments i other).now rest
+      ≡ byte_order (get_or segments i other).now rest
   joined_bytes-order_longer longer =
       let segment = (get_or segments i other).now in
       ap (λ bytes. byte_order bytes rest) (joined_bytes-drop segments i other inside)

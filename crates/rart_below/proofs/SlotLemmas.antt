@@ -21,7 +21,7 @@ module _ {C : Type 0} where
   child_at-slot first (suc place) (Some child ∷ slots) =
       let next : first + suc place ≡ suc first + place = omega arith in
       child_at-later (first + suc place) first child _ (omega arith)
-          ∙ rw next (child_at-slot (suc first) place slots)
+      ∙ rw next (child_at-slot (suc first) place slots)
 
   pub with_child-slot : (first place : ℕ) (child : C) (slots : List (Option C))
       → place < length slots → slot_children first (set slots place (Some child))
@@ -30,7 +30,7 @@ module _ {C : Type 0} where
   with_child-slot first zero child (None ∷ slots) lt =
       let here : first + 0 ≡ first = omega arith in
       rw here (sym (with_child-below first child (slot_children (suc first) slots)
-          (slots-below first (suc first) slots (omega arith))))
+      (slots-below first (suc first) slots (omega arith))))
   with_child-slot first zero child (Some held ∷ slots) lt =
       sym (with_child-here (first + 0) first child held _ (omega arith))
   with_child-slot first (suc place) child (None ∷ slots) lt =
@@ -39,7 +39,7 @@ module _ {C : Type 0} where
   with_child-slot first (suc place) child (Some held ∷ slots) lt =
       let next : first + suc place ≡ suc first + place = omega arith in
       ap (λ (l : List (ℕ × C)). (first, held) ∷ l)
-          (rw next (with_child-slot (suc first) place child slots (omega arith)))
+      (rw next (with_child-slot (suc first) place child slots (omega arith)))
       ∙ sym (with_child-later (first + suc place) first child held _ (omega arith))
 
   pub without_child-slot : (first place : ℕ) (slots : List (Option C))
@@ -49,11 +49,11 @@ module _ {C : Type 0} where
   without_child-slot first zero (None ∷ slots) =
       let here : first + 0 ≡ first = omega arith in
       rw here (sym (without_child-below first (slot_children (suc first) slots)
-          (slots-below first (suc first) slots (omega arith))))
+      (slots-below first (suc first) slots (omega arith))))
   without_child-slot first zero (Some held ∷ slots) =
       sym (without_child-here (first + 0) first held _ (omega arith)
-          ∙ without_child-below (first + 0) (slot_children (suc first) slots)
-          (slots-below (first + 0) (suc first) slots (omega arith)))
+      ∙ without_child-below (first + 0) (slot_children (suc first) slots)
+      (slots-below (first + 0) (suc first) slots (omega arith)))
   without_child-slot first (suc place) (None ∷ slots) =
       let next : first + suc place ≡ suc first + place = omega arith in
       rw next (without_child-slot (suc first) place slots)
@@ -61,7 +61,7 @@ module _ {C : Type 0} where
       let next : first + suc place ≡ suc first + place = omega arith in
       let differs : first ≢ first + suc place = omega arith in
       ap (λ (l : List (ℕ × C)). (first, held) ∷ l)
-          (rw next (without_child-slot (suc first) place slots))
+      (rw next (without_child-slot (suc first) place slots))
       ∙ sym (without_child-other (first + suc place) first held _ differs)
 
   -- ---- how many slots are held

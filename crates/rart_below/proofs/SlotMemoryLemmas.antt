@@ -117,16 +117,16 @@ module _ (X : RattleType) (n : ℕ) where
         qed 𝓛 (‵ (part_at Whole full_share value b o) ∷ []) ∵
         rewrite ! 0 (λ (formula : Fml). ‵ formula) (by_members value b o) refl $
         use1 𝓛 (‵ (fsep (part_at (Array Element n) full_share value.slots b first) ftrue) ⊛ raw
-            Outside)
+        Outside)
         (Struct-left 𝓛 full_share (the_type Element Length).name members
-            ((number_array_laws Element (param_laws 0 X laws) Length refl).single, tt)
-            (value.slots, tt) b o) $
+        ((number_array_laws Element (param_laws 0 X laws) Length refl).single, tt)
+        (value.slots, tt) b o) $
         split ! $ fsplit ! $ move ! (1 ∷ []) $ drop ! $
         use1 𝓛 (‵ (fsep (feq ℕ (length value.slots) n)
-            (row Element full_share value.slots b first)))
-            (Array-apart 𝓛 Element full_share tt n value.slots b first) $
+        (row Element full_share value.slots b first)))
+        (Array-apart 𝓛 Element full_share tt n value.slots b first) $
         fsplit ! $ feq_l ! (λ long. use1 𝓛 (‵ (elements value.slots first))
-            (whole_in 𝓛 Element value.slots b first) $ check ! long $ done !)
+        (whole_in 𝓛 Element value.slots b first) $ check ! long $ done !)
 
     -- The elements are the one at the place and those beside it.
     pub taken_out : place < length value.slots → (element : X.Denot)
@@ -137,12 +137,12 @@ module _ (X : RattleType) (n : ℕ) where
         qed 𝓛 (‵ (elements value.slots first) ∷ raw Outside ∷ []) ∵
         rewrite ! 0 (λ (list : List X.Denot). ‵ (elements list first)) whole refl $
         use1 𝓛 (‵ (elements before first) ⊛ ‵
-            (elements (element ∷ behind) (at first (size (layout X)) (length before))))
-            (cut_app 𝓛 (mem Element) before (element ∷ behind) b first) $
+        (elements (element ∷ behind) (at first (size (layout X)) (length before))))
+        (cut_app 𝓛 (mem Element) before (element ∷ behind) b first) $
         split ! $ rewrite ! 1 (λ (start : ℕ). ‵ (elements (element ∷ behind) start))
-            (past_before within) refl $ move ! (1 ∷ []) $ fsplit ! $
+        (past_before within) refl $ move ! (1 ∷ []) $ fsplit ! $
         move ! (1 ∷ 3 ∷ []) $ join ! $ move ! (2 ∷ 0 ∷ []) $ join ! $ move !
-            (1 ∷ 0 ∷ []) $ join ! $ done !
+        (1 ∷ 0 ∷ []) $ join ! $ done !
 
     -- The element may be another when it is put back.
     pub put_back : place < n → length value.slots ≡ n → (element : X.Denot)
@@ -152,21 +152,21 @@ module _ (X : RattleType) (n : ℕ) where
         let within : place < length value.slots = omega arith in
         let after = written element in
         qed 𝓛 (‵ ((mem Element).own_at element b spot) ∷ ‵ (elements before first)
-            ∷ ‵ (elements behind (spot + size (layout X))) ∷ raw Outside ∷ []) ∵
+        ∷ ‵ (elements behind (spot + size (layout X))) ∷ raw Outside ∷ []) ∵
         move ! (0 ∷ 2 ∷ []) $ fjoin ! $
         rewrite ! 0 (λ (start : ℕ). ‵ (elements (element ∷ behind) start))
-            (sym (past_before within)) refl $ move ! (1 ∷ 0 ∷ []) $
+        (sym (past_before within)) refl $ move ! (1 ∷ 0 ∷ []) $
         use2 𝓛 (‵ (elements (before ++ element ∷ behind) first))
-            (join_app 𝓛 (mem Element) before (element ∷ behind) b first) $
+        (join_app 𝓛 (mem Element) before (element ∷ behind) b first) $
         rewrite ! 0 (λ (list : List X.Denot). ‵ (elements list first))
-            (sym (set_split value.slots place element within)) refl $
+        (sym (set_split value.slots place element within)) refl $
         use1 𝓛 (‵ (row Element full_share after.slots b first))
-            (whole_out 𝓛 Element after.slots b first) $
+        (whole_out 𝓛 Element after.slots b first) $
         feq_i ! ℕ (length after.slots) n (length-set value.slots place element ∙ long) $ fjoin ! $
         use1 𝓛 (‵ (part_at (Array Element n) full_share after.slots b first))
-            (Array-whole 𝓛 Element full_share n after.slots b first) $
+        (Array-whole 𝓛 Element full_share n after.slots b first) $
         nothing ! $ move ! (1 ∷ 0 ∷ []) $ fjoin ! $
         use2 𝓛 (‵ (part_at Members full_share (after.slots, tt) b o))
-            (left_Struct 𝓛 full_share (the_type Element Length).name members (after.slots, tt) b o)
-            $
+        (left_Struct 𝓛 full_share (the_type Element Length).name members (after.slots, tt) b o)
+        $
         rewrite ! 0 (λ (formula : Fml). ‵ formula) (sym (by_members after b o)) refl $ done !

@@ -28,8 +28,8 @@ module _ {C : Type 0} where
       → in_order width keys slots ≡ true → IsKept width keys slots
   kept_from_order width keys slots order =
       let outer =
-          and_parts (nat_le (length keys) width && is_filled keys slots)
-          (is_sorted nat_cmp (keyed_children keys slots)) order in
+      and_parts (nat_le (length keys) width && is_filled keys slots)
+      (is_sorted nat_cmp (keyed_children keys slots)) order in
       let inner = and_parts (nat_le (length keys) width) (is_filled keys slots) outer.0 in
       record { fits = leb-true (length keys) width inner.0; filled = inner.1; ascending = outer.1 }
 
@@ -46,10 +46,15 @@ module _ {C : Type 0} where
   shows_from : (width : ℕ) (keys : List ℕ) (slots : List (Option C)) (children : List (ℕ × C))
       → length keys ≤ width → is_filled keys slots ≡ true → keyed_children keys slots ≡ children
       → IsAscending children → Shows width keys slots children
-  shows_from width keys slots children fits filled shown order =
-      (order_from_kept width keys slots
-          (record { fits = fits; filled = filled;
-          ascending = subst IsAscending (sym shown) order }), shown)
+  shows_from width keys slots children fits filled shown order = (
+    order_from_kept width keys slots
+        (record {
+          fits = fits;
+          filled = filled;
+          ascending = subst IsAscending (sym shown) order;
+        }),
+    shown,
+  )
 
   pub length-kept : (width : ℕ) (keys : List ℕ) (slots : List (Option C)) → IsKept width keys slots
       → length (keyed_children keys slots) ≡ length keys
@@ -61,13 +66,13 @@ module _ {C : Type 0} where
   found width byte keys slots place o kept at is =
       let within = at.within in
       let rank_within : rank byte keys < length keys =
-          subst (λ (i : ℕ). i < length keys) at.at_rank within in
+      subst (λ (i : ℕ). i < length keys) at.at_rank within in
       let holds : get_or keys (rank byte keys) 0 ≡ byte =
-          subst (λ (i : ℕ). get_or keys i 0 ≡ byte) at.at_rank at.holds in
+      subst (λ (i : ℕ). get_or keys i 0 ≡ byte) at.at_rank at.holds in
       let enough : place < length slots = omega (arith, slots_enough keys slots kept.filled) in
       is ∙ (get_or_default slots place o None enough
-          ∙ (ap (λ i. get_or slots i None) at.at_rank
-          ∙ sym (child_at-rank byte keys slots kept.filled kept.ascending rank_within holds)))
+      ∙ (ap (λ i. get_or slots i None) at.at_rank
+      ∙ sym (child_at-rank byte keys slots kept.filled kept.ascending rank_within holds)))
 
   pub absent : (width byte : ℕ) (keys : List ℕ) (slots : List (Option C)) → IsKept width keys slots
       → IsAbsent byte keys → child_at byte (keyed_children keys slots) ≡ None
@@ -82,14 +87,14 @@ module _ {C : Type 0} where
       let within = at.within in
       let enough : place < length slots = omega (arith, slots_enough keys slots kept.filled) in
       found width byte keys slots place (get_or slots place None) kept at
-          (get_or_default slots place None (get_or slots place None) enough)
+      (get_or_default slots place None (get_or slots place None) enough)
 
   pub never_empty : (width : ℕ) (keys : List ℕ) (slots : List (Option C)) (place : ℕ) (o : Option C)
       → IsKept width keys slots → place < length keys → get_or slots place o ≡ None → ⊥
   never_empty width keys slots place o kept lt is =
       held_beside keys slots place kept.filled lt
-          (get_or_default slots place None o (omega (arith, slots_enough keys slots kept.filled))
-          ∙ is)
+      (get_or_default slots place None o (omega (arith, slots_enough keys slots kept.filled))
+      ∙ is)
 
   pub next_found : (width from : ℕ) (keys : List ℕ) (slots : List (Option C)) (place : ℕ)
       (o : Option C) (child : C) → IsKept width keys slots → place ≡ rank from keys
@@ -98,13 +103,13 @@ module _ {C : Type 0} where
       ≡ first_of (children_from from (keyed_children keys slots))
   next_found width from keys slots place o child kept e lt is =
       let held : get_or slots place None ≡ Some child =
-          get_or_default slots place None o (omega (arith, slots_enough keys slots kept.filled))
-          ∙ is in
+      get_or_default slots place None o (omega (arith, slots_enough keys slots kept.filled))
+      ∙ is in
       let rank_within : rank from keys < length keys = subst (λ (i : ℕ). i < length keys) e lt in
       let at : get_or slots (rank from keys) None ≡ Some child =
-          subst (λ (i : ℕ). get_or slots i None ≡ Some child) e held in
+      subst (λ (i : ℕ). get_or slots i None ≡ Some child) e held in
       ap (λ (i : ℕ). Some (get_or keys i 0, child)) e
-          ∙ sym (children_from-rank from child keys slots kept.filled kept.ascending rank_within at)
+      ∙ sym (children_from-rank from child keys slots kept.filled kept.ascending rank_within at)
 
   pub next_none : (width from : ℕ) (keys : List ℕ) (slots : List (Option C)) (place : ℕ)
       → IsKept width keys slots → place ≡ rank from keys → length keys ≤ place
@@ -121,11 +126,11 @@ module _ {C : Type 0} where
       → Shows width keys' slots' (with_child byte child (keyed_children keys slots))
   added width byte child keys keys' slots slots' place len kept gone more room at n k s =
       let put =
-          keyed-insert byte child keys slots
-          (drop (len + 1) slots) place kept.filled kept.ascending gone at in
+      keyed-insert byte child keys slots
+      (drop (len + 1) slots) place kept.filled kept.ascending gone at in
       let fits : length (insert keys place byte) ≤ width = omega (arith, ap length k) in
       rw (k, s, n) (shows_from width _ _ _ fits (rw n at put.0) (rw n at put.1)
-          (ascending-with_child byte child (keyed_children keys slots) kept.ascending))
+      (ascending-with_child byte child (keyed_children keys slots) kept.ascending))
 
   pub replaced : (width byte : ℕ) (child : C) (keys : List ℕ) (slots slots' : List (Option C))
       (place : ℕ) → IsKept width keys slots → IsPlaceOf byte keys place
@@ -133,10 +138,10 @@ module _ {C : Type 0} where
       → Shows width keys slots' (with_child byte child (keyed_children keys slots))
   replaced width byte child keys slots slots' place kept at s =
       let put =
-          keyed-set byte child keys slots place kept.filled kept.ascending at.at_rank at.within
-          at.holds in
+      keyed-set byte child keys slots place kept.filled kept.ascending at.at_rank at.within
+      at.holds in
       rw s (shows_from width keys _ _ kept.fits put.0 put.1
-          (ascending-with_child byte child (keyed_children keys slots) kept.ascending))
+      (ascending-with_child byte child (keyed_children keys slots) kept.ascending))
 
   pub removed : (width byte : ℕ) (keys keys' : List ℕ) (slots slots' rest : List (Option C))
       (place len : ℕ) → IsKept width keys slots → IsPlaceOf byte keys place
@@ -146,12 +151,12 @@ module _ {C : Type 0} where
       → Shows width keys' slots' (without_child byte (keyed_children keys slots))
   removed width byte keys keys' slots slots' rest place len kept at less n k s =
       let cut =
-          keyed-remove byte keys slots rest place kept.filled kept.ascending at.at_rank at.within
-          at.holds in
+      keyed-remove byte keys slots rest place kept.filled kept.ascending at.at_rank at.within
+      at.holds in
       let fits : length (remove keys place) ≤ width = omega (arith, ap length k, kept.fits) in
       rw (k, s, n) (shows_from width _ _ _ fits cut.0 cut.1
-          (ascending-where_key (λ key. not (key == byte))
-          (keyed_children keys slots) kept.ascending))
+      (ascending-where_key (λ key. not (key == byte))
+      (keyed_children keys slots) kept.ascending))
 
   pub unchanged : (width byte : ℕ) (keys : List ℕ) (slots : List (Option C))
       → IsKept width keys slots → IsAbsent byte keys

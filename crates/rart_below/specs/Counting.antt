@@ -37,7 +37,7 @@ module _ {C : Type 0} where
   weight-at first (slot ∷ slots) (suc place) =
       let next : first + suc place ≡ suc first + place = omega arith in
       let differs : ((suc first + place) == first) ≡ false =
-          ne_eqb (suc first + place) first (omega arith) in
+      ne_eqb (suc first + place) first (omega arith) in
       rw next (rw differs (omega (arith, weight-at (suc first) slots place)))
 
   total-none : (first : ℕ) (slots : List (Option C)) (index : List ℕ)
@@ -45,17 +45,26 @@ module _ {C : Type 0} where
   total-none first slots [] = refl
   total-none first slots (place ∷ index) =
       let here = nothing (place == first) (weight (suc first) slots place) in
-      omega (arith, sum_by-cons (weight first (None ∷ slots)) place index, here,
-          total-none first slots index, sum_by-cons (weight (suc first) slots) place index)
+      omega (
+        arith,
+        sum_by-cons (weight first (None ∷ slots)) place index,
+        here,
+        total-none first slots index,
+        sum_by-cons (weight (suc first) slots) place index,
+      )
 
   total-some : (first : ℕ) (child : C) (slots : List (Option C)) (index : List ℕ)
       → sum_by (weight first (Some child ∷ slots)) index
       ≡ names_of first index + sum_by (weight (suc first) slots) index
   total-some first child slots [] = refl
   total-some first child slots (place ∷ index) =
-      omega (arith, sum_by-cons (weight first (Some child ∷ slots)) place index,
-          total-some first child slots index, sum_by-cons (weight (suc first) slots) place index,
-          sum_by-cons (λ entry. cond (entry == first) 1 0) place index)
+      omega (
+        arith,
+        sum_by-cons (weight first (Some child ∷ slots)) place index,
+        total-some first child slots index,
+        sum_by-cons (weight (suc first) slots) place index,
+        sum_by-cons (λ entry. cond (entry == first) 1 0) place index,
+      )
 
   total-named : (first byte : ℕ) (slots : List (Option C)) (index : List ℕ)
       → is_named_once first slots index ≡ true
@@ -63,13 +72,17 @@ module _ {C : Type 0} where
   total-named first byte [] index named = total-nothing index
   total-named first byte (None ∷ slots) index named =
       let parts =
-          and_parts (names_of first index == 0) (is_named_once (suc first) slots index) named in
+      and_parts (names_of first index == 0) (is_named_once (suc first) slots index) named in
       total-none first slots index ∙ total-named (suc first) (suc byte) slots index parts.1
   total-named first byte (Some child ∷ slots) index named =
       let parts =
-          and_parts (names_of first index == 1) (is_named_once (suc first) slots index) named in
-      omega (arith, total-some first child slots index, eqb-true (names_of first index) 1 parts.0,
-          total-named (suc first) (suc byte) slots index parts.1)
+      and_parts (names_of first index == 1) (is_named_once (suc first) slots index) named in
+      omega (
+        arith,
+        total-some first child slots index,
+        eqb-true (names_of first index) 1 parts.0,
+        total-named (suc first) (suc byte) slots index parts.1,
+      )
 
   length-slots-cons : (byte : ℕ) (slot : Option C) (slots : List (Option C))
       → length (slot_children byte (slot ∷ slots))
@@ -83,8 +96,13 @@ module _ {C : Type 0} where
   length-named byte slots (place ∷ index) =
       let here : 0 + place ≡ place = omega arith in
       let held = rw here at (weight-at 0 slots place) in
-      omega (arith, length-slots-cons byte (get_or slots place None) (named_slots slots index),
-          held, length-named (suc byte) slots index, sum_by-cons (weight 0 slots) place index)
+      omega (
+        arith,
+        length-slots-cons byte (get_or slots place None) (named_slots slots index),
+        held,
+        length-named (suc byte) slots index,
+        sum_by-cons (weight 0 slots) place index,
+      )
 
   pub length-named_slots : (slots : List (Option C)) (index : List ℕ)
       → is_named_once 0 slots index ≡ true

@@ -13,5 +13,5 @@ module _ {C : Type 0} where
   abbrev pub indexed_in_order : IndexedMapping C → Bool
   indexed_in_order mapping =
       length mapping.index == 256 && length mapping.children.slots == 48
-          && mapping.used == marks_of mapping.children.slots
-          && is_named_once 0 mapping.children.slots mapping.index
+      && mapping.used == marks_of mapping.children.slots
+      && is_named_once 0 mapping.children.slots mapping.index

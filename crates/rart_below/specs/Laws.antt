@@ -76,11 +76,11 @@ module _ {C : Type 0} where
       → length (direct_children mapping) ≤ 256
   direct-fits mapping order =
       let parts =
-          and_parts (length mapping.children.slots == 256)
-          (mapping.count == length (direct_children mapping)) order in
+      and_parts (length mapping.children.slots == 256)
+      (mapping.count == length (direct_children mapping)) order in
       subst (λ (width : ℕ). length (direct_children mapping) ≤ width)
-          (eqb-true (length mapping.children.slots) 256 parts.0)
-          (length-slot_children 0 mapping.children.slots)
+      (eqb-true (length mapping.children.slots) 256 parts.0)
+      (length-slot_children 0 mapping.children.slots)
 
   pub indexed-ascending : (mapping : IndexedMapping C) → IsTrue (indexed_in_order mapping)
       → IsAscending (indexed_children mapping)
@@ -91,19 +91,19 @@ module _ {C : Type 0} where
       → length (indexed_children mapping) ≤ 48
   indexed-fits mapping order =
       let parts =
-          and_parts (length mapping.index == 256 && length mapping.children.slots == 48
-          && mapping.used == marks_of mapping.children.slots)
-          (is_named_once 0 mapping.children.slots mapping.index) order in
+      and_parts (length mapping.index == 256 && length mapping.children.slots == 48
+      && mapping.used == marks_of mapping.children.slots)
+      (is_named_once 0 mapping.children.slots mapping.index) order in
       let lists =
-          and_parts (length mapping.index == 256 && length mapping.children.slots == 48)
-          (mapping.used == marks_of mapping.children.slots) parts.0 in
+      and_parts (length mapping.index == 256 && length mapping.children.slots == 48)
+      (mapping.used == marks_of mapping.children.slots) parts.0 in
       let slots =
-          and_parts (length mapping.index == 256) (length mapping.children.slots == 48) lists.0 in
+      and_parts (length mapping.index == 256) (length mapping.children.slots == 48) lists.0 in
       subst (λ (count : ℕ). count ≤ 48)
-          (sym (length-named_slots mapping.children.slots mapping.index parts.1))
+      (sym (length-named_slots mapping.children.slots mapping.index parts.1))
       (subst (λ (width : ℕ). length (slot_children 0 mapping.children.slots) ≤ width)
-          (eqb-true (length mapping.children.slots) 48 slots.1)
-          (length-slot_children 0 mapping.children.slots))
+      (eqb-true (length mapping.children.slots) 48 slots.1)
+      (length-slot_children 0 mapping.children.slots))
 
 module _ {C : Type 0} {WIDTH : ℕ} where
   pub sorted-ascending : (mapping : SortedKeyedMapping C WIDTH) → IsTrue (sorted_in_order mapping)
@@ -114,8 +114,8 @@ module _ {C : Type 0} {WIDTH : ℕ} where
       → length (sorted_children mapping) ≤ WIDTH
   sorted-fits mapping order =
       let parts =
-          and_parts (nat_le (length mapping.keys.items) WIDTH)
-          (is_filled mapping.keys.items mapping.children.slots) (and_parts _ _ order).0 in
+      and_parts (nat_le (length mapping.keys.items) WIDTH)
+      (is_filled mapping.keys.items mapping.children.slots) (and_parts _ _ order).0 in
       subst (λ (count : ℕ). count ≤ WIDTH)
-          (sym (length-keyed_children mapping.keys.items mapping.children.slots parts.1))
-          (leb-true (length mapping.keys.items) WIDTH parts.0)
+      (sym (length-keyed_children mapping.keys.items mapping.children.slots parts.1))
+      (leb-true (length mapping.keys.items) WIDTH parts.0)

@@ -11,5 +11,5 @@ module _ (M C : RattleType) (in_order : M.Denot → Bool)
   LendsChild lender byte result =
       LendsSo M C lender result
       (λ after left. OnSome result (IsTrue (in_order after)
-          × (children after ≡ with_child byte left (children lender.now))))
+      × (children after ≡ with_child byte left (children lender.now))))
       (λ after. after ≡ lender.now)

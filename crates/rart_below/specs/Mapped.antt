@@ -44,7 +44,7 @@ module _ {A B : Type 0} (f : A → B) (g : Option A → Option B) (none : g None
   keyed_children-map (key ∷ keys) [] = refl
   keyed_children-map (key ∷ keys) (None ∷ slots) =
       ap (λ (slot : Option B). keyed_children (key ∷ keys) (slot ∷ map g slots)) none
-          ∙ keyed_children-map keys slots
+      ∙ keyed_children-map keys slots
   keyed_children-map (key ∷ keys) (Some child ∷ slots) =
       ap (λ (slot : Option B). keyed_children (key ∷ keys) (slot ∷ map g slots)) (some child)
       ∙ ap (λ (rest : List (ℕ × B)). (key, f child) ∷ rest) (keyed_children-map keys slots)
@@ -57,7 +57,7 @@ module _ {A B : Type 0} (f : A → B) (g : Option A → Option B) (none : g None
       ap (λ (slot : Option B). is_filled (key ∷ keys) (slot ∷ map g slots)) none
   is_filled-map (key ∷ keys) (Some child ∷ slots) =
       ap (λ (slot : Option B). is_filled (key ∷ keys) (slot ∷ map g slots)) (some child)
-          ∙ is_filled-map keys slots
+      ∙ is_filled-map keys slots
 
   -- ---- slots by bytes
   pub slot_children-map : (byte : ℕ) (slots : List (Option A))
@@ -65,7 +65,7 @@ module _ {A B : Type 0} (f : A → B) (g : Option A → Option B) (none : g None
   slot_children-map byte [] = refl
   slot_children-map byte (None ∷ slots) =
       ap (λ (slot : Option B). slot_children byte (slot ∷ map g slots)) none
-          ∙ slot_children-map (suc byte) slots
+      ∙ slot_children-map (suc byte) slots
   slot_children-map byte (Some child ∷ slots) =
       ap (λ (slot : Option B). slot_children byte (slot ∷ map g slots)) (some child)
       ∙ ap (λ (rest : List (ℕ × B)). (byte, f child) ∷ rest) (slot_children-map (suc byte) slots)
@@ -112,10 +112,10 @@ module _ {A B : Type 0} (f : A → B) (g : Option A → Option B) (none : g None
       → sorted_in_order mapped ≡ sorted_in_order mapping
   sorted_in_order-map {WIDTH} mapping mapped keys slots =
       let shown = ap (is_sorted nat_cmp) (sorted_children-map mapping mapped keys slots)
-          ∙ is_sorted-map_children f (sorted_children mapping) in
+      ∙ is_sorted-map_children f (sorted_children mapping) in
       let filled =
-          (λ i. is_filled (keys i) (slots i))
-          ∙ is_filled-map mapping.keys.items mapping.children.slots in
+      (λ i. is_filled (keys i) (slots i))
+      ∙ is_filled-map mapping.keys.items mapping.children.slots in
       λ i. nat_le (length (keys i)) WIDTH && filled i && shown i
 
   pub direct_children-map : (mapping : DirectMapping A) (mapped : DirectMapping B)
@@ -130,7 +130,7 @@ module _ {A B : Type 0} (f : A → B) (g : Option A → Option B) (none : g None
   direct_in_order-map mapping mapped slots count =
       let wide = ap length slots ∙ length-map mapping.children.slots g in
       let counted = ap length (direct_children-map mapping mapped slots)
-          ∙ length-map_children f (direct_children mapping) in
+      ∙ length-map_children f (direct_children mapping) in
       λ i. (wide i == 256) && (count i == counted i)
 
   pub indexed_children-map : (mapping : IndexedMapping A) (mapped : IndexedMapping B)
@@ -148,5 +148,5 @@ module _ {A B : Type 0} (f : A → B) (g : Option A → Option B) (none : g None
       let wide = ap length slots ∙ length-map mapping.children.slots g in
       let marks = ap marks_of slots ∙ marks_of-map mapping.children.slots in
       let named = (λ i. is_named_once 0 (slots i) (index i))
-          ∙ is_named_once-map 0 mapping.children.slots mapping.index in
+      ∙ is_named_once-map 0 mapping.children.slots mapping.index in
       λ i. (length (index i) == 256) && (wide i == 48) && (used i == marks i) && named i

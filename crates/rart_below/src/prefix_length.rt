@@ -7,12 +7,7 @@ ghost use Rattle.rart_below.specs.Bytes.{common_length};
 ///
 /// Where both are long enough, blocks of bytes are compared as numbers first, and only the bytes
 /// behind them one by one.
-#[tactic(auto, using(
-    crate::proofs::CommonLengthLemmas::common_step,
-    crate::proofs::CommonLengthLemmas::common_stop,
-    crate::proofs::CommonLengthLemmas::common_stop_left,
-    crate::proofs::CommonLengthLemmas::common_stop_right
-))]
+#[tactic(auto, using(crate::proofs::CommonLengthLemmas::common_step, crate::proofs::CommonLengthLemmas::common_stop, crate::proofs::CommonLengthLemmas::common_stop_left, crate::proofs::CommonLengthLemmas::common_stop_right))]
 pub(crate) fn prefix_length(left: &[u8], right: &[u8]) -> usize
     ensures { result ≡ common_length left.now right.now }
 {

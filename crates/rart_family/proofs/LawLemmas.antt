@@ -117,8 +117,8 @@ module _ (K V : Type 0) (bytes : K → List ℕ) where
   runs_fixed old new other [] [] run again = run ∙ sym again
   runs_fixed old new other (c ∷ cs) (r ∷ rs) run again =
       runs_fixed run.0 new other cs rs run.2
-          (subst (λ f. Run bytes f cs rs other)
-          (steps_fixed old again.0 run.0 c r again.1 run.1) again.2)
+      (subst (λ f. Run bytes f cs rs other)
+      (steps_fixed old again.0 run.0 c r again.1 run.1) again.2)
   runs_fixed old new other [] (r ∷ rs) run again = absurd run
   runs_fixed old new other (c ∷ cs) [] run again = absurd run
 

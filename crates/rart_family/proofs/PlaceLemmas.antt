@@ -55,10 +55,13 @@ module _ {V : Type 0} where
       (read : Option (Version V)) (v : Version V) → get_or f place read ≡ Some v
       → CountsChange entered v w before after → CountsChangeAt entered f place w before after
   counts_at {before} {after} f place read v is counted =
-      record { at_most = counted.at_most;
-          at_least =
-          touches_some f place read v before.entered after.entered is counted.at_most.entered_grows
-          counted.at_least }
+      record {
+        at_most = counted.at_most;
+        at_least =
+            touches_some f place read v before.entered after.entered is
+            counted.at_most.entered_grows
+            counted.at_least;
+      }
 
   set-same : (f : Family V) (place : ℕ) (read : Option (Version V)) (v : Version V)
       → get_or f place read ≡ Some v → slice_set f place (Some v) ≡ f
@@ -72,8 +75,8 @@ module _ {V : Type 0} where
       → ChangesAt place answer f (slice_set f place (Some after)) outcome
   changes_at f place read v after (Ok answer) outcome is changed =
       if_some_at f place read v (λ w. (answer ≡ (outcome w).0)
-          × (slice_set f place (Some after) ≡ slice_set f place (Some (outcome w).1))) is
-          (changed.0, ap (λ w. slice_set f place (Some w)) changed.1)
+      × (slice_set f place (Some after) ≡ slice_set f place (Some (outcome w).1))) is
+      (changed.0, ap (λ w. slice_set f place (Some w)) changed.1)
   changes_at f place read v after (Err refusal) outcome is changed =
       ap (λ w. slice_set f place (Some w)) changed ∙ set-same f place read v is
 

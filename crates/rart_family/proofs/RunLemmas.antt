@@ -82,6 +82,6 @@ module _ {K V : Type 0} (bytes : K → List ℕ) where
   along_more cost old mid (x ∷ cs) (y ∷ rs) c r run =
       let rest = subst (λ f. Run bytes f cs rs mid) (step_next old x y run.0 run.1) run.2 in
       ap (λ n. cost old x y + n) (along_more cost (next bytes old x y) mid cs rs c r rest)
-          ∙ sym (add_assoc _ _ _)
+      ∙ sym (add_assoc _ _ _)
   along_more cost old mid [] (y ∷ rs) c r run = absurd run
   along_more cost old mid (x ∷ cs) [] c r run = absurd run

@@ -60,15 +60,15 @@ module _ {K V : Type 0} (bytes : K → List ℕ) where
   takes_none f (Remove place key) none =
       called_not {K = K} f (Remove place key) _ (version_at f place) (λ v is.
       room_not f (Remove place key) (nat_lt (v.number + 1) (2 ^ 64))
-          (Value (value_at v (bytes key))) (slice_set f place (Some (after_removal v (bytes key))))
+      (Value (value_at v (bytes key))) (slice_set f place (Some (after_removal v (bytes key))))
       (remove_not place key (value_at v (bytes key))
-          (lacks_at (version_at f place) (bytes key) v none is)))
+      (lacks_at (version_at f place) (bytes key) v none is)))
   takes_none f (Delete place key) none =
       called_not {K = K} f (Delete place key) _ (version_at f place) (λ v is.
       room_not f (Delete place key) (nat_lt (v.number + 1) (2 ^ 64)) (Flag (has_key v (bytes key)))
-          (slice_set f place (Some (after_removal v (bytes key))))
+      (slice_set f place (Some (after_removal v (bytes key))))
       (delete_not V place key (has_key v (bytes key))
-          (lacks_at (version_at f place) (bytes key) v none is)))
+      (lacks_at (version_at f place) (bytes key) v none is)))
   takes_none f c none = absurd none
 
   no_step : (old new : Family V) (c : Command K V)

@@ -76,7 +76,7 @@ module _ {K V : Type 0} (bytes : K → List ℕ) where
   outcome f (Get place key) = read_outcome f place (λ v. Value (value_at v (bytes key)))
   outcome f (GetMut place key value) =
       change_outcome f place 1 (λ v.
-          (Flag (has_key v (bytes key)), after_writing v (bytes key) value))
+      (Flag (has_key v (bytes key)), after_writing v (bytes key) value))
   outcome f (Insert place key value) =
       change_outcome f place 1 (λ v. (Flag (has_key v (bytes key)), with_key v (bytes key) value 1))
   outcome f (Replace place key value) =
@@ -88,12 +88,12 @@ module _ {K V : Type 0} (bytes : K → List ℕ) where
       change_outcome f place 1 (λ v. (Flag (has_key v (bytes key)), after_removal v (bytes key)))
   outcome f (Update place key write answer) = change_outcome f place 1 (λ v.
       let after =
-          slot_update v (bytes key) (slot_of (value_after_write (value_at v (bytes key)) write))
-          answer in (Flag after.0, after.1))
+      slot_update v (bytes key) (slot_of (value_after_write (value_at v (bytes key)) write))
+      answer in (Flag after.0, after.1))
   outcome f (TryUpdate place key write answer) = change_outcome f place 2 (λ v.
       let after =
-          slot_attempt v (bytes key) (slot_of (value_after_write (value_at v (bytes key)) write))
-          (callback_answer answer) in (tried_reply after.0, after.1))
+      slot_attempt v (bytes key) (slot_of (value_after_write (value_at v (bytes key)) write))
+      (callback_answer answer) in (tried_reply after.0, after.1))
 
   abbrev pub reply_to : Family V → Command K V → Reply V
   reply_to f c = (outcome f c).0

@@ -14,9 +14,9 @@ mod changes;
 mod command;
 mod reads;
 mod reply;
-mod writing;
 mod updates;
 mod versions;
+mod writing;
 
 pub use command::{Command, Failure};
 use rart_versioned::{KeyTrait, VersionedAdaptiveRadixTree, Work};

@@ -26,10 +26,7 @@ pub fn no_reply_is_want<K: KeyTrait, V>()
     ensures { NoReplyIsWant K V K.bytes }
 {}
 
-#[tactic(auto, using(
-    crate::proofs::WantLemmas::no_want_without_memory,
-    crate::proofs::WantLemmas::no_want_before_lack
-))]
+#[tactic(auto, using(crate::proofs::WantLemmas::no_want_without_memory, crate::proofs::WantLemmas::no_want_before_lack))]
 /// No step replies want of memory to a command that takes none, as a lookup of an absent key, nor
 /// where a version or room is lacking.
 pub fn want_of_memory_is_bounded<K: KeyTrait, V>()

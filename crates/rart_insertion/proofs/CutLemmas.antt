@@ -25,10 +25,13 @@ module _ {V : Type 0} where
   only-child byte child [] begins = sym (found-empty child byte begins)
   only-child byte child (c ∷ q) begins =
       let P : Bool → Type 0 =
-          λ t. (c == byte) ≡ t → cond t (found child (c ∷ q)) None ≡ found child (c ∷ q) in
+      λ t. (c == byte) ≡ t → cond t (found child (c ∷ q)) None ≡ found child (c ∷ q) in
       let both : (t : Bool) → P t =
-          elim [ true ↦ (λ same. refl) | false ↦
-          (λ differs. sym (found-other child byte c q begins differs)) ] in
+      elim [
+        | true ↦ (λ same. refl)
+        | false ↦
+            (λ differs. sym (found-other child byte c q begins differs))
+      ] in
       both (c == byte) refl
 
   along : (o : Option (List ℕ)) (p : List ℕ) (value : Option V) (width byte : ℕ) (forest : Forest V)
@@ -43,7 +46,7 @@ module _ {V : Type 0} where
       → found (cut_at at s) q ≡ found s q
   cut-found (node prefix value width forest) at q lt =
       along (strip_prefix (take at prefix) q) (drop at prefix) value width
-          (slice_index_or prefix at 0) forest (begins-drop prefix at lt)
+      (slice_index_or prefix at 0) forest (begins-drop prefix at lt)
       ∙ ap (option_and_then (inside value forest))
       (sym (behind-append (take at prefix) (drop at prefix) q))
       ∙ ap (λ z. option_and_then (inside value forest) (strip_prefix z q))
@@ -56,9 +59,11 @@ module _ {V : Type 0} where
       → slice_get (drop at key) 0 ≡ Some byte → child_at byte (children_of (cut_at at s)) ≡ None
   cut-absent (node prefix value width forest) at key byte is lt next =
       let Differs : ℕ → Type 0 = λ z. z < length prefix → slice_get (drop z key) 0 ≡ Some byte
-          → (byte == slice_index_or prefix z 0) ≡ false in
-      rw (unsigned_tied byte (slice_index_or prefix at 0),
-          subst Differs (sym is) (differs-strip_prefix prefix key byte) lt next) refl
+      → (byte == slice_index_or prefix z 0) ≡ false in
+      rw (
+        unsigned_tied byte (slice_index_or prefix at 0),
+        subst Differs (sym is) (differs-strip_prefix prefix key byte) lt next,
+      ) refl
 
   -- what is put into the node that was cut where the key leaves its prefix
   pub put-cut : (s after : Shape V) (at : ℕ) (key : List ℕ) (value : V)
@@ -68,7 +73,7 @@ module _ {V : Type 0} where
   put-cut (node prefix old width forest) after at key value is lt puts =
       let s = node prefix old width forest in
       let whole : take at prefix ++ drop at key ≡ key =
-          subst (λ z. take z prefix ++ drop z key ≡ key) (sym is) (sym (split-common prefix key)) in
+      subst (λ z. take z prefix ++ drop z key ≡ key) (sym is) (sym (split-common prefix key)) in
       let same = subst (λ z. IsPut z value (cut_at at s) after) whole puts in (
         same.0,
         (λ q. same.1 q ∙ ap (cond (bytes_eq q key) (Some value)) (cut-found s at q lt)),

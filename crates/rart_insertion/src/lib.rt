@@ -1,14 +1,14 @@
 //! The way down a tree to a value that is put at a key.
 #![tactic(auto)]
 
-ghost use Rattle.std.specs.Prelude.{◌≡◌, ℕ, ◌+◌, ◌-◌, ◌<◌, ◌≤◌, IfOk, OnOk, OnErr, Some, None, [], ◌++◌, length, drop, slice_get};
+ghost use Rattle.std.specs.Prelude.{◌≡◌, ℕ, ◌+◌, ◌-◌, ◌<◌, ◌≤◌, IfOk, OnOk, Some, None, [], ◌++◌, length, drop, slice_get};
 ghost use Rattle.rart_below.specs.Bytes.{common_length};
 ghost use Rattle.rart_below.specs.Children.{child_at};
 ghost use Rattle.rart_below.specs.Clones.{ClonesEqual};
 ghost use Rattle.rart_node.specs.NodeShapes.{node_shape, pointer_shape};
 ghost use Rattle.rart_node.specs.Shape.{node_of, prefix_of, children_of};
 ghost use Rattle.rart_node.specs.Counts.{CountsUpTo};
-ghost use Rattle.rart_shape.specs.Trees.{BeginsWith, IsTree, IsPut, found, cut_at, ending, path_bound};
+ghost use Rattle.rart_shape.specs.Trees.{BeginsWith, IsTree, Puts, cut_at, ending, path_bound};
 
 mod matching;
 
@@ -31,13 +31,8 @@ pub fn insert_below<K: KeyTrait, V: Clone + Drop>(
     requires clones { ClonesEqual V.is_clone }
     requires depth { depth ≤ length (K.bytes key.now) }
     requires tree { IsTree (pointer_shape K.PartialType.bytes at.old) }
-    ensures put { OnOk result (IsPut (drop depth (K.bytes key.now)) value
-        (pointer_shape K.PartialType.bytes at.old) (pointer_shape K.PartialType.bytes at.new)) }
-    ensures replaced { IfOk result (λ old. old ≡ found (pointer_shape K.PartialType.bytes at.old)
-        (drop depth (K.bytes key.now))) }
-    ensures refused { OnErr result
-        (pointer_shape K.PartialType.bytes at.new ≡ pointer_shape K.PartialType.bytes
-        at.old) }
+    ensures puts { Puts result (drop depth (K.bytes key.now)) value
+        (pointer_shape K.PartialType.bytes at.old) (pointer_shape K.PartialType.bytes at.new) }
     ensures counted { CountsUpTo (path_bound (pointer_shape K.PartialType.bytes at.old)
         (drop depth (K.bytes key.now))) (length (drop depth (K.bytes key.now)) + 2) work.old
         work.new }
@@ -81,13 +76,8 @@ fn split<K: KeyTrait, V: Clone + Drop>(
         (drop depth (K.bytes key.now)) }
     requires within { end ≤ length (K.bytes key.now) }
     requires inside { end - depth < length (prefix_of (node_shape K.PartialType.bytes node.old)) }
-    ensures put { OnOk result (IsPut (drop depth (K.bytes key.now)) value
-        (node_shape K.PartialType.bytes node.old) (node_shape K.PartialType.bytes node.new)) }
-    ensures replaced { IfOk result (λ old. old ≡ found (node_shape K.PartialType.bytes node.old)
-        (drop depth (K.bytes key.now))) }
-    ensures refused { OnErr result
-        (node_shape K.PartialType.bytes node.new ≡ node_shape K.PartialType.bytes
-        node.old) }
+    ensures puts { Puts result (drop depth (K.bytes key.now)) value
+        (node_shape K.PartialType.bytes node.old) (node_shape K.PartialType.bytes node.new) }
     ensures counted { CountsUpTo 0 (length (drop end (K.bytes key.now)) + 1) work.old work.new }
 {
     let mut upper = cut(alloc, node, end - depth, version, work)?;
@@ -111,15 +101,9 @@ fn finish<K: KeyTrait, V: Clone + Drop>(
     requires tree { IsTree (node_shape K.PartialType.bytes node.old) }
     requires absent { (byte : ℕ) → slice_get (drop depth (K.bytes key.now)) 0 ≡ Some byte
         → child_at byte (children_of (node_shape K.PartialType.bytes node.old)) ≡ None }
-    ensures put { OnOk result
-        (IsPut (prefix_of (node_shape K.PartialType.bytes node.old) ++ drop depth (K.bytes key.now))
-        value
-        (node_shape K.PartialType.bytes node.old) (node_shape K.PartialType.bytes node.new)) }
-    ensures replaced { IfOk result (λ old. old ≡ found (node_shape K.PartialType.bytes node.old)
-        (prefix_of (node_shape K.PartialType.bytes node.old) ++ drop depth (K.bytes key.now))) }
-    ensures refused { OnErr result
-        (node_shape K.PartialType.bytes node.new ≡ node_shape K.PartialType.bytes
-        node.old) }
+    ensures puts { Puts result
+        (prefix_of (node_shape K.PartialType.bytes node.old) ++ drop depth (K.bytes key.now)) value
+        (node_shape K.PartialType.bytes node.old) (node_shape K.PartialType.bytes node.new) }
     ensures counted { CountsUpTo 0 (ending (node_shape K.PartialType.bytes node.old)
         (drop depth (K.bytes key.now))) work.old work.new }
 {

@@ -59,12 +59,12 @@ module _ {V : Type 0} where
   child-of forest [] below is = absurd (none-some below is)
   child-of forest (byte ∷ rest) below is =
       let P : Option (Shape V) → Type 0 =
-          λ o. option_map (λ child. (child, byte ∷ rest)) o ≡ Some below → (below.1 ≡ byte ∷ rest)
-          × (Some byte ≡ Some byte) × (o ≡ Some below.0) in
+      λ o. option_map (λ child. (child, byte ∷ rest)) o ≡ Some below → (below.1 ≡ byte ∷ rest)
+      × (Some byte ≡ Some byte) × (o ≡ Some below.0) in
       let both : (o : Option (Shape V)) → P o = elim [
         | None ↦ (λ e. absurd (none-some below e))
         | Some child ↦ (λ e. let same = same_Some (child, byte ∷ rest) below e in
-        (ap (λ z. z.1) (sym same), refl, ap (λ z. Some z.0) same))
+            (ap (λ z. z.1) (sym same), refl, ap (λ z. Some z.0) same))
       ] in
       both (child_at byte (entries_of forest)) is
 
@@ -72,14 +72,14 @@ module _ {V : Type 0} where
       → IsStep key s below
   is-step (node prefix value width forest) key below is =
       elim (cases_lt (common_length prefix key) (length prefix))
-          as (λ _. IsStep key (node prefix value width forest) below) [
+      as (λ _. IsStep key (node prefix value width forest) below) [
         | inl short ↦ absurd (none-some below
-        (sym (step-short (node prefix value width forest) key short) ∙ is))
+            (sym (step-short (node prefix value width forest) key short) ∙ is))
         | inr whole ↦
             let goes =
-                child-of forest (drop (common_length prefix key) key) below
-                (subst (λ o. option_and_then (child_along forest) o ≡ Some below)
-                (strip_prefix-whole prefix key whole) is) in
+            child-of forest (drop (common_length prefix key) key) below
+            (subst (λ o. option_and_then (child_along forest) o ≡ Some below)
+            (strip_prefix-whole prefix key whole) is) in
             record {
               whole = whole;
               rest = goes.0;
@@ -106,11 +106,11 @@ module _ {V : Type 0} where
   path_end-add (suc a) b key s =
       let e : suc a + b ≡ suc (a + b) = omega arith in
       let P : Option (Shape V × List ℕ) → Type 0 =
-          λ o. option_and_then (λ below. path_end (a + b) below.1 below.0) o
-          ≡ option_and_then (λ end. path_end b end.1 end.0)
-          (option_and_then (λ below. path_end a below.1 below.0) o) in
+      λ o. option_and_then (λ below. path_end (a + b) below.1 below.0) o
+      ≡ option_and_then (λ end. path_end b end.1 end.0)
+      (option_and_then (λ below. path_end a below.1 below.0) o) in
       let both : (o : Option (Shape V × List ℕ)) → P o =
-          elim [ None ↦ refl | Some below ↦ path_end-add a b below.1 below.0 ] in
+      elim [ None ↦ refl | Some below ↦ path_end-add a b below.1 below.0 ] in
       rw e (both (step key s))
 
   pub graft-add : (a b : ℕ) (new : Shape V) (key : List ℕ) (s : Shape V) (end : Shape V × List ℕ)
@@ -123,12 +123,12 @@ module _ {V : Type 0} where
   graft-add (suc a) b new key s end is =
       let e : suc a + b ≡ suc (a + b) = omega arith in
       let P : Option (Shape V × List ℕ) → Type 0 =
-          λ o. option_and_then (λ below. path_end a below.1 below.0) o ≡ Some end
-          → graft_at (graft (a + b) new) s o ≡ graft_at (graft a (graft b new end.1 end.0)) s o in
+      λ o. option_and_then (λ below. path_end a below.1 below.0) o ≡ Some end
+      → graft_at (graft (a + b) new) s o ≡ graft_at (graft a (graft b new end.1 end.0)) s o in
       let both : (o : Option (Shape V × List ℕ)) → P o = elim [
         | None ↦ (λ none. refl)
         | Some below ↦ (λ there. ap (λ z. with_replaced (first_byte below.1) z s)
-        (graft-add a b new below.1 below.0 end there))
+            (graft-add a b new below.1 below.0 end there))
       ] in
       rw e (both (step key s) is)
 
@@ -137,13 +137,13 @@ module _ {V : Type 0} where
   tree-along zero key s end tree is = subst (λ z. IsTree z.0) (same_Some (s, key) end is) tree
   tree-along (suc a) key s end tree is =
       let P : Option (Shape V × List ℕ) → Type 0 =
-          λ o. step key s ≡ o → option_and_then (λ below. path_end a below.1 below.0) o ≡ Some end
-          → IsTree end.0 in
+      λ o. step key s ≡ o → option_and_then (λ below. path_end a below.1 below.0) o ≡ Some end
+      → IsTree end.0 in
       let both : (o : Option (Shape V × List ℕ)) → P o = elim [
         | None ↦ (λ goes none. absurd (none-some end none))
         | Some below ↦ (λ goes there. tree-along a below.1 below.0 end
-        (branch s (first_byte below.1) below.0 (ordered s tree)
-        (is-step s key below goes).child).tree there)
+            (branch s (first_byte below.1) below.0 (ordered s tree)
+            (is-step s key below goes).child).tree there)
       ] in
       both (step key s) refl is
 
@@ -152,12 +152,12 @@ module _ {V : Type 0} where
   found-along zero key s end is = ap (λ z. found z.0 z.1) (same_Some (s, key) end is)
   found-along (suc a) key s end is =
       let P : Option (Shape V × List ℕ) → Type 0 =
-          λ o. step key s ≡ o → option_and_then (λ below. path_end a below.1 below.0) o ≡ Some end
-          → found s key ≡ found end.0 end.1 in
+      λ o. step key s ≡ o → option_and_then (λ below. path_end a below.1 below.0) o ≡ Some end
+      → found s key ≡ found end.0 end.1 in
       let both : (o : Option (Shape V × List ℕ)) → P o = elim [
         | None ↦ (λ goes none. absurd (none-some end none))
         | Some below ↦ (λ goes there. found-step s key below goes
-        ∙ found-along a below.1 below.0 end there)
+            ∙ found-along a below.1 below.0 end there)
       ] in
       both (step key s) refl is
 
@@ -169,17 +169,17 @@ module _ {V : Type 0} where
       subst (λ z. IsPut z.1 value z.0 after) (sym (same_Some (s, key) end is)) puts
   put-along (suc a) key s end after value tree is puts =
       let P : Option (Shape V × List ℕ) → Type 0 =
-          λ o. step key s ≡ o → option_and_then (λ below. path_end a below.1 below.0) o ≡ Some end
-          → IsPut key value s (graft_at (graft a after) s o) in
+      λ o. step key s ≡ o → option_and_then (λ below. path_end a below.1 below.0) o ≡ Some end
+      → IsPut key value s (graft_at (graft a after) s o) in
       let both : (o : Option (Shape V × List ℕ)) → P o = elim [
         | None ↦ (λ goes none. absurd (none-some end none))
         | Some below ↦ (λ goes there.
             let down = is-step s key below goes in
             let known = branch s (first_byte below.1) below.0 (ordered s tree) down.child in
             put-below s below.0 (graft a after below.1 below.0) key below.1
-                (first_byte below.1) value (ordered s tree)
-                (split-whole (prefix_of s) key down.whole
-                ∙ ap (λ rest. prefix_of s ++ rest) (sym down.rest)) down.next down.child
+            (first_byte below.1) value (ordered s tree)
+            (split-whole (prefix_of s) key down.whole
+            ∙ ap (λ rest. prefix_of s ++ rest) (sym down.rest)) down.next down.child
             (put-along a below.1 below.0 end after value known.tree there puts))
       ] in
       both (step key s) refl is
@@ -201,11 +201,11 @@ module _ {V : Type 0} where
     pub step-long : depth + length (prefix_of s) < length w
     step-long =
         let some =
-            begins-long (first_byte below.1) below.1
-            (begins-first (first_byte below.1) below.1 goes.next) in
+        begins-long (first_byte below.1) below.1
+        (begins-first (first_byte below.1) below.1 goes.next) in
         let left : length below.1 ≡ length
-            (drop (common_length (prefix_of s) (drop depth w)) (drop depth w)) =
-            ap length goes.rest in
+        (drop (common_length (prefix_of s) (drop depth w)) (drop depth w)) =
+        ap length goes.rest in
         let a = length-drop (common_length (prefix_of s) (drop depth w)) (drop depth w) in
         let b = length-drop depth w in
         omega (arith, some, left, a, b, matched, within)
@@ -220,7 +220,7 @@ module _ {V : Type 0} where
     byte-is end byte is reads =
         let lt : end < length w = let long = step-long in omega (arith, long, is) in
         let next : slice_get (drop end w) 0 ≡ Some byte =
-            ap (λ z. slice_get z 0) (drop-cons w end 0 lt) ∙ ap Some (sym reads) in
+        ap (λ z. slice_get z 0) (drop-cons w end 0 lt) ∙ ap Some (sym reads) in
         same_Some _ byte (sym goes.next ∙ ap (λ z. slice_get z 0) (sym (rest-is end is)) ∙ next)
 
     -- It goes on at the child under the byte behind these.
@@ -243,11 +243,11 @@ module _ {V : Type 0} where
       → IsSome (path_end steps key s) → IsSome (path_end a key s)
   front-there a b steps key s is there =
       let P : Option (Shape V × List ℕ) → Type 0 =
-          λ o. IsSome (option_and_then (λ end. path_end b end.1 end.0) o) → IsSome o in
+      λ o. IsSome (option_and_then (λ end. path_end b end.1 end.0) o) → IsSome o in
       let both : (o : Option (Shape V × List ℕ)) → P o =
-          elim [ None ↦ (λ none. absurd (false≢true none)) | Some end ↦ (λ some. refl) ] in
+      elim [ None ↦ (λ none. absurd (false≢true none)) | Some end ↦ (λ some. refl) ] in
       both (path_end a key s) (subst IsSome
-          (ap (λ n. path_end n key s) is ∙ path_end-add a b key s) there)
+      (ap (λ n. path_end n key s) is ∙ path_end-add a b key s) there)
 
   pub back-is : (a b steps : ℕ) (key : List ℕ) (s : Shape V) (middle : Shape V × List ℕ)
       → steps ≡ a + b → path_end a key s ≡ Some middle
@@ -259,9 +259,9 @@ module _ {V : Type 0} where
       → IsSome (step key s)
   step-there b key s there =
       let P : Option (Shape V × List ℕ) → Type 0 =
-          λ o. IsSome (option_and_then (λ below. path_end b below.1 below.0) o) → IsSome o in
+      λ o. IsSome (option_and_then (λ below. path_end b below.1 below.0) o) → IsSome o in
       let both : (o : Option (Shape V × List ℕ)) → P o =
-          elim [ None ↦ (λ none. absurd (false≢true none)) | Some below ↦ (λ some. refl) ] in
+      elim [ None ↦ (λ none. absurd (false≢true none)) | Some below ↦ (λ some. refl) ] in
       both (step key s) there
 
   pub below-is : (b : ℕ) (key : List ℕ) (s : Shape V) (below : Shape V × List ℕ)
@@ -279,16 +279,16 @@ module _ {V : Type 0} where
   graft-same zero key s end tree is = ap (λ z. z.0) (sym (same_Some (s, key) end is))
   graft-same (suc a) key s end tree is =
       let P : Option (Shape V × List ℕ) → Type 0 =
-          λ o. step key s ≡ o → option_and_then (λ below. path_end a below.1 below.0) o ≡ Some end
-          → graft_at (graft a end.0) s o ≡ s in
+      λ o. step key s ≡ o → option_and_then (λ below. path_end a below.1 below.0) o ≡ Some end
+      → graft_at (graft a end.0) s o ≡ s in
       let both : (o : Option (Shape V × List ℕ)) → P o = elim [
         | None ↦ (λ goes none. refl)
         | Some below ↦ (λ goes there.
             let down = is-step s key below goes in
             let known = branch s (first_byte below.1) below.0 (ordered s tree) down.child in
             ap (λ z. with_replaced (first_byte below.1) z s)
-                (graft-same a below.1 below.0 end known.tree there)
-                ∙ replaced-same s (first_byte below.1) below.0 (ordered s tree) down.child)
+            (graft-same a below.1 below.0 end known.tree there)
+            ∙ replaced-same s (first_byte below.1) below.0 (ordered s tree) down.child)
       ] in
       both (step key s) refl is
 

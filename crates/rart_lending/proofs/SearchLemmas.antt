@@ -53,5 +53,8 @@ module _ {V : Type 0} where
         pub search-down : (after : Counts) → IsSearchAt root key start child left after
             → IsSearchDown root key start (steps + 1) child left after
         search-down after at =
-            record { at = at; reached = search-step byte child next here;
-            few = let few = down.few in omega (arith, few, shorter) }
+            record {
+              at = at;
+              reached = search-step byte child next here;
+              few = let few = down.few in omega (arith, few, shorter);
+            }

@@ -57,7 +57,7 @@ module _ (P V : RattleType) (bytes : P.Denot → List ℕ) where
   LendsPathEnd lender steps key result =
       LendsSoOk (pointer.the_row P V) (pointed.the_row P V) lender result
       (λ after left. pointer_shape bytes after
-          ≡ graft steps (node_shape bytes left) key (pointer_shape bytes lender.now))
+      ≡ graft steps (node_shape bytes left) key (pointer_shape bytes lender.now))
       (λ after. pointer_shape bytes after ≡ pointer_shape bytes lender.now)
 
   -- The pointer shows the tree with the key set to the value as it was left behind the result, and

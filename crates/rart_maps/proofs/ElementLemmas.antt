@@ -47,14 +47,14 @@ module _ {A : Type 0} where
   filter-contains p [] x there = absurd (Contains-nil x there)
   filter-contains p (y ∷ xs) x there =
       elim (p y) as (λ b. p y ≡ b → Contains (cond b (y ∷ filter p xs) (filter p xs)) x
-          → Contains (y ∷ xs) x × (p x ≡ true)) [
+      → Contains (y ∷ xs) x × (p x ≡ true)) [
         | true ↦ λ passes there. ⊎_elim
             (λ is. (subst (Contains (y ∷ xs)) is (Contains-here y xs), ap p (sym is) ∙ passes))
             (λ later. let found = filter-contains p xs x later in
-                (Contains-later y xs x found.0, found.1))
+            (Contains-later y xs x found.0, found.1))
             (Contains-cases y (filter p xs) x there)
         | false ↦ λ fails there. let found = filter-contains p xs x there in
-        (Contains-later y xs x found.0, found.1)
+            (Contains-later y xs x found.0, found.1)
       ] refl there
 
   contains-filter : (p : A → Bool) (xs : List A) (x : A) → Contains xs x → p x ≡ true
@@ -63,11 +63,11 @@ module _ {A : Type 0} where
   contains-filter p (y ∷ xs) x there passes =
       ⊎_elim
       (λ is. subst (λ b. Contains (cond b (y ∷ filter p xs) (filter p xs)) x)
-          (sym (ap p is ∙ passes)) (subst (Contains (y ∷ filter p xs)) is
-          (Contains-here y (filter p xs))))
+      (sym (ap p is ∙ passes)) (subst (Contains (y ∷ filter p xs)) is
+      (Contains-here y (filter p xs))))
       (λ later. let found = contains-filter p xs x later passes in
       elim (p y) as (λ b. Contains (cond b (y ∷ filter p xs) (filter p xs)) x)
-          [ true ↦ Contains-later y (filter p xs) x found | false ↦ found ])
+      [ true ↦ Contains-later y (filter p xs) x found | false ↦ found ])
       (Contains-cases y xs x there)
 
   -- A filter contains what the list contains and the test passes.
@@ -82,7 +82,7 @@ module _ {A : Type 0} where
       ⊎_elim
       (λ passes. (x, Contains-here x xs, passes))
       (λ later. let found = list_any-contains p xs later in
-          (found.0, Contains-later x xs found.0 found.1, found.2))
+      (found.0, Contains-later x xs found.0 found.1, found.2))
       (or_cases (p x) (list_any p xs) one)
 
   contains-list_any : (p : A → Bool) (xs : List A) (x : A) → Contains xs x → p x ≡ true
@@ -106,13 +106,13 @@ module _ {A B : Type 0} where
   filter_map-contains h [] y there = absurd (Contains-nil y there)
   filter_map-contains h (x ∷ xs) y there =
       elim (h x) as (λ o. h x ≡ o → Contains (cons_option o (filter_map h xs)) y
-          → (a : A) × Contains (x ∷ xs) a × (h a ≡ Some y)) [
+      → (a : A) × Contains (x ∷ xs) a × (h a ≡ Some y)) [
         | None ↦ λ is there. let found = filter_map-contains h xs y there in
-        (found.0, Contains-later x xs found.0 found.1, found.2)
+            (found.0, Contains-later x xs found.0 found.1, found.2)
         | Some z ↦ λ is there. ⊎_elim
             (λ same. (x, Contains-here x xs, is ∙ ap (λ v. Some v) same))
             (λ later. let found = filter_map-contains h xs y later in
-                (found.0, Contains-later x xs found.0 found.1, found.2))
+            (found.0, Contains-later x xs found.0 found.1, found.2))
             (Contains-cases z (filter_map h xs) y there)
       ] refl there
 
@@ -122,10 +122,10 @@ module _ {A B : Type 0} where
   contains-filter_map h (a ∷ xs) x y there is =
       ⊎_elim
       (λ same. subst (λ o. Contains (cons_option o (filter_map h xs)) y) (sym (ap h same ∙ is))
-          (Contains-here y (filter_map h xs)))
+      (Contains-here y (filter_map h xs)))
       (λ later. let found = contains-filter_map h xs x y later is in
       elim (h a) as (λ o. Contains (cons_option o (filter_map h xs)) y)
-          [ None ↦ found | Some z ↦ Contains-later z (filter_map h xs) y found ])
+      [ None ↦ found | Some z ↦ Contains-later z (filter_map h xs) y found ])
       (Contains-cases a xs x there)
 
   -- What a partial function gives of a list contains what it gives of an element.
@@ -168,14 +168,14 @@ module _ {K X : Type 0} {R : K → K → Ordering} (o : IsTotalOrder R)
       let parts = and_parts (below_all R first.0 rest) (is_sorted R rest) sorted in
       ⊎_elim
       (λ is. ap (λ e. find R key (e ∷ rest)) is
-          ∙ ap (λ r. cond (is_eq r) (Some x) (find R key rest)) (tied_itself o key))
+      ∙ ap (λ r. cond (is_eq r) (Some x) (find R key rest)) (tied_itself o key))
       (λ later.
       elim (eq_by_cmp R key first.0) as (λ t. eq_by_cmp R key first.0 ≡ t
-          → cond t (Some first.1) (find R key rest) ≡ Some x) [
+      → cond t (Some first.1) (find R key rest) ≡ Some x) [
         | true ↦ λ is. absurd (lt-eq (R first.0 key)
-        (below-contains first.0 rest parts.0 (key, x) later)
-        (ap (λ k. is_eq (R first.0 k)) (tied same key first.0 is)
-        ∙ ap is_eq (tied_itself o first.0)))
+            (below-contains first.0 rest parts.0 (key, x) later)
+            (ap (λ k. is_eq (R first.0 k)) (tied same key first.0 is)
+            ∙ ap is_eq (tied_itself o first.0)))
         | false ↦ λ _. contains-find rest parts.1 key x later
       ] refl)
       (Contains-cases first rest (key, x) there)
@@ -185,10 +185,10 @@ module _ {K X : Type 0} {R : K → K → Ordering} (o : IsTotalOrder R)
   find-contains [] key x is = absurd (false≢true (ap is_some is))
   find-contains (first ∷ rest) key x is =
       elim (eq_by_cmp R key first.0) as (λ t. eq_by_cmp R key first.0 ≡ t
-          → cond t (Some first.1) (find R key rest) ≡ Some x → Contains (first ∷ rest) (key, x)) [
+      → cond t (Some first.1) (find R key rest) ≡ Some x → Contains (first ∷ rest) (key, x)) [
         | true ↦ λ tie here.
             let entry : ◌≡◌ {A = K × X} first (key, x) =
-                λ i. (sym (tied same key first.0 tie) i, same_Some first.1 x here i) in
+            λ i. (sym (tied same key first.0 tie) i, same_Some first.1 x here i) in
             subst (Contains (first ∷ rest)) entry (Contains-here first rest)
         | false ↦ λ _ later. Contains-later first rest (key, x) (find-contains rest key x later)
       ] refl is

@@ -31,9 +31,10 @@ module _ {V : Type 0} where
       ↔ ((p key ≡ true) × (finite.get m key ≡ Some x))
   Contains-filter_pairs p m key x =
       let kept = Contains-filter (λ pair. p pair.0) (pairs m) (key, x) in
-      let there = Contains-pairs m key x in
-      (λ found. ((kept.0 found).1, there.0 (kept.0 found).0),
-          λ both. kept.1 (there.1 both.1, both.0))
+      let there = Contains-pairs m key x in (
+        λ found. ((kept.0 found).1, there.0 (kept.0 found).0),
+        λ both. kept.1 (there.1 both.1, both.0),
+      )
 
   -- Of entries in order the keys ascend strictly.
   pub KeysAscend-sorted : (entries : List (List ℕ × V)) → is_sorted byte_order entries ≡ true
@@ -43,9 +44,9 @@ module _ {V : Type 0} where
       let parts = and_parts (below_all byte_order pair.0 rest) (is_sorted byte_order rest) sorted in
       AllPairs-cons (λ a b. IsBefore a.0 b.0) pair rest
       (All-from_contains (λ e. IsBefore pair.0 e.0) rest
-          (λ entry there. lt-before pair.0 entry.0
-          (below-contains nat_list_cmp_total byte_order-IsAntisymmetric pair.0 rest parts.0 entry
-          there)))
+      (λ entry there. lt-before pair.0 entry.0
+      (below-contains nat_list_cmp_total byte_order-IsAntisymmetric pair.0 rest parts.0 entry
+      there)))
       (KeysAscend-sorted rest parts.1)
 
   -- A filter of the pairs ascends too.
@@ -64,11 +65,11 @@ module _ {V : Type 0} where
       × (other pair.0 ≡ Some entry.2)
   joined-is other pair entry is =
       elim (other pair.0) as (λ o. option_map (λ x. (pair.0, pair.1, x)) o ≡ Some entry
-          → (pair.0 ≡ entry.0) × (pair.1 ≡ entry.1) × (o ≡ Some entry.2)) [
+      → (pair.0 ≡ entry.0) × (pair.1 ≡ entry.1) × (o ≡ Some entry.2)) [
         | None ↦ λ is. absurd (false≢true (ap is_some is))
         | Some x ↦ λ is.
             let whole : ◌≡◌ {A = List ℕ × V × V} (pair.0, pair.1, x) entry =
-                ap (λ o. unwrap_or o (pair.0, pair.1, x)) is in
+            ap (λ o. unwrap_or o (pair.0, pair.1, x)) is in
             (ap (λ e. e.0) whole, ap (λ e. e.1) whole, ap (λ e. Some e.2) whole)
       ] is
 
@@ -77,11 +78,12 @@ module _ {V : Type 0} where
       × (finite.get right key ≡ Some y)
   common-from left right key x y there =
       let found =
-          (Contains-filter_map (joined (finite.get right)) (pairs left) (key, x, y)).0 there in
-      let parts = joined-is (finite.get right) found.0 (key, x, y) found.2 in
-      ((Contains-pairs left key x).0
-          (subst (Contains (pairs left)) (λ i. (parts.0 i, parts.1 i)) found.1),
-          ap (finite.get right) (sym parts.0) ∙ parts.2)
+      (Contains-filter_map (joined (finite.get right)) (pairs left) (key, x, y)).0 there in
+      let parts = joined-is (finite.get right) found.0 (key, x, y) found.2 in (
+        (Contains-pairs left key x).0
+            (subst (Contains (pairs left)) (λ i. (parts.0 i, parts.1 i)) found.1),
+        ap (finite.get right) (sym parts.0) ∙ parts.2,
+      )
 
   common-to : (left right : Map V) (key : List ℕ) (x y : V) → finite.get left key ≡ Some x
       → finite.get right key ≡ Some y → Contains (common left right) (key, x, y)
@@ -97,17 +99,16 @@ module _ {V : Type 0} where
       let parts = and_parts (below_all byte_order pair.0 rest) (is_sorted byte_order rest) sorted in
       let more = joined-ascends other rest parts.1 in
       elim (other pair.0) as (λ o. KeysAscend (λ (entry : List ℕ × V × V). entry.0)
-          (cons_option (option_map (λ x. (pair.0, pair.1, x)) o) (filter_map (joined other) rest)))
-          [
+      (cons_option (option_map (λ x. (pair.0, pair.1, x)) o) (filter_map (joined other) rest))) [
         | None ↦ more
         | Some x ↦ AllPairs-cons (λ a b. IsBefore a.0 b.0) (pair.0, pair.1, x)
-        (filter_map (joined other) rest)
+            (filter_map (joined other) rest)
             (All-from_contains (λ e. IsBefore pair.0 e.0) (filter_map (joined other) rest)
-                (λ entry there.
+            (λ entry there.
             let found = (Contains-filter_map (joined other) rest entry).0 there in
             subst (IsBefore pair.0) (joined-is other found.0 entry found.2).0
             (lt-before pair.0 found.0.0 (below-contains nat_list_cmp_total
-                byte_order-IsAntisymmetric pair.0 rest parts.0 found.0 found.1))))
+            byte_order-IsAntisymmetric pair.0 rest parts.0 found.0 found.1))))
             more
       ]
 
@@ -131,11 +132,12 @@ module _ (V : Type 0) where
   pub within_is_found : WithinIsFound V
   within_is_found m low high key x =
       let kept =
-          Contains-filter_pairs (bounds_contain (as_partial_cmp byte_order) low high) m key x in
-      let meets = bounds_contain-is low high key in
-      (λ there. let both = kept.0 there in
-          ((meets.0 both.0).0, (meets.0 both.0).1, both.1),
-              λ all. kept.1 (meets.1 (all.0, all.1), all.2))
+      Contains-filter_pairs (bounds_contain (as_partial_cmp byte_order) low high) m key x in
+      let meets = bounds_contain-is low high key in (
+        λ there. let both = kept.0 there in
+            ((meets.0 both.0).0, (meets.0 both.0).1, both.1),
+        λ all. kept.1 (meets.1 (all.0, all.1), all.2),
+      )
 
   pub under_is_found : UnderIsFound V
   under_is_found m p key x = Contains-filter_pairs (begins p) m key x
@@ -160,8 +162,8 @@ module _ (A : Type 0) where
       (λ x_later. ⊎_elim
       (λ is. is)
       (λ y_later. absurd (IsBefore-back (key y) (key x)
-          (AllPairs-first (λ a b. IsBefore (key a) (key b)) y ys also x x_later)
-          (AllPairs-first (λ a b. IsBefore (key a) (key b)) x xs ascends y y_later)))
+      (AllPairs-first (λ a b. IsBefore (key a) (key b)) y ys also x x_later)
+      (AllPairs-first (λ a b. IsBefore (key a) (key b)) x xs ascends y y_later)))
       (Contains-cases x xs y y_there))
       (Contains-cases y ys x x_there)
 
@@ -171,8 +173,8 @@ module _ (A : Type 0) where
   rest_same key x y xs ys ascends same z into there =
       ⊎_elim
       (λ is. absurd (IsBefore-itself (key z)
-          (subst (λ a. IsBefore (key a) (key z)) (same ∙ is)
-          (AllPairs-first (λ a b. IsBefore (key a) (key b)) x xs ascends z there))))
+      (subst (λ a. IsBefore (key a) (key z)) (same ∙ is)
+      (AllPairs-first (λ a b. IsBefore (key a) (key b)) x xs ascends z there))))
       (λ later. later)
       (Contains-cases y ys z (into (Contains-later x xs z there)))
 
@@ -184,12 +186,14 @@ module _ (A : Type 0) where
       absurd (Contains-nil x ((same x).0 (Contains-here x xs)))
   ascending_lists_are_fixed key (x ∷ xs) (y ∷ ys) ascends also same =
       let first =
-          first_same key x y xs ys ascends also ((same x).0 (Contains-here x xs))
-          ((same y).1 (Contains-here y ys)) in
+      first_same key x y xs ys ascends also ((same x).0 (Contains-here x xs))
+      ((same y).1 (Contains-here y ys)) in
       let rest =
-          ascending_lists_are_fixed key xs ys
-          (AllPairs-rest (λ a b. IsBefore (key a) (key b)) x xs ascends)
-          (AllPairs-rest (λ a b. IsBefore (key a) (key b)) y ys also)
-      (λ z. (rest_same key x y xs ys ascends first z (same z).0,
-          rest_same key y x ys xs also (sym first) z (same z).1)) in
+      ascending_lists_are_fixed key xs ys
+      (AllPairs-rest (λ a b. IsBefore (key a) (key b)) x xs ascends)
+      (AllPairs-rest (λ a b. IsBefore (key a) (key b)) y ys also)
+      (λ z. (
+        rest_same key x y xs ys ascends first z (same z).0,
+        rest_same key y x ys xs also (sym first) z (same z).1,
+      )) in
       λ i. first i ∷ rest i

@@ -11,7 +11,15 @@ pub ruleset maps =
     (pairs-empty, finite.entries-insert, finite.get-empty, finite.get-insert, nat_list_cmp_total)
 
 -- what a set has, what a test keeps of it, what it has in common with another, and how many that is
-pub ruleset sets =
-    (retain-empty, retain-insert, intersection-empty, intersection-insert, set.contains-empty,
-    set.contains-insert, set.len-empty, set.len-insert, nat_list_cmp_total,
-    byte_order-IsAntisymmetric)
+pub ruleset sets = (
+  retain-empty,
+  retain-insert,
+  intersection-empty,
+  intersection-insert,
+  set.contains-empty,
+  set.contains-insert,
+  set.len-empty,
+  set.len-insert,
+  nat_list_cmp_total,
+  byte_order-IsAntisymmetric,
+)

@@ -24,7 +24,7 @@ less-before [] (c ∷ w) is = tt
 less-before (b ∷ u) [] is = absurd (false≢true (ap is_lt is))
 less-before (b ∷ u) (c ∷ w) is =
     elim (nat_cmp b c) as (λ r. r ≡ nat_cmp b c → ordering_then r (byte_order u w) ≡ Less
-        → (b < c) ⊎ ((b ≡ c) × IsBefore u w)) [
+    → (b < c) ⊎ ((b ≡ c) × IsBefore u w)) [
       | Less ↦ λ here _. inl (ranked b c Less here)
       | Equal ↦ λ here more. inr (ranked b c Equal here, less-before u w more)
       | Greater ↦ λ _ more. absurd (false≢true (ap is_lt more))
@@ -38,7 +38,7 @@ before-less (b ∷ u) (c ∷ w) before =
     ⊎_elim
     (λ less. ap (λ r. ordering_then r (byte_order u w)) (sym (nat_cmp_is b c Less less)))
     (λ both. ap (λ r. ordering_then r (byte_order u w)) (sym (nat_cmp_is b c Equal both.0))
-        ∙ before-less u w both.1)
+    ∙ before-less u w both.1)
     before
 
 pub order_is_of_first_difference : OrderIsOfFirstDifference
@@ -57,7 +57,7 @@ IsBefore-back (b ∷ u) (c ∷ w) before back =
     ⊎_elim
     (λ less. ⊎_elim (λ more. omega (arith, less, more)) (λ both. omega (arith, less, both.0)) back)
     (λ here. ⊎_elim (λ more. omega (arith, here.0, more))
-        (λ both. IsBefore-back u w here.1 both.1) back)
+    (λ both. IsBefore-back u w here.1 both.1) back)
     before
 
 pub lt-less : (r : Ordering) → is_lt r ≡ true → r ≡ Less

@@ -68,7 +68,7 @@ module _ {V : Type 0} where
   flat-joined [] other = refl
   flat-joined (pair ∷ rest) other =
       elim (other pair.0) as (λ o. cons_option (option_map (λ x. (pair.0, pair.1, x)) o)
-          (filter_map (λ pair. option_map (λ x. (pair.0, pair.1, x)) (other pair.0)) rest)
+      (filter_map (λ pair. option_map (λ x. (pair.0, pair.1, x)) (other pair.0)) rest)
       ≡ map flat (cons_option (option_map (λ x. (pair.0, (pair.1, x))) o) (joined rest other))) [
         | None ↦ flat-joined rest other
         | Some x ↦ ap (λ more. (pair.0, pair.1, x) ∷ more) (flat-joined rest other)
@@ -96,28 +96,28 @@ module _ {V : Type 0} where
   find-joined (pair ∷ rest) other q =
       let more = find-joined rest other q in
       let there : eq_by_cmp byte_order q pair.0 ≡ true
-          → find byte_order q (joined (pair ∷ rest) other) ≡ both (Some pair.1) (other q) =
+      → find byte_order q (joined (pair ∷ rest) other) ≡ both (Some pair.1) (other q) =
       λ tied. elim (other pair.0) as (λ o. other q ≡ o
-          → find byte_order q (cons_option (option_map (λ x. (pair.0, (pair.1, x))) o)
-          (joined rest other)) ≡ both (Some pair.1) (other q)) [
+      → find byte_order q (cons_option (option_map (λ x. (pair.0, (pair.1, x))) o)
+      (joined rest other)) ≡ both (Some pair.1) (other q)) [
         | None ↦ λ none. more ∙ ap (both (find byte_order q rest)) none ∙ both-none _
-        ∙ sym (ap (both (Some pair.1)) none)
+            ∙ sym (ap (both (Some pair.1)) none)
         | Some x ↦ λ some. ap (λ t. cond t (Some (pair.1, x))
-        (find byte_order q (joined rest other))) tied ∙ sym (ap (both (Some pair.1)) some)
+            (find byte_order q (joined rest other))) tied ∙ sym (ap (both (Some pair.1)) some)
       ] (ap other (same_key q pair.0 tied)) in
       let not_there : eq_by_cmp byte_order q pair.0 ≡ false
-          → find byte_order q (joined (pair ∷ rest) other)
-          ≡ both (find byte_order q rest) (other q) =
+      → find byte_order q (joined (pair ∷ rest) other)
+      ≡ both (find byte_order q rest) (other q) =
       λ apart. elim (other pair.0) as (λ o.
-          find byte_order q (cons_option (option_map (λ x. (pair.0, (pair.1, x))) o)
-          (joined rest other)) ≡ both (find byte_order q rest) (other q)) [
+      find byte_order q (cons_option (option_map (λ x. (pair.0, (pair.1, x))) o)
+      (joined rest other)) ≡ both (find byte_order q rest) (other q)) [
         | None ↦ more
         | Some x ↦ ap (λ t. cond t (Some (pair.1, x)) (find byte_order q (joined rest other))) apart
-        ∙ more
+            ∙ more
       ] in
       elim (eq_by_cmp byte_order q pair.0) as (λ t. eq_by_cmp byte_order q pair.0 ≡ t
-          → find byte_order q (joined (pair ∷ rest) other)
-          ≡ both (cond t (Some pair.1) (find byte_order q rest)) (other q)) [
+      → find byte_order q (joined (pair ∷ rest) other)
+      ≡ both (cond t (Some pair.1) (find byte_order q rest)) (other q)) [
         | true ↦ there
         | false ↦ not_there
       ] refl
@@ -129,7 +129,7 @@ module _ {V : Type 0} where
       let parts = and_parts _ (below_all byte_order key rest) below in
       let more = below-joined key rest other parts.1 in
       elim (other pair.0) as (λ o. below_all byte_order key
-          (cons_option (option_map (λ x. (pair.0, (pair.1, x))) o) (joined rest other)) ≡ true) [
+      (cons_option (option_map (λ x. (pair.0, (pair.1, x))) o) (joined rest other)) ≡ true) [
         | None ↦ more
         | Some x ↦ and_from _ _ parts.0 more
       ]
@@ -141,7 +141,7 @@ module _ {V : Type 0} where
       let parts = and_parts (below_all byte_order pair.0 rest) (is_sorted byte_order rest) sorted in
       let more = sorted-joined rest other parts.1 in
       elim (other pair.0) as (λ o. is_sorted byte_order
-          (cons_option (option_map (λ x. (pair.0, (pair.1, x))) o) (joined rest other)) ≡ true) [
+      (cons_option (option_map (λ x. (pair.0, (pair.1, x))) o) (joined rest other)) ≡ true) [
         | None ↦ more
         | Some x ↦ and_from _ _ (below-joined pair.0 rest other parts.0) more
       ]
@@ -152,8 +152,8 @@ module _ {V : Type 0} where
   find-turned [] q = refl
   find-turned (entry ∷ entries) q =
       elim (eq_by_cmp byte_order q entry.0)
-          as (λ t. cond t (Some (entry.1.1, entry.1.0)) (find byte_order q (map turned entries))
-          ≡ option_map (λ xs. (xs.1, xs.0)) (cond t (Some entry.1) (find byte_order q entries))) [
+      as (λ t. cond t (Some (entry.1.1, entry.1.0)) (find byte_order q (map turned entries))
+      ≡ option_map (λ xs. (xs.1, xs.0)) (cond t (Some entry.1) (find byte_order q entries))) [
         | true ↦ refl
         | false ↦ find-turned entries q
       ]
@@ -176,10 +176,10 @@ module _ {V : Type 0} where
       → joined (pairs right) (finite.get left) ≡ map turned (joined (pairs left) (finite.get right))
   joined-swaps left right =
       same_entries byte_order nat_list_cmp_total
-          (finite.slice_cmp-IsAntisymmetric finite.nat_cmp-IsAntisymmetric) _ _
+      (finite.slice_cmp-IsAntisymmetric finite.nat_cmp-IsAntisymmetric) _ _
       (true-T _ (sorted-joined (pairs right) (finite.get left) (ascending right)))
       (true-T _ (sorted-turned (joined (pairs left) (finite.get right))
-          ∙ sorted-joined (pairs left) (finite.get right) (ascending left)))
+      ∙ sorted-joined (pairs left) (finite.get right) (ascending left)))
       (λ q.
       find-joined (pairs right) (finite.get left) q
       ∙ ap (λ o. both o (finite.get left q)) (sym (finite.get-entries right q))
@@ -226,7 +226,7 @@ list_any-weaker p q weaker (x ∷ xs) one =
     elim (p x) as (λ b. p x ≡ b → (b || list_any p xs) ≡ true → (q x || list_any q xs) ≡ true) [
       | true ↦ λ passes _. ap (λ b. b || list_any q xs) (weaker x passes)
       | false ↦ λ _ later. elim (q x) as (λ b. (b || list_any q xs) ≡ true)
-      [ true ↦ refl | false ↦ list_any-weaker p q weaker xs later ]
+          [ true ↦ refl | false ↦ list_any-weaker p q weaker xs later ]
     ] refl one
 
 -- the beginnings of a string are those that begin it
@@ -253,7 +253,7 @@ module _ {V : Type 0} where
       → set.contains (starts m) u ≡ list_any (λ pair. begins u pair.0) (pairs m)
   contains-starts m u =
       set.contains-from_list nat_list_cmp_total
-          (flat_map (λ pair. beginnings_of pair.0) (pairs m)) u
+      (flat_map (λ pair. beginnings_of pair.0) (pairs m)) u
       ∙ list_any-same (eq_by_cmp byte_order u) (bytes_eq u) (is_eq-slice_cmp u)
       (flat_map (λ pair. beginnings_of pair.0) (pairs m))
       ∙ list_any-flat_map (bytes_eq u) (λ pair. beginnings_of pair.0) (pairs m)
@@ -276,18 +276,18 @@ module _ {V : Type 0} where
   empty_or_begun : (m : Map V) → (m ≡ finite.empty) ⊎ (set.contains (starts m) [] ≡ true)
   empty_or_begun m =
       elim (pairs m) as (λ es. pairs m ≡ es → (m ≡ finite.empty)
-          ⊎ (set.contains (starts m) [] ≡ true)) [
+      ⊎ (set.contains (starts m) [] ≡ true)) [
         | [] ↦ λ none. inl (finite.empty_of_len m (finite.len-entries m ∙ ap length none))
         | pair ∷ rest ↦ λ some. inr (contains-starts m []
-        ∙ ap (list_any (λ pair. begins [] pair.0)) some)
+            ∙ ap (list_any (λ pair. begins [] pair.0)) some)
       ] refl
 
   shared-none : (left right : Map V) → ((u : List ℕ) → set.contains (shared left right) u ≡ false)
       → set.len (shared left right) ≡ 0
   shared-none left right none =
       ap set.len (set.same_set nat_list_cmp_total
-          (finite.slice_cmp-IsAntisymmetric finite.nat_cmp-IsAntisymmetric)
-          (shared left right) set.empty (λ u. none u ∙ sym (set.contains-empty byte_order u)))
+      (finite.slice_cmp-IsAntisymmetric finite.nat_cmp-IsAntisymmetric)
+      (shared left right) set.empty (λ u. none u ∙ sym (set.contains-empty byte_order u)))
       ∙ set.len-empty byte_order
 
 module _ (V : Type 0) where
@@ -325,21 +325,21 @@ module _ (V : Type 0) where
   pub shared_shorten : SharedShorten V
   shared_shorten left right u v is =
       let parts =
-          and_parts (set.contains (starts left) (u ++ v)) (set.contains (starts right) (u ++ v))
-          (sym (contains-shared left right (u ++ v)) ∙ is) in
+      and_parts (set.contains (starts left) (u ++ v)) (set.contains (starts right) (u ++ v))
+      (sym (contains-shared left right (u ++ v)) ∙ is) in
       contains-shared left right u ∙ and_from (set.contains (starts left) u)
-          (set.contains (starts right) u) (starts-shorter left u v parts.0)
-          (starts-shorter right u v parts.1)
+      (set.contains (starts right) u) (starts-shorter left u v parts.0)
+      (starts-shorter right u v parts.1)
 
   shared_of_both : (left right : Map V) → set.len (shared left right) ≡ 0
       → set.contains (starts left) [] ≡ true → set.contains (starts right) [] ≡ true → ⊥
   shared_of_both left right none begun_left begun_right =
       let begun =
-          contains-shared left right [] ∙ and_from (set.contains (starts left) [])
-          (set.contains (starts right) []) begun_left begun_right in
+      contains-shared left right [] ∙ and_from (set.contains (starts left) [])
+      (set.contains (starts right) []) begun_left begun_right in
       let none_begun =
-          ap (λ strings. set.contains strings []) (set.empty_of_len (shared left right) none)
-          ∙ set.contains-empty byte_order [] in
+      ap (λ strings. set.contains strings []) (set.empty_of_len (shared left right) none)
+      ∙ set.contains-empty byte_order [] in
       false≢true (sym none_begun ∙ begun)
 
   pub shared_is_empty : SharedIsEmpty V
@@ -350,8 +350,8 @@ module _ (V : Type 0) where
         (empty_or_begun left),
     λ either. shared-none left right (λ u. contains-shared left right u ∙ ⊎_elim
         (λ is. ap (λ b. b && set.contains (starts right) u) (ap (λ m. set.contains (starts m) u) is
-            ∙ starts-none u))
+        ∙ starts-none u))
         (λ is. ap (λ b. set.contains (starts left) u && b) (ap (λ m. set.contains (starts m) u) is
-            ∙ starts-none u) ∙ and_right (set.contains (starts left) u) false refl)
+        ∙ starts-none u) ∙ and_right (set.contains (starts left) u) false refl)
         either),
   )

@@ -88,8 +88,8 @@ module _ {K : Type 0} {R : K → K → Ordering} (o : IsTotalOrder R)
       let more = count-each_once ks p in
       let s : set.FinSet R = set.from_list ks in
       elim (set.contains s k) as (λ t. set.contains s k ≡ t
-          → set.len (set.retain (set.insert s k) p)
-          ≡ count_by p (cond t (each_once ks) (k ∷ each_once ks))) [
+      → set.len (set.retain (set.insert s k) p)
+      ≡ count_by p (cond t (each_once ks) (k ∷ each_once ks))) [
         | true ↦ λ there. ap (λ t. set.len (set.retain t p)) (insert_again s k there) ∙ more
         | false ↦ λ missing.
             ap set.len (retain-insert s k p)
@@ -115,7 +115,7 @@ module _ {K : Type 0} {R : K → K → Ordering} (o : IsTotalOrder R)
         | true ↦ λ there. later_or (eq_by_cmp R k x) (each_once-there ks k there)
         | false ↦ λ there. ⊎_elim
             (λ is. ap (λ r. is_eq r || set.contains (set.from_list {R = R} ks) k)
-                (ap (R k) is ∙ tied_itself o k))
+            (ap (R k) is ∙ tied_itself o k))
             (λ later. later_or (eq_by_cmp R k x) (each_once-there ks k later))
             (Contains-cases x (each_once ks) k there)
       ] there

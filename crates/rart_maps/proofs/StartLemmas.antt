@@ -39,8 +39,11 @@ module _ (V : Type 0) where
         λ is. let found = any.0 (sym (contains-starts m s) ∙ is) in
             (found.0.0, found.2, ap is_some ((Contains-pairs m found.0.0 found.0.1).0 found.1)),
         λ found. let value = key_of (finite.get m found.0) found.2 in
-            contains-starts m s ∙ any.1 ((found.0, value.0),
-                (Contains-pairs m found.0 value.0).1 value.1, found.1),
+            contains-starts m s ∙ any.1 (
+              (found.0, value.0),
+              (Contains-pairs m found.0 value.0).1 value.1,
+              found.1,
+            ),
       )
 
   pub shared_are_in_both : SharedAreInBoth V
@@ -96,8 +99,11 @@ part_of : (strings : Strings) (s u rest : List ℕ) → u ≡ s ++ rest → set.
 part_of strings s u [] is there = let whole = is ∙ append-nil s in
     inl (whole, ap (set.contains strings) (sym whole) ∙ there)
 part_of strings s u (b ∷ rest) is there =
-    inr (b, under-from strings (with_byte s b) u there
-    (ap (begins (with_byte s b)) is ∙ begins-with_byte s b rest))
+    inr (
+      b,
+      under-from strings (with_byte s b) u there
+          (ap (begins (with_byte s b)) is ∙ begins-with_byte s b rest),
+    )
 
 pub strings_under_split : StringsUnderSplit
 strings_under_split strings s u = (
@@ -105,17 +111,18 @@ strings_under_split strings s u = (
       part_of strings s u found.0 found.1 parts.0,
   λ either. ⊎_elim
       (λ here. under-from strings s u (ap (set.contains strings) here.0 ∙ here.1)
-          (ap (begins s) (here.0 ∙ sym (append-nil s)) ∙ begins-append s []))
+      (ap (begins s) (here.0 ∙ sym (append-nil s)) ∙ begins-append s []))
       (λ further. let parts = under-parts strings (with_byte s further.0) u further.1 in
-          under-from strings s u parts.0 (begins-shorter s (further.0 ∷ []) u parts.1))
+      under-from strings s u parts.0 (begins-shorter s (further.0 ∷ []) u parts.1))
       either,
 )
 
 pub strings_under_are_apart : StringsUnderAreApart
 strings_under_are_apart strings s u b is =
-    let here = (under-parts strings (with_byte s b) u is).1 in
-    (λ same. not_itself s b (ap (begins (with_byte s b)) (sym same) ∙ here),
-        λ c also. one_byte s u b c here (under-parts strings (with_byte s c) u also).1)
+    let here = (under-parts strings (with_byte s b) u is).1 in (
+      λ same. not_itself s b (ap (begins (with_byte s b)) (sym same) ∙ here),
+      λ c also. one_byte s u b c here (under-parts strings (with_byte s c) u also).1,
+    )
 
 -- ---- numbers
 
@@ -146,16 +153,16 @@ part_at : (s bytes k : List ℕ)
 part_at [] bytes [] once = let none = sum_by-zero bytes in omega (arith, none)
 part_at [] bytes (c ∷ rest) once =
     let same : sum_by (λ b. cond (b == c && true) 1 0) bytes ≡ count_by (λ b. b == c) bytes =
-        λ i. sum_by (λ b. cond (and-true (b == c) i) 1 0) bytes in
+    λ i. sum_by (λ b. cond (and-true (b == c) i) 1 0) bytes in
     let one = once c rest refl in
     omega (arith, same, one)
 part_at (a ∷ s) bytes [] once = let none = sum_by-zero bytes in omega (arith, none)
 part_at (a ∷ s) bytes (c ∷ k) once =
     elim (a == c) as (λ t. (a == c) ≡ t
-        → cond (t && begins s k) 1 0 ≡ cond (t && bytes_eq s k) 1 0
-        + sum_by (λ b. cond (t && begins (with_byte s b) k) 1 0) bytes) [
+    → cond (t && begins s k) 1 0 ≡ cond (t && bytes_eq s k) 1 0
+    + sum_by (λ b. cond (t && begins (with_byte s b) k) 1 0) bytes) [
       | true ↦ λ is. part_at s bytes k
-      (λ b rest here. once b rest (λ i. sym (eqb-true a c is) i ∷ here i))
+          (λ b rest here. once b rest (λ i. sym (eqb-true a c is) i ∷ here i))
       | false ↦ λ _. let none = sum_by-zero bytes in omega (arith, none)
     ] refl
 
@@ -171,12 +178,12 @@ count_part s bytes (k ∷ ks) once =
     let left = sum_by-cons (λ q. cond (begins s q) 1 0) k ks in
     let itself = sum_by-cons (λ q. cond (bytes_eq s q) 1 0) k ks in
     let each : sum_by (λ b. count_by (begins (with_byte s b)) (k ∷ ks)) bytes
-        ≡ sum_by (λ b. cond (begins (with_byte s b) k) 1 0 + count_by (begins (with_byte s b)) ks)
-        bytes =
+    ≡ sum_by (λ b. cond (begins (with_byte s b) k) 1 0 + count_by (begins (with_byte s b)) ks)
+    bytes =
     λ i. sum_by (λ b. sum_by-cons (λ q. cond (begins (with_byte s b) q) 1 0) k ks i) bytes in
     let split =
-        sum_by-plus (λ b. cond (begins (with_byte s b) k) 1 0)
-        (λ b. count_by (begins (with_byte s b)) ks) bytes in
+    sum_by-plus (λ b. cond (begins (with_byte s b) k) 1 0)
+    (λ b. count_by (begins (with_byte s b)) ks) bytes in
     left ∙ omega (arith, here, more, itself, each, split)
 
 -- Each byte stands in the list at most once.
@@ -246,8 +253,8 @@ len-itself : (strings : Strings) (s : List ℕ)
     → set.len (set.retain strings (bytes_eq s)) ≡ cond (set.contains strings s) 1 0
 len-itself strings s =
     ap set.len (set.same_set nat_list_cmp_total byte_order-IsAntisymmetric
-        (set.retain strings (bytes_eq s))
-        (cond (set.contains strings s) (set.insert set.empty s) set.empty) (λ q.
+    (set.retain strings (bytes_eq s))
+    (cond (set.contains strings s) (set.insert set.empty s) set.empty) (λ q.
     contains-kept nat_list_cmp_total byte_order-IsAntisymmetric strings (bytes_eq s) q
     ∙ elim (bytes_eq s q) as (λ e. bytes_eq s q ≡ e
     → (set.contains strings q && e) ≡ (set.contains strings s && e)) [
@@ -308,11 +315,11 @@ module _ {C : Type 0} where
   once-children b [] sorted there = absurd (false≢true there)
   once-children b (child ∷ children) sorted there =
       let parts =
-          and_parts (below_all nat_cmp child.0 children) (is_sorted nat_cmp children) sorted in
+      and_parts (below_all nat_cmp child.0 children) (is_sorted nat_cmp children) sorted in
       sum_by-cons (λ c. cond (c == b) 1 0) child.0 (map (λ child. child.0) children)
       ∙ ⊎_elim
       (λ is. λ i. cond (eq-eqb child.0 b is i) 1 0
-          + none_below b children (ap (λ a. below_all nat_cmp a children) (sym is) ∙ parts.0) i)
+      + none_below b children (ap (λ a. below_all nat_cmp a children) (sym is) ∙ parts.0) i)
       (λ other. λ i. cond (ne_eqb child.0 b other i) 1 0
       + once-children b children parts.1
       (ap (λ t. is_some (cond t (Some child.1) (find nat_cmp b children)))
@@ -324,12 +331,12 @@ module _ {C : Type 0} where
   at_most_once-children [] sorted b = omega arith
   at_most_once-children (child ∷ children) sorted b =
       let parts =
-          and_parts (below_all nat_cmp child.0 children) (is_sorted nat_cmp children) sorted in
+      and_parts (below_all nat_cmp child.0 children) (is_sorted nat_cmp children) sorted in
       let first = sum_by-cons (λ c. cond (c == b) 1 0) child.0 (map (λ child. child.0) children) in
       ⊎_elim
       (λ is.
       let none =
-          none_below b children (ap (λ a. below_all nat_cmp a children) (sym is) ∙ parts.0) in
+      none_below b children (ap (λ a. below_all nat_cmp a children) (sym is) ∙ parts.0) in
       let one = ap {B = ℕ} (λ t. cond t 1 0) (eq-eqb child.0 b is) in
       omega (arith, first, none, one))
       (λ other.
@@ -364,7 +371,7 @@ module _ {C : Type 0} where
       + sum_by (λ child. set.len (strings_under strings (with_byte s child.0))) children
   add_up-children strings s children sorted beside =
       strings_under_add_up strings s (map (λ child. child.0) children)
-          (λ b rest there. once-children b children sorted (beside b rest there))
+      (λ b rest there. once-children b children sorted (beside b rest there))
       ∙ ap (λ n. cond (set.contains strings s) 1 0 + n)
       (sum_by-map (λ b. set.len (strings_under strings (with_byte s b)))
       (λ child. child.0) children)
@@ -383,7 +390,7 @@ once_between b a (suc n) low high =
     ∙ ⊎_elim
     (λ is. λ i. cond (eq-eqb a b is i) 1 0 + none_before b (a + 1) n (omega (arith, is)) i)
     (λ other. λ i. cond (ne_eqb a b other i) 1 0
-        + once_between b (a + 1) n (omega (arith, other, low)) (omega (arith, high)) i)
+    + once_between b (a + 1) n (omega (arith, other, low)) (omega (arith, high)) i)
     (cases_eq a b)
 
 -- Each byte stands once among all bytes.
@@ -399,8 +406,8 @@ module _ (V : Type 0) where
       let whole = begins-rest (s ++ b ∷ rest) found.0 found.1 in
       All-contains (λ b. b < 256) found.0 b (bytes found.0 found.2)
       (subst (λ key. Contains key b) (sym whole.1)
-          (Contains-append_left (s ++ b ∷ rest) whole.0 b
-          (Contains-append_right s (b ∷ rest) b (Contains-here b rest))))
+      (Contains-append_left (s ++ b ∷ rest) whole.0 b
+      (Contains-append_right s (b ∷ rest) b (Contains-here b rest))))
 
   pub starts_add_up : StartsAddUp V
   starts_add_up m s bytes =
@@ -412,7 +419,7 @@ module _ (V : Type 0) where
       strings_under_add_up (shared left right) s all_bytes (λ b rest is.
       let both = (shared_are_in_both V left right (s ++ b ∷ rest)).0 is in
       once-all_bytes b (⊎_elim (λ bytes. byte_after left bytes s b rest both.0)
-          (λ bytes. byte_after right bytes s b rest both.1) either))
+      (λ bytes. byte_after right bytes s b rest both.1) either))
 
 -- A longer string begins no more.
 pub len-strings_under-append : (strings : Strings) (s rest : List ℕ)

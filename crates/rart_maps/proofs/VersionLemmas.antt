@@ -33,7 +33,7 @@ module _ {V : Type 0} where
       → value_at (with_key v w x more) q ≡ value_at v q
   value_at-with_other_key v w x more q apart =
       finite.get-insert nat_list_cmp_total v.content w x q
-          ∙ chosen q w apart (Some x) (value_at v q)
+      ∙ chosen q w apart (Some x) (value_at v q)
 
   -- A key that was taken out has none.
   pub value_at-without_key : (v : Version V) (w : List ℕ) (more : ℕ)

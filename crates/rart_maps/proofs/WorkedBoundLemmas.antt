@@ -42,9 +42,10 @@ pub reach_of_none : ReachOfNone
 reach_of_none = simp (maps, sets) refl
 
 pub meet_of_empty : (V : Type 0) → MeetOfEmpty V
-meet_of_empty V m =
-    (ap (λ n. 2 * n) ((shared_is_empty V finite.empty m).1 (inl refl)),
-    ap (λ n. 2 * n) ((shared_is_empty V m finite.empty).1 (inr refl)))
+meet_of_empty V m = (
+  ap (λ n. 2 * n) ((shared_is_empty V finite.empty m).1 (inl refl)),
+  ap (λ n. 2 * n) ((shared_is_empty V m finite.empty).1 (inr refl)),
+)
 
 pub meet_of_distinct : MeetOfDistinct
 meet_of_distinct = simp (maps, sets) refl

@@ -22,13 +22,13 @@ module _ {X Y : Type 0} (f : X → Y) where
   with_child-map_children b x [] = refl
   with_child-map_children b x (e ∷ es) =
       elim (nat_cmp b e.0) as (λ o. map_children f
-          (by_order o ((b, x) ∷ e ∷ es) ((e.0, x) ∷ es) (e ∷ put nat_cmp b x es))
-          ≡ by_order o ((b, f x) ∷ map_children f (e ∷ es)) ((e.0, f x) ∷ map_children f es)
-          ((e.0, f e.1) ∷ put nat_cmp b (f x) (map_children f es))) [
+      (by_order o ((b, x) ∷ e ∷ es) ((e.0, x) ∷ es) (e ∷ put nat_cmp b x es))
+      ≡ by_order o ((b, f x) ∷ map_children f (e ∷ es)) ((e.0, f x) ∷ map_children f es)
+      ((e.0, f e.1) ∷ put nat_cmp b (f x) (map_children f es))) [
         | Less ↦ refl
         | Equal ↦ refl
         | Greater ↦ ap (λ (rest : List (ℕ × Y)). (e.0, f e.1) ∷ rest)
-        (with_child-map_children b x es)
+            (with_child-map_children b x es)
       ]
 
   pub without_child-map_children : (b : ℕ) (es : List (ℕ × X))
@@ -36,21 +36,23 @@ module _ {X Y : Type 0} (f : X → Y) where
   without_child-map_children b [] = refl
   without_child-map_children b (e ∷ es) =
       elim (not (e.0 == b)) as (λ t.
-          map_children f (cond t (e ∷ without_child b es) (without_child b es))
-          ≡ cond t ((e.0, f e.1) ∷ without_child b (map_children f es))
-          (without_child b (map_children f es)))
-      [ true ↦ ap (λ rest. (e.0, f e.1) ∷ rest) (without_child-map_children b es)
-          | false ↦ without_child-map_children b es ]
+      map_children f (cond t (e ∷ without_child b es) (without_child b es))
+      ≡ cond t ((e.0, f e.1) ∷ without_child b (map_children f es))
+      (without_child b (map_children f es))) [
+        | true ↦ ap (λ rest. (e.0, f e.1) ∷ rest) (without_child-map_children b es)
+        | false ↦ without_child-map_children b es
+      ]
 
   pub children_from-map_children : (n : ℕ) (es : List (ℕ × X))
       → children_from n (map_children f es) ≡ map_children f (children_from n es)
   children_from-map_children n [] = refl
   children_from-map_children n (e ∷ es) =
       elim (nat_le n e.0) as (λ t. cond t ((e.0, f e.1) ∷ children_from n (map_children f es))
-          (children_from n (map_children f es))
-          ≡ map_children f (cond t (e ∷ children_from n es) (children_from n es)))
-      [ true ↦ ap (λ rest. (e.0, f e.1) ∷ rest) (children_from-map_children n es)
-          | false ↦ children_from-map_children n es ]
+      (children_from n (map_children f es))
+      ≡ map_children f (cond t (e ∷ children_from n es) (children_from n es))) [
+        | true ↦ ap (λ rest. (e.0, f e.1) ∷ rest) (children_from-map_children n es)
+        | false ↦ children_from-map_children n es
+      ]
 
   pub first_of-map_children : (es : List (ℕ × X))
       → first_of (map_children f es) ≡ option_map (λ e. (e.0, f e.1)) (first_of es)

@@ -67,6 +67,11 @@ module _ {V : Type 0} where
         subst (λ shape. IsAscending shape) (sym is) (of_prefix prefix before order)
 
 -- each change that keeps the order
-pub ruleset keeps_order =
-    (ascending-with_added, ascending-with_replaced, ascending-with_deleted, ascending-with_width,
-    ascending-with_value, ascending-with_prefix)
+pub ruleset keeps_order = (
+  ascending-with_added,
+  ascending-with_replaced,
+  ascending-with_deleted,
+  ascending-with_width,
+  ascending-with_value,
+  ascending-with_prefix,
+)

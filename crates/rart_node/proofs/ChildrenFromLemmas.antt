@@ -20,8 +20,8 @@ module _ {X : Type 0} where
       elim (cases_lt x.0 n) [
         | inl less ↦ first-above n es e (sym (ap first_of (children_from-passed n x es less)) ∙ h)
         | inr more ↦ let is =
-        ap (λ z. z.0) (same_Some x e (sym (children_from-kept n x es more) ∙ h)) in
-        omega (arith, is, more)
+            ap (λ z. z.0) (same_Some x e (sym (children_from-kept n x es more) ∙ h)) in
+            omega (arith, is, more)
       ]
 
   -- behind the first entry come those from the next byte on
@@ -35,14 +35,14 @@ module _ {X : Type 0} where
             let rest = sym (ap first_of (children_from-passed n x es less)) ∙ h in
             let above = first-above n es e rest in
             children_from-passed n x es less ∙ from-next n es e sorted.1 rest
-                ∙ ap (λ l. e ∷ l) (sym (children_from-passed (e.0 + 1) x es
-                (omega (arith, above, less))))
+            ∙ ap (λ l. e ∷ l) (sym (children_from-passed (e.0 + 1) x es
+            (omega (arith, above, less))))
         | inr more ↦
             let is = same_Some x e (sym (children_from-kept n x es more) ∙ h) in
             let next = children_from-passed (x.0 + 1) x es (omega arith)
-                ∙ children_from-below (x.0 + 1) x.0 es (omega arith) sorted.0 in
+            ∙ children_from-below (x.0 + 1) x.0 es (omega arith) sorted.0 in
             from-here n x es more ∙ ap (λ l. x ∷ l)
-                (children_from-below n x.0 es (omega (arith, more)) sorted.0)
+            (children_from-below n x.0 es (omega (arith, more)) sorted.0)
             ∙ subst (λ z. x ∷ es ≡ z ∷ children_from (z.0 + 1) (x ∷ es)) is
             (ap (λ l. x ∷ l) (sym next))
       ]

@@ -150,9 +150,9 @@ module _ {P V : Type 0} (bytes : P → List ℕ) where
           ∙ ap (node_of (prefix_of (node_shape bytes n)) (value_of (node_shape bytes n))
           (widened (width_of (node_shape bytes n)) (length (children_of (node_shape bytes n)))))
           (ap (map_children (pointer_shape bytes)) same
-              ∙ with_child-map_children (pointer_shape bytes) byte child children_in
-              ∙ ap (with_child byte (pointer_shape bytes child))
-              (sym (children-pointer_shape order)))
+          ∙ with_child-map_children (pointer_shape bytes) byte child children_in
+          ∙ ap (with_child byte (pointer_shape bytes child))
+          (sym (children-pointer_shape order)))
           ∙ sym (with_added-parts byte (pointer_shape bytes child) (node_shape bytes n))
 
     -- a content that holds what the node's own holds
@@ -174,7 +174,7 @@ module _ {P V : Type 0} (bytes : P → List ℕ) where
     node_shape-replaced content byte child order holds =
         node_shape-children content _ _ holds refl _
         (with_child-map_children (pointer_shape bytes) byte child children_in
-            ∙ ap (with_child byte (pointer_shape bytes child)) (sym (children-pointer_shape order)))
+        ∙ ap (with_child byte (pointer_shape bytes child)) (sym (children-pointer_shape order)))
 
     pub node_shape-deleted : (content : Content (NodeRef P V)) (byte : ℕ)
         → IsAscending (node_shape bytes n)
@@ -182,17 +182,17 @@ module _ {P V : Type 0} (bytes : P → List ℕ) where
         → node_shape bytes (with_content n content) ≡ with_deleted byte (node_shape bytes n)
     node_shape-deleted content byte order holds =
         node_shape-children content _ _ holds refl _
-            (without_child-map_children (pointer_shape bytes) byte children_in
-            ∙ ap (without_child byte) (sym (children-pointer_shape order)))
+        (without_child-map_children (pointer_shape bytes) byte children_in
+        ∙ ap (without_child byte) (sym (children-pointer_shape order)))
 
     pub full-node_shape : (answer : Bool) → IsAscending (node_shape bytes n) → IsTrue answer
         ↔ IsFullAt (content_shape content_of).width (length children_in) → IsTrue answer
         ↔ IsFull (node_shape bytes n)
     full-node_shape answer order says =
         subst (λ w. IsTrue answer ↔ IsFullAt w (length (children_of (node_shape bytes n))))
-            (sym width-node_shape)
+        (sym width-node_shape)
         (subst (λ k. IsTrue answer ↔ IsFullAt (content_shape content_of).width k)
-            (sym (length-node_shape order)) says)
+        (sym (length-node_shape order)) says)
 
     pub widenings-node_shape : IsAscending (node_shape bytes n)
         → widenings (node_shape bytes n)

@@ -21,9 +21,15 @@ module _ {P V : Type 0} (bytes : P → List ℕ) where
   pub content_shape-copies : (width : ℕ) (in_order copies_in_order : Bool)
       (children copies : List (ℕ × NodeRef P V)) → SameShown children copies
       → copies_in_order ≡ in_order
-      → shapes_of_content bytes (record { width = width; in_order = copies_in_order;
-      children = copies }) ≡ shapes_of_content bytes
+      → shapes_of_content bytes (record {
+        width = width;
+        in_order = copies_in_order;
+        children = copies;
+      }) ≡ shapes_of_content bytes
       (record { width = width; in_order = in_order; children = children })
   content_shape-copies width in_order copies_in_order children copies same order =
-      λ i. record { width = width; in_order = order i;
-      children = pointer_shape-copies children copies same i }
+      λ i. record {
+        width = width;
+        in_order = order i;
+        children = pointer_shape-copies children copies same i;
+      }

@@ -78,6 +78,9 @@ module _ {P V : Type 0} (bytes : P → List ℕ) (n : VersionedNode P V) where
       ≡ with_added byte (pointer_shape bytes child) (node_shape bytes n)
   added content after byte child order roomy holds =
       let both =
-          holds ∙ ap (λ h. record { width = h.width; in_order = true;
-          children = with_child byte child h.children }) roomy in
+      holds ∙ ap (λ h. record {
+        width = h.width;
+        in_order = true;
+        children = with_child byte child h.children;
+      }) roomy in
       node_shape-added bytes n after _ _ both byte child order refl refl

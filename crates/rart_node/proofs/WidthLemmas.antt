@@ -38,7 +38,7 @@ module _ {V : Type 0} where
   few_children shape fit inner few =
       let is_width = fit.is_width in
       not_full-widenings shape (not_full (width_of shape) (length (children_of shape))
-          (omega (arith, is_width)))
+      (omega (arith, is_width)))
 
   pub inner_room : (shape : Shape V) → FitsWidth shape → 0 < width_of shape → ¬ IsFull shape
       → widenings shape ≡ 0
@@ -50,7 +50,7 @@ module _ {V : Type 0} where
             elim (cases_lt count width) [
               | inl less ↦ not_full width count less
               | inr more ↦ let most = fit.has_room in
-              absurd (open_room (inner, narrow, omega (arith, more, most)))
+                  absurd (open_room (inner, narrow, omega (arith, more, most)))
             ]
         | inr wide ↦ widest-not_full width count wide
       ])
@@ -92,8 +92,8 @@ module _ {P V : Type 0} (bytes : P → List ℕ) where
       let content = content_of bytes n in
       let shown_fits = content_shape-fits content (content_shape content).in_order refl in
       let all : length (children_of (node_shape bytes n)) ≤ (content_shape content).width =
-          subst (λ es. length es ≤ (content_shape content).width)
-          (sym (children-node_shape bytes n)) shown_fits in
+      subst (λ es. length es ≤ (content_shape content).width)
+      (sym (children-node_shape bytes n)) shown_fits in
       record {
         is_width = subst IsWidth (sym (width-node_shape bytes n)) (width-content_shape content);
         has_room =

@@ -26,17 +26,29 @@ module _ {C : Type 0} where
   abbrev pub content_shape : Content C → ContentShape C
   content_shape Leaf = record { width = 0; in_order = true; children = [] }
   content_shape (Node4 mapping) =
-      record { width = 4; in_order = sorted_in_order mapping.value;
-      children = sorted_children mapping.value }
+      record {
+        width = 4;
+        in_order = sorted_in_order mapping.value;
+        children = sorted_children mapping.value;
+      }
   content_shape (Node16 mapping) =
-      record { width = 16; in_order = sorted_in_order mapping.boxed.value;
-      children = sorted_children mapping.boxed.value }
+      record {
+        width = 16;
+        in_order = sorted_in_order mapping.boxed.value;
+        children = sorted_children mapping.boxed.value;
+      }
   content_shape (Node48 mapping) =
-      record { width = 48; in_order = indexed_in_order mapping.boxed.value;
-      children = indexed_children mapping.boxed.value }
+      record {
+        width = 48;
+        in_order = indexed_in_order mapping.boxed.value;
+        children = indexed_children mapping.boxed.value;
+      }
   content_shape (Node256 mapping) =
-      record { width = 256; in_order = direct_in_order mapping.boxed.value;
-      children = direct_children mapping.boxed.value }
+      record {
+        width = 256;
+        in_order = direct_in_order mapping.boxed.value;
+        children = direct_children mapping.boxed.value;
+      }
 
   -- The lists inside are in step, and the content has this width and these children.
   abbrev pub Holds : Content C → ℕ → List (ℕ × C) → Type 0

@@ -38,7 +38,7 @@ module _ (P V : RattleType) where
   LendsContentChild lender byte result =
       LendsSo (content_row (pointer.the_row P V)) (pointer.the_row P V) lender result
       (λ after left. OnSome result (Holds after (content_shape lender.now).width
-          (with_child byte left (content_shape lender.now).children)))
+      (with_child byte left (content_shape lender.now).children)))
       (λ after. content_shape after ≡ content_shape lender.now)
 
 module _ (P V : RattleType) (bytes : P.Denot → List ℕ) where
@@ -57,7 +57,7 @@ module _ (P V : RattleType) (bytes : P.Denot → List ℕ) where
   LendsChild lender byte result =
       LendsSo (node.the_row P V) (pointer.the_row P V) lender result
       (λ after left. OnSome result (node_shape bytes after
-          ≡ with_replaced byte (pointer_shape bytes left) (node_shape bytes lender.now)))
+      ≡ with_replaced byte (pointer_shape bytes left) (node_shape bytes lender.now)))
       (λ after. node_shape bytes after ≡ node_shape bytes lender.now)
 
   -- The node has the value as it was left behind the result, and where there is none is as before.
@@ -65,5 +65,5 @@ module _ (P V : RattleType) (bytes : P.Denot → List ℕ) where
   LendsValue lender result =
       LendsSo (node.the_row P V) V lender result
       (λ after left. OnSome result (node_shape bytes after
-          ≡ with_value (Some left) (node_shape bytes lender.now)))
+      ≡ with_value (Some left) (node_shape bytes lender.now)))
       (λ after. node_shape bytes after ≡ node_shape bytes lender.now)

@@ -37,8 +37,11 @@ module _ {A B : Type 0} (f : A → B) (g : Option A → Option B) (none : g None
   content_of_sorted : {WIDTH : ℕ} (mapping : SortedKeyedMapping A WIDTH)
       (mapped : SortedKeyedMapping B WIDTH) → mapped.keys.items ≡ mapping.keys.items
       → mapped.children.slots ≡ map g mapping.children.slots
-      → record { width = WIDTH; in_order = sorted_in_order mapped;
-      children = sorted_children mapped }
+      → record {
+        width = WIDTH;
+        in_order = sorted_in_order mapped;
+        children = sorted_children mapped;
+      }
       ≡ content_by WIDTH (sorted_in_order mapping) (sorted_children mapping)
   content_of_sorted {WIDTH} mapping mapped keys slots = λ i. record {
     width = WIDTH;
@@ -49,8 +52,11 @@ module _ {A B : Type 0} (f : A → B) (g : Option A → Option B) (none : g None
   content_of_indexed : (mapping : IndexedMapping A) (mapped : IndexedMapping B)
       → mapped.index ≡ mapping.index → mapped.children.slots ≡ map g mapping.children.slots
       → mapped.used ≡ mapping.used
-      → record { width = 48; in_order = indexed_in_order mapped;
-      children = indexed_children mapped }
+      → record {
+        width = 48;
+        in_order = indexed_in_order mapped;
+        children = indexed_children mapped;
+      }
       ≡ content_by 48 (indexed_in_order mapping) (indexed_children mapping)
   content_of_indexed mapping mapped index slots used = λ i. record {
     width = 48;
@@ -85,6 +91,10 @@ module _ {P V : Type 0} (bytes : P → List ℕ) where
   pub pointer_shape : NodeRef P V → Shape V
   pointer_shape = fold-NodeRef P V (Shape V) (Shape V) node_step pointer_step
 
+  -- Both are seen alike.
+  abbrev pub SameShape : VersionedNode P V → VersionedNode P V → Type 0
+  SameShape one other = node_shape one ≡ node_shape other
+
   -- how a node is seen that keeps its children so
   abbrev pub node_of_content : List ℕ → Option V → ContentShape (Shape V) → Shape V
   node_of_content prefix value shape =
@@ -93,8 +103,11 @@ module _ {P V : Type 0} (bytes : P → List ℕ) where
   -- what is held, each pointer as it is shown
   abbrev pub shapes_of_content : ContentShape (NodeRef P V) → ContentShape (Shape V)
   shapes_of_content holds =
-      record { width = holds.width; in_order = holds.in_order;
-      children = map_children pointer_shape holds.children }
+      record {
+        width = holds.width;
+        in_order = holds.in_order;
+        children = map_children pointer_shape holds.children;
+      }
 
   node_shape_roll_at : (layer : VersionedNode-F P V (VersionedNode P V) (NodeRef P V))
       (content : Content (NodeRef P V))
@@ -106,22 +119,22 @@ module _ {P V : Type 0} (bytes : P → List ℕ) where
       (record layer { content = Leaf })
   node_shape_roll_at layer (Node4 mapping) =
       fold-roll-VersionedNode P V (Shape V) (Shape V) node_step pointer_step
-          (record layer { content = Node4 mapping })
+      (record layer { content = Node4 mapping })
       ∙ ap (node_of_content (bytes layer.prefix) layer.value)
       (content_of_sorted pointer_shape _ refl (λ child. refl) mapping.value _ refl refl)
   node_shape_roll_at layer (Node16 mapping) =
       fold-roll-VersionedNode P V (Shape V) (Shape V) node_step pointer_step
-          (record layer { content = Node16 mapping })
+      (record layer { content = Node16 mapping })
       ∙ ap (node_of_content (bytes layer.prefix) layer.value)
       (content_of_sorted pointer_shape _ refl (λ child. refl) mapping.boxed.value _ refl refl)
   node_shape_roll_at layer (Node48 mapping) =
       fold-roll-VersionedNode P V (Shape V) (Shape V) node_step pointer_step
-          (record layer { content = Node48 mapping })
+      (record layer { content = Node48 mapping })
       ∙ ap (node_of_content (bytes layer.prefix) layer.value)
       (content_of_indexed pointer_shape _ refl (λ child. refl) mapping.boxed.value _ refl refl refl)
   node_shape_roll_at layer (Node256 mapping) =
       fold-roll-VersionedNode P V (Shape V) (Shape V) node_step pointer_step
-          (record layer { content = Node256 mapping })
+      (record layer { content = Node256 mapping })
       ∙ ap (node_of_content (bytes layer.prefix) layer.value)
       (content_of_direct pointer_shape _ refl (λ child. refl) mapping.boxed.value _ refl refl)
 
@@ -134,7 +147,7 @@ module _ {P V : Type 0} (bytes : P → List ℕ) where
   pub node_shape_out : (n : VersionedNode P V)
       → let layer = out-VersionedNode P V n in
       node_shape n ≡ node_of_content (bytes layer.prefix) layer.value
-          (shapes_of_content (content_shape layer.content))
+      (shapes_of_content (content_shape layer.content))
   unfolding node_shape pointer_shape
   node_shape_out n =
       fold_out-VersionedNode P V (Shape V) (Shape V) node_step pointer_step n

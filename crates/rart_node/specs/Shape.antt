@@ -106,7 +106,7 @@ module _ {V : Type 0} where
   abbrev pub with_added : ℕ → Shape V → Shape V → Shape V
   with_added byte child (node prefix value width forest) =
       node prefix value (widened width (length (entries_of forest)))
-          (forest_of (with_child byte child (entries_of forest)))
+      (forest_of (with_child byte child (entries_of forest)))
 
   -- how many nodes a change of width makes where one more child is added: one where the node is
   -- full or a leaf

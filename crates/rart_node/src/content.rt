@@ -189,10 +189,11 @@ impl<P: Partial, V: Drop> Content<P, V> {
         ensures succeeds { is_full_at (content_shape self.old).width
             (length (content_shape self.old).children) ≡ false
             → IsOk result }
-        ensures work { work.new ≡ record work.old
-            { made =
-            work.old.made + (if is_full_at (content_shape self.old).width
-            (length (content_shape self.old).children) then 1 else 0) } }
+        ensures work { work.new ≡ record work.old {
+          made =
+              work.old.made + (if is_full_at (content_shape self.old).width
+              (length (content_shape self.old).children) then 1 else 0);
+        } }
     {
         let must_widen = self.must_widen();
         work.make_if(must_widen);

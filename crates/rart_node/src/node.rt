@@ -57,8 +57,7 @@ impl<P: Partial, V: Drop> VersionedNode<P, V> {
         prefix: P,
         version: u64,
     ) -> Result<VersionedNode<P, V>, AllocError>
-        ensures { IfOk result (λ node. node_shape P.bytes node ≡ node_of (P.bytes prefix) None 4 [])
-            }
+        ensures { IfOk result (λ it. node_shape P.bytes it ≡ node_of (P.bytes prefix) None 4 []) }
     {
         Ok(VersionedNode {
             prefix,
@@ -334,11 +333,10 @@ impl<P: Partial, V: Clone + Drop> VersionedNode<P, V> {
 }
 
 impl<P: Partial, V: Clone + Drop> Clone for VersionedNode<P, V> {
-    ghost use Rattle.rart_node.specs.NodeShapes.{node_shape};
+    ghost use Rattle.rart_node.specs.NodeShapes.{node_shape, SameShape};
     ghost use Rattle.rart_below.specs.Clones.{ClonesEqual};
 
-    ghost is_clone =
-        { λ node copy. ClonesEqual V.is_clone → node_shape P.bytes copy ≡ node_shape P.bytes node };
+    ghost is_clone = { λ node copy. ClonesEqual V.is_clone → SameShape P.bytes copy node };
 
     fn clone(&self) -> Result<VersionedNode<P, V>, AllocError> {
         self.cow_clone_inner(self.alloc, self.version)

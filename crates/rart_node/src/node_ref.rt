@@ -51,8 +51,7 @@ impl<P: Partial, V: Drop> NodeRef<P, V> {
     /// Another pointer to the same node. Refused where the count of pointers to it is at its
     /// greatest, and nothing has changed then. In Rust this is `Arc::clone`.
     pub fn copy(&self) -> Result<NodeRef<P, V>, AllocError>
-        ensures { IfOk result (λ copy. pointer_shape P.bytes copy ≡ pointer_shape P.bytes self.now)
-            }
+        ensures { IfOk result (λ it. pointer_shape P.bytes it ≡ pointer_shape P.bytes self.now) }
     {
         Ok(NodeRef {
             shared: self.shared.clone()?,
@@ -86,8 +85,10 @@ impl<P: Partial, V: Clone + Drop> NodeRef<P, V> {
         ensures* writes_back { sem 𝓛 (LendsNode P.row V.row P.bytes self.entry result) }
         ensures shown { IfOk result (λ node. node_shape P.bytes node.now
             ≡ pointer_shape P.bytes self.old) }
-        ensures work { work.new ≡ record { entered = work.old.entered + 1;
-            made = work.old.made + 1 } }
+        ensures work { work.new ≡ record {
+          entered = work.old.entered + 1;
+          made = work.old.made + 1;
+        } }
     {
         work.enter();
         work.make();

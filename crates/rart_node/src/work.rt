@@ -72,8 +72,10 @@ impl Work {
     }
 
     pub(crate) fn make_if(&mut self, is_made: bool)
-        ensures { self.new ≡ record { entered = self.old.entered;
-            made = self.old.made + (if is_made then 1 else 0) } }
+        ensures { self.new ≡ record {
+          entered = self.old.entered;
+          made = self.old.made + (if is_made then 1 else 0);
+        } }
     {
         if is_made {
             self.make();

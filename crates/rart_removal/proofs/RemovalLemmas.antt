@@ -28,10 +28,10 @@ split-strip_prefix [] q some = (refl, omega arith)
 split-strip_prefix (b ∷ p) [] some = absurd (false≢true some)
 split-strip_prefix (b ∷ p) (c ∷ q) some =
     let P : Bool → Type 0 = λ t. (c == b) ≡ t → IsSome (cond t (strip_prefix p q) None)
-        → (c ∷ q ≡ b ∷ (p ++ drop (length p) q)) × (suc (length p) ≤ suc (length q)) in
+    → (c ∷ q ≡ b ∷ (p ++ drop (length p) q)) × (suc (length p) ≤ suc (length q)) in
     let both : (t : Bool) → P t = elim [
       | true ↦ (λ same is. let rest = split-strip_prefix p q is in let first = eqb-true c b same in
-      ((λ i. first i ∷ rest.0 i), let le = rest.1 in omega (arith, le)))
+          ((λ i. first i ∷ rest.0 i), let le = rest.1 in omega (arith, le)))
       | false ↦ (λ differs is. absurd (false≢true is))
     ] in
     both (c == b) refl some
@@ -63,9 +63,9 @@ module _ {V : Type 0} where
   found-in-child (node prefix value width forest) key [] byte is next = absurd (none-some byte next)
   found-in-child (node prefix value width forest) key (b ∷ rest) byte is next =
       rw (is, strip_prefix-own prefix (b ∷ rest))
-          (found-below forest b rest ∙ ap
-          (λ z. option_and_then (λ child. found child (b ∷ rest)) (child_at z (entries_of forest)))
-          (same_Some b byte next))
+      (found-below forest b rest ∙ ap
+      (λ z. option_and_then (λ child. found child (b ∷ rest)) (child_at z (entries_of forest)))
+      (same_Some b byte next))
 
   -- ---- the children, once one of them is gone
   branches-without : (entries : List (ℕ × Shape V)) (byte : ℕ) → AreBranches (forest_of entries)
@@ -73,8 +73,8 @@ module _ {V : Type 0} where
   branches-without [] byte branches = tt
   branches-without (entry ∷ entries) byte branches =
       elim (not (entry.0 == byte)) as (λ t.
-          AreBranches (forest_of (cond t (entry ∷ without_child byte entries)
-          (without_child byte entries)))) [
+      AreBranches (forest_of (cond t (entry ∷ without_child byte entries)
+      (without_child byte entries)))) [
         | true ↦ (branches.0, branches.1, branches-without entries byte branches.2)
         | false ↦ branches-without entries byte branches.2
       ]
@@ -84,7 +84,7 @@ module _ {V : Type 0} where
       → child_at c (without_child byte entries) ≡ cond (c == byte) None (child_at c entries)
   child_at-without entries byte c =
       find-where_key nat_cmp (λ k. not (k == byte)) c
-          (λ k tied. ap (λ z. not (z == byte)) (sym (nat_cmp-IsAntisymmetric c k tied))) entries
+      (λ k tied. ap (λ z. not (z == byte)) (sym (nat_cmp-IsAntisymmetric c k tied))) entries
       ∙ elim (c == byte) as (λ t. cond (not t) (child_at c entries) None
       ≡ cond t None (child_at c entries)) [ true ↦ refl | false ↦ refl ]
 
@@ -96,15 +96,15 @@ module _ {V : Type 0} where
       let entries = entries_of forest in
       let look : Option (Shape V) → Option V = option_and_then (λ s. found s (c ∷ q)) in
       let P : Bool → Type 0 =
-          λ t. (c == byte) ≡ t → look (cond t None (child_at c entries))
-          ≡ cond (t && bytes_eq q rest) None (look (child_at c entries)) in
+      λ t. (c == byte) ≡ t → look (cond t None (child_at c entries))
+      ≡ cond (t && bytes_eq q rest) None (look (child_at c entries)) in
       let both : (t : Bool) → P t = elim [
         | true ↦ (λ same.
             let Q : ℕ → Type 0 =
-                λ z. None ≡ cond (bytes_eq q rest) None (look (child_at z entries)) in
+            λ z. None ≡ cond (bytes_eq q rest) None (look (child_at z entries)) in
             subst Q (sym (eqb-true c byte same))
-                (alone (c ∷ q) ∙ ap (λ (t : Bool). cond (t && bytes_eq q rest) None
-                (look (child_at byte entries))) same))
+            (alone (c ∷ q) ∙ ap (λ (t : Bool). cond (t && bytes_eq q rest) None
+            (look (child_at byte entries))) same))
         | false ↦ (λ differs. refl)
       ] in
       found-below (forest_of (without_child byte entries)) c q
@@ -126,11 +126,11 @@ module _ {V : Type 0} where
       → without_child byte (with_child byte child entries) ≡ without_child byte entries
   without-with entries byte child ascending =
       let without : (list : List (ℕ × Shape V)) → children.IsAscending list
-          → T (is_sorted nat_cmp (without_child byte list)) =
-          λ list h. holds (ascending-where_key (λ k. not (k == byte)) list h) in
+      → T (is_sorted nat_cmp (without_child byte list)) =
+      λ list h. holds (ascending-where_key (λ k. not (k == byte)) list h) in
       same_entries nat_cmp nat_cmp_total nat_cmp-IsAntisymmetric _ _
-          (without _ (ascending-with_child byte child entries ascending))
-          (without entries ascending) (λ q.
+      (without _ (ascending-with_child byte child entries ascending))
+      (without entries ascending) (λ q.
       child_at-without (with_child byte child entries) byte q
       ∙ ap (cond (q == byte) None) (find-put nat_cmp nat_cmp_total q byte child entries
       ∙ ap (λ t. cond t (Some child) (child_at q entries)) (unsigned_tied q byte))
@@ -153,15 +153,22 @@ module _ {V : Type 0} where
       unused-inside value forest (strip_prefix prefix q) unused
 
   pub used-tree : (s : Shape V) → IsOrdered s → is_unused s ≡ false → IsTree s
-  used-tree (node prefix value width forest) order used =
-      (order.0, order.1, elim (is_used value forest) as (λ t. not t ≡ false → t ≡ true)
-          [ true ↦ (λ e. refl) | false ↦ (λ e. sym e) ] used)
+  used-tree (node prefix value width forest) order used = (
+    order.0,
+    order.1,
+    elim (is_used value forest) as (λ t. not t ≡ false → t ≡ true)
+        [ true ↦ (λ e. refl) | false ↦ (λ e. sym e) ] used,
+  )
 
   pub take-end : (s : Shape V) (key rest : List ℕ) → IsOrdered s → key ≡ prefix_of s ++ rest
       → rest ≡ [] → IsTaken key s (with_value None s)
   take-end (node prefix old width forest) key rest order is end =
-      rw (is, end) (order, (λ q. lift prefix [] q None (inside old forest) (inside None forest)
-          (inside-value old None forest)), refl)
+      rw (is, end) (
+        order,
+        (λ q. lift prefix [] q None (inside old forest) (inside None forest)
+            (inside-value old None forest)),
+        refl,
+      )
 
   -- the child under the next byte was taken from, and stays
   take-below : (s child after : Shape V) (key rest : List ℕ) (byte : ℕ) → IsOrdered s
@@ -174,16 +181,18 @@ module _ {V : Type 0} where
       (b ∷ rest) byte order is next here taken tree =
       let same = same_Some b byte next in
       let begins =
-          subst (BeginsWith byte) (sym taken.2)
-          (branch (node prefix old width forest) byte child order here).begins in
+      subst (BeginsWith byte) (sym taken.2)
+      (branch (node prefix old width forest) byte child order here).begins in
       let forest' = forest_of (with_child byte after (entries_of forest)) in
       let changed : (q : List ℕ) → found after q
-          ≡ cond (bytes_eq q (byte ∷ rest)) None (in-child byte forest q) =
-          λ q. rw here (taken.1 q ∙ ap (λ z. cond (bytes_eq q (z ∷ rest)) None (found child q))
-          same) in
+      ≡ cond (bytes_eq q (byte ∷ rest)) None (in-child byte forest q) =
+      λ q. rw here (taken.1 q ∙ ap (λ z. cond (bytes_eq q (z ∷ rest)) None (found child q))
+      same) in
       rw (is, same) (
-        (ascending-with forest byte after order.0,
-            branches-with forest byte after order.1 tree begins),
+        (
+          ascending-with forest byte after order.0,
+          branches-with forest byte after order.1 tree begins,
+        ),
         (λ q. lift prefix (byte ∷ rest) q None (inside old forest) (inside old forest')
             (inside-with old forest byte after rest None changed)),
         refl,
@@ -202,15 +211,18 @@ module _ {V : Type 0} where
       let entries = entries_of forest in
       let forest' = forest_of (without_child byte entries) in
       let alone : (q : List ℕ) → None
-          ≡ cond (bytes_eq q (byte ∷ rest)) None (in-child byte forest q) =
-          λ q. rw here (sym (found-unused after q unused) ∙ taken.1 q
-          ∙ ap (λ z. cond (bytes_eq q (z ∷ rest)) None (found child q)) same) in
+      ≡ cond (bytes_eq q (byte ∷ rest)) None (in-child byte forest q) =
+      λ q. rw here (sym (found-unused after q unused) ∙ taken.1 q
+      ∙ ap (λ z. cond (bytes_eq q (z ∷ rest)) None (found child q)) same) in
       let ascends =
-          subst children.IsAscending (sym (entries_of-forest_of (without_child byte entries)))
-          (ascending-where_key (λ k. not (k == byte)) entries order.0) in
+      subst children.IsAscending (sym (entries_of-forest_of (without_child byte entries)))
+      (ascending-where_key (λ k. not (k == byte)) entries order.0) in
       rw (is, same) (
-        (ascends, branches-without entries byte
-            (subst AreBranches (sym (forest_of-entries_of forest)) order.1)),
+        (
+          ascends,
+          branches-without entries byte
+              (subst AreBranches (sym (forest_of-entries_of forest)) order.1),
+        ),
         (λ q. lift prefix (byte ∷ rest) q None (inside old forest) (inside old forest')
             (inside-without old forest byte rest alone)),
         refl,
@@ -220,7 +232,7 @@ module _ {V : Type 0} where
       → with_deleted byte (with_replaced byte child s) ≡ with_deleted byte s
   deleted-replaced (node prefix value width forest) byte child order =
       ap (λ entries. node prefix value width (forest_of (without_child byte entries)))
-          (entries_of-forest_of (with_child byte child (entries_of forest)))
+      (entries_of-forest_of (with_child byte child (entries_of forest)))
       ∙ ap (λ entries. node prefix value width (forest_of entries))
       (without-with (entries_of forest) byte child order.0)
 
@@ -232,10 +244,10 @@ module _ {V : Type 0} where
       → IsTaken key s (prune byte left_unused (with_replaced byte after s))
   take-child s child after key rest byte true order is next here taken unused =
       subst (IsTaken key s) (sym (deleted-replaced s byte after order))
-          (take-whole s child after key rest byte order is next here taken (sym unused))
+      (take-whole s child after key rest byte order is next here taken (sym unused))
   take-child s child after key rest byte false order is next here taken unused =
       take-below s child after key rest byte order is next here taken
-          (used-tree after taken.0 (sym unused))
+      (used-tree after taken.0 (sym unused))
 
   pub ascending-replaced : (s : Shape V) (byte : ℕ) (child : Shape V) → IsOrdered s
       → IsAscending (with_replaced byte child s)

@@ -40,7 +40,7 @@ module _ {V : Type 0} where
       → CountsUpTo (path_bound s key) (path_bound s key) before after
   counted-first s key before after is = let some = path-one s key in
       counts-then (counts-opened before after is) (counts-none after) (omega (arith, some))
-          (omega (arith, some))
+      (omega (arith, some))
 
   -- A key that is there, split behind the prefix of a node.
   pub record AtNode (s : Shape V) (key rest : List ℕ) : Type 0 where
@@ -70,7 +70,7 @@ module _ {V : Type 0} where
         → after ≡ with_value None opened → IsTaken key s after
     taken-here opened after same end is =
         subst (IsTaken key s) (sym (is ∙ ap (with_value None) same))
-            (take-end s key rest (ordered s at.tree) at.split (no-first rest (sym end)))
+        (take-end s key rest (ordered s at.tree) at.split (no-first rest (sym end)))
 
     pub value-here : (opened : Shape V) (value : Option V) → opened ≡ s → None ≡ slice_get rest 0
         → value ≡ value_of opened → value ≡ found s key
@@ -82,8 +82,8 @@ module _ {V : Type 0} where
         → None ≡ child_at byte (children_of opened) → ⊥
     child-there opened byte same next missing =
         let none : found s key ≡ None = found-in-child s key rest byte at.split (sym next)
-            ∙ ap (option_and_then (λ child. found child rest))
-            (sym (missing ∙ ap (λ z. child_at byte (children_of z)) same)) in
+        ∙ ap (option_and_then (λ child. found child rest))
+        (sym (missing ∙ ap (λ z. child_at byte (children_of z)) same)) in
         false≢true (subst IsSome none at.present)
 
     module _ (opened child : Shape V) (byte : ℕ) (same : opened ≡ s)
@@ -113,9 +113,9 @@ module _ {V : Type 0} where
           → IsTaken key s after
       taken-deeper after left replaced left_unused taken unused is was =
           subst (IsTaken key s) (sym (was
-              ∙ ap (prune byte left_unused) (is ∙ ap (with_replaced byte left) same)))
+          ∙ ap (prune byte left_unused) (is ∙ ap (with_replaced byte left) same)))
           (take-child s child left key rest byte left_unused (ordered s at.tree) at.split
-              (sym next) in-node taken unused)
+          (sym next) in-node taken unused)
 
       pub ascending-deeper : (left replaced : Shape V) → replaced ≡ with_replaced byte left opened
           → IsAscending replaced
@@ -130,6 +130,6 @@ module _ {V : Type 0} where
           → CountsUpTo (path_bound s key) (path_bound s key) before after
       counted-deeper before mid after is below =
           let step =
-              path-step s child key rest byte (length (prefix_of s)) child-branch.begins
-              (omega arith) long-key (first-long rest byte (sym next)) in
+          path-step s child key rest byte (length (prefix_of s)) child-branch.begins
+          (omega arith) long-key (first-long rest byte (sym next)) in
           counts-then (counts-opened before mid is) below step step

@@ -7,8 +7,12 @@ use Rattle.rart_shape.specs.Trees.{BeginsWith, path_bound, ending, cut_at}
 
 pub counts-none : (before : Counts) → CountsUpTo 0 0 before before
 counts-none before =
-    record { entered_grows = omega arith; entered_at_most = omega arith; made_grows = omega arith;
-    made_at_most = omega arith }
+    record {
+      entered_grows = omega arith;
+      entered_at_most = omega arith;
+      made_grows = omega arith;
+      made_at_most = omega arith;
+    }
 
 pub counts-then : {entered made later_entered later_made most most_made : ℕ}
     {before between after : Counts} → CountsUpTo entered made before between
@@ -24,8 +28,12 @@ counts-then first later entered made =
     let f = later.entered_at_most in
     let g = later.made_grows in
     let h = later.made_at_most in
-    record { entered_grows = omega (arith, a, e); entered_at_most = omega (arith, b, f, entered);
-        made_grows = omega (arith, c, g); made_at_most = omega (arith, d, h, made) }
+    record {
+      entered_grows = omega (arith, a, e);
+      entered_at_most = omega (arith, b, f, entered);
+      made_grows = omega (arith, c, g);
+      made_at_most = omega (arith, d, h, made);
+    }
 
 pub counts-most : {entered made most most_made : ℕ} {before after : Counts}
     → CountsUpTo entered made before after → entered ≤ most → made ≤ most_made
@@ -33,21 +41,33 @@ pub counts-most : {entered made most most_made : ℕ} {before after : Counts}
 counts-most counted entered made =
     let b = counted.entered_at_most in
     let d = counted.made_at_most in
-    record { entered_grows = counted.entered_grows; entered_at_most = omega (arith, b, entered);
-        made_grows = counted.made_grows; made_at_most = omega (arith, d, made) }
+    record {
+      entered_grows = counted.entered_grows;
+      entered_at_most = omega (arith, b, entered);
+      made_grows = counted.made_grows;
+      made_at_most = omega (arith, d, made);
+    }
 
 pub counts-opened : (before after : Counts)
     → after ≡ record { entered = before.entered + 1; made = before.made + 1 }
     → CountsUpTo 1 1 before after
 counts-opened before after is =
-    rw is record { entered_grows = omega arith; entered_at_most = omega arith;
-    made_grows = omega arith; made_at_most = omega arith }
+    rw is record {
+      entered_grows = omega arith;
+      entered_at_most = omega arith;
+      made_grows = omega arith;
+      made_at_most = omega arith;
+    }
 
 pub counts-entered : (before after : Counts)
     → after ≡ record before { entered = before.entered + 1 } → CountsUpTo 1 0 before after
 counts-entered before after is =
-    rw is record { entered_grows = omega arith; entered_at_most = omega arith;
-    made_grows = omega arith; made_at_most = omega arith }
+    rw is record {
+      entered_grows = omega arith;
+      entered_at_most = omega arith;
+      made_grows = omega arith;
+      made_at_most = omega arith;
+    }
 
 -- the same, where the later part makes fewer nodes than it says
 pub counts-below : {entered made later_entered later_made most most_made : ℕ}
@@ -63,8 +83,12 @@ counts-below fewer first later few entered made =
     let e = later.entered_grows in
     let f = later.entered_at_most in
     let g = later.made_grows in
-    record { entered_grows = omega (arith, a, e); entered_at_most = omega (arith, b, f, entered);
-        made_grows = omega (arith, c, g); made_at_most = omega (arith, d, few, made) }
+    record {
+      entered_grows = omega (arith, a, e);
+      entered_at_most = omega (arith, b, f, entered);
+      made_grows = omega (arith, c, g);
+      made_at_most = omega (arith, d, few, made);
+    }
 
 -- where none may be made, none was
 pub made-none : {entered : ℕ} {before after : Counts} → CountsUpTo entered 0 before after
@@ -109,7 +133,7 @@ module _ {V : Type 0} where
   ending-most s [] = omega arith
   ending-most (node prefix value width forest) (b ∷ rest) =
       elim (is_full_at width (length (entries_of forest))) as (λ t. cond t 1 0 + 1
-          ≤ suc (length rest) + 1) [ true ↦ omega arith | false ↦ omega arith ]
+      ≤ suc (length rest) + 1) [ true ↦ omega arith | false ↦ omega arith ]
 
   pub ending-cut : (s : Shape V) (at : ℕ) (rest : List ℕ) → ending (cut_at at s) rest ≤ length rest
   ending-cut (node prefix value width forest) at [] = omega arith

@@ -19,9 +19,9 @@ module _ {V : Type 0} where
   found-below bare byte q = refl
   found-below (grown b child forest) byte q =
       let P : Bool → Type 0 =
-          λ t. cond t (found child (byte ∷ q)) (found_below forest (byte ∷ q))
-          ≡ option_and_then (λ s. found s (byte ∷ q))
-          (cond t (Some child) (child_at byte (entries_of forest))) in
+      λ t. cond t (found child (byte ∷ q)) (found_below forest (byte ∷ q))
+      ≡ option_and_then (λ s. found s (byte ∷ q))
+      (cond t (Some child) (child_at byte (entries_of forest))) in
       let both : (t : Bool) → P t = elim [ true ↦ refl | false ↦ found-below forest byte q ] in
       rw (unsigned_tied byte b) (both (byte == b))
 
@@ -54,17 +54,20 @@ module _ {V : Type 0} where
   branch-below bare byte child branches here = absurd (none-some _ here)
   branch-below (grown b other forest) byte child branches here =
       let Q : Shape V → Type 0 =
-          λ s. IsTree s × BeginsWith byte (prefix_of s)
-          × (height s ≤ max (height other) (height_below forest)) in
+      λ s. IsTree s × BeginsWith byte (prefix_of s)
+      × (height s ≤ max (height other) (height_below forest)) in
       let P : Bool → Type 0 =
-          λ t. (byte == b) ≡ t → cond t (Some other) (child_at byte (entries_of forest))
-          ≡ Some child → Q child in
+      λ t. (byte == b) ≡ t → cond t (Some other) (child_at byte (entries_of forest))
+      ≡ Some child → Q child in
       let both : (t : Bool) → P t = elim [
-        | true ↦ (λ same is. subst Q (same_Some other child is)
-        (branches.1, subst (λ z. BeginsWith z (prefix_of other))
-        (sym (eqb-true byte b same)) branches.0, omega arith))
+        | true ↦ (λ same is. subst Q (same_Some other child is) (
+          branches.1,
+          subst (λ z. BeginsWith z (prefix_of other))
+              (sym (eqb-true byte b same)) branches.0,
+          omega arith,
+        ))
         | false ↦ (λ differs is. let rest = branch-below forest byte child branches.2 is in
-        (rest.0, rest.1, let le = rest.2 in omega (arith, le)))
+            (rest.0, rest.1, let le = rest.2 in omega (arith, le)))
       ] in
       both (byte == b) refl (rw (unsigned_tied byte b) at here)
 

@@ -66,16 +66,23 @@ module _ {V : Type 0} where
   branches-with bare byte child branches tree begins = (begins, tree, tt)
   branches-with (grown b other forest) byte child branches tree begins =
       let P : Ordering → Type 0 =
-          λ o. nat_cmp byte b ≡ o → AreBranches
-          (forest_of (by_order o ((byte, child) ∷ (b, other) ∷ entries_of forest)
-          ((b, child) ∷ entries_of forest)
-          ((b, other) ∷ with_child byte child (entries_of forest)))) in
+      λ o. nat_cmp byte b ≡ o → AreBranches
+      (forest_of (by_order o ((byte, child) ∷ (b, other) ∷ entries_of forest)
+      ((b, child) ∷ entries_of forest)
+      ((b, other) ∷ with_child byte child (entries_of forest)))) in
       let each : (o : Ordering) → P o = elim [
         | Less ↦ (λ is. (begins, tree, (branches.0, branches.1, branches-again forest branches.2)))
-        | Equal ↦ (λ is. (subst (λ z. BeginsWith z (prefix_of child))
-        (nat_cmp-IsAntisymmetric byte b is) begins, tree, branches-again forest branches.2))
-        | Greater ↦ (λ is. (branches.0, branches.1,
-        branches-with forest byte child branches.2 tree begins))
+        | Equal ↦ (λ is. (
+          subst (λ z. BeginsWith z (prefix_of child))
+              (nat_cmp-IsAntisymmetric byte b is) begins,
+          tree,
+          branches-again forest branches.2,
+        ))
+        | Greater ↦ (λ is. (
+          branches.0,
+          branches.1,
+          branches-with forest byte child branches.2 tree begins,
+        ))
       ] in
       each (nat_cmp byte b) refl
 
@@ -85,10 +92,10 @@ module _ {V : Type 0} where
   used-with None bare byte child = refl
   used-with None (grown b other forest) byte child =
       let P : Ordering → Type 0 =
-          λ o. IsTrue (is_used None (forest_of
-          (by_order o ((byte, child) ∷ (b, other) ∷ entries_of forest)
-          ((b, child) ∷ entries_of forest)
-          ((b, other) ∷ with_child byte child (entries_of forest))))) in
+      λ o. IsTrue (is_used None (forest_of
+      (by_order o ((byte, child) ∷ (b, other) ∷ entries_of forest)
+      ((b, child) ∷ entries_of forest)
+      ((b, other) ∷ with_child byte child (entries_of forest))))) in
       let each : (o : Ordering) → P o = elim [ Less ↦ refl | Equal ↦ refl | Greater ↦ refl ] in
       each (nat_cmp byte b)
 
@@ -102,8 +109,8 @@ module _ {V : Type 0} where
       → children.IsAscending (entries_of (forest_of (with_child byte child (entries_of forest))))
   ascending-with forest byte child ascending =
       subst children.IsAscending (sym
-          (entries_of-forest_of (with_child byte child (entries_of forest))))
-          (ascending-with_child byte child (entries_of forest) ascending)
+      (entries_of-forest_of (with_child byte child (entries_of forest))))
+      (ascending-with_child byte child (entries_of forest) ascending)
 
   below-with : (forest : Forest V) (byte : ℕ) (child : Shape V) (rest : List ℕ) (new : Option V)
       → ((q : List ℕ) → found child q
@@ -114,16 +121,16 @@ module _ {V : Type 0} where
       let entries = entries_of forest in
       let look : Option (Shape V) → Option V = option_and_then (λ s. found s (c ∷ q)) in
       let P : Bool → Type 0 =
-          λ t. (c == byte) ≡ t → look (cond t (Some child) (child_at c entries))
-          ≡ cond (t && bytes_eq q rest) new (look (child_at c entries)) in
+      λ t. (c == byte) ≡ t → look (cond t (Some child) (child_at c entries))
+      ≡ cond (t && bytes_eq q rest) new (look (child_at c entries)) in
       let both : (t : Bool) → P t = elim [
         | true ↦ (λ same.
             let Q : ℕ → Type 0 =
-                λ z. found child (c ∷ q) ≡ cond (bytes_eq q rest) new (look (child_at z entries)) in
+            λ z. found child (c ∷ q) ≡ cond (bytes_eq q rest) new (look (child_at z entries)) in
             let here = eqb-true c byte same in
             subst Q (sym here) (changed (c ∷ q)
-                ∙ ap (λ (t : Bool). cond (t && bytes_eq q rest) new (look (child_at byte entries)))
-                same))
+            ∙ ap (λ (t : Bool). cond (t && bytes_eq q rest) new (look (child_at byte entries)))
+            same))
         | false ↦ (λ differs. refl)
       ] in
       found-below (forest_of (with_child byte child entries)) c q
@@ -147,9 +154,12 @@ module _ {V : Type 0} where
   pub put-end : (s : Shape V) (key rest : List ℕ) (value : V) → IsTree s → key ≡ prefix_of s ++ rest
       → rest ≡ [] → IsPut key value s (with_value (Some value) s)
   put-end (node prefix old width forest) key rest value tree is end =
-      rw (is, end) ((tree.0, tree.1, refl),
-          (λ q. lift prefix [] q (Some value) (inside old forest) (inside (Some value) forest)
-          (inside-value old (Some value) forest)), λ byte begins also. begins)
+      rw (is, end) (
+        (tree.0, tree.1, refl),
+        (λ q. lift prefix [] q (Some value) (inside old forest) (inside (Some value) forest)
+            (inside-value old (Some value) forest)),
+        λ byte begins also. begins,
+      )
 
   -- a child is put under the next byte, in place of the one that is there
   put-child : (prefix : List ℕ) (old : Option V) (width width' : ℕ) (forest : Forest V) (byte : ℕ)
@@ -163,8 +173,11 @@ module _ {V : Type 0} where
   put-child prefix old width width' forest byte child key rest value order is tree begins puts =
       let after = forest_of (with_child byte child (entries_of forest)) in
       rw is (
-        (ascending-with forest byte child order.0,
-            branches-with forest byte child order.1 tree begins, used-with old forest byte child),
+        (
+          ascending-with forest byte child order.0,
+          branches-with forest byte child order.1 tree begins,
+          used-with old forest byte child,
+        ),
         (λ q. lift prefix (byte ∷ rest) q (Some value) (inside old forest) (inside old after)
             (inside-with old forest byte child rest (Some value) puts)),
         λ first begins also. begins,
@@ -179,11 +192,11 @@ module _ {V : Type 0} where
       → found (node_of key (Some value) 0 []) q ≡ cond (bytes_eq q key) (Some value) None
   found-leaf key value q =
       let put =
-          lift key [] q (Some value) (inside None bare) (inside (Some value) bare)
-          (inside-value None (Some value) bare) in
+      lift key [] q (Some value) (inside None bare) (inside (Some value) bare)
+      (inside-value None (Some value) bare) in
       subst (λ z. option_and_then (inside (Some value) bare) (strip_prefix key q)
-          ≡ cond (bytes_eq q z) (Some value)
-          (option_and_then (inside None bare) (strip_prefix key q))) (append-nil key) put
+      ≡ cond (bytes_eq q z) (Some value)
+      (option_and_then (inside None bare) (strip_prefix key q))) (append-nil key) put
       ∙ ap (cond (bytes_eq q key) (Some value)) (nothing-left (strip_prefix key q))
 
   pub put-leaf : (s : Shape V) (key rest : List ℕ) (byte : ℕ) (value : V) → IsOrdered s
@@ -196,9 +209,9 @@ module _ {V : Type 0} where
       let leaf = node_of (b ∷ rest) (Some value) 0 [] in
       let same = same_Some b byte next in
       put-child prefix old width (widened width (length (entries_of forest))) forest byte leaf key
-          rest value order (subst (λ z. key ≡ prefix ++ (z ∷ rest)) same is) (refl, tt, refl) same
+      rest value order (subst (λ z. key ≡ prefix ++ (z ∷ rest)) same is) (refl, tt, refl) same
       (λ q. rw absent (found-leaf (b ∷ rest) value q
-          ∙ ap (λ z. cond (bytes_eq q (z ∷ rest)) (Some value) None) same))
+      ∙ ap (λ z. cond (bytes_eq q (z ∷ rest)) (Some value) None) same))
 
   pub put-below : (s child after : Shape V) (key rest : List ℕ) (byte : ℕ) (value : V) → IsOrdered s
       → key ≡ prefix_of s ++ rest → slice_get rest 0 ≡ Some byte
@@ -211,9 +224,9 @@ module _ {V : Type 0} where
       let same = same_Some b byte next in
       let begins = (branch (node prefix old width forest) byte child order here).begins in
       put-child prefix old width width forest byte after key rest value order
-          (subst (λ z. key ≡ prefix ++ (z ∷ rest)) same is) puts.0 (puts.2 byte begins same)
+      (subst (λ z. key ≡ prefix ++ (z ∷ rest)) same is) puts.0 (puts.2 byte begins same)
       (λ q. rw here (puts.1 q ∙ ap (λ z. cond (bytes_eq q (z ∷ rest)) (Some value) (found child q))
-          same))
+      same))
 
   -- ---- a child that is put back as it was
   with_child-same : (entries : List (ℕ × Shape V)) (byte : ℕ) (child : Shape V)
@@ -221,20 +234,22 @@ module _ {V : Type 0} where
       → with_child byte child entries ≡ entries
   with_child-same entries byte child ascending here =
       same_entries nat_cmp nat_cmp_total nat_cmp-IsAntisymmetric
-          (with_child byte child entries) entries
-          (holds (ascending-with_child byte child entries ascending)) (holds ascending) (λ q.
+      (with_child byte child entries) entries
+      (holds (ascending-with_child byte child entries ascending)) (holds ascending) (λ q.
       let P : Bool → Type 0 =
-          λ t. (q == byte) ≡ t → cond t (Some child) (child_at q entries) ≡ child_at q entries in
+      λ t. (q == byte) ≡ t → cond t (Some child) (child_at q entries) ≡ child_at q entries in
       let both : (t : Bool) → P t =
-          elim [ true ↦ (λ same. sym (ap (λ z. child_at z entries) (eqb-true q byte same) ∙ here))
-          | false ↦ (λ differs. refl) ] in
+      elim [
+        | true ↦ (λ same. sym (ap (λ z. child_at z entries) (eqb-true q byte same) ∙ here))
+        | false ↦ (λ differs. refl)
+      ] in
       find-put nat_cmp nat_cmp_total q byte child entries
-          ∙ ap (λ t. cond t (Some child) (child_at q entries)) (unsigned_tied q byte)
-          ∙ both (q == byte) refl)
+      ∙ ap (λ t. cond t (Some child) (child_at q entries)) (unsigned_tied q byte)
+      ∙ both (q == byte) refl)
 
   pub replaced-same : (s : Shape V) (byte : ℕ) (child : Shape V) → IsOrdered s
       → child_at byte (children_of s) ≡ Some child → with_replaced byte child s ≡ s
   replaced-same (node prefix value width forest) byte child order here =
       ap (λ entries. node prefix value width (forest_of entries))
-          (with_child-same (entries_of forest) byte child order.0 here)
-          ∙ ap (node prefix value width) (forest_of-entries_of forest)
+      (with_child-same (entries_of forest) byte child order.0 here)
+      ∙ ap (node prefix value width) (forest_of-entries_of forest)

@@ -19,12 +19,14 @@ module _ {V : Type 0} where
       absurd (false≢true (ap is_some (sym (found-empty child byte begins)) ∙ there))
   key-below prefix width byte child forest (c ∷ key) there begins =
       let P : Bool → Type 0 =
-          λ t. (c == byte) ≡ t → HasKey (node prefix None width (grown byte child forest)) in
+      λ t. (c == byte) ≡ t → HasKey (node prefix None width (grown byte child forest)) in
       let both : (t : Bool) → P t = elim [
-        | true ↦ (λ same. record { key = prefix ++ (c ∷ key);
-        there = rw (strip_prefix-own prefix (c ∷ key), same) there })
+        | true ↦ (λ same. record {
+          key = prefix ++ (c ∷ key);
+          there = rw (strip_prefix-own prefix (c ∷ key), same) there;
+        })
         | false ↦ (λ differs. absurd (false≢true
-        (ap is_some (sym (found-other child byte c key begins differs)) ∙ there)))
+            (ap is_some (sym (found-other child byte c key begins differs)) ∙ there)))
       ] in
       both (c == byte) refl
 

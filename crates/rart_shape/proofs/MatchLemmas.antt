@@ -28,8 +28,8 @@ module _ {V : Type 0} where
   found-deeper (node prefix value width forest) key [] byte is next = absurd (none-some byte next)
   found-deeper (node prefix value width forest) key (b ∷ rest) byte is next =
       rw is (found-below forest b rest
-          ∙ ap (λ z. option_and_then (λ child. found child (b ∷ rest))
-          (child_at z (entries_of forest))) (same_Some b byte next))
+      ∙ ap (λ z. option_and_then (λ child. found child (b ∷ rest))
+      (child_at z (entries_of forest))) (same_Some b byte next))
 
   -- From a child on there is one node less on the path.
   pub path-deeper : (s child : Shape V) (key rest : List ℕ) (byte : ℕ)
@@ -37,7 +37,7 @@ module _ {V : Type 0} where
       → IsBranch byte child s → 1 + path_bound child rest ≤ path_bound s key
   path-deeper s child key rest byte is next branch =
       let long : length key ≡ length (prefix_of s) + length rest =
-          ap length (strip_prefix-is (prefix_of s) key rest is)
-          ∙ length-append (prefix_of s) rest in
+      ap length (strip_prefix-is (prefix_of s) key rest is)
+      ∙ length-append (prefix_of s) rest in
       path-step s child key rest byte (length (prefix_of s)) branch.begins (omega arith) long
-          (begins-long byte rest (begins-first byte rest next))
+      (begins-long byte rest (begins-first byte rest next))

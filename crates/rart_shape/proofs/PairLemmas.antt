@@ -27,8 +27,8 @@ module _ {V : Type 0} where
   find-append q [] back = refl
   find-append q (pair ∷ front) back =
       let P : Bool → Type 0 =
-          λ t. cond t (Some pair.1) (find byte_order q (front ++ back))
-          ≡ option_or (cond t (Some pair.1) (find byte_order q front)) (find byte_order q back) in
+      λ t. cond t (Some pair.1) (find byte_order q (front ++ back))
+      ≡ option_or (cond t (Some pair.1) (find byte_order q front)) (find byte_order q back) in
       let both : (t : Bool) → P t = elim [ true ↦ refl | false ↦ find-append q front back ] in
       both (eq_by_cmp byte_order q pair.0)
 
@@ -53,7 +53,7 @@ module _ {V : Type 0} where
   find-behind p q [] = find-none (strip_prefix p q)
   find-behind p q (pair ∷ pairs) =
       rw (is_eq-slice_cmp q (p ++ pair.0), bytes_eq-strip_prefix p q pair.0)
-          (find-step (strip_prefix p q) pair.0 pair.1 pairs _ (find-behind p q pairs))
+      (find-step (strip_prefix p q) pair.0 pair.1 pairs _ (find-behind p q pairs))
 
   find-own : (value : Option V) (q : List ℕ)
       → find byte_order q (own_pair value) ≡ at_end q value None
@@ -110,17 +110,17 @@ module _ {V : Type 0} where
         let later = ascending_parts (b, child) (entries_of forest) ascending in
         let rest = find-below forest (c ∷ q) later.1 branches.2 in
         let P : Bool → Type 0 =
-            λ t. (c == b) ≡ t → option_or (found child (c ∷ q)) (found_below forest (c ∷ q))
-            ≡ cond t (found child (c ∷ q)) (found_below forest (c ∷ q)) in
+        λ t. (c == b) ≡ t → option_or (found child (c ∷ q)) (found_below forest (c ∷ q))
+        ≡ cond t (found child (c ∷ q)) (found_below forest (c ∷ q)) in
         let both : (t : Bool) → P t = elim [
           | true ↦ (λ same. let missed =
-          child_at-below c b (entries_of forest)
-          (subst (λ z. z ≤ b) (sym (eqb-true c b same)) (le_refl b)) later.0 in
+              child_at-below c b (entries_of forest)
+              (subst (λ z. z ≤ b) (sym (eqb-true c b same)) (le_refl b)) later.0 in
               ap (option_or (found child (c ∷ q)))
-                  (found-below forest c q ∙ ap (option_and_then (λ s. found s (c ∷ q))) missed)
-                  ∙ or-none (found child (c ∷ q)))
+              (found-below forest c q ∙ ap (option_and_then (λ s. found s (c ∷ q))) missed)
+              ∙ or-none (found child (c ∷ q)))
           | false ↦ (λ differs. ap (λ o. option_or o (found_below forest (c ∷ q)))
-          (found-other child b c q branches.0 differs))
+              (found-other child b c q branches.0 differs))
         ] in
         find-append (c ∷ q) (pairs_of child) (pairs_below forest)
         ∙ ap (λ o. option_or o (find byte_order (c ∷ q) (pairs_below forest)))

@@ -86,9 +86,9 @@ module _ {V : Type 0} where
   below-append key [] back below later = later
   below-append key (pair ∷ front) back below later =
       let parts =
-          and_parts (is_lt (byte_order key pair.0)) (below_all byte_order key front) below in
+      and_parts (is_lt (byte_order key pair.0)) (below_all byte_order key front) below in
       and_from (is_lt (byte_order key pair.0)) (below_all byte_order key (front ++ back)) parts.0
-          (below-append key front back parts.1 later)
+      (below-append key front back parts.1 later)
 
   sorted-append : (front back : List (List ℕ × V)) → is_sorted byte_order front ≡ true
       → is_sorted byte_order back ≡ true → EachKey (λ w. below_all byte_order w back ≡ true) front
@@ -96,10 +96,10 @@ module _ {V : Type 0} where
   sorted-append [] back sorted later each = later
   sorted-append (pair ∷ front) back sorted later each =
       let parts =
-          and_parts (below_all byte_order pair.0 front) (is_sorted byte_order front) sorted in
+      and_parts (below_all byte_order pair.0 front) (is_sorted byte_order front) sorted in
       and_from (below_all byte_order pair.0 (front ++ back)) (is_sorted byte_order (front ++ back))
-          (below-append pair.0 front back parts.0 each.0)
-          (sorted-append front back parts.1 later each.1)
+      (below-append pair.0 front back parts.0 each.0)
+      (sorted-append front back parts.1 later each.1)
 
   below-behind : (p key : List ℕ) (pairs : List (List ℕ × V))
       → below_all byte_order (p ++ key) (map (λ pair. (p ++ pair.0, pair.1)) pairs)
@@ -130,7 +130,7 @@ module _ {V : Type 0} where
       let parts = below_parts least (byte, child) (entries_of forest) below in
       each-append (BeginsAbove least) (pairs_of child) (pairs_below forest)
       (each-weaker (BeginsWith byte) (BeginsAbove least) (begins-above least byte parts.0)
-          (pairs_of child) (keys-begin child byte branches.0))
+      (pairs_of child) (keys-begin child byte branches.0))
       (keys-above forest least parts.1 branches.2)
 
   keys-some : (forest : Forest V) → AreBranches forest → EachKey IsSomeString (pairs_below forest)
@@ -138,7 +138,7 @@ module _ {V : Type 0} where
   keys-some (grown byte child forest) branches =
       each-append IsSomeString (pairs_of child) (pairs_below forest)
       (each-weaker (BeginsWith byte) IsSomeString (some-string byte) (pairs_of child)
-          (keys-begin child byte branches.0))
+      (keys-begin child byte branches.0))
       (keys-some forest branches.2)
 
   sorted-own : (value : Option V) (pairs : List (List ℕ × V)) → EachKey IsSomeString pairs
@@ -152,8 +152,8 @@ module _ {V : Type 0} where
     pub sorted-pairs : (s : Shape V) → IsTree s → is_sorted byte_order (pairs_of s) ≡ true
     sorted-pairs (node prefix value width forest) tree =
         sorted-behind prefix (own_pair value ++ pairs_below forest)
-            ∙ sorted-own value (pairs_below forest) (keys-some forest tree.1)
-            (sorted-below forest tree.0 tree.1)
+        ∙ sorted-own value (pairs_below forest) (keys-some forest tree.1)
+        (sorted-below forest tree.0 tree.1)
 
     sorted-below : (forest : Forest V) → children.IsAscending (entries_of forest)
         → AreBranches forest → is_sorted byte_order (pairs_below forest) ≡ true
@@ -162,8 +162,8 @@ module _ {V : Type 0} where
         let later = ascending_parts (byte, child) (entries_of forest) ascending in
         let above = keys-above forest byte later.0 branches.2 in
         sorted-append (pairs_of child) (pairs_below forest) (sorted-pairs child branches.1)
-            (sorted-below forest later.1 branches.2)
+        (sorted-below forest later.1 branches.2)
         (each-weaker (BeginsWith byte) (λ w. below_all byte_order w (pairs_below forest) ≡ true)
-            (λ w begins. below-each (BeginsAbove byte) w (pairs_below forest)
-            (λ u higher. before-above byte w u begins higher) above) (pairs_of child)
-            (keys-begin child byte branches.0))
+        (λ w begins. below-each (BeginsAbove byte) w (pairs_below forest)
+        (λ u higher. before-above byte w u begins higher) above) (pairs_of child)
+        (keys-begin child byte branches.0))

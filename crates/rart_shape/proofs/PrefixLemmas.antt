@@ -12,8 +12,10 @@ pub eqb-sym : (a b : ℕ) → (a == b) ≡ (b == a)
 eqb-sym a b =
     let P : Bool → Type 0 = λ t. (a == b) ≡ t → t ≡ (b == a) in
     let both : (t : Bool) → P t =
-        elim [ true ↦ (λ e. sym (eq-eqb b a (sym (eqb-true a b e))))
-        | false ↦ (λ e. sym (ne_eqb b a (λ h. eqb-false a b e (sym h)))) ] in
+    elim [
+      | true ↦ (λ e. sym (eq-eqb b a (sym (eqb-true a b e))))
+      | false ↦ (λ e. sym (ne_eqb b a (λ h. eqb-false a b e (sym h))))
+    ] in
     both (a == b) refl
 
 -- A string that leaves the prefix before its end has nothing behind it.
@@ -22,9 +24,9 @@ strip_prefix-short [] q short = absurd (omega (arith, short))
 strip_prefix-short (b ∷ p) [] short = refl
 strip_prefix-short (b ∷ p) (c ∷ q) short =
     let P : Bool → Type 0 = λ t. cond t (suc (common_length p q)) 0 < suc (length p)
-        → cond t (strip_prefix p q) None ≡ None in
+    → cond t (strip_prefix p q) None ≡ None in
     let both : (t : Bool) → P t =
-        elim [ true ↦ (λ lt. strip_prefix-short p q (omega (arith, lt))) | false ↦ (λ lt. refl) ] in
+    elim [ true ↦ (λ lt. strip_prefix-short p q (omega (arith, lt))) | false ↦ (λ lt. refl) ] in
     rw (eqb-sym c b) (both (b == c) short)
 
 -- A string that has the whole prefix goes on behind it.
@@ -34,11 +36,13 @@ strip_prefix-whole [] q whole = refl
 strip_prefix-whole (b ∷ p) [] whole = absurd (omega (arith, whole))
 strip_prefix-whole (b ∷ p) (c ∷ q) whole =
     let P : Bool → Type 0 = λ t. suc (length p) ≤ cond t (suc (common_length p q)) 0
-        → cond t (strip_prefix p q) None
-        ≡ Some (drop (cond t (suc (common_length p q)) 0) (c ∷ q)) in
+    → cond t (strip_prefix p q) None
+    ≡ Some (drop (cond t (suc (common_length p q)) 0) (c ∷ q)) in
     let both : (t : Bool) → P t =
-        elim [ true ↦ (λ le. strip_prefix-whole p q (omega (arith, le)))
-        | false ↦ (λ le. absurd (omega (arith, le))) ] in
+    elim [
+      | true ↦ (λ le. strip_prefix-whole p q (omega (arith, le)))
+      | false ↦ (λ le. absurd (omega (arith, le)))
+    ] in
     rw (eqb-sym c b) (both (b == c) whole)
 
 pub strip_prefix-own : (p q : List ℕ) → strip_prefix p (p ++ q) ≡ Some q
@@ -50,11 +54,13 @@ strip_prefix-is [] q rest is = same_Some q rest is
 strip_prefix-is (b ∷ p) [] rest is = absurd (none-some rest is)
 strip_prefix-is (b ∷ p) (c ∷ q) rest is =
     let P : Bool → Type 0 = λ t. (c == b) ≡ t → cond t (strip_prefix p q) None ≡ Some rest
-        → c ∷ q ≡ b ∷ (p ++ rest) in
+    → c ∷ q ≡ b ∷ (p ++ rest) in
     let both : (t : Bool) → P t =
-        elim [ true ↦ (λ e there. let same = eqb-true c b e in
-        let later = strip_prefix-is p q rest there in λ i. same i ∷ later i)
-            | false ↦ (λ e there. absurd (none-some rest there)) ] in
+    elim [
+      | true ↦ (λ e there. let same = eqb-true c b e in
+          let later = strip_prefix-is p q rest there in λ i. same i ∷ later i)
+      | false ↦ (λ e there. absurd (none-some rest there))
+    ] in
     both (c == b) refl is
 
 pub behind-append : (p r q : List ℕ)
@@ -63,8 +69,8 @@ behind-append [] r q = refl
 behind-append (b ∷ p) r [] = refl
 behind-append (b ∷ p) r (c ∷ q) =
     elim (c == b) as (λ t. cond t (strip_prefix (p ++ r) q) None
-        ≡ option_and_then (strip_prefix r) (cond t (strip_prefix p q) None))
-        [ true ↦ behind-append p r q | false ↦ refl ]
+    ≡ option_and_then (strip_prefix r) (cond t (strip_prefix p q) None))
+    [ true ↦ behind-append p r q | false ↦ refl ]
 
 -- whether what is left is the key
 abbrev pub is_left : Option (List ℕ) → List ℕ → Bool
@@ -77,8 +83,10 @@ bytes_eq-strip_prefix [] q key = refl
 bytes_eq-strip_prefix (b ∷ p) [] key = refl
 bytes_eq-strip_prefix (b ∷ p) (c ∷ q) key =
     elim (c == b) as (λ t. (t && bytes_eq q (p ++ key))
-        ≡ is_left (cond t (strip_prefix p q) None) key) [ true ↦ bytes_eq-strip_prefix p q key
-        | false ↦ refl ]
+    ≡ is_left (cond t (strip_prefix p q) None) key) [
+      | true ↦ bytes_eq-strip_prefix p q key
+      | false ↦ refl
+    ]
 
 -- A string of which the whole prefix is matched is the prefix and what is behind.
 pub split-common : (p key : List ℕ)
@@ -87,11 +95,13 @@ split-common [] key = refl
 split-common (b ∷ p) [] = refl
 split-common (b ∷ p) (c ∷ key) =
     let P : Bool → Type 0 =
-        λ t. (b == c) ≡ t → c ∷ key ≡ take (cond t (suc (common_length p key)) 0) (b ∷ p)
-        ++ drop (cond t (suc (common_length p key)) 0) (c ∷ key) in
+    λ t. (b == c) ≡ t → c ∷ key ≡ take (cond t (suc (common_length p key)) 0) (b ∷ p)
+    ++ drop (cond t (suc (common_length p key)) 0) (c ∷ key) in
     let both : (t : Bool) → P t =
-        elim [ true ↦ (λ e. let same = eqb-true b c e in λ i. sym same i ∷ split-common p key i)
-        | false ↦ (λ e. refl) ] in
+    elim [
+      | true ↦ (λ e. let same = eqb-true b c e in λ i. sym same i ∷ split-common p key i)
+      | false ↦ (λ e. refl)
+    ] in
     both (b == c) refl
 
 take-all : (p : List ℕ) (n : ℕ) → length p ≤ n → take n p ≡ p
@@ -114,9 +124,9 @@ differs-strip_prefix [] key byte short next = absurd (omega (arith, short))
 differs-strip_prefix (b ∷ p) [] byte short next = absurd (none-some byte next)
 differs-strip_prefix (b ∷ p) (c ∷ key) byte short next =
     let P : Bool → Type 0 =
-        λ t. (b == c) ≡ t → cond t (suc (common_length p key)) 0 < suc (length p)
-        → slice_get (drop (cond t (suc (common_length p key)) 0) (c ∷ key)) 0 ≡ Some byte
-        → (byte == slice_index_or (b ∷ p) (cond t (suc (common_length p key)) 0) 0) ≡ false in
+    λ t. (b == c) ≡ t → cond t (suc (common_length p key)) 0 < suc (length p)
+    → slice_get (drop (cond t (suc (common_length p key)) 0) (c ∷ key)) 0 ≡ Some byte
+    → (byte == slice_index_or (b ∷ p) (cond t (suc (common_length p key)) 0) 0) ≡ false in
     let both : (t : Bool) → P t = elim [
       | true ↦ (λ e lt n. differs-strip_prefix p key byte (omega (arith, lt)) n)
       | false ↦ (λ e lt n. ne_eqb byte b (λ z. eqb-false b c e (sym z ∙ sym (same_Some c byte n))))
@@ -148,11 +158,13 @@ common-within [] key = (omega arith, omega arith)
 common-within (b ∷ p) [] = (omega arith, omega arith)
 common-within (b ∷ p) (c ∷ key) =
     let P : Bool → Type 0 = λ t. (cond t (suc (common_length p key)) 0 ≤ suc (length p))
-        × (cond t (suc (common_length p key)) 0 ≤ suc (length key)) in
+    × (cond t (suc (common_length p key)) 0 ≤ suc (length key)) in
     let rest = common-within p key in
     let both : (t : Bool) → P t =
-        elim [ true ↦ (let l = rest.0 in omega (arith, l), let r = rest.1 in omega (arith, r))
-        | false ↦ (omega arith, omega arith) ] in
+    elim [
+      | true ↦ (let l = rest.0 in omega (arith, l), let r = rest.1 in omega (arith, r))
+      | false ↦ (omega arith, omega arith)
+    ] in
     both (b == c)
 
 pub begins-long : (byte : ℕ) (p : List ℕ) → BeginsWith byte p → 0 < length p

@@ -23,8 +23,13 @@ module _ {V : Type 0} where
   module _ (root : Shape V) (key : List ℕ) (start : Counts) where
     pub search-start : IsTree root → IsSearchAt root key start root key start
     search-start tree =
-        record { tree = tree; same = refl; entered_grows = omega arith;
-        entered_at_most = omega arith; made = refl }
+        record {
+          tree = tree;
+          same = refl;
+          entered_grows = omega arith;
+          entered_at_most = omega arith;
+          made = refl;
+        }
 
     module _ (s opened : Shape V) (rest : List ℕ) (now after : Counts)
         (at : IsSearchAt root key start s rest now)
@@ -84,8 +89,8 @@ module _ {V : Type 0} where
             search-child child here =
                 let known = branch s byte child (ordered s at.tree) (deeper (Some child) here) in
                 let shorter =
-                    path-deeper s child rest left byte (stripped (Some left) strips)
-                    (sym next) known in
+                path-deeper s child rest left byte (stripped (Some left) strips)
+                (sym next) known in
                 let grows = at.entered_grows in
                 let most = at.entered_at_most in
                 record {

@@ -1,5 +1,5 @@
 -- What a tree of nodes means: the value of each byte string.
-use Rattle.std.specs.Prelude.{◌≡◌, ℕ, ◌==◌, ◌++◌, Bool, true, false, List, [], ◌∷◌, Option, Some, None, IsTrue, ⊤, length, map, if◌then◌else◌, take, drop, slice_index_or, ◌+◌, max}
+use Rattle.std.specs.Prelude.{◌≡◌, ℕ, ◌==◌, ◌++◌, Bool, true, false, List, [], ◌∷◌, Option, Some, None, Result, Ok, Err, IsTrue, ⊤, length, map, if◌then◌else◌, take, drop, slice_index_or, ◌+◌, max}
 use Rattle.std.specs.Option.{option_and_then}
 use Rattle.std.specs.Str.{bytes_eq}
 use Rattle.rart_below.specs.Children as children
@@ -73,15 +73,20 @@ module _ {V : Type 0} where
   abbrev pub IsPut : List ℕ → V → Shape V → Shape V → Type 0
   IsPut key value before after =
       IsTree after × ((q : List ℕ) → found after q
-          ≡ (if bytes_eq q key then Some value else found before q)) × KeepsFirst key before after
+      ≡ (if bytes_eq q key then Some value else found before q)) × KeepsFirst key before after
+
+  -- A call that puts the value at the key answers what was there. Refused, it leaves what was.
+  abbrev pub Puts : {E : Type 0} → Result (Option V) E → List ℕ → V → Shape V → Shape V → Type 0
+  Puts (Ok old) key value before after = IsPut key value before after × (old ≡ found before key)
+  Puts (Err refused) key value before after = after ≡ before
 
   -- After, nothing is at the key, and else what was there. The node itself may be left without
   -- value and child.
   abbrev pub IsTaken : List ℕ → Shape V → Shape V → Type 0
   IsTaken key before after =
       IsOrdered after × ((q : List ℕ)
-          → found after q ≡ (if bytes_eq q key then None else found before q))
-          × (prefix_of after ≡ prefix_of before)
+      → found after q ≡ (if bytes_eq q key then None else found before q))
+      × (prefix_of after ≡ prefix_of before)
 
   -- the node cut inside its prefix: a parent of width 4 with the first bytes, over the node with
   -- the others

@@ -17,5 +17,5 @@ module _ {V : Type 0} where
       let has = tree-has-key s tree in
       ne_eqb (finite.len (map_of (Some s))) 0 (λ none.
       let gone = ap (λ m. finite.get m has.key) (finite.empty_of_len (map_of (Some s)) none)
-          ∙ finite.get-empty byte_order has.key in
+      ∙ finite.get-empty byte_order has.key in
       false≢true (sym (ap is_some (sym (get-found (Some s) has.key tree) ∙ gone)) ∙ has.there))

@@ -26,7 +26,7 @@ module _ {V : Type 0} where
   pairs-map None tree = pairs-empty V
   pairs-map (Some root) tree =
       same_entries byte_order nat_list_cmp_total byte_order-IsAntisymmetric
-          (pairs (map_of (Some root))) (pairs_of root)
+      (pairs (map_of (Some root))) (pairs_of root)
       (finite.entries_sorted (map_of (Some root))) (subst T (sym (sorted-pairs root tree)) tt)
       (λ q. sym (finite.get-entries (map_of (Some root)) q)
-          ∙ finite.get-from_entries nat_list_cmp_total (pairs_of root) q)
+      ∙ finite.get-from_entries nat_list_cmp_total (pairs_of root) q)

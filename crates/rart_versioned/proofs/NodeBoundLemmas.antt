@@ -149,7 +149,7 @@ module _ {V : Type 0} where
       let value = (Contains-pairs map pair.0 pair.1).0 listed in
       let key = keys pair.0 (ap is_some (sym (get-found (Some s) pair.0 tree) ∙ value)) in
       (starts_begin_keys V m (above ++ u)).1
-          (above ++ pair.0, begins-strip_prefix above u pair.0 is, key)
+      (above ++ pair.0, begins-strip_prefix above u pair.0 is, key)
 
   -- Where p begins the bytes above a tree and its prefix, the tree has no more nodes than p begins
   -- strings that begin keys of the map.

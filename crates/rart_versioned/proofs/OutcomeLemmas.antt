@@ -17,6 +17,6 @@ module _ {F V E : Type 0} (callback : Once F (MutBor (Slot V) × Unit {0})
   one-update v after w slot told (Ok answer) one updates =
       let same = one updates.0 updates.1 updates.2 in
       let is = updates.3 ∙ ap (λ left. slot_update v w left updates.1) same.0
-          ∙ ap (λ t. slot_update v w slot t) same.1 in
+      ∙ ap (λ t. slot_update v w slot t) same.1 in
       (ap (λ outcome. outcome.0) is, ap (λ outcome. outcome.1) is)
   one-update v after w slot told (Err refusal) one updates = updates.0

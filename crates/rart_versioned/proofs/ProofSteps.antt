@@ -37,4 +37,4 @@ use denote.Struct.Laws.{mut_ref_laws}
 pub reference-laws : (at : NamedLft) (T : RattleType) → Laws T → Laws (MutRef at.mir at.lft T)
 reference-laws at T laws = let one = is_one T laws in
     of_field (mut_ref_field at T one) (mut_ref_laws at T one) refl
-        (mut_ref_shared at T one (row_shared T laws))
+    (mut_ref_shared at T one (row_shared T laws))

@@ -35,8 +35,11 @@ module _ {V : Type 0} where
       → IsTaken key root after → left_unused ≡ is_unused after → o ≡ kept left_unused after
       → IsTakenIn key (Some root) o
   root-taken key root after true o taken unused is =
-      subst (IsTakenIn key (Some root)) (sym is) (tt, λ q. sym (found-unused after q (sym unused))
-      ∙ taken.1 q)
+      subst (IsTakenIn key (Some root)) (sym is) (
+        tt,
+        λ q. sym (found-unused after q (sym unused))
+            ∙ taken.1 q,
+      )
   root-taken key root after false o taken unused is =
       subst (IsTakenIn key (Some root)) (sym is) (used-tree after taken.0 (sym unused), taken.1)
 
@@ -50,8 +53,8 @@ module _ {V : Type 0} where
   map-taken before after key tree taken =
       same-map (map_of after) (finite.remove (map_of before) key) (λ q.
       get-found after q taken.0 ∙ taken.1 q
-          ∙ ap (λ t. cond t None (found_in before q)) (sym (is_eq-slice_cmp q key))
-          ∙ ap (cond (eq_by_cmp byte_order q key) None) (sym (get-found before q tree))
+      ∙ ap (λ t. cond t None (found_in before q)) (sym (is_eq-slice_cmp q key))
+      ∙ ap (cond (eq_by_cmp byte_order q key) None) (sym (get-found before q tree))
       ∙ sym (finite.get-remove nat_list_cmp_total (map_of before) key q))
 
   pub sound-taken : (most : Option ℕ) (count later : ℕ) (before after : Option (Shape V))
@@ -60,14 +63,20 @@ module _ {V : Type 0} where
   sound-taken most count later before None key sound le taken = tt
   sound-taken most count later before (Some root) key sound le taken =
       let Keys : Bool → List ℕ → Type 0 = λ t q. IsSome (cond t None (found_in before q))
-          → IsKeyLength most (length q) in
+      → IsKeyLength most (length q) in
       let both : (q : List ℕ) (t : Bool) → Keys t q =
-          λ q. elim [ true ↦ (λ there. absurd (false≢true there))
-          | false ↦ (λ there. admitted most count before sound q there) ] in
+      λ q. elim [
+        | true ↦ (λ there. absurd (false≢true there))
+        | false ↦ (λ there. admitted most count before sound q there)
+      ] in
       let fewer : finite.len (map_of (Some root)) ≤ count =
-      rw (map-taken before (Some root) key (tree-in most count before sound) taken,
-          finite.len-remove nat_list_cmp_total (map_of before) key)
-          (one-less (finite.contains_key (map_of before) key) _ count (few most count before sound))
-          in
-      (taken.0, (λ q there. both q (bytes_eq q key) (subst IsSome (taken.1 q) there)),
-          omega (arith, fewer, le))
+      rw (
+        map-taken before (Some root) key (tree-in most count before sound) taken,
+        finite.len-remove nat_list_cmp_total (map_of before) key,
+      )
+      (one-less (finite.contains_key (map_of before) key) _ count (few most count before sound))
+      in (
+        taken.0,
+        (λ q there. both q (bytes_eq q key) (subst IsSome (taken.1 q) there)),
+        omega (arith, fewer, le),
+      )

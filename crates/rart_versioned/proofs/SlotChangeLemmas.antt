@@ -34,11 +34,11 @@ module _ {V : Type 0} where
   insert-same m key value is =
       same-map (finite.insert m key value) m (λ q.
       let P : Bool → Type 0 =
-          λ t. eq_by_cmp byte_order q key ≡ t
-          → cond t (Some value) (finite.get m q) ≡ finite.get m q in
+      λ t. eq_by_cmp byte_order q key ≡ t
+      → cond t (Some value) (finite.get m q) ≡ finite.get m q in
       let both : (t : Bool) → P t = elim [
         | true ↦ (λ same. sym is ∙ finite.get_tied nat_list_cmp_total m q key
-        (tied (byte_order q key) same))
+            (tied (byte_order q key) same))
         | false ↦ (λ differs. refl)
       ] in
       finite.get-insert nat_list_cmp_total m key value q ∙ both (eq_by_cmp byte_order q key) refl)
@@ -72,8 +72,10 @@ module _ {V : Type 0} where
     some there (Some value) is = (value, refl)
 
     kept : (more : ℕ) (value : V) → value_at v w ≡ Some value
-        → with_rise v more ≡ record { content = finite.insert v.content w value;
-        number = v.number + more }
+        → with_rise v more ≡ record {
+          content = finite.insert v.content w value;
+          number = v.number + more;
+        }
     kept more value is =
         ap (λ m. record { content = m; number = v.number + more })
         (sym (insert-same v.content w value is))
@@ -114,7 +116,7 @@ module _ {V : Type 0} where
           → IsTried {E = E} v w left (Ok told) (Ok true) after
       there-tried left told after there is = let value = some there (value_at v w) refl in
           subst (IsTried {E = E} v w left (Ok told) (Ok true)) (sym is)
-              (tried-there value.0 value.1 left told)
+          (tried-there value.0 value.1 left told)
 
 -- ---- what a call of the callback allows
 module _ {F V : Type 0} (callback : Once F (MutBor (Slot V) × Unit {0})
@@ -136,10 +138,14 @@ module _ {F V : Type 0} (callback : Once F (MutBor (Slot V) × Unit {0})
       (after : Version V) → Tells callback f v w left told → has_key v w ≡ false
       → Changes answer v after (outcome_of_absent v w told) → OnErr answer (AsksMemory told)
       → Updates callback f v w answer after
-  updates-absent left told (Ok answer) after tell absent is asks =
-      (left, told, tell, ap (λ z. (z, after)) is.0
-          ∙ ap (λ z. ((outcome_of_absent v w told).0, z)) is.1
-          ∙ absent-updated v w left told absent)
+  updates-absent left told (Ok answer) after tell absent is asks = (
+    left,
+    told,
+    tell,
+    ap (λ z. (z, after)) is.0
+        ∙ ap (λ z. ((outcome_of_absent v w told).0, z)) is.1
+        ∙ absent-updated v w left told absent,
+  )
   updates-absent left told (Err refusal) after tell absent is asks =
       (is, inr (left, asks.0, subst (λ t. Tells callback f v w left t) asks.1 tell))
 

@@ -68,8 +68,8 @@ module _ {V : Type 0} where
   map-below before after key value tree tree-after puts =
       same-map (map_of after) (finite.insert (map_of before) key value) (λ q.
       get-found after q tree-after ∙ puts q
-          ∙ ap (λ t. cond t (Some value) (found_in before q)) (sym (is_eq-slice_cmp q key))
-          ∙ ap (cond (eq_by_cmp byte_order q key) (Some value)) (sym (get-found before q tree))
+      ∙ ap (λ t. cond t (Some value) (found_in before q)) (sym (is_eq-slice_cmp q key))
+      ∙ ap (cond (eq_by_cmp byte_order q key) (Some value)) (sym (get-found before q tree))
       ∙ sym (finite.get-insert nat_list_cmp_total (map_of before) key value q))
 
   pub map-put : (o : Option (Shape V)) (after : Shape V) (key : List ℕ) (value : V) → IsTreeIn o
@@ -89,19 +89,23 @@ module _ {V : Type 0} where
       → IsSound most later (Some after)
   sound-put most count later o after key value sound le fits puts =
       let Keys : Bool → List ℕ → Type 0 =
-          λ t q. bytes_eq q key ≡ t → IsSome (cond t (Some value) (found_in o q))
-          → IsKeyLength most (length q) in
+      λ t q. bytes_eq q key ≡ t → IsSome (cond t (Some value) (found_in o q))
+      → IsKeyLength most (length q) in
       let both : (q : List ℕ) (t : Bool) → Keys t q = λ q. elim [
         | true ↦ (λ same there. subst (λ z. IsKeyLength most (length z))
-        (sym ((bytes_eq-Decides q key).0 same)) fits)
+            (sym ((bytes_eq-Decides q key).0 same)) fits)
         | false ↦ (λ differs there. admitted most count o sound q there)
       ] in
       let length-now : finite.len (map_of (Some after)) ≤ count + 1 =
-          rw (map-put o after key value (tree-in most count o sound) puts,
-          finite.len-insert nat_list_cmp_total (map_of o) key value)
-          (one-more (finite.contains_key (map_of o) key) _ count (few most count o sound)) in
-      (puts.0, (λ q there. both q (bytes_eq q key) refl (subst IsSome (puts.1 q) there)),
-          omega (arith, length-now, le))
+      rw (
+        map-put o after key value (tree-in most count o sound) puts,
+        finite.len-insert nat_list_cmp_total (map_of o) key value,
+      )
+      (one-more (finite.contains_key (map_of o) key) _ count (few most count o sound)) in (
+        puts.0,
+        (λ q there. both q (bytes_eq q key) refl (subst IsSome (puts.1 q) there)),
+        omega (arith, length-now, le),
+      )
 
   -- A key that is there is set again: no key is added.
   pub sound-again : (most : Option ℕ) (count : ℕ) (root after : Shape V) (key : List ℕ) (value : V)
@@ -110,12 +114,18 @@ module _ {V : Type 0} where
   sound-again most count root after key value there put sound =
       let puts = root-put key value root after put in
       let more =
-          sound-put most count (count + 1) (Some root) after key value sound (omega arith)
-          (sound.1 key there) puts in
+      sound-put most count (count + 1) (Some root) after key value sound (omega arith)
+      (sound.1 key there) puts in
       let has : finite.contains_key (map_of (Some root)) key ≡ true =
-          ap is_some (get-found (Some root) key sound.0) ∙ there in
-      (more.0, more.1, rw (map-put (Some root) after key value sound.0 puts,
-          finite.len-insert nat_list_cmp_total (map_of (Some root)) key value, has) sound.2)
+      ap is_some (get-found (Some root) key sound.0) ∙ there in (
+        more.0,
+        more.1,
+        rw (
+          map-put (Some root) after key value sound.0 puts,
+          finite.len-insert nat_list_cmp_total (map_of (Some root)) key value,
+          has,
+        ) sound.2,
+      )
 
   -- what a version shows, whose root this is
   pub value-in : (most : Option ℕ) (count : ℕ) (o : Option (Shape V)) (number : ℕ) (w : List ℕ)
@@ -133,8 +143,8 @@ module _ {V : Type 0} where
     pub lengths-in : (key : List ℕ) → IsTrue (has_key v key) → IsKeyLength most (length key)
     lengths-in key there =
         admitted most count o sound key
-            (subst IsSome (get-found o key (tree-in most count o sound))
-            (subst (λ (z : Version V). IsTrue (has_key z key)) (sym shows) there))
+        (subst IsSome (get-found o key (tree-in most count o sound))
+        (subst (λ (z : Version V). IsTrue (has_key z key)) (sym shows) there))
 
   -- Where a version has a key there is a root.
   pub has-root : {A : Type 0} (shape : A → Shape V) (root : Option A) (number : ℕ) (v : Version V)

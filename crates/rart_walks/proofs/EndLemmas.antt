@@ -28,11 +28,11 @@ common-front prefix [] all = record { more = prefix; is = refl }
 common-front [] (c ∷ rest) all = absurd (omega (arith, all))
 common-front (b ∷ prefix) (c ∷ rest) all =
     let P : Bool → Type 0 =
-        λ t. (b == c) ≡ t → cond t (suc (common_length prefix rest)) 0 ≡ suc (length rest)
-        → IsFront (c ∷ rest) (b ∷ prefix) in
+    λ t. (b == c) ≡ t → cond t (suc (common_length prefix rest)) 0 ≡ suc (length rest)
+    → IsFront (c ∷ rest) (b ∷ prefix) in
     let both : (t : Bool) → P t = elim [
       | true ↦ (λ same e. let front = common-front prefix rest (omega (arith, e)) in
-      record { more = front.more; is = λ i. eqb-true b c same i ∷ front.is i })
+          record { more = front.more; is = λ i. eqb-true b c same i ∷ front.is i })
       | false ↦ (λ differs e. absurd (omega (arith, e)))
     ] in
     both (b == c) refl all
@@ -55,19 +55,30 @@ common-parts [] rest short also = absurd (omega (arith, short))
 common-parts (b ∷ prefix) [] short also = absurd (omega (arith, also))
 common-parts (b ∷ prefix) (c ∷ rest) short also =
     let P : Bool → Type 0 =
-        λ t. (b == c) ≡ t → cond t (suc (common_length prefix rest)) 0 < suc (length prefix)
-        → cond t (suc (common_length prefix rest)) 0 < suc (length rest)
+    λ t. (b == c) ≡ t → cond t (suc (common_length prefix rest)) 0 < suc (length prefix)
+    → cond t (suc (common_length prefix rest)) 0 < suc (length rest)
     → PartsAt (b ∷ prefix) (c ∷ rest)
     (slice_index_or (b ∷ prefix) (cond t (suc (common_length prefix rest)) 0) 0)
     (slice_index_or (c ∷ rest) (cond t (suc (common_length prefix rest)) 0) 0) in
     let both : (t : Bool) → P t = elim [
       | true ↦ (λ same s a.
           let parts = common-parts prefix rest (omega (arith, s)) (omega (arith, a)) in
-          record { front = b ∷ parts.front; more = parts.more; left = parts.left;
-              is = ap (λ z. b ∷ z) parts.is; also = λ i. sym (eqb-true b c same) i ∷ parts.also i;
-              differs = parts.differs })
-      | false ↦ (λ differs s a. record { front = []; more = prefix; left = rest; is = refl;
-      also = refl; differs = eqb-false b c differs })
+          record {
+            front = b ∷ parts.front;
+            more = parts.more;
+            left = parts.left;
+            is = ap (λ z. b ∷ z) parts.is;
+            also = λ i. sym (eqb-true b c same) i ∷ parts.also i;
+            differs = parts.differs;
+          })
+      | false ↦ (λ differs s a. record {
+        front = [];
+        more = prefix;
+        left = rest;
+        is = refl;
+        also = refl;
+        differs = eqb-false b c differs;
+      })
     ] in
     both (b == c) refl short also
 
@@ -77,10 +88,10 @@ pub parts-at : (prefix rest : List ℕ) (common : ℕ) → common ≡ common_len
 parts-at prefix rest common is ends goes_on =
     let fits = common_fits prefix rest in
     let short : common_length prefix rest < length prefix =
-        ⊎_elim (λ end. absurd (goes_on end)) (λ less. omega (arith, less, is)) ends in
+    ⊎_elim (λ end. absurd (goes_on end)) (λ less. omega (arith, less, is)) ends in
     let also : common_length prefix rest < length rest = omega (arith, fits, is, goes_on) in
     subst (λ n. PartsAt prefix rest (slice_index_or prefix n 0) (slice_index_or rest n 0)) (sym is)
-        (common-parts prefix rest short also)
+    (common-parts prefix rest short also)
 
 either-less : (b c : ℕ) → b ≢ c → (b < c) ⊎ (c < b)
 either-less b c differs =
@@ -103,7 +114,7 @@ module _ {V : Type 0} (part : Part) (s : Shape V) (rest : List ℕ) where
     within-inside : IsTree s → front.more ≡ [] → is_strict part ≡ true → kept ≡ pairs_inside s
     within-inside tree end strict =
         kept-gathered ∙ parted-inside own_pair own_pair-ends (keeps part) (goes_on part)
-            (keeps-goes part) s rest front.more front.is tree end (strict-itself part strict)
+        (keeps-goes part) s rest front.more front.is tree end (strict-itself part strict)
         ∙ ap (behind_path (prefix_of s)) (sym (all-gathered (children_of s)))
 
     beyond : (more : List ℕ) → front.more ≡ more → (length rest == length (prefix_of s)) ≡ false
@@ -126,15 +137,18 @@ module _ {V : Type 0} (part : Part) (s : Shape V) (rest : List ℕ) where
         (pairs_of s)
     end-within tree =
         let P : Bool → Bool → Type 0 =
-            λ t u. is_strict part ≡ t → (length rest == length (prefix_of s)) ≡ u
-            → kept ≡ cond (t && u) (pairs_inside s) (pairs_of s) in
+        λ t u. is_strict part ≡ t → (length rest == length (prefix_of s)) ≡ u
+        → kept ≡ cond (t && u) (pairs_inside s) (pairs_of s) in
         let strict : (u : Bool) → P true u = elim [
           | true ↦ (λ is same. within-inside tree (ended front.more refl same) is)
           | false ↦ (λ is differs. within-all (beyond front.more refl differs))
         ] in
         let both : (t u : Bool) → P t u =
-            elim [ true ↦ strict | false ↦
-            (λ u is _. within-all (λ key. keeps-itself part is (front.more ++ key))) ] in
+        elim [
+          | true ↦ strict
+          | false ↦
+              (λ u is _. within-all (λ key. keeps-itself part is (front.more ++ key)))
+        ] in
         both (is_strict part) (length rest == length (prefix_of s)) refl refl
 
     pub end-within-counted : count_by (reaches part rest) (paths_of s) ≡ nodes_of s
@@ -161,8 +175,8 @@ module _ {V : Type 0} (part : Part) (s : Shape V) (rest : List ℕ) where
     beside-upper : c < b → kept ≡ cond (goes_on part) (pairs_of s) []
     beside-upper less =
         kept-gathered ∙ at-front own_pair
-            ∙ parted-upper own_pair own_pair-ends (keeps part) (goes_on part)
-            (keeps-goes part) s parts.front b parts.more c parts.left parts.is less
+        ∙ parted-upper own_pair own_pair-ends (keeps part) (goes_on part)
+        (keeps-goes part) s parts.front b parts.more c parts.left parts.is less
         ∙ ap (λ z. cond (goes_on part) z []) (sym (pairs-gathered s))
 
     pub end-above : c < b → goes_on part ≡ true → kept ≡ pairs_of s

@@ -43,7 +43,7 @@ module _ {A : Type 0} where
   keeping-same test other [] each = refl
   keeping-same test other (pair ∷ pairs) each = let e : test pair.0 ≡ other pair.0 = each pair.0 in
       rw e (ap (λ rest. cond (other pair.0) (pair ∷ rest) rest)
-          (keeping-same test other pairs each))
+      (keeping-same test other pairs each))
 
   pub keeping-append : (test : List ℕ → Bool) (front back : List (List ℕ × A))
       → keeping test (front ++ back) ≡ keeping test front ++ keeping test back
@@ -170,7 +170,7 @@ module _ {V A : Type 0} (own : Option V → List (List ℕ × A)) where
               ∙ ap (λ later. kept_at test (child_at byte (child ∷ children))
               ++ cond keep (gathered_all later) [])
               (sym (children_from-passed (suc byte) child children (omega (arith, same))
-                  ∙ children_from-below (suc byte) child.0 children (omega (arith, same)) order.0))
+              ∙ children_from-below (suc byte) child.0 children (omega (arith, same)) order.0))
           | inr (inl less) ↦
               parts
               ∙ ap (λ first. first ++ keeping test (gathered_all children))
@@ -184,8 +184,8 @@ module _ {V A : Type 0} (own : Option V → List (List ℕ × A)) where
               (sym (children_from-passed (suc byte) child children (omega (arith, less))))
           | inr (inr more) ↦
               let below =
-                  below_from byte child children more
-                  (below_lower byte child.0 children (omega (arith, more)) order.0) in
+              below_from byte child children more
+              (below_lower byte child.0 children (omega (arith, more)) order.0) in
               keeping-above (child ∷ children) below begun
               ∙ ap (λ later. cond keep (gathered_all later) [])
               (sym (children_from-below (suc byte) byte (child ∷ children) (omega arith) below))

@@ -18,8 +18,11 @@ module _ {A : Type 0} where
   ends-at (z ∷ w ∷ xs) zero x long is = absurd (omega (arith, long))
   ends-at (z ∷ w ∷ xs) (suc at) x long is =
       let rest = ends-at (w ∷ xs) at x (omega (arith, long)) is in
-      record { front = z ∷ rest.front; is = ap (λ e. z ∷ e) rest.is;
-          put = λ y. ap (λ e. z ∷ e) (rest.put y) }
+      record {
+        front = z ∷ rest.front;
+        is = ap (λ e. z ∷ e) rest.is;
+        put = λ y. ap (λ e. z ∷ e) (rest.put y);
+      }
 
   pub ends-with : (xs : List A) (count : ℕ) (x : A) → count ≡ length xs → 0 < count
       → x ≡ slice_index_or xs (count - 1) x → EndsWith xs (count - 1) x

@@ -113,7 +113,7 @@ module _ {V A : Type 0} (own : Option V → List (List ℕ × A)) (at_end : Stan
       ∙ keeping-behind (test (prefix ++ (byte ∷ left))) prefix inside
       ∙ ap (behind_path prefix) (
       keeping-same (λ key. test (prefix ++ (byte ∷ left)) (prefix ++ key))
-          (test (byte ∷ left)) inside (λ key. goes.along prefix (byte ∷ left) key)
+      (test (byte ∷ left)) inside (λ key. goes.along prefix (byte ∷ left) key)
       ∙ keeping-append (test (byte ∷ left)) (own (value_of s)) (gathered_all own (children_of s))
       ∙ ap (λ first. first ++ keeping (test (byte ∷ left)) (gathered_all own (children_of s)))
       (at_end (value_of s) (test (byte ∷ left)) false (goes.ended byte left))
@@ -132,8 +132,8 @@ module _ {V A : Type 0} (own : Option V → List (List ℕ × A)) (at_end : Stan
       ∙ ap (behind_path (prefix_of s))
       (keeping-either (λ key. test (p ++ (c ∷ r)) (prefix_of s ++ key)) keep inside
       (λ key. ap (λ z. test (p ++ (c ∷ r)) (z ++ key)) is
-          ∙ ap (test (p ++ (c ∷ r))) (append_assoc p (b ∷ q) key)
-          ∙ goes.along p (c ∷ r) (b ∷ (q ++ key)) ∙ each (q ++ key)))
+      ∙ ap (test (p ++ (c ∷ r))) (append_assoc p (b ∷ q) key)
+      ∙ goes.along p (c ∷ r) (b ∷ (q ++ key)) ∙ each (q ++ key)))
       ∙ behind-either keep (prefix_of s) inside
       ∙ ap (λ z. cond keep z []) (sym whole)
 
@@ -177,7 +177,7 @@ module _ {V A : Type 0} (own : Option V → List (List ℕ × A)) (at_end : Stan
         ∙ keeping-behind (test rest) (prefix_of s) inside
         ∙ ap (behind_path (prefix_of s)) (
         keeping-same (λ key. test rest (prefix_of s ++ key)) (test []) inside
-            (λ key. inside-tests key ∙ ap (λ z. test [] (z ++ key)) end)
+        (λ key. inside-tests key ∙ ap (λ z. test [] (z ++ key)) end)
         ∙ keeping-append (test []) (own (value_of s)) (gathered_all own (children_of s))
         ∙ ap (λ first. first ++ keeping (test []) (gathered_all own (children_of s)))
         (at_end (value_of s) (test []) false strict)

@@ -74,7 +74,7 @@ module _ {V : Type 0} where
       later-pairs =
           let cs = children_from (suc byte) (children_of s) in
           elim (goes_on part) as (λ t. pairs_of_all (cond t cs [])
-              ≡ cond t (gathered_all own_pair cs) []) [ true ↦ all-gathered cs | false ↦ refl ]
+          ≡ cond t (gathered_all own_pair cs) []) [ true ↦ all-gathered cs | false ↦ refl ]
 
       later-nodes : length (cond (goes_on part)
           (gathered_all own_place (children_from (suc byte) (children_of s))) [])
@@ -82,7 +82,7 @@ module _ {V : Type 0} where
       later-nodes =
           let cs = children_from (suc byte) (children_of s) in
           elim (goes_on part) as (λ t. length (cond t (gathered_all own_place cs) [])
-              ≡ nodes_of_all (cond t cs [])) [ true ↦ all-counted cs | false ↦ refl ]
+          ≡ nodes_of_all (cond t cs [])) [ true ↦ all-counted cs | false ↦ refl ]
 
       -- what is kept: of the child under the byte, then of the children behind it, then what is
       -- left above
@@ -94,8 +94,8 @@ module _ {V : Type 0} where
           let path = concat (segments_of frames) in
           let below = kept_at own_pair (keeps part (byte ∷ left)) (child_at byte (children_of s)) in
           let strip_prefix =
-              cond (goes_on part) (gathered_all own_pair (children_from (suc byte) (children_of s)))
-              [] in
+          cond (goes_on part) (gathered_all own_pair (children_from (suc byte) (children_of s)))
+          [] in
           way.kept
           ∙ ap (λ r. behind_path path (keeping (keeps part r) (gathered own_pair s))
           ++ pairs_ahead frames) is
@@ -118,12 +118,12 @@ module _ {V : Type 0} where
           + nodes_ahead passed
       passed-counted =
           let below =
-              kept_at own_place (reaches part (byte ∷ left)) (child_at byte (children_of s)) in
+          kept_at own_place (reaches part (byte ∷ left)) (child_at byte (children_of s)) in
           let strip_prefix =
-              cond (goes_on part) (gathered_all own_place
-              (children_from (suc byte) (children_of s))) [] in
+          cond (goes_on part) (gathered_all own_place
+          (children_from (suc byte) (children_of s))) [] in
           let whole : length (keeping (reaches part rest) (gathered own_place s))
-              ≡ length below + length strip_prefix =
+          ≡ length below + length strip_prefix =
           ap (λ r. length (keeping (reaches part r) (gathered own_place s))) is
           ∙ ap length (parted-below own_place own_place-ends (reaches part) (goes_on part)
           (reaches-goes part) s byte left way.at.tree)
@@ -145,8 +145,8 @@ module _ {V : Type 0} where
           let path = concat (segments_of frames) in
           short-pending greatest (path ++ prefix_of s) (value_of s) _
           (subst (λ p. AreShort greatest
-              (pending_pair (path ++ prefix_of s) (value_of s)
-              ++ behind_path p (pairs_of_all (children_of s)))) (sym path-passed)
+          (pending_pair (path ++ prefix_of s) (value_of s)
+          ++ behind_path p (pairs_of_all (children_of s)))) (sym path-passed)
           (subst (AreShort greatest) (pairs-entered path s) way.short))
 
       pub passed-short : AreShort greatest (pairs_ahead passed)
@@ -154,8 +154,8 @@ module _ {V : Type 0} where
           subst (AreShort greatest) (sym (ahead-push frames (prefix_of s, later)))
           (short-append greatest _ (pairs_ahead frames)
           (subst (λ p. AreShort greatest (behind_path p (pairs_of_all later))) path-passed
-              (later-short greatest (concat (segments_of passed)) (goes_on part) (suc byte)
-              (children_of s) children-short))
+          (later-short greatest (concat (segments_of passed)) (goes_on part) (suc byte)
+          (children_of s) children-short))
           way.short_ahead)
 
       -- the way goes on at the child under the byte

@@ -33,14 +33,16 @@ counted-kept : (test : List ℕ → Bool) (pairs : List (List ℕ × Unit {0}))
 counted-kept test [] = refl
 counted-kept test (pair ∷ pairs) =
     let first : count_by test (map (λ (pair : List ℕ × Unit {0}). pair.0) (pair ∷ pairs))
-        ≡ cond (test pair.0) 1 0 + count_by test
-        (map (λ (pair : List ℕ × Unit {0}). pair.0) pairs) =
+    ≡ cond (test pair.0) 1 0 + count_by test
+    (map (λ (pair : List ℕ × Unit {0}). pair.0) pairs) =
     sum_by-cons (λ (key : List ℕ). cond (test key) 1 0) pair.0
-        (map (λ (pair : List ℕ × Unit {0}). pair.0) pairs) in
+    (map (λ (pair : List ℕ × Unit {0}). pair.0) pairs) in
     first ∙ ap (λ n. cond (test pair.0) 1 0 + n) (counted-kept test pairs)
     ∙ elim (test pair.0) as (λ t. cond t 1 0 + length (keeping test pairs)
-    ≡ length (cond t (pair ∷ keeping test pairs) (keeping test pairs))) [ true ↦ omega arith
-    | false ↦ omega arith ]
+    ≡ length (cond t (pair ∷ keeping test pairs) (keeping test pairs))) [
+      | true ↦ omega arith
+      | false ↦ omega arith
+    ]
 
 module _ {V : Type 0} where
   mutual
@@ -72,15 +74,15 @@ module _ {V : Type 0} where
     paths-places : (s : Shape V) → paths_of s ≡ map (λ pair. pair.0) (gathered own_place s)
     paths-places (node prefix value width forest) =
         ap (λ rest. map (λ key. prefix ++ key) ([] ∷ rest)) (below-places forest)
-            ∙ keys-behind prefix (([], tt) ∷ gathered_below own_place forest)
+        ∙ keys-behind prefix (([], tt) ∷ gathered_below own_place forest)
 
     below-places : (forest : Forest V)
         → paths_below forest ≡ map (λ pair. pair.0) (gathered_below own_place forest)
     below-places bare = refl
     below-places (grown byte child forest) =
         (λ i. paths-places child i ++ below-places forest i)
-            ∙ sym (map-append (λ (pair : List ℕ × Unit {0}). pair.0) (gathered own_place child)
-            (gathered_below own_place forest))
+        ∙ sym (map-append (λ (pair : List ℕ × Unit {0}). pair.0) (gathered own_place child)
+        (gathered_below own_place forest))
 
   -- how many nodes have such a path
   pub paths-counted : (test : List ℕ → Bool) (s : Shape V)

@@ -19,10 +19,10 @@ module _ {C X : Type 0} (view : X → ℕ × C) where
   skipped byte found children before after o order here is step =
       let first = sym (walked_to byte byte found children refl order here) in
       let next : before ≡ (byte, found) ∷ children_from (byte + 1) children =
-          is ∙ from-next byte children (byte, found) order first in
+      is ∙ from-next byte children (byte, found) order first in
       let P : Option X → Type 0 =
-          λ o. MatchOption o ((before ≡ []) × (after ≡ [])) (λ x. before ≡ view x ∷ after)
-          → after ≡ children_from (byte + 1) children in
+      λ o. MatchOption o ((before ≡ []) × (after ≡ [])) (λ x. before ≡ view x ∷ after)
+      → after ≡ children_from (byte + 1) children in
       let both : (o : Option X) → P o = elim [
         | None ↦ (λ end. absurd (none-some (byte, found) (ap first_of (sym end.0 ∙ next))))
         | Some x ↦ (λ given. ap rest_of (sym given ∙ next))

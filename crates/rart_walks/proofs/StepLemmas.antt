@@ -41,11 +41,11 @@ goes-on prefix rest left common is matched on whole =
     let some : 0 < length (drop common rest) = let l = length-drop common rest in
     omega (arith, l, fits, matched, on) in
     let split : rest ≡ prefix ++ drop common rest =
-        split-whole prefix rest long ∙ ap (λ n. prefix ++ drop n rest) (sym matched) in
+    split-whole prefix rest long ∙ ap (λ n. prefix ++ drop n rest) (sym matched) in
     let strips : Some (drop common rest) ≡ strip_prefix prefix rest =
-        sym (strip_prefix-whole prefix rest long ∙ ap (λ n. Some (drop n rest)) (sym matched)) in
+    sym (strip_prefix-whole prefix rest long ∙ ap (λ n. Some (drop n rest)) (sym matched)) in
     subst (λ z. GoesOn prefix rest (slice_index_or z 0 0) z) (sym is)
-        (goes-parts prefix rest (drop common rest) some split strips)
+    (goes-parts prefix rest (drop common rest) some split strips)
 
 pub goes-some : (prefix rest : List ℕ) (byte : ℕ) (left : List ℕ) → GoesOn prefix rest byte left
     → 0 < length left
@@ -64,7 +64,7 @@ module _ {V : Type 0} (part : Part) (greatest : Option ℕ) (probe : List ℕ) (
         → IsAdmitted greatest (length (concat (segments_of frames ++ segment ∷ [])))
     step-fits segment is =
         subst (λ z. IsAdmitted greatest (length (concat (segments_of frames ++ z ∷ []))))
-            (sym (is ∙ ap prefix_of same)) (path-fits frames s greatest way.at.tree way.short)
+        (sym (is ∙ ap prefix_of same)) (path-fits frames s greatest way.at.tree way.short)
 
     module _ (byte : ℕ) (left : List ℕ) (goes : GoesOn (prefix_of o) rest byte left) where
       whole : rest ≡ prefix_of s ++ (byte ∷ goes.more)
@@ -79,8 +79,10 @@ module _ {V : Type 0} (part : Part) (greatest : Option ℕ) (probe : List ℕ) (
       module _ (inner : List (OpenNode V)) (segment : List ℕ) (later : List (ℕ × Shape V))
           (enters : inner ≡ frames ++ (segment, later) ∷ []) (is : segment ≡ prefix_of o)
           (leaves : later ≡ cond (goes_on part) (children_from (byte + 1) (children_of o)) []) where
-        passed-is : inner ≡ frames ++ (prefix_of s,
-            cond (goes_on part) (children_from (suc byte) (children_of s)) []) ∷ []
+        passed-is : inner ≡ frames ++ (
+          prefix_of s,
+          cond (goes_on part) (children_from (suc byte) (children_of s)) [],
+        ) ∷ []
         passed-is =
             enters ∙ ap (λ z. frames ++ (z, later) ∷ []) (is ∙ ap prefix_of same)
             ∙ ap (λ z. frames ++ (prefix_of s, z) ∷ [])
@@ -93,26 +95,29 @@ module _ {V : Type 0} (part : Part) (greatest : Option ℕ) (probe : List ℕ) (
         step-child child here =
             let at : IsSearchAt root probe start child (byte ∷ goes.more) after =
             subst (λ z. IsSearchAt root probe start child z after) goes.is
-                (search-child root probe start s o rest now after way.at opens same
-                (prefix_of o) refl left goes.strips byte goes.next child here) in
+            (search-child root probe start s o rest now after way.at opens same
+            (prefix_of o) refl left goes.strips byte goes.next child here) in
             let below : child_at byte (children_of s) ≡ Some child =
-                sym (here ∙ ap (λ z. child_at byte (children_of z)) same) in
+            sym (here ∙ ap (λ z. child_at byte (children_of z)) same) in
             let there =
-                way-child part greatest probe root start s rest frames now way byte goes.more whole
-                child after at below in
+            way-child part greatest probe root start s rest frames now way byte goes.more whole
+            child after at below in
             subst (λ f. IsOnWay part greatest probe root start child left f after) (sym passed-is)
             (subst (λ z. IsOnWay part greatest probe root start child z
-                (frames ++ (prefix_of s, cond (goes_on part)
-                (children_from (suc byte) (children_of s)) []) ∷ []) after) (sym goes.is) there)
+            (frames ++ (
+              prefix_of s,
+              cond (goes_on part)
+                  (children_from (suc byte) (children_of s)) [],
+            ) ∷ []) after) (sym goes.is) there)
 
         pub step-missing : None ≡ child_at byte (children_of o)
             → (keeping (keeps part probe) (pairs_of root) ≡ pairs_ahead inner)
             × (nodes_ahead inner ≤ count_by (reaches part probe) (paths_of root))
         step-missing missing =
             subst (λ f. (keeping (keeps part probe) (pairs_of root) ≡ pairs_ahead f)
-                × (nodes_ahead f ≤ count_by (reaches part probe) (paths_of root))) (sym passed-is)
+            × (nodes_ahead f ≤ count_by (reaches part probe) (paths_of root))) (sym passed-is)
             (way-missing part greatest probe root start s rest frames now way byte goes.more whole
-                (sym (missing ∙ ap (λ z. child_at byte (children_of z)) same)))
+            (sym (missing ∙ ap (λ z. child_at byte (children_of z)) same)))
 
         pub step-trees : TreesAhead inner
         step-trees =

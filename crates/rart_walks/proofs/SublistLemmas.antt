@@ -17,8 +17,8 @@ module _ {V : Type 0} where
   from-trees least (child ∷ children) trees =
       let rest = from-trees least children trees.1 in
       elim (nat_le least child.0) as (λ t.
-          AreTrees (cond t (child ∷ children_from least children) (children_from least children)))
-          [ true ↦ (trees.0, rest) | false ↦ rest ]
+      AreTrees (cond t (child ∷ children_from least children) (children_from least children)))
+      [ true ↦ (trees.0, rest) | false ↦ rest ]
 
   pub later-trees : (goes_on : Bool) (least : ℕ) (children : List (ℕ × Shape V)) → AreTrees children
       → AreTrees (cond goes_on (children_from least children) [])
@@ -32,12 +32,13 @@ module _ {V : Type 0} where
         × AreShort greatest (behind_path path (pairs_of_all children))
     split child children short =
         let parts =
-            subst (AreShort greatest) (behind-append path (pairs_of child.1)
-            (pairs_of_all children)) short in
-        (short-front greatest (behind_path path (pairs_of child.1))
-            (behind_path path (pairs_of_all children)) parts,
-            short-back greatest (behind_path path (pairs_of child.1))
-            (behind_path path (pairs_of_all children)) parts)
+        subst (AreShort greatest) (behind-append path (pairs_of child.1)
+        (pairs_of_all children)) short in (
+          short-front greatest (behind_path path (pairs_of child.1))
+              (behind_path path (pairs_of_all children)) parts,
+          short-back greatest (behind_path path (pairs_of child.1))
+              (behind_path path (pairs_of_all children)) parts,
+        )
 
     from-short : (least : ℕ) (children : List (ℕ × Shape V))
         → AreShort greatest (behind_path path (pairs_of_all children))
@@ -47,14 +48,14 @@ module _ {V : Type 0} where
         let parts = split child children short in
         let rest = from-short least children parts.1 in
         let more =
-            subst (AreShort greatest) (sym
-            (behind-append path (pairs_of child.1) (pairs_of_all (children_from least children))))
+        subst (AreShort greatest) (sym
+        (behind-append path (pairs_of child.1) (pairs_of_all (children_from least children))))
         (short-append greatest (behind_path path (pairs_of child.1))
-            (behind_path path (pairs_of_all (children_from least children))) parts.0 rest) in
+        (behind_path path (pairs_of_all (children_from least children))) parts.0 rest) in
         elim (nat_le least child.0) as (λ t.
-            AreShort greatest (behind_path path
-            (pairs_of_all (cond t (child ∷ children_from least children)
-            (children_from least children))))) [ true ↦ more | false ↦ rest ]
+        AreShort greatest (behind_path path
+        (pairs_of_all (cond t (child ∷ children_from least children)
+        (children_from least children))))) [ true ↦ more | false ↦ rest ]
 
     pub later-short : (goes_on : Bool) (least : ℕ) (children : List (ℕ × Shape V))
         → AreShort greatest (behind_path path (pairs_of_all children))
@@ -71,10 +72,10 @@ module _ {V : Type 0} where
     child-short byte (first ∷ children) child here short =
         let parts = split first children short in
         let P : Bool → Type 0 = λ t. cond t (Some first.1) (child_at byte children) ≡ Some child
-            → AreShort greatest (behind_path path (pairs_of child)) in
+        → AreShort greatest (behind_path path (pairs_of child)) in
         let both : (t : Bool) → P t = elim [
           | true ↦ (λ is. subst (λ z. AreShort greatest (behind_path path (pairs_of z)))
-          (same_Some first.1 child is) parts.0)
+              (same_Some first.1 child is) parts.0)
           | false ↦ (λ is. child-short byte children child is parts.1)
         ] in
         both (byte == first.0) (rw (unsigned_tied byte first.0) at here)

@@ -29,9 +29,9 @@ pub bytes-pop : (old segment : List ℕ) (segments : List (List ℕ)) (kept : �
 bytes-pop old segment segments kept is same =
     let whole : old ≡ concat segments ++ segment = same ∙ concat-push segments segment in
     let long : kept ≡ length (concat segments) =
-        let l = ap length whole ∙ length-append (concat segments) segment in omega (arith, l, is) in
+    let l = ap length whole ∙ length-append (concat segments) segment in omega (arith, l, is) in
     ap (λ z. take kept z) whole ∙ ap (λ n. take n (concat segments ++ segment)) long
-        ∙ take-append_seam (concat segments) segment
+    ∙ take-append_seam (concat segments) segment
 
 pub bytes-fit : (old segment : List ℕ) (segments : List (List ℕ))
     → old ≡ concat (segments ++ segment ∷ []) → length segment ≤ length old
@@ -59,6 +59,6 @@ shown-pop old new count segments segment is long same =
     let l = sym (shown-length old) ∙ ap length same ∙ length-append segments (segment ∷ []) in
     omega (arith, l, long) in
     ap (map (λ (segment : Bor (List ℕ)). segment.now)) is
-        ∙ sym (take-map (λ (segment : Bor (List ℕ)). segment.now) (count - 1) old)
-        ∙ ap (take (count - 1)) same
+    ∙ sym (take-map (λ (segment : Bor (List ℕ)). segment.now) (count - 1) old)
+    ∙ ap (take (count - 1)) same
     ∙ ap (λ n. take n (segments ++ segment ∷ [])) few ∙ take-append_seam segments (segment ∷ [])

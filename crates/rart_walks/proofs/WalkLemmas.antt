@@ -135,8 +135,12 @@ module _ {V : Type 0} where
 
   pub tree-has-pair : (s : Shape V) → IsTree s → HasPair s
   tree-has-pair (node prefix (Some value) width forest) tree =
-      record { behind = []; value = value; others = behind_path prefix (pairs_below forest);
-      first = refl }
+      record {
+        behind = [];
+        value = value;
+        others = behind_path prefix (pairs_below forest);
+        first = refl;
+      }
   tree-has-pair (node prefix None width bare) tree = absurd (false≢true tree.2)
   tree-has-pair (node prefix None width (grown byte child forest)) tree =
       let below = tree-has-pair child tree.1.1 in
@@ -171,7 +175,7 @@ module _ {V : Type 0} where
   short-front (Some most) [] back short = All-nil (λ (pair : List ℕ × V). length pair.0 ≤ most)
   short-front (Some most) (pair ∷ front) back short =
       All-cons (λ (pair : List ℕ × V). length pair.0 ≤ most) pair front (short 0 pair (omega arith))
-          (short-front (Some most) front back (short-rest (Some most) pair (front ++ back) short))
+      (short-front (Some most) front back (short-rest (Some most) pair (front ++ back) short))
 
   pub short-back : (greatest : Option ℕ) (front back : List (List ℕ × V))
       → AreShort greatest (front ++ back) → AreShort greatest back
@@ -223,15 +227,15 @@ module _ {V : Type 0} where
         let path = concat (segments_of frames) in
         let has = tree-has-pair s tree in
         let is-first : behind_path path (pairs_of s)
-            ≡ ((path ++ prefix_of s) ++ has.behind, has.value) ∷ behind_path path has.others =
+        ≡ ((path ++ prefix_of s) ++ has.behind, has.value) ∷ behind_path path has.others =
         ap (behind_path path) has.first
-            ∙ ap (λ key. (key, has.value) ∷ behind_path path has.others)
-            (sym (append_assoc path (prefix_of s) has.behind)) in
+        ∙ ap (λ key. (key, has.value) ∷ behind_path path has.others)
+        (sym (append_assoc path (prefix_of s) has.behind)) in
         let joined : concat (segments_of frames ++ prefix_of s ∷ []) ≡ path ++ prefix_of s =
-            ap concat (sym (segments-push frames (prefix_of s, children_of s))) ∙ path-whole in
+        ap concat (sym (segments-push frames (prefix_of s, children_of s))) ∙ path-whole in
         subst (λ path. IsAdmitted greatest (length path)) (sym joined)
         (short-first greatest (path ++ prefix_of s) has.behind has.value _
-            (subst (AreShort greatest) is-first short))
+        (subst (AreShort greatest) is-first short))
 
     pub whole-short : (greatest : Option ℕ)
         → AreShort greatest (behind_path (concat (segments_of frames)) (pairs_of s))
@@ -239,10 +243,10 @@ module _ {V : Type 0} where
         → AreShort greatest (pairs_ahead (frames ++ (prefix_of s, children_of s) ∷ []))
     whole-short greatest short later =
         short-pending greatest (concat (segments_of (frames ++ (prefix_of s, children_of s) ∷ [])))
-            (value_of s) (pairs_ahead (frames ++ (prefix_of s, children_of s) ∷ []))
+        (value_of s) (pairs_ahead (frames ++ (prefix_of s, children_of s) ∷ []))
         (subst (AreShort greatest) whole-pairs
-            (short-append greatest (behind_path (concat (segments_of frames)) (pairs_of s))
-            (pairs_ahead frames) short later))
+        (short-append greatest (behind_path (concat (segments_of frames)) (pairs_of s))
+        (pairs_ahead frames) short later))
 
   -- ---- the innermost node's next child
   module _ (greatest : Option ℕ) (start : List (OpenNode V)) (count : ℕ)
@@ -254,9 +258,9 @@ module _ {V : Type 0} where
       pub left-going : IsGoing greatest start count front entered
       left-going =
           let ahead : pairs_ahead frames ≡ pairs_ahead front =
-              ap pairs_ahead is ∙ ahead-push front (segment, []) in
+          ap pairs_ahead is ∙ ahead-push front (segment, []) in
           let nodes : nodes_ahead frames ≡ nodes_ahead front =
-              ap nodes_ahead is ∙ nodes-push front (segment, []) ∙ omega arith in
+          ap nodes_ahead is ∙ nodes-push front (segment, []) ∙ omega arith in
           let counted = going.counted in
           record {
             trees = (trees-pop front (segment, []) (subst TreesAhead is going.trees)).0;
@@ -269,9 +273,9 @@ module _ {V : Type 0} where
       unfolding measure
       left-smaller =
           let nodes : nodes_ahead frames ≡ nodes_ahead front =
-              ap nodes_ahead is ∙ nodes-push front (segment, []) ∙ omega arith in
+          ap nodes_ahead is ∙ nodes-push front (segment, []) ∙ omega arith in
           let long : length frames ≡ length front + 1 =
-              ap length is ∙ length-append front ((segment, []) ∷ []) in
+          ap length is ∙ length-append front ((segment, []) ∷ []) in
           omega (arith, nodes, long)
 
     module _ (front : List (OpenNode V)) (segment : List ℕ) (byte : ℕ) (s : Shape V)
@@ -319,10 +323,10 @@ module _ {V : Type 0} where
       taken-fits =
           path-fits taken s greatest taken-tree
           (short-front greatest (behind_path (concat (segments_of taken)) (pairs_of s))
-              (pairs_ahead taken)
+          (pairs_ahead taken)
           (subst (AreShort greatest) (ahead-frames
-              ∙ ap (λ path. behind_path path (pairs_of s) ++ pairs_ahead taken) (sym path-taken))
-              going.short))
+          ∙ ap (λ path. behind_path path (pairs_of s) ++ pairs_ahead taken) (sym path-taken))
+          going.short))
 
       inner-nodes : nodes_ahead frames ≡ 1 + nodes_ahead inner
       inner-nodes =
@@ -347,18 +351,18 @@ module _ {V : Type 0} where
       inner-smaller =
           let nodes = inner-nodes in
           let long : length frames ≡ length front + 1 =
-              ap length is ∙ length-append front ((segment, (byte, s) ∷ rest) ∷ []) in
+          ap length is ∙ length-append front ((segment, (byte, s) ∷ rest) ∷ []) in
           let more : length inner ≡ length front + 1 + 1 =
-              length-append taken ((prefix_of s, children_of s) ∷ [])
-              ∙ ap (λ n. n + 1) (length-append front ((segment, rest) ∷ [])) in
+          length-append taken ((prefix_of s, children_of s) ∷ [])
+          ∙ ap (λ n. n + 1) (length-append front ((segment, rest) ∷ [])) in
           omega (arith, nodes, long, more)
 
       -- a node without a value is passed
       pub inner-going : value_of s ≡ None → IsGoing greatest start count inner (entered + 1)
       inner-going none =
           let ahead : pairs_ahead frames ≡ pairs_ahead inner =
-              inner-pairs ∙ ap (λ value. pending_pair (concat (segments_of inner)) value
-              ++ pairs_ahead inner) none in
+          inner-pairs ∙ ap (λ value. pending_pair (concat (segments_of inner)) value
+          ++ pairs_ahead inner) none in
           record {
             trees = inner-trees;
             short = subst (AreShort greatest) ahead going.short;
@@ -411,7 +415,7 @@ module _ {V : Type 0} where
       → TookChild before s after → segments_of before ≡ segments_of after
   took-segments before s after took =
       ap segments_of took.before_is ∙ segments-push took.front
-          (took.segment, (took.byte, s) ∷ took.rest)
+      (took.segment, (took.byte, s) ∷ took.rest)
       ∙ sym (segments-push took.front (took.segment, took.rest))
       ∙ ap segments_of (sym took.after_is)
 
@@ -436,11 +440,13 @@ module _ {V : Type 0} where
         → IsGoing greatest start count inner entered × (measure inner < measure frames)
     took-left after took inner leaves =
         let is : inner ≡ took.front =
-            leaves took.front (took.segment, []) (took.same ∙ took.before_is) in
-        subst (λ z. IsGoing greatest start count z entered × (measure z < measure frames)) (sym is)
-        (left-going greatest start count frames entered going took.front took.segment
-            took.before_is, left-smaller greatest start count frames entered going took.front
-            took.segment took.before_is)
+        leaves took.front (took.segment, []) (took.same ∙ took.before_is) in
+        subst (λ z. IsGoing greatest start count z entered × (measure z < measure frames)) (sym is) (
+          left-going greatest start count frames entered going took.front took.segment
+              took.before_is,
+          left-smaller greatest start count frames entered going took.front
+              took.segment took.before_is,
+        )
 
     module _ (s : Shape V) (after : List (OpenNode V)) (took : TookChild frames s after) where
       pub took-tree : IsTree s
@@ -451,15 +457,15 @@ module _ {V : Type 0} where
       pub took-fits : IsAdmitted greatest (length (concat (segments_of after ++ prefix_of s ∷ [])))
       took-fits =
           subst (λ z. IsAdmitted greatest (length (concat (segments_of z ++ prefix_of s ∷ []))))
-              (sym took.after_is)
+          (sym took.after_is)
           (taken-fits greatest start count frames entered going took.front took.segment took.byte s
-              took.rest took.before_is)
+          took.rest took.before_is)
 
       pub took-counted : (later : ℕ) → later ≡ entered + 1 → later ≤ count + nodes_ahead start
       took-counted later is =
           let counted =
-              inner-counted greatest start count frames entered going took.front took.segment
-              took.byte s took.rest took.before_is in
+          inner-counted greatest start count frames entered going took.front took.segment
+          took.byte s took.rest took.before_is in
           omega (arith, counted, is)
 
       pub took-entered : (inner : List (OpenNode V)) (later : ℕ)
@@ -467,11 +473,11 @@ module _ {V : Type 0} where
           → HasEntered greatest start count frames s inner later
       took-entered inner later is one =
           let opened : inner ≡ (took.front ++ (took.segment, took.rest) ∷ [])
-              ++ (prefix_of s, children_of s) ∷ [] =
-              is ∙ ap (λ z. z ++ (prefix_of s, children_of s) ∷ []) took.after_is in
+          ++ (prefix_of s, children_of s) ∷ [] =
+          is ∙ ap (λ z. z ++ (prefix_of s, children_of s) ∷ []) took.after_is in
           let whole : HasEntered greatest start count frames s
-              ((took.front ++ (took.segment, took.rest) ∷ []) ++ (prefix_of s, children_of s) ∷ [])
-              (entered + 1) = record {
+          ((took.front ++ (took.segment, took.rest) ∷ []) ++ (prefix_of s, children_of s) ∷ [])
+          (entered + 1) = record {
             trees =
                 inner-trees greatest start count frames entered going took.front took.segment
                 took.byte s took.rest took.before_is;
@@ -492,6 +498,6 @@ module _ {V : Type 0} where
                 took.byte s took.rest took.before_is;
           } in
           let at : HasEntered greatest start count frames s inner (entered + 1) =
-              subst (λ z. HasEntered greatest start count frames s z (entered + 1))
-              (sym opened) whole in
+          subst (λ z. HasEntered greatest start count frames s z (entered + 1))
+          (sym opened) whole in
           subst (λ n. HasEntered greatest start count frames s inner n) (sym one) at

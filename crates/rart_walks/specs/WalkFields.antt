@@ -1,5 +1,6 @@
 -- What the fields of a walk mean.
 use Rattle.std.specs.Prelude.{ℕ, List, Option, map}
+use Rattle.std.specs.List.{concat}
 use Rattle.std.specs.Option.{option_copied}
 use Rattle.rart_node.specs.VersionedNodeIter.{children_left}
 use Rattle.rart_walks.specs.declared.walk.Frame.{Frame}
@@ -17,6 +18,10 @@ module _ {P V : Type 0} {partial : _} (bytes : P → List ℕ) where
     -- where a walk stands, and what it has left
     abbrev pub position : Walk P V T partial → Position V
     position walk = position_of (open_nodes walk.frames.items) (option_copied walk.pending)
+
+    -- the prefixes down to where a walk stands, joined
+    abbrev pub path_to : Walk P V T partial → List ℕ
+    path_to walk = concat (position walk).segments
 
     -- What is left of a walk are trees, no key of which is too long for the trail, and the trail
     -- keeps the way to where the walk stands.

@@ -9,7 +9,7 @@ ghost use Rattle.rart_node.specs.Shape.{IsAscending, prefix_of, value_of, childr
 ghost use Rattle.rart_shape.specs.Trees.{IsTree, pairs_of};
 ghost use Rattle.rart_walks.specs.Walks.{Gives, AreShort, walk_end, nodes_of};
 ghost use Rattle.rart_walks.specs.Frames.{OpenNode, TakesChild, segments_of, behind_path};
-ghost use Rattle.rart_walks.specs.WalkFields.{open_nodes, position, IsWalk};
+ghost use Rattle.rart_walks.specs.WalkFields.{open_nodes, position, path_to, IsWalk};
 
 mod path;
 
@@ -57,11 +57,10 @@ impl<'a, P: Partial, V: Drop, T: Trail<'a>> Walk<'a, P, V, T> {
         requires pending { self.old.pending ≡ None }
         requires tree { IsTree (node_shape P.bytes node.now) }
         requires short { AreShort T.greatest (behind_path
-            (concat (position P.bytes self.old).segments) (pairs_of (node_shape P.bytes node.now)))
-            }
+            (path_to P.bytes self.old) (pairs_of (node_shape P.bytes node.now))) }
         ensures walk { OnOk result (IsWalk P.bytes T.holds T.greatest self.new) }
         ensures pairs { OnOk result ((position P.bytes self.new).pairs
-            ≡ behind_path (concat (position P.bytes self.old).segments)
+            ≡ behind_path (path_to P.bytes self.old)
             (pairs_of (node_shape P.bytes node.now))
             ++ (position P.bytes self.old).pairs) }
         ensures nodes { OnOk result ((position P.bytes self.new).nodes + 1

@@ -22,7 +22,7 @@ module _ (v after : Version ℕ) (w : List ℕ) (more : ℕ) (left : Slot ℕ) (
       → value_at after w ≡ Some (unwrap_or found 0 + more)
   added_by None adds is =
       ap (λ p. value_at p.1 w) (is ∙ ap (λ told. slot_update_from v w None left told)
-          (adds.vacant refl))
+      (adds.vacant refl))
       ∙ value_at-with_key v w more 1
       ∙ ap Some (sym (zero-add more))
   added_by (Some count) adds is =

@@ -7,9 +7,9 @@ ghost use Rattle.rart_walks.specs.Walks.{AreShort};
 ghost use Rattle.rart_walks.specs.WalkFields.{IsWalk, position};
 ghost use Rattle.rart_walks.specs.Trails.{HoldsBytes, HoldsSegments};
 
-use rart_walks::{KeyTrail, NoTrail, SegmentTrail, Trail, Walk};
 use rart_below::{ArrPartial, ArrayKey, KeyTrait, Partial};
 use rart_node::{NodeRef, VersionedNode, Work};
+use rart_walks::{KeyTrail, NoTrail, SegmentTrail, Trail, Walk};
 use std::alloc::{AllocError, Global};
 use std::ops::Bound;
 use std::test::Fail;

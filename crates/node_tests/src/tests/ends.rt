@@ -3,8 +3,8 @@ ghost use Rattle.std.specs.Prelude.{◌≡◌, []};
 ghost use Rattle.rart_node.specs.VersionedNodeIter.{children_left};
 
 use crate::tests::{add_leaf, prefix};
-use rart_node::{VersionedNode, VersionedNodeIter};
 use rart_below::Partial;
+use rart_node::{VersionedNode, VersionedNodeIter};
 use std::test::Fail;
 
 // Asks an iterator that has nothing left: it gives `None`, and can be asked again.

@@ -3,8 +3,8 @@ ghost use Rattle.rart_node.specs.NodeShapes.{node_shape};
 ghost use Rattle.rart_node.specs.Shape.{IsAscending};
 
 use crate::tests::{add_leaf, assert_children, assert_prefix, leaf, prefix, value_at, value_of};
-use rart_node::{NodeRef, VersionedNode};
 use rart_below::Partial;
+use rart_node::{NodeRef, VersionedNode};
 use std::alloc::{AllocError, Global};
 use std::process::Abort;
 use std::test::Fail;

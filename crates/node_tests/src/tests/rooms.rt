@@ -5,8 +5,8 @@ ghost use Rattle.rart_node.specs.NodeShapes.{node_shape, pointer_shape};
 ghost use Rattle.rart_node.specs.Shape.{IsAscending, width_of, children_of, with_added};
 
 use crate::tests::{assert_children, leaf, prefix};
-use rart_node::{NodeRef, VersionedNode, Work};
 use rart_below::Partial;
+use rart_node::{NodeRef, VersionedNode, Work};
 use std::alloc::Global;
 use std::test::Fail;
 

@@ -1,8 +1,8 @@
 // The bytes that each takes in place, for prefixes of at most 16 bytes held inline and values of
 // type `u64`. A node has its mapping on the heap, and a leaf has none.
 
-use rart_node::{NodeRef, VersionedNode};
 use rart_below::{ArrPartial, DirectMapping, IndexedMapping, SortedKeyedMapping};
+use rart_node::{NodeRef, VersionedNode};
 use std::mem::size_of;
 use std::test::Fail;
 

@@ -2,9 +2,9 @@
 ghost use Rattle.rart_node.specs.NodeShapes.{node_shape};
 ghost use Rattle.rart_node.specs.Shape.{IsAscending};
 
-use rart_node::VersionedNode;
 use crate::tests::{add_leaf, add_leaves, prefix};
 use rart_below::Partial;
+use rart_node::VersionedNode;
 use std::alloc::{AllocError, Global};
 use std::process::Abort;
 use std::test::Fail;

@@ -89,9 +89,8 @@ impl<C: Drop> NodeMapping<C> for DirectMapping<C> {
 }
 
 impl<C: Clone + Drop> Clone for DirectMapping<C> {
-    ghost is_clone =
-        { λ mapping copy. SameBytes C.is_clone (direct_children mapping) (direct_children copy)
-        × (direct_in_order copy ≡ direct_in_order mapping) };
+    ghost is_clone = { λ it copy. SameBytes C.is_clone (direct_children it) (direct_children copy)
+        × (direct_in_order copy ≡ direct_in_order it) };
 
     fn clone(&self) -> Result<Self, AllocError> {
         Ok(DirectMapping {

@@ -106,9 +106,8 @@ impl<C: Drop> NodeMapping<C> for IndexedMapping<C> {
 }
 
 impl<C: Clone + Drop> Clone for IndexedMapping<C> {
-    ghost is_clone =
-        { λ mapping copy. SameBytes C.is_clone (indexed_children mapping) (indexed_children copy)
-        × (indexed_in_order copy ≡ indexed_in_order mapping) };
+    ghost is_clone = { λ it copy. SameBytes C.is_clone (indexed_children it) (indexed_children copy)
+        × (indexed_in_order copy ≡ indexed_in_order it) };
 
     fn clone(&self) -> Result<Self, AllocError> {
         Ok(IndexedMapping {

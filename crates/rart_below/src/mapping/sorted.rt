@@ -130,9 +130,8 @@ impl<C: Drop, const WIDTH: usize> NodeMapping<C> for SortedKeyedMapping<C, WIDTH
 }
 
 impl<C: Clone + Drop, const WIDTH: usize> Clone for SortedKeyedMapping<C, WIDTH> {
-    ghost is_clone =
-        { λ mapping copy. SameBytes C.is_clone (sorted_children mapping) (sorted_children copy)
-        × (sorted_in_order copy ≡ sorted_in_order mapping) };
+    ghost is_clone = { λ it copy. SameBytes C.is_clone (sorted_children it) (sorted_children copy)
+        × (sorted_in_order copy ≡ sorted_in_order it) };
 
     fn clone(&self) -> Result<Self, AllocError> {
         let keys = self.keys.clone()?;

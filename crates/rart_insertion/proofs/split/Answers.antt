@@ -1,11 +1,11 @@
-use Rattle.std.proofs.Common.{◌-◌, ◌≤◌, ◌++◌, length, drop, sym, ap, subst, ◌∙◌, arith}
+use Rattle.std.proofs.Common.{◌-◌, ◌≤◌, ◌++◌, length, drop, refl, sym, ap, subst, ◌∙◌, arith}
 use Rattle.rart_node.specs.NodeShapes.{node_shape}
 use Rattle.rart_node.specs.Shape.{Shape, prefix_of, children_of}
 use Rattle.rart_below.specs.Children.{child_at}
 use Rattle.rart_shape.specs.Trees.{IsTree, IsPut, found, cut_at, ending}
 use Rattle.rart_shape.proofs.CountingLemmas.{counts-then, ending-cut}
 use Rattle.rart_insertion.proofs.CutLemmas.{cut-tree}
-use Rattle.rart_insertion.proofs.InsertionStepLemmas.{cut-at-absent, put-at-cut, found-at-cut}
+use Rattle.rart_insertion.proofs.InsertionStepLemmas.{matched, cut-at-absent, put-at-cut, found-at-cut}
 use Rattle.rart_insertion.proofs.split.Goals as goal
 
 pub finish-requires-clause-tree : goal.finish-requires-clause-tree
@@ -18,36 +18,32 @@ pub finish-requires-clause-absent : goal.finish-requires-clause-absent
 finish-requires-clause-absent g c byte next =
     let s = node_shape g.K.PartialType.Partial.bytes c.args.node.now in
     ap (λ z. child_at byte (children_of z)) c.in_ok-upper.ensures.cut
-        ∙ cut-at-absent s _ c.args.depth c.args.end c.requires.depth c.requires.end byte
-        c.requires.inside next
+    ∙ cut-at-absent (matched refl c.requires.depth c.requires.end) byte
+    c.requires.inside next
 
-pub returns-clause-put : goal.returns-clause-put
-returns-clause-put g c =
+pub returns-clause-puts : goal.returns-clause-puts
+returns-clause-puts g c =
     let s = node_shape g.K.PartialType.Partial.bytes c.args.node.now in
-    let upper = node_shape g.K.PartialType.Partial.bytes c.in_ok-upper.upper in
     let after = node_shape g.K.PartialType.Partial.bytes c.finish.new.node in
     let rest = drop c.args.end (g.K.KeyTrait.bytes c.args.key.now) in
+    let m = matched refl c.requires.depth c.requires.end in
     let puts : IsPut (prefix_of (cut_at (c.args.end - c.args.depth) s) ++ rest) c.args.value
-        (cut_at (c.args.end - c.args.depth) s) after =
+    (cut_at (c.args.end - c.args.depth) s) after =
     subst (λ (z : Shape g.row.V.Denot). IsPut (prefix_of z ++ rest) c.args.value z after)
-        c.in_ok-upper.ensures.cut c.in_ok-old.ensures.put in
-    put-at-cut s _ c.args.depth c.args.end c.requires.depth c.requires.end after c.args.value
-        c.requires.inside puts
-
-pub returns-clause-replaced : goal.returns-clause-replaced
-returns-clause-replaced g c =
-    let s = node_shape g.K.PartialType.Partial.bytes c.args.node.now in
-    let rest = drop c.args.end (g.K.KeyTrait.bytes c.args.key.now) in
-    c.in_ok-old.ensures.replaced ∙ ap (λ (z : Shape g.row.V.Denot). found z (prefix_of z ++ rest))
-        c.in_ok-upper.ensures.cut ∙ found-at-cut s _ c.args.depth c.args.end c.requires.depth
-        c.requires.end c.requires.inside
+    c.in_ok-upper.ensures.cut c.in_ok-old.ensures.puts.0 in (
+      put-at-cut m after c.args.value c.requires.inside puts,
+      c.in_ok-old.ensures.puts.1
+          ∙ ap (λ (z : Shape g.row.V.Denot). found z (prefix_of z ++ rest))
+          c.in_ok-upper.ensures.cut
+          ∙ found-at-cut m c.requires.inside,
+    )
 
 pub returns-clause-counted : goal.returns-clause-counted
 returns-clause-counted g c =
     let s = node_shape g.K.PartialType.Partial.bytes c.args.node.now in
     let rest = drop c.args.end (g.K.KeyTrait.bytes c.args.key.now) in
     let most =
-        subst (λ (z : Shape g.row.V.Denot). ending z rest ≤ length rest)
-        (sym c.in_ok-upper.ensures.cut) (ending-cut s (c.args.end - c.args.depth) rest) in
+    subst (λ (z : Shape g.row.V.Denot). ending z rest ≤ length rest)
+    (sym c.in_ok-upper.ensures.cut) (ending-cut s (c.args.end - c.args.depth) rest) in
     counts-then c.in_ok-upper.ensures.counted c.in_ok-old.ensures.counted (omega arith)
-        (omega (arith, most))
+    (omega (arith, most))

@@ -19,26 +19,26 @@ returns g c =
     let left = drop c.down.new.depth w in
     let reached : path_end steps w s ≡ Some (node, left) = c.in_ok-node.ensures.reached in
     let same : c.requires.arrives.0 ≡ (node, left) =
-        same_Some c.requires.arrives.0 (node, left) (sym c.requires.arrives.1 ∙ reached) in
+    same_Some c.requires.arrives.0 (node, left) (sym c.requires.arrives.1 ∙ reached) in
     let ended : strip_prefix (prefix_of node) left ≡ Some [] =
-        subst (λ end. strip_prefix (prefix_of end.0) end.1 ≡ Some []) same c.requires.arrives.2 in
+    subst (λ end. strip_prefix (prefix_of end.0) end.1 ≡ Some []) same c.requires.arrives.2 in
     let tree : IsTree node = tree-along steps w s (node, left) c.requires.tree reached in
     let put-back : (value : g.row.V.Denot)
-        → node_shape bytes (c.value_mut.follows.lender value) ≡ with_value (Some value) node =
-        λ value. subst (λ r. OnSome r (node_shape bytes (c.value_mut.follows.lender value)
-        ≡ with_value (Some value) node)) c.in-Some.is (c.value_mut.follows.holds value) in (
+    → node_shape bytes (c.value_mut.follows.lender value) ≡ with_value (Some value) node =
+    λ value. subst (λ r. OnSome r (node_shape bytes (c.value_mut.follows.lender value)
+    ≡ with_value (Some value) node)) c.in-Some.is (c.value_mut.follows.holds value) in (
       (
         refl,
         (λ value ok.
             let after : pointer_shape bytes
-                (c.down.follows.lender (c.value_mut.follows.lender value))
-                ≡ graft steps (with_value (Some value) node) w s =
+            (c.down.follows.lender (c.value_mut.follows.lender value))
+            ≡ graft steps (with_value (Some value) node) w s =
             c.down.follows.holds (c.value_mut.follows.lender value) (ap is_ok c.in_ok-node.was)
-                ∙ ap (λ z. graft steps z w s) (put-back value) in
+            ∙ ap (λ z. graft steps z w s) (put-back value) in
             subst (IsPut w value s) (sym after)
-                (put-along steps w s (node, left)
-                (with_value (Some value) node) value c.requires.tree reached
-                (put-ended node left value tree ended))),
+            (put-along steps w s (node, left)
+            (with_value (Some value) node) value c.requires.tree reached
+            (put-ended node left value tree ended))),
         tt,
       ),
       record {

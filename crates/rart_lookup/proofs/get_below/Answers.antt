@@ -27,8 +27,8 @@ returns-in-None-clause-entered g c =
 pub returns-in-None-first-clause-value : goal.returns-in-None-first-clause-value
 returns-in-None-first-clause-value g c =
     c.value.ensures ∙ sym (search-here _ _ _ _ _ _ _ _ c.down.invariant c.open-node.ensures.work
-        c.open-node.ensures.shown _ c.prefix.ensures c.in-Some.rest.now c.in-Some.ensures
-        c.in-None-first.ensures.value)
+    c.open-node.ensures.shown _ c.prefix.ensures c.in-Some.rest.now c.in-Some.ensures
+    c.in-None-first.ensures.value)
 
 pub returns-in-None-first-clause-counted : goal.returns-in-None-first-clause-counted
 returns-in-None-first-clause-counted g c =
@@ -47,8 +47,8 @@ seek_child-requires g c =
 pub returns-in-None-seek_child-clause-value : goal.returns-in-None-seek_child-clause-value
 returns-in-None-seek_child-clause-value g c =
     sym (search-missing _ _ _ _ _ _ _ _ c.down.invariant c.open-node.ensures.work
-        c.open-node.ensures.shown _ c.prefix.ensures c.in-Some.rest.now c.in-Some.ensures _
-        c.in-Some-first.ensures.value c.in-None-seek_child.ensures)
+    c.open-node.ensures.shown _ c.prefix.ensures c.in-Some.rest.now c.in-Some.ensures _
+    c.in-Some-first.ensures.value c.in-None-seek_child.ensures)
 
 pub returns-in-None-seek_child-clause-counted : goal.returns-in-None-seek_child-clause-counted
 returns-in-None-seek_child-clause-counted g c =
@@ -63,11 +63,11 @@ returns-in-None-seek_child-clause-entered g c =
 pub down-smaller : goal.down-smaller
 down-smaller g c =
     search-lower _ _ _ _ _ _ _ _ c.down.invariant c.open-node.ensures.work c.open-node.ensures.shown
-        _ c.prefix.ensures c.in-Some.rest.now c.in-Some.ensures _ c.in-Some-first.ensures.value _
-        c.in-Some-seek_child.ensures
+    _ c.prefix.ensures c.in-Some.rest.now c.in-Some.ensures _ c.in-Some-first.ensures.value _
+    c.in-Some-seek_child.ensures
 
 pub down-preserved : goal.down-preserved
 down-preserved g c =
     search-child _ _ _ _ _ _ _ _ c.down.invariant c.open-node.ensures.work c.open-node.ensures.shown
-        _ c.prefix.ensures c.in-Some.rest.now c.in-Some.ensures _ c.in-Some-first.ensures.value _
-        c.in-Some-seek_child.ensures
+    _ c.prefix.ensures c.in-Some.rest.now c.in-Some.ensures _ c.in-Some-first.ensures.value _
+    c.in-Some-seek_child.ensures

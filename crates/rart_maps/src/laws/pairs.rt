@@ -4,12 +4,7 @@ ghost use Rattle.rart_maps.specs.PairLaws.{PairsAscend, WithinIsSublist, UnderIs
 
 /// The pairs ascend strictly by key. Those within bounds, those under a prefix and those whose key
 /// begins a string are some of them, in their order.
-#[tactic(auto, using(
-    crate::proofs::PairLawLemmas::pairs_ascend,
-    crate::proofs::PairLawLemmas::within_is_sublist,
-    crate::proofs::PairLawLemmas::under_is_sublist,
-    crate::proofs::PairLawLemmas::beginnings_is_sublist
-))]
+#[tactic(auto, using(crate::proofs::PairLawLemmas::pairs_ascend, crate::proofs::PairLawLemmas::within_is_sublist, crate::proofs::PairLawLemmas::under_is_sublist, crate::proofs::PairLawLemmas::beginnings_is_sublist))]
 pub fn pairs_are_in_order<V>()
     ensures ascending { PairsAscend V }
     ensures within { WithinIsSublist V }
@@ -19,12 +14,7 @@ pub fn pairs_are_in_order<V>()
 
 /// The keys ascend strictly, each before each later one, also of the pairs within bounds, under a
 /// prefix and of those whose key begins a string.
-#[tactic(auto, using(
-    crate::proofs::FoundLemmas::pairs_ascend_by_key,
-    crate::proofs::FoundLemmas::within_ascends,
-    crate::proofs::FoundLemmas::under_ascends,
-    crate::proofs::FoundLemmas::beginnings_ascend
-))]
+#[tactic(auto, using(crate::proofs::FoundLemmas::pairs_ascend_by_key, crate::proofs::FoundLemmas::within_ascends, crate::proofs::FoundLemmas::under_ascends, crate::proofs::FoundLemmas::beginnings_ascend))]
 pub fn keys_ascend<V>()
     ensures pairs { PairsAscendByKey V }
     ensures within { WithinAscends V }

@@ -28,13 +28,14 @@ impl<K: KeyTrait, V: Clone> Model for VersionedAdaptiveRadixTree<K, V> {
 
     ghost coded = { version_code V.code };
 
-    ghost view =
-        { λ tree. record { content =
-        map_of (option_map (pointer_shape K.PartialType.bytes) tree.root); number =
-        tree.version } };
+    ghost view = { λ tree. record {
+      content =
+          map_of (option_map (pointer_shape K.PartialType.bytes) tree.root);
+      number =
+          tree.version;
+    } };
 
-    ghost invariant =
-        { λ tree. IsSound K.MAXIMUM_SIZE tree.version
+    ghost invariant = { λ tree. IsSound K.MAXIMUM_SIZE tree.version
         (option_map (pointer_shape K.PartialType.bytes) tree.root) };
 }
 

@@ -72,8 +72,7 @@ impl<'a, P: Partial, V: Drop, T: Trail<'a>> Walk<'a, P, V, T> {
         requires short { AreShort T.greatest (pairs_of (pointer_shape P.bytes root.now)) }
         ensures walk { IfOk result (IsWalk P.bytes T.holds T.greatest) }
         ensures pairs { IfOk result (λ walk. (position P.bytes walk).pairs
-            ≡ filter (λ pair. begins prefix.now pair.0) (pairs_of (pointer_shape P.bytes root.now)))
-            }
+            ≡ filter (λ p. begins prefix.now p.0) (pairs_of (pointer_shape P.bytes root.now))) }
         ensures nodes { IfOk result (λ walk. (position P.bytes walk).nodes
             ≤ count_by (begins prefix.now) (paths_of (pointer_shape P.bytes root.now))) }
         ensures counted { CountsUpTo (length prefix.now + 1) 0 work.old work.new }
@@ -125,8 +124,7 @@ fn along_path<'a, P: Partial, V: Drop, T: Trail<'a>>(
     requires short { AreShort T.greatest (pairs_of (pointer_shape P.bytes root.now)) }
     ensures walk { IfOk result (IsWalk P.bytes T.holds T.greatest) }
     ensures pairs { IfOk result (λ walk. (position P.bytes walk).pairs
-        ≡ filter (λ pair. keeps part probe.now pair.0) (pairs_of (pointer_shape P.bytes root.now)))
-        }
+        ≡ filter (λ p. keeps part probe.now p.0) (pairs_of (pointer_shape P.bytes root.now))) }
     ensures nodes { IfOk result (λ walk. (position P.bytes walk).nodes
         ≤ count_by (reaches part probe.now) (paths_of (pointer_shape P.bytes root.now))) }
     ensures counted { CountsUpTo (path_bound (pointer_shape P.bytes root.now) probe.now) 0

@@ -15,9 +15,15 @@ returns g c =
     let d = c.in_ok-copy_of-3.field-0 in
     let told = commands bytes a b d c.args.first c.args.second in
     let given : c.deref.result.now ≡ told =
-    rw (c.deref.ensures.value, c.in_ok-push-5.ensures.items, c.in_ok-push-4.ensures.items,
-        c.in_ok-push-3.ensures.items, c.in_ok-push-2.ensures.items, c.in_ok-push.ensures.items,
-        c.new-commands.ensures.items) refl in
+    rw (
+      c.deref.ensures.value,
+      c.in_ok-push-5.ensures.items,
+      c.in_ok-push-4.ensures.items,
+      c.in_ok-push-3.ensures.items,
+      c.in_ok-push-2.ensures.items,
+      c.in_ok-push.ensures.items,
+      c.new-commands.ensures.items,
+    ) refl in
     let same : bytes d ≡ bytes a = c.in_ok-copy_of-3.ensures ∙ sym c.in_ok-copy_of.ensures in
     record {
       one_each = IfOk-weaker c.run.result _ _
@@ -27,7 +33,7 @@ returns g c =
           c.run.ensures.run;
       snapshot_keeps_value = IfOk-weaker c.run.result _ _
           (λ replies run. snapshot_replies bytes a b d c.args.first c.args.second same
-              (map see replies.items) c.run.new.self
+          (map see replies.items) c.run.new.self
           (run_of bytes _ _ _ told (map see replies.items) c.new-family.ensures given run))
           c.run.ensures.run;
     }

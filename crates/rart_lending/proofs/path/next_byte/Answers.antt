@@ -9,7 +9,7 @@ overflow_add-depth g c =
     let s = node_shape g.P.Partial.bytes c.args.node.now in
     let long = step-long s c.args.key.now c.args.depth.now c.requires.depth c.requires.there in
     let of_prefix : c.len.result ≡ length (prefix_of s) =
-        c.len.ensures ∙ ap length c.prefix.ensures in
+    c.len.ensures ∙ ap length c.prefix.ensures in
     omega (arith, long, of_prefix)
 
 pub bounds-key-depth : goal.bounds-key-depth
@@ -17,21 +17,21 @@ bounds-key-depth g c =
     let s = node_shape g.P.Partial.bytes c.args.node.now in
     let long = step-long s c.args.key.now c.args.depth.now c.requires.depth c.requires.there in
     let of_prefix : c.len.result ≡ length (prefix_of s) =
-        c.len.ensures ∙ ap length c.prefix.ensures in
+    c.len.ensures ∙ ap length c.prefix.ensures in
     omega (arith, long, of_prefix)
 
 pub returns-clause-next : goal.returns-clause-next
 returns-clause-next g c =
     let s = node_shape g.P.Partial.bytes c.args.node.now in
     let of_prefix : c.len.result ≡ length (prefix_of s) =
-        c.len.ensures ∙ ap length c.prefix.ensures in
+    c.len.ensures ∙ ap length c.prefix.ensures in
     step-next s c.args.key.now c.args.depth.now c.requires.depth c.requires.there _ _
-        (ap (λ n. c.args.depth.now + n) of_prefix) refl
+    (ap (λ n. c.args.depth.now + n) of_prefix) refl
 
 pub returns-clause-within : goal.returns-clause-within
 returns-clause-within g c =
     let s = node_shape g.P.Partial.bytes c.args.node.now in
     let long = step-long s c.args.key.now c.args.depth.now c.requires.depth c.requires.there in
     let of_prefix : c.len.result ≡ length (prefix_of s) =
-        c.len.ensures ∙ ap length c.prefix.ensures in
+    c.len.ensures ∙ ap length c.prefix.ensures in
     omega (arith, long, of_prefix)

@@ -17,8 +17,8 @@ returns-in-None-value-clause-counted g c =
 pub returns-in-None-seek_child-clause-absent : goal.returns-in-None-seek_child-clause-absent
 returns-in-None-seek_child-clause-absent g c none =
     search-missing _ _ _ _ _ _ _ _ c.down.invariant.at c.open-node.ensures.work
-        c.open-node.ensures.shown _ c.prefix.ensures c.in-Some.rest.now c.in-Some.ensures _
-        c.in-Some-first.ensures.value c.in-None-seek_child.ensures
+    c.open-node.ensures.shown _ c.prefix.ensures c.in-Some.rest.now c.in-Some.ensures _
+    c.in-Some-first.ensures.value c.in-None-seek_child.ensures
 
 pub returns-in-None-seek_child-clause-counted : goal.returns-in-None-seek_child-clause-counted
 returns-in-None-seek_child-clause-counted g c =
@@ -28,33 +28,33 @@ returns-in-None-seek_child-clause-counted g c =
 pub prove-unreachable-requires : goal.prove-unreachable-requires
 prove-unreachable-requires g c =
     let fits : c.down.steps < length c.args.key.now =
-        steps-fit _ _ _ _ _ _ _ c.down.invariant c.in-Some.rest.now
+    steps-fit _ _ _ _ _ _ _ c.down.invariant c.in-Some.rest.now
     (stripped _ _ _ _ _ _ _ _ c.down.invariant.at c.open-node.ensures.work c.open-node.ensures.shown
-        _ c.prefix.ensures (Some c.in-Some.rest.now) c.in-Some.ensures)
+    _ c.prefix.ensures (Some c.in-Some.rest.now) c.in-Some.ensures)
     _ _ (sym c.in-Some-first.ensures.value)
     (deeper _ _ _ _ _ _ _ _ c.down.invariant.at c.open-node.ensures.work c.open-node.ensures.shown _
-        c.prefix.ensures c.in-Some.rest.now c.in-Some.ensures _ c.in-Some-first.ensures.value
-        (Some (pointer_shape g.P.Partial.bytes c.in-Some-seek_child.child.now))
-        c.in-Some-seek_child.ensures) in
+    c.prefix.ensures c.in-Some.rest.now c.in-Some.ensures _ c.in-Some-first.ensures.value
+    (Some (pointer_shape g.P.Partial.bytes c.in-Some-seek_child.child.now))
+    c.in-Some-seek_child.ensures) in
     omega (arith, fits)
 
 pub down-smaller : goal.down-smaller
 down-smaller g c =
     search-lower _ _ _ _ _ _ _ _ c.down.invariant.at c.open-node.ensures.work
-        c.open-node.ensures.shown _ c.prefix.ensures c.in-Some.rest.now c.in-Some.ensures _
-        c.in-Some-first.ensures.value _ c.in-Some-seek_child.ensures
+    c.open-node.ensures.shown _ c.prefix.ensures c.in-Some.rest.now c.in-Some.ensures _
+    c.in-Some-first.ensures.value _ c.in-Some-seek_child.ensures
 
 pub down-preserved : goal.down-preserved
 down-preserved g c =
     search-down _ _ _ _ _ _ _ c.down.invariant c.in-Some.rest.now
     (stripped _ _ _ _ _ _ _ _ c.down.invariant.at c.open-node.ensures.work c.open-node.ensures.shown
-        _ c.prefix.ensures (Some c.in-Some.rest.now) c.in-Some.ensures)
+    _ c.prefix.ensures (Some c.in-Some.rest.now) c.in-Some.ensures)
     _ _ (sym c.in-Some-first.ensures.value)
     (deeper _ _ _ _ _ _ _ _ c.down.invariant.at c.open-node.ensures.work c.open-node.ensures.shown _
-        c.prefix.ensures c.in-Some.rest.now c.in-Some.ensures _ c.in-Some-first.ensures.value
-        (Some (pointer_shape g.P.Partial.bytes c.in-Some-seek_child.child.now))
-        c.in-Some-seek_child.ensures)
+    c.prefix.ensures c.in-Some.rest.now c.in-Some.ensures _ c.in-Some-first.ensures.value
+    (Some (pointer_shape g.P.Partial.bytes c.in-Some-seek_child.child.now))
+    c.in-Some-seek_child.ensures)
     _
     (search-child _ _ _ _ _ _ _ _ c.down.invariant.at c.open-node.ensures.work
-        c.open-node.ensures.shown _ c.prefix.ensures c.in-Some.rest.now c.in-Some.ensures _
-        c.in-Some-first.ensures.value _ c.in-Some-seek_child.ensures)
+    c.open-node.ensures.shown _ c.prefix.ensures c.in-Some.rest.now c.in-Some.ensures _
+    c.in-Some-first.ensures.value _ c.in-Some-seek_child.ensures)

@@ -11,8 +11,8 @@ returns-in-Some g c =
     let bytes = g.P.Partial.bytes in
     let frame = c.in_ok-frame.frame.now in
     let last =
-        ends-with c.args.frames.now.items (vec_len c.args.frames.now) frame c.args.frames.now.ok.0
-        (c.in_ok-frame.ensures.variant.0 refl) c.in_ok-frame.ensures.value in (
+    ends-with c.args.frames.now.items (vec_len c.args.frames.now) frame c.args.frames.now.ok.0
+    (c.in_ok-frame.ensures.variant.0 refl) c.in_ok-frame.ensures.value in (
       open_nodes bytes last.front,
       frame.segment.now,
       c.in-Some._byte,
@@ -30,13 +30,13 @@ returns-in-None g c =
     let bytes = g.P.Partial.bytes in
     let frame = c.in_ok-frame.frame.now in
     let last =
-        ends-with c.args.frames.now.items (vec_len c.args.frames.now) frame c.args.frames.now.ok.0
-        (c.in_ok-frame.ensures.variant.0 refl) c.in_ok-frame.ensures.value in
+    ends-with c.args.frames.now.items (vec_len c.args.frames.now) frame c.args.frames.now.ok.0
+    (c.in_ok-frame.ensures.variant.0 refl) c.in_ok-frame.ensures.value in
     let before : open_nodes bytes c.args.frames.now.items ≡ open_nodes bytes last.front
-        ++ (frame.segment.now, []) ∷ [] =
+    ++ (frame.segment.now, []) ∷ [] =
     ap (open_nodes bytes) last.is ∙ map-push _ last.front frame
-        ∙ ap (λ children. open_nodes bytes last.front ++ (frame.segment.now, children) ∷ [])
-        c.in-None.ensures.steps.0 in (
+    ∙ ap (λ children. open_nodes bytes last.front ++ (frame.segment.now, children) ∷ [])
+    c.in-None.ensures.steps.0 in (
       ap (open_nodes bytes) (last.put
           (record { segment = frame.segment; children = c.next.new.self }))
           ∙ map-push _ last.front (record { segment = frame.segment; children = c.next.new.self })

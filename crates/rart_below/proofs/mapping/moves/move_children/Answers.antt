@@ -17,9 +17,9 @@ add_child-requires-clause-absent g c =
     let invariant = c.loop-byte.invariant in
     let step =
     moves c.in-Some.byte c.loop-byte.least c.in-Some.field-0-1.now c.in-Some-delete_child.child
-        (g.B.NodeMapping.children c.loop-byte.to) (g.A.NodeMapping.children c.loop-byte.from) all
+    (g.B.NodeMapping.children c.loop-byte.to) (g.A.NodeMapping.children c.loop-byte.from) all
     invariant.together invariant.walked order (c.in-Some.ensures {u = tt})
-        (c.in-Some-delete_child.ensures {u = tt}).value in
+    (c.in-Some-delete_child.ensures {u = tt}).value in
     step.absent
 
 pub loop-byte-smaller : goal.loop-byte-smaller
@@ -29,9 +29,9 @@ loop-byte-smaller g c =
     let invariant = c.loop-byte.invariant in
     let step =
     moves c.in-Some.byte c.loop-byte.least c.in-Some.field-0-1.now c.in-Some-delete_child.child
-        (g.B.NodeMapping.children c.loop-byte.to) (g.A.NodeMapping.children c.loop-byte.from) all
+    (g.B.NodeMapping.children c.loop-byte.to) (g.A.NodeMapping.children c.loop-byte.from) all
     invariant.together invariant.walked order (c.in-Some.ensures {u = tt})
-        (c.in-Some-delete_child.ensures {u = tt}).value in
+    (c.in-Some-delete_child.ensures {u = tt}).value in
     rw c.delete_child.ensures.children (omega (arith, step.fewer))
 
 pub loop-byte-preserved : goal.loop-byte-preserved
@@ -41,9 +41,9 @@ loop-byte-preserved g c =
     let invariant = c.loop-byte.invariant in
     let step =
     moves c.in-Some.byte c.loop-byte.least c.in-Some.field-0-1.now c.in-Some-delete_child.child
-        (g.B.NodeMapping.children c.loop-byte.to) (g.A.NodeMapping.children c.loop-byte.from) all
+    (g.B.NodeMapping.children c.loop-byte.to) (g.A.NodeMapping.children c.loop-byte.from) all
     invariant.together invariant.walked order (c.in-Some.ensures {u = tt})
-        (c.in-Some-delete_child.ensures {u = tt}).value in
+    (c.in-Some-delete_child.ensures {u = tt}).value in
     rw (c.delete_child.ensures.children, c.add_child.ensures.children) (record {
       from_order = c.delete_child.ensures.order;
       to_order = c.add_child.ensures.order;

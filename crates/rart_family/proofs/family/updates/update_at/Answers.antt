@@ -7,7 +7,7 @@ pub returns-clause-changes : goal.returns-clause-changes
 returns-clause-changes g c =
     changes_at c.args.versions.now c.args.place _ _ _ c.update_k_counted.result _ c.in-Some.is
     (one-update _ _ c.in-Some.version c.update_k_counted.new.self _ _ c.args.answer
-        c.update_k_counted.result (λ left t tell. search rules) c.update_k_counted.ensures.updates)
+    c.update_k_counted.result (λ left t tell. search rules) c.update_k_counted.ensures.updates)
 
 pub returns-clause-counted : goal.returns-clause-counted
 returns-clause-counted g c =

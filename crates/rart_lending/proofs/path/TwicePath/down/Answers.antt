@@ -42,8 +42,8 @@ next_byte-byte-requires-clause-there g c =
     let left = drop c.down.new.depth w in
     let reached : path_end half key s ≡ Some (middle, left) = c.in_ok-middle.ensures.reached in
     let further : IsSome (path_end (suc rest) left middle) =
-        subst IsSome (back-is half (suc rest) steps key s (middle, left) parts reached)
-        c.requires.there in
+    subst IsSome (back-is half (suc rest) steps key s (middle, left) parts reached)
+    c.requires.there in
     step-there rest left middle further
 
 pub seek_child_mut-requires : goal.seek_child_mut-requires
@@ -81,7 +81,7 @@ down-requires-in-Some-clause-tree g c =
     let below = drop c.next_byte-byte.new.depth w in
     let here : child_at byte (children_of middle) ≡ Some child = sym c.in-Some.ensures.value in
     let goes : step left middle ≡ Some (child, below) =
-        c.next_byte-byte.ensures.next ∙ ap (option_map (λ z. (z, below))) here in
+    c.next_byte-byte.ensures.next ∙ ap (option_map (λ z. (z, below))) here in
     (branch middle byte child (ordered middle tree) here).tree
 
 pub down-requires-in-Some-clause-there : goal.down-requires-in-Some-clause-there
@@ -98,14 +98,14 @@ down-requires-in-Some-clause-there g c =
     let left = drop c.down.new.depth w in
     let reached : path_end half key s ≡ Some (middle, left) = c.in_ok-middle.ensures.reached in
     let further : IsSome (path_end (suc rest) left middle) =
-        subst IsSome (back-is half (suc rest) steps key s (middle, left) parts reached)
-        c.requires.there in
+    subst IsSome (back-is half (suc rest) steps key s (middle, left) parts reached)
+    c.requires.there in
     let byte = c.next_byte-byte.result in
     let child = pointer_shape bytes c.in-Some.child.now in
     let below = drop c.next_byte-byte.new.depth w in
     let here : child_at byte (children_of middle) ≡ Some child = sym c.in-Some.ensures.value in
     let goes : step left middle ≡ Some (child, below) =
-        c.next_byte-byte.ensures.next ∙ ap (option_map (λ z. (z, below))) here in
+    c.next_byte-byte.ensures.next ∙ ap (option_map (λ z. (z, below))) here in
     subst IsSome (below-is rest left middle (child, below) goes) further
 
 pub unreachable-requires : goal.unreachable-requires
@@ -122,11 +122,11 @@ unreachable-requires g c =
     let left = drop c.down.new.depth w in
     let reached : path_end half key s ≡ Some (middle, left) = c.in_ok-middle.ensures.reached in
     let further : IsSome (path_end (suc rest) left middle) =
-        subst IsSome (back-is half (suc rest) steps key s (middle, left) parts reached)
-        c.requires.there in
+    subst IsSome (back-is half (suc rest) steps key s (middle, left) parts reached)
+    c.requires.there in
     let gone : step left middle ≡ None =
-        c.next_byte-byte.ensures.next ∙ ap
-        (option_map (λ z. (z, drop c.next_byte-byte.new.depth w))) (sym c.in-None.ensures.value) in
+    c.next_byte-byte.ensures.next ∙ ap
+    (option_map (λ z. (z, drop c.next_byte-byte.new.depth w))) (sym c.in-None.ensures.value) in
     false≢true (subst IsSome gone (step-there rest left middle further))
 
 pub returns : goal.returns
@@ -143,52 +143,52 @@ returns g c =
     let left = drop c.down.new.depth w in
     let reached : path_end half key s ≡ Some (middle, left) = c.in_ok-middle.ensures.reached in
     let further : IsSome (path_end (suc rest) left middle) =
-        subst IsSome (back-is half (suc rest) steps key s (middle, left) parts reached)
-        c.requires.there in
+    subst IsSome (back-is half (suc rest) steps key s (middle, left) parts reached)
+    c.requires.there in
     let tree : IsTree middle = tree-along half key s (middle, left) c.requires.tree reached in
     let byte = c.next_byte-byte.result in
     let child = pointer_shape bytes c.in-Some.child.now in
     let below = drop c.next_byte-byte.new.depth w in
     let here : child_at byte (children_of middle) ≡ Some child = sym c.in-Some.ensures.value in
     let goes : step left middle ≡ Some (child, below) =
-        c.next_byte-byte.ensures.next ∙ ap (option_map (λ z. (z, below))) here in
+    c.next_byte-byte.ensures.next ∙ ap (option_map (λ z. (z, below))) here in
     let first : first_byte below ≡ byte = c.next_byte-byte.ensures.first in
     let Pointer : Type 0 = NodeRef g.row.P.Denot g.row.V.Denot in
     let Node : Type 0 = VersionedNode g.row.P.Denot g.row.V.Denot in
     let put-back : (pointer : Pointer) → node_shape bytes (c.seek_child_mut.follows.lender pointer)
-        ≡ with_replaced byte (pointer_shape bytes pointer) middle =
-        λ pointer. subst (λ r. OnSome r
-        (node_shape bytes (c.seek_child_mut.follows.lender pointer)
-        ≡ with_replaced byte (pointer_shape bytes pointer) middle)) c.in-Some.is
-        (c.seek_child_mut.follows.holds pointer) in
+    ≡ with_replaced byte (pointer_shape bytes pointer) middle =
+    λ pointer. subst (λ r. OnSome r
+    (node_shape bytes (c.seek_child_mut.follows.lender pointer)
+    ≡ with_replaced byte (pointer_shape bytes pointer) middle)) c.in-Some.is
+    (c.seek_child_mut.follows.holds pointer) in
     let above : (node : Node) → pointer_shape bytes (c.down.follows.lender node)
-        ≡ graft half (node_shape bytes node) key s =
-        λ node. c.down.follows.holds node (ap is_ok c.in_ok-middle.was) in (
+    ≡ graft half (node_shape bytes node) key s =
+    λ node. c.down.follows.holds node (ap is_ok c.in_ok-middle.was) in (
       (
         refl,
         (λ node ok.
             let pointer = c.down-in-Some.follows.lender node in
             let at-middle = c.seek_child_mut.follows.lender pointer in
             let whole : graft steps (node_shape bytes node) key s
-                ≡ graft half (graft (suc rest) (node_shape bytes node) left middle) key s =
-                ap (λ n. graft n (node_shape bytes node) key s) parts
-                ∙ graft-add half (suc rest) (node_shape bytes node) key s (middle, left) reached in
+            ≡ graft half (graft (suc rest) (node_shape bytes node) left middle) key s =
+            ap (λ n. graft n (node_shape bytes node) key s) parts
+            ∙ graft-add half (suc rest) (node_shape bytes node) key s (middle, left) reached in
             let one : graft (suc rest) (node_shape bytes node) left middle
-                ≡ with_replaced byte (graft rest (node_shape bytes node) below child) middle =
-                graft-below rest (node_shape bytes node) left middle (child, below) goes
-                ∙ ap (λ b. with_replaced b (graft rest (node_shape bytes node) below child) middle)
-                first in
+            ≡ with_replaced byte (graft rest (node_shape bytes node) below child) middle =
+            graft-below rest (node_shape bytes node) left middle (child, below) goes
+            ∙ ap (λ b. with_replaced b (graft rest (node_shape bytes node) below child) middle)
+            first in
             above at-middle ∙ ap (λ z. graft half z key s)
-                (put-back pointer ∙ ap (λ z. with_replaced byte z middle)
-                (c.down-in-Some.follows.holds node ok) ∙ sym one) ∙ sym whole),
+            (put-back pointer ∙ ap (λ z. with_replaced byte z middle)
+            (c.down-in-Some.follows.holds node ok) ∙ sym one) ∙ sym whole),
         IfErr-weaker c.down-in-Some.result _ _ (λ _ kept.
             let pointer = c.down-in-Some.follows.lender-at-none in
             let at-middle = c.seek_child_mut.follows.lender pointer in
             above at-middle ∙ ap (λ z. graft half z key s)
-                (put-back pointer ∙ ap (λ z. with_replaced byte z middle) kept
-                ∙ replaced-same middle byte child (ordered middle tree) here)
-                ∙ graft-same half key s (middle, left) c.requires.tree reached)
-                c.down-in-Some.follows.holds-at-none,
+            (put-back pointer ∙ ap (λ z. with_replaced byte z middle) kept
+            ∙ replaced-same middle byte child (ordered middle tree) here)
+            ∙ graft-same half key s (middle, left) c.requires.tree reached)
+            c.down-in-Some.follows.holds-at-none,
       ),
       record {
         writes_back = tt;

@@ -13,4 +13,4 @@ pub returns-clause-deleted : goal.returns-clause-deleted
 returns-clause-deleted g c =
     let bytes = g.P.Partial.bytes in
     ap (option_map (pointer_shape bytes)) c.delete_child.ensures.deleted
-        ∙ sym (child_at-node_shape bytes c.args.self.now c.args.byte c.requires)
+    ∙ sym (child_at-node_shape bytes c.args.self.now c.args.byte c.requires)

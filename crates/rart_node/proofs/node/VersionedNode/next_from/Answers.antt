@@ -8,5 +8,5 @@ pub returns : goal.returns
 returns g c =
     let bytes = g.P.Partial.bytes in
     entry-copied bytes c.next_from.result
-        ∙ ap (option_map (λ e. (e.0, pointer_shape bytes e.1))) c.next_from.ensures
-        ∙ sym (first-node_shape bytes c.args.self.now c.args.from c.requires)
+    ∙ ap (option_map (λ e. (e.0, pointer_shape bytes e.1))) c.next_from.ensures
+    ∙ sym (first-node_shape bytes c.args.self.now c.args.from c.requires)

@@ -20,4 +20,4 @@ pub returns-clause-replaced : goal.returns-clause-replaced
 returns-clause-replaced g c =
     let bytes = g.P.Partial.bytes in
     ap (option_map (pointer_shape bytes)) c.replace_child.ensures.replaced
-        ∙ sym (child_at-node_shape bytes c.args.self.now c.args.byte c.requires.order)
+    ∙ sym (child_at-node_shape bytes c.args.self.now c.args.byte c.requires.order)

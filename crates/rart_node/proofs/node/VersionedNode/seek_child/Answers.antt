@@ -8,5 +8,5 @@ pub returns : goal.returns
 returns g c =
     let bytes = g.P.Partial.bytes in
     pointer_shape-copied bytes c.seek_child.result
-        ∙ ap (option_map (pointer_shape bytes)) c.seek_child.ensures
-        ∙ sym (child_at-node_shape bytes c.args.self.now c.args.byte c.requires)
+    ∙ ap (option_map (pointer_shape bytes)) c.seek_child.ensures
+    ∙ sym (child_at-node_shape bytes c.args.self.now c.args.byte c.requires)

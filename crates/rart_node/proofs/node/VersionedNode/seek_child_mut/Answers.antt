@@ -10,12 +10,12 @@ returns g c =
     let n = c.args.self.now in
     let lent = c.seek_child_mut in
     let written =
-        λ (left : _). of_lent lent.result (lent.follows.holds left)
-        (λ holds. node_shape-replaced bytes n
-        (lent.follows.lender left) c.args.byte left c.requires holds) in
+    λ (left : _). of_lent lent.result (lent.follows.holds left)
+    (λ holds. node_shape-replaced bytes n
+    (lent.follows.lender left) c.args.byte left c.requires holds) in
     let as_was =
-        node_shape-content_shape bytes n lent.follows.lender-at-none lent.follows.holds-at-none in
+    node_shape-content_shape bytes n lent.follows.lender-at-none lent.follows.holds-at-none in
     let value = pointer_shape-copied_mut bytes lent.result
-        ∙ ap (option_map (pointer_shape bytes)) lent.ensures.value
-        ∙ sym (child_at-node_shape bytes n c.args.byte c.requires) in
+    ∙ ap (option_map (pointer_shape bytes)) lent.ensures.value
+    ∙ sym (child_at-node_shape bytes n c.args.byte c.requires) in
     ((refl, written, as_was), record { writes_back = tt; value = value })

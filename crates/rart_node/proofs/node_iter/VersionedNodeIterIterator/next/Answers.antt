@@ -7,16 +7,16 @@ use Rattle.rart_node.proofs.node_iter.VersionedNodeIterIterator.next.Goals as go
 pub returns-clause-steps : goal.returns-clause-steps
 returns-clause-steps g c =
     from-next c.args.self.now.from
-        (children_of (node_shape g.P.Partial.bytes c.args.self.now.node.now))
-        (c.in_ok-byte.byte, pointer_shape g.P.Partial.bytes c.in_ok-byte.child.now)
-        c.args.self.now.order (sym (c.in_ok-byte.ensures {u = tt}))
+    (children_of (node_shape g.P.Partial.bytes c.args.self.now.node.now))
+    (c.in_ok-byte.byte, pointer_shape g.P.Partial.bytes c.in_ok-byte.child.now)
+    c.args.self.now.order (sym (c.in_ok-byte.ensures {u = tt}))
 
 pub returns-clause-goes : goal.returns-clause-goes
 returns-clause-goes g c =
     let step =
-        from-next c.args.self.now.from
-        (children_of (node_shape g.P.Partial.bytes c.args.self.now.node.now))
-        (c.in_ok-byte.byte, pointer_shape g.P.Partial.bytes c.in_ok-byte.child.now)
-        c.args.self.now.order (sym (c.in_ok-byte.ensures {u = tt})) in
+    from-next c.args.self.now.from
+    (children_of (node_shape g.P.Partial.bytes c.args.self.now.node.now))
+    (c.in_ok-byte.byte, pointer_shape g.P.Partial.bytes c.in_ok-byte.child.now)
+    c.args.self.now.order (sym (c.in_ok-byte.ensures {u = tt})) in
     let shorter = ap length step in
     record { on = λ finite. (tt, finite, omega (arith, shorter)); keeps = tt; rests = λ finite. tt }

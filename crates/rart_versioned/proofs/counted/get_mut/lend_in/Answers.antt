@@ -17,7 +17,7 @@ returns-in-None-path_length g c =
     let w = c.args.key.now in
     let s = f c.in-Some.at.now in
     let root-is : Some s ≡ option_map f c.args.root.now =
-        ap (option_map f) c.in-Some.ensures.value in
+    ap (option_map f) c.in-Some.ensures.value in
     let few = path-most s w in (
       (
         refl,
@@ -44,10 +44,10 @@ returns-in-Ok g c =
     let w = c.args.key.now in
     let s = f c.in-Some.at.now in
     let root-is : Some s ≡ option_map f c.args.root.now =
-        ap (option_map f) c.in-Some.ensures.value in
+    ap (option_map f) c.in-Some.ensures.value in
     let there : IsSome (found s w) = subst IsSome (sym c.in-Ok.ensures.value) refl in
     let put : (value : g.row.V.Denot) → IsPut w value s (f (c.lend_below.follows.lender value)) =
-        λ value. c.lend_below.follows.holds value (ap is_ok c.in-Ok.is) in
+    λ value. c.lend_below.follows.holds value (ap is_ok c.in-Ok.is) in
     let most-path = path-most s w in
     let few = c.in-Some-path_length.ensures.few in (
       (
@@ -86,12 +86,12 @@ returns-in-Err g c =
     let s = f c.in-Some.at.now in
     let after = f c.lend_below.follows.lender-at-none in
     let root-is : Some s ≡ option_map f c.args.root.now =
-        ap (option_map f) c.in-Some.ensures.value in
+    ap (option_map f) c.in-Some.ensures.value in
     let kept : after ≡ s =
-        subst (λ r. OnErr r (after ≡ s)) c.in-Err.is c.lend_below.follows.holds-at-none in
+    subst (λ r. OnErr r (after ≡ s)) c.in-Err.is c.lend_below.follows.holds-at-none in
     let same : Some after ≡ option_map f c.args.root.now = ap Some kept ∙ root-is in
     let there =
-        there-arrived c.in-Some-path_length.steps w s c.in-Some-path_length.ensures.arrives in
+    there-arrived c.in-Some-path_length.steps w s c.in-Some-path_length.ensures.arrives in
     let most-path = path-most s w in
     let few = c.in-Some-path_length.ensures.few in (
       (

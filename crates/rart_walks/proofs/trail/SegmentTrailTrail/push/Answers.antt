@@ -6,8 +6,8 @@ use Rattle.rart_walks.proofs.trail.SegmentTrailTrail.push.Goals as goal
 pub overflow_add-self : goal.overflow_add-self
 overflow_add-self c =
     let long : c.self.inside.len ≡ length (concat c.requires.0) =
-        c.self.invariant ∙ ap (λ segments. length (concat segments))
-        (c.self.view_is ∙ c.requires.1) in
+    c.self.invariant ∙ ap (λ segments. length (concat segments))
+    (c.self.view_is ∙ c.requires.1) in
     let more = length-push c.requires.0 c.args.segment.now in
     let most = c.requires.2 in
     omega (arith, long, more, most)

@@ -17,9 +17,12 @@ enter-requires g c =
       (refl, tt),
       (
         ascending s (ordered s c.requires.tree),
-        (c.requires.walk.holds_way, path-fits
-            (open_nodes g.P.Partial.bytes c.args.self.now.frames.items) s g.T.Trail.greatest
-            c.requires.tree c.requires.short),
+        (
+          c.requires.walk.holds_way,
+          path-fits
+              (open_nodes g.P.Partial.bytes c.args.self.now.frames.items) s g.T.Trail.greatest
+              c.requires.tree c.requires.short,
+        ),
       ),
     )
 
@@ -40,7 +43,7 @@ returns-clause-pairs g c =
     let frames = open_nodes g.P.Partial.bytes c.args.self.now.frames.items in
     let s = node_shape g.P.Partial.bytes c.args.node.now in
     rw (c.in_ok-enter.ensures.opened, c.value-self.ensures, c.requires.pending)
-        (sym (whole-pairs frames s))
+    (sym (whole-pairs frames s))
 
 pub returns-clause-nodes : goal.returns-clause-nodes
 returns-clause-nodes g c =

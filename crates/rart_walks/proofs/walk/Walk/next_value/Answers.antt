@@ -12,8 +12,12 @@ pub step-init : goal.step-init
 step-init g c = record {
   holds_way = c.requires.walk.holds_way;
   going =
-      record { trees = c.requires.walk.trees; short = c.requires.walk.short; left = refl;
-      counted = refl };
+      record {
+        trees = c.requires.walk.trees;
+        short = c.requires.walk.short;
+        left = refl;
+        counted = refl;
+      };
   none = c.in_default.is;
   made = refl;
 }
@@ -24,9 +28,9 @@ enter-requires g c =
     let s = pointer_shape bytes c.in-Some-next.child.now in
     let same : node_shape bytes c.open-node.result.now ≡ s = c.open-node.ensures.shown in
     let took : TookChild (open_nodes bytes c.step.self.frames.items) s
-        (open_nodes bytes c.next_child.new.frames.items) =
+    (open_nodes bytes c.next_child.new.frames.items) =
     took-child _ _ _ s (ap (option_map (λ child. pointer_shape bytes child.now)) c.in-Some-next.is)
-        c.in-Some-next_child.ensures in
+    c.in-Some-next_child.ensures in
     let tree = took-tree _ _ _ _ _ c.step.invariant.going s _ took in
     λ _. (
       (refl, tt),
@@ -46,11 +50,11 @@ returns-in-Err-clause-at_most g c =
     let s = pointer_shape bytes c.in-Some-next.child.now in
     let same : node_shape bytes c.open-node.result.now ≡ s = c.open-node.ensures.shown in
     let took : TookChild (open_nodes bytes c.step.self.frames.items) s
-        (open_nodes bytes c.next_child.new.frames.items) =
+    (open_nodes bytes c.next_child.new.frames.items) =
     took-child _ _ _ s (ap (option_map (λ child. pointer_shape bytes child.now)) c.in-Some-next.is)
-        c.in-Some-next_child.ensures in
+    c.in-Some-next_child.ensures in
     took-counted _ _ _ _ _ c.step.invariant.going s _ took _
-        (ap (λ w. w.entered) c.open-node.ensures.work)
+    (ap (λ w. w.entered) c.open-node.ensures.work)
 
 pub returns-in-Some-value-clause-walk : goal.returns-in-Some-value-clause-walk
 returns-in-Some-value-clause-walk g c =
@@ -58,19 +62,22 @@ returns-in-Some-value-clause-walk g c =
     let s = pointer_shape bytes c.in-Some-next.child.now in
     let same : node_shape bytes c.open-node.result.now ≡ s = c.open-node.ensures.shown in
     let took : TookChild (open_nodes bytes c.step.self.frames.items) s
-        (open_nodes bytes c.next_child.new.frames.items) =
+    (open_nodes bytes c.next_child.new.frames.items) =
     took-child _ _ _ s (ap (option_map (λ child. pointer_shape bytes child.now)) c.in-Some-next.is)
-        c.in-Some-next_child.ensures in
+    c.in-Some-next_child.ensures in
     let entered =
-        took-entered _ _ _ _ _ c.step.invariant.going s _ took
-        (open_nodes bytes c.enter.new.frames.items) c.open-node.new.work.entered
+    took-entered _ _ _ _ _ c.step.invariant.going s _ took
+    (open_nodes bytes c.enter.new.frames.items) c.open-node.new.work.entered
     (c.in_default-enter.ensures.opened
-        ∙ ap (λ z. open_nodes bytes c.next_child.new.frames.items ++ (prefix_of z, children_of z)
-        ∷ []) same) (ap (λ w. w.entered) c.open-node.ensures.work) in
+    ∙ ap (λ z. open_nodes bytes c.next_child.new.frames.items ++ (prefix_of z, children_of z)
+    ∷ []) same) (ap (λ w. w.entered) c.open-node.ensures.work) in
     let some : value_of s ≡ Some c.in-Some-value.value.now =
-        sym (c.in-Some-value.ensures ∙ ap value_of same) in
-    record { holds_way = c.in_default-enter.ensures.holds; trees = entered.trees;
-        short = entered.short _ some }
+    sym (c.in-Some-value.ensures ∙ ap value_of same) in
+    record {
+      holds_way = c.in_default-enter.ensures.holds;
+      trees = entered.trees;
+      short = entered.short _ some;
+    }
 
 pub returns-in-Some-value-clause-gives : goal.returns-in-Some-value-clause-gives
 returns-in-Some-value-clause-gives g c =
@@ -78,17 +85,17 @@ returns-in-Some-value-clause-gives g c =
     let s = pointer_shape bytes c.in-Some-next.child.now in
     let same : node_shape bytes c.open-node.result.now ≡ s = c.open-node.ensures.shown in
     let took : TookChild (open_nodes bytes c.step.self.frames.items) s
-        (open_nodes bytes c.next_child.new.frames.items) =
+    (open_nodes bytes c.next_child.new.frames.items) =
     took-child _ _ _ s (ap (option_map (λ child. pointer_shape bytes child.now)) c.in-Some-next.is)
-        c.in-Some-next_child.ensures in
+    c.in-Some-next_child.ensures in
     let entered =
-        took-entered _ _ _ _ _ c.step.invariant.going s _ took
-        (open_nodes bytes c.enter.new.frames.items) c.open-node.new.work.entered
+    took-entered _ _ _ _ _ c.step.invariant.going s _ took
+    (open_nodes bytes c.enter.new.frames.items) c.open-node.new.work.entered
     (c.in_default-enter.ensures.opened
-        ∙ ap (λ z. open_nodes bytes c.next_child.new.frames.items ++ (prefix_of z, children_of z)
-        ∷ []) same) (ap (λ w. w.entered) c.open-node.ensures.work) in
+    ∙ ap (λ z. open_nodes bytes c.next_child.new.frames.items ++ (prefix_of z, children_of z)
+    ∷ []) same) (ap (λ w. w.entered) c.open-node.ensures.work) in
     let some : value_of s ≡ Some c.in-Some-value.value.now =
-        sym (c.in-Some-value.ensures ∙ ap value_of same) in
+    sym (c.in-Some-value.ensures ∙ ap value_of same) in
     rw (c.in_default.is, c.step.invariant.none) (entered.given _ some)
 
 pub returns-in-Some-value-clause-entered : goal.returns-in-Some-value-clause-entered
@@ -97,15 +104,15 @@ returns-in-Some-value-clause-entered g c =
     let s = pointer_shape bytes c.in-Some-next.child.now in
     let same : node_shape bytes c.open-node.result.now ≡ s = c.open-node.ensures.shown in
     let took : TookChild (open_nodes bytes c.step.self.frames.items) s
-        (open_nodes bytes c.next_child.new.frames.items) =
+    (open_nodes bytes c.next_child.new.frames.items) =
     took-child _ _ _ s (ap (option_map (λ child. pointer_shape bytes child.now)) c.in-Some-next.is)
-        c.in-Some-next_child.ensures in
+    c.in-Some-next_child.ensures in
     let entered =
-        took-entered _ _ _ _ _ c.step.invariant.going s _ took
-        (open_nodes bytes c.enter.new.frames.items) c.open-node.new.work.entered
+    took-entered _ _ _ _ _ c.step.invariant.going s _ took
+    (open_nodes bytes c.enter.new.frames.items) c.open-node.new.work.entered
     (c.in_default-enter.ensures.opened
-        ∙ ap (λ z. open_nodes bytes c.next_child.new.frames.items ++ (prefix_of z, children_of z)
-        ∷ []) same) (ap (λ w. w.entered) c.open-node.ensures.work) in
+    ∙ ap (λ z. open_nodes bytes c.next_child.new.frames.items ++ (prefix_of z, children_of z)
+    ∷ []) same) (ap (λ w. w.entered) c.open-node.ensures.work) in
     entered.counted
 
 pub returns-in-Some-value-clause-at_most : goal.returns-in-Some-value-clause-at_most
@@ -114,36 +121,40 @@ returns-in-Some-value-clause-at_most g c =
     let s = pointer_shape bytes c.in-Some-next.child.now in
     let same : node_shape bytes c.open-node.result.now ≡ s = c.open-node.ensures.shown in
     let took : TookChild (open_nodes bytes c.step.self.frames.items) s
-        (open_nodes bytes c.next_child.new.frames.items) =
+    (open_nodes bytes c.next_child.new.frames.items) =
     took-child _ _ _ s (ap (option_map (λ child. pointer_shape bytes child.now)) c.in-Some-next.is)
-        c.in-Some-next_child.ensures in
+    c.in-Some-next_child.ensures in
     took-counted _ _ _ _ _ c.step.invariant.going s _ took _
-        (ap (λ w. w.entered) c.open-node.ensures.work)
+    (ap (λ w. w.entered) c.open-node.ensures.work)
 
 pub step-smaller-in_default-next : goal.step-smaller-in_default-next
 step-smaller-in_default-next g c =
     let bytes = g.P.Partial.bytes in
     let took : TookNone (open_nodes bytes c.step.self.frames.items)
-        (open_nodes bytes c.next_child.new.frames.items) =
+    (open_nodes bytes c.next_child.new.frames.items) =
     took-none _ _ _ (ap (option_map (λ child. pointer_shape bytes child.now)) c.in_default-next.is)
-        c.in-Some-next_child.ensures in
+    c.in-Some-next_child.ensures in
     let left =
-        took-left _ _ _ _ _ c.step.invariant.going _ took
-        (open_nodes bytes c.leave.new.frames.items) c.leave.ensures.left in
+    took-left _ _ _ _ _ c.step.invariant.going _ took
+    (open_nodes bytes c.leave.new.frames.items) c.leave.ensures.left in
     left.1
 
 pub step-preserved-in_default-next : goal.step-preserved-in_default-next
 step-preserved-in_default-next g c =
     let bytes = g.P.Partial.bytes in
     let took : TookNone (open_nodes bytes c.step.self.frames.items)
-        (open_nodes bytes c.next_child.new.frames.items) =
+    (open_nodes bytes c.next_child.new.frames.items) =
     took-none _ _ _ (ap (option_map (λ child. pointer_shape bytes child.now)) c.in_default-next.is)
-        c.in-Some-next_child.ensures in
+    c.in-Some-next_child.ensures in
     let left =
-        took-left _ _ _ _ _ c.step.invariant.going _ took
-        (open_nodes bytes c.leave.new.frames.items) c.leave.ensures.left in
-    record { holds_way = c.leave.ensures.holds; going = left.0; none = c.step.invariant.none;
-        made = c.step.invariant.made }
+    took-left _ _ _ _ _ c.step.invariant.going _ took
+    (open_nodes bytes c.leave.new.frames.items) c.leave.ensures.left in
+    record {
+      holds_way = c.leave.ensures.holds;
+      going = left.0;
+      none = c.step.invariant.none;
+      made = c.step.invariant.made;
+    }
 
 pub step-smaller : goal.step-smaller
 step-smaller g c =
@@ -151,15 +162,15 @@ step-smaller g c =
     let s = pointer_shape bytes c.in-Some-next.child.now in
     let same : node_shape bytes c.open-node.result.now ≡ s = c.open-node.ensures.shown in
     let took : TookChild (open_nodes bytes c.step.self.frames.items) s
-        (open_nodes bytes c.next_child.new.frames.items) =
+    (open_nodes bytes c.next_child.new.frames.items) =
     took-child _ _ _ s (ap (option_map (λ child. pointer_shape bytes child.now)) c.in-Some-next.is)
-        c.in-Some-next_child.ensures in
+    c.in-Some-next_child.ensures in
     let entered =
-        took-entered _ _ _ _ _ c.step.invariant.going s _ took
-        (open_nodes bytes c.enter.new.frames.items) c.open-node.new.work.entered
+    took-entered _ _ _ _ _ c.step.invariant.going s _ took
+    (open_nodes bytes c.enter.new.frames.items) c.open-node.new.work.entered
     (c.in_default-enter.ensures.opened
-        ∙ ap (λ z. open_nodes bytes c.next_child.new.frames.items ++ (prefix_of z, children_of z)
-        ∷ []) same) (ap (λ w. w.entered) c.open-node.ensures.work) in
+    ∙ ap (λ z. open_nodes bytes c.next_child.new.frames.items ++ (prefix_of z, children_of z)
+    ∷ []) same) (ap (λ w. w.entered) c.open-node.ensures.work) in
     entered.smaller
 
 pub step-preserved : goal.step-preserved
@@ -168,16 +179,20 @@ step-preserved g c =
     let s = pointer_shape bytes c.in-Some-next.child.now in
     let same : node_shape bytes c.open-node.result.now ≡ s = c.open-node.ensures.shown in
     let took : TookChild (open_nodes bytes c.step.self.frames.items) s
-        (open_nodes bytes c.next_child.new.frames.items) =
+    (open_nodes bytes c.next_child.new.frames.items) =
     took-child _ _ _ s (ap (option_map (λ child. pointer_shape bytes child.now)) c.in-Some-next.is)
-        c.in-Some-next_child.ensures in
+    c.in-Some-next_child.ensures in
     let entered =
-        took-entered _ _ _ _ _ c.step.invariant.going s _ took
-        (open_nodes bytes c.enter.new.frames.items) c.open-node.new.work.entered
+    took-entered _ _ _ _ _ c.step.invariant.going s _ took
+    (open_nodes bytes c.enter.new.frames.items) c.open-node.new.work.entered
     (c.in_default-enter.ensures.opened
-        ∙ ap (λ z. open_nodes bytes c.next_child.new.frames.items ++ (prefix_of z, children_of z)
-        ∷ []) same) (ap (λ w. w.entered) c.open-node.ensures.work) in
+    ∙ ap (λ z. open_nodes bytes c.next_child.new.frames.items ++ (prefix_of z, children_of z)
+    ∷ []) same) (ap (λ w. w.entered) c.open-node.ensures.work) in
     let none : value_of s ≡ None = sym (c.in_default-value.ensures ∙ ap value_of same) in
-    record { holds_way = c.in_default-enter.ensures.holds; going = entered.passed none;
-        none = c.step.invariant.none; made = ap (λ w. w.made) c.open-node.ensures.work
-        ∙ c.step.invariant.made }
+    record {
+      holds_way = c.in_default-enter.ensures.holds;
+      going = entered.passed none;
+      none = c.step.invariant.none;
+      made = ap (λ w. w.made) c.open-node.ensures.work
+          ∙ c.step.invariant.made;
+    }

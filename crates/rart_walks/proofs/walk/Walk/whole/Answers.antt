@@ -18,9 +18,14 @@ enter_whole-requires g c =
         c.new-walk.ensures.walk,
         (
           c.new-walk.ensures.pending,
-          (rw c.open.ensures.shown c.requires.tree,
-              rw (c.open.ensures.shown, c.new-walk.ensures.frames,
-              behind-none (pairs_of s)) c.requires.short),
+          (
+            rw c.open.ensures.shown c.requires.tree,
+            rw (
+              c.open.ensures.shown,
+              c.new-walk.ensures.frames,
+              behind-none (pairs_of s),
+            ) c.requires.short,
+          ),
         ),
       ),
     )

@@ -23,7 +23,7 @@ down-init g c =
           subst (λ f. IsOnWay c.args.part g.T.Trail.greatest c.args.probe.now root c.args.work.now
           root c.args.probe.now f c.args.work.now) (sym c.new-walk.ensures.frames)
           (way-start c.args.part g.T.Trail.greatest c.args.probe.now root c.args.work.now
-              c.requires.tree c.requires.short);
+          c.requires.tree c.requires.short);
       none = c.new-walk.ensures.pending;
     }
 
@@ -34,7 +34,7 @@ returns-in_err-finish-clause-counted g c =
     let o = node_shape bytes c.open-node.result.now in
     let same : o ≡ s = c.open-node.ensures.shown in
     step-counted _ _ _ _ _ _ _ _ _ c.down.invariant.way o c.open-node.new.work
-        c.open-node.ensures.work same
+    c.open-node.ensures.work same
 
 pub returns-then-common-rest-clause-nodes : goal.returns-then-common-rest-clause-nodes
 returns-then-common-rest-clause-nodes g c =
@@ -54,7 +54,7 @@ returns-then-common-rest-clause-counted g c =
     let o = node_shape bytes c.open-node.result.now in
     let same : o ≡ s = c.open-node.ensures.shown in
     step-counted _ _ _ _ _ _ _ _ _ c.down.invariant.way o c.open-node.new.work
-        c.open-node.ensures.work same
+    c.open-node.ensures.work same
 
 pub rest_of-rest-requires : goal.rest_of-rest-requires
 rest_of-rest-requires g c =
@@ -70,14 +70,14 @@ bounds-rest-0 g c =
     let o = node_shape bytes c.open-node.result.now in
     let same : o ≡ s = c.open-node.ensures.shown in
     let matched : c.prefix_length_slice-common.result
-        ≡ common_length (prefix_of o) c.down.rest.now = c.prefix_length_slice-common.ensures
-        ∙ ap (λ p. common_length p c.down.rest.now) c.prefix.ensures in
+    ≡ common_length (prefix_of o) c.down.rest.now = c.prefix_length_slice-common.ensures
+    ∙ ap (λ p. common_length p c.down.rest.now) c.prefix.ensures in
     let long : c.len.result ≡ length (prefix_of o) =
-        c.len.ensures ∙ ap length c.prefix-else-common-rest.ensures in
+    c.len.ensures ∙ ap length c.prefix-else-common-rest.ensures in
     let goes =
-        goes-on (prefix_of o) c.down.rest.now c.rest_of-rest.result.now
-        c.prefix_length_slice-common.result c.rest_of-rest.ensures matched c.if-common-rest.false
-        (let most = c.if-common-len.false in omega (arith, long, most)) in
+    goes-on (prefix_of o) c.down.rest.now c.rest_of-rest.result.now
+    c.prefix_length_slice-common.result c.rest_of-rest.ensures matched c.if-common-rest.false
+    (let most = c.if-common-len.false in omega (arith, long, most)) in
     goes-some _ _ _ _ goes
 
 pub enter_part-requires : goal.enter_part-requires
@@ -86,9 +86,14 @@ enter_part-requires g c =
     let s = pointer_shape bytes c.down.at.now in
     let o = node_shape bytes c.open-node.result.now in
     let same : o ≡ s = c.open-node.ensures.shown in
-    λ _. ((refl, tt), (c.down.invariant.holds_way,
+    λ _. (
+      (refl, tt),
+      (
+        c.down.invariant.holds_way,
         step-fits _ _ _ _ _ _ _ _ _ c.down.invariant.way o c.open-node.new.work
-        c.open-node.ensures.work same _ (c.as_ref.ensures ∙ c.prefix-in-down.ensures)))
+            c.open-node.ensures.work same _ (c.as_ref.ensures ∙ c.prefix-in-down.ensures),
+      ),
+    )
 
 pub returns-in_err-enter_part-clause-counted : goal.returns-in_err-enter_part-clause-counted
 returns-in_err-enter_part-clause-counted g c =
@@ -97,7 +102,7 @@ returns-in_err-enter_part-clause-counted g c =
     let o = node_shape bytes c.open-node.result.now in
     let same : o ≡ s = c.open-node.ensures.shown in
     step-counted _ _ _ _ _ _ _ _ _ c.down.invariant.way o c.open-node.new.work
-        c.open-node.ensures.work same
+    c.open-node.ensures.work same
 
 pub returns-in-None-clause-walk : goal.returns-in-None-clause-walk
 returns-in-None-clause-walk g c =
@@ -106,20 +111,20 @@ returns-in-None-clause-walk g c =
     let o = node_shape bytes c.open-node.result.now in
     let same : o ≡ s = c.open-node.ensures.shown in
     let matched : c.prefix_length_slice-common.result
-        ≡ common_length (prefix_of o) c.down.rest.now = c.prefix_length_slice-common.ensures
-        ∙ ap (λ p. common_length p c.down.rest.now) c.prefix.ensures in
+    ≡ common_length (prefix_of o) c.down.rest.now = c.prefix_length_slice-common.ensures
+    ∙ ap (λ p. common_length p c.down.rest.now) c.prefix.ensures in
     let long : c.len.result ≡ length (prefix_of o) =
-        c.len.ensures ∙ ap length c.prefix-else-common-rest.ensures in
+    c.len.ensures ∙ ap length c.prefix-else-common-rest.ensures in
     let goes =
-        goes-on (prefix_of o) c.down.rest.now c.rest_of-rest.result.now
-        c.prefix_length_slice-common.result c.rest_of-rest.ensures matched c.if-common-rest.false
-        (let most = c.if-common-len.false in omega (arith, long, most)) in
+    goes-on (prefix_of o) c.down.rest.now c.rest_of-rest.result.now
+    c.prefix_length_slice-common.result c.rest_of-rest.ensures matched c.if-common-rest.false
+    (let most = c.if-common-len.false in omega (arith, long, most)) in
     let leaves : children_left bytes c.later_children-later.result
-        ≡ cond (goes_on c.args.part) (children_from
-        (slice_index_or c.rest_of-rest.result.now 0 0 + 1) (children_of o)) [] =
+    ≡ cond (goes_on c.args.part) (children_from
+    (slice_index_or c.rest_of-rest.result.now 0 0 + 1) (children_of o)) [] =
     c.later_children-later.ensures
-        ∙ ap (λ t. cond t (children_from (slice_index_or c.rest_of-rest.result.now 0 0 + 1)
-        (children_of o)) []) c.goes_on.ensures in
+    ∙ ap (λ t. cond t (children_from (slice_index_or c.rest_of-rest.result.now 0 0 + 1)
+    (children_of o)) []) c.goes_on.ensures in
     let inner = open_nodes bytes c.enter_part.new.self.frames.items in
     let segment = c.as_ref.ensures ∙ c.prefix-in-down.ensures in
     record {
@@ -141,26 +146,26 @@ returns-in-None-clause-pairs g c =
     let o = node_shape bytes c.open-node.result.now in
     let same : o ≡ s = c.open-node.ensures.shown in
     let matched : c.prefix_length_slice-common.result
-        ≡ common_length (prefix_of o) c.down.rest.now = c.prefix_length_slice-common.ensures
-        ∙ ap (λ p. common_length p c.down.rest.now) c.prefix.ensures in
+    ≡ common_length (prefix_of o) c.down.rest.now = c.prefix_length_slice-common.ensures
+    ∙ ap (λ p. common_length p c.down.rest.now) c.prefix.ensures in
     let long : c.len.result ≡ length (prefix_of o) =
-        c.len.ensures ∙ ap length c.prefix-else-common-rest.ensures in
+    c.len.ensures ∙ ap length c.prefix-else-common-rest.ensures in
     let goes =
-        goes-on (prefix_of o) c.down.rest.now c.rest_of-rest.result.now
-        c.prefix_length_slice-common.result c.rest_of-rest.ensures matched c.if-common-rest.false
-        (let most = c.if-common-len.false in omega (arith, long, most)) in
+    goes-on (prefix_of o) c.down.rest.now c.rest_of-rest.result.now
+    c.prefix_length_slice-common.result c.rest_of-rest.ensures matched c.if-common-rest.false
+    (let most = c.if-common-len.false in omega (arith, long, most)) in
     let leaves : children_left bytes c.later_children-later.result
-        ≡ cond (goes_on c.args.part) (children_from
-        (slice_index_or c.rest_of-rest.result.now 0 0 + 1) (children_of o)) [] =
+    ≡ cond (goes_on c.args.part) (children_from
+    (slice_index_or c.rest_of-rest.result.now 0 0 + 1) (children_of o)) [] =
     c.later_children-later.ensures
-        ∙ ap (λ t. cond t (children_from (slice_index_or c.rest_of-rest.result.now 0 0 + 1)
-        (children_of o)) []) c.goes_on.ensures in
+    ∙ ap (λ t. cond t (children_from (slice_index_or c.rest_of-rest.result.now 0 0 + 1)
+    (children_of o)) []) c.goes_on.ensures in
     let inner = open_nodes bytes c.enter_part.new.self.frames.items in
     let segment = c.as_ref.ensures ∙ c.prefix-in-down.ensures in
     let missing =
-        step-missing _ _ _ _ _ _ _ _ _ c.down.invariant.way o c.open-node.new.work
-        c.open-node.ensures.work same _ _ goes inner _ _ c.in_ok-enter_part.ensures.frames segment
-        leaves c.in-None.ensures in
+    step-missing _ _ _ _ _ _ _ _ _ c.down.invariant.way o c.open-node.new.work
+    c.open-node.ensures.work same _ _ goes inner _ _ c.in_ok-enter_part.ensures.frames segment
+    leaves c.in-None.ensures in
     rw (c.in_ok-enter_part.ensures.pending, c.down.invariant.none) (sym missing.0)
 
 pub returns-in-None-clause-nodes : goal.returns-in-None-clause-nodes
@@ -170,25 +175,25 @@ returns-in-None-clause-nodes g c =
     let o = node_shape bytes c.open-node.result.now in
     let same : o ≡ s = c.open-node.ensures.shown in
     let matched : c.prefix_length_slice-common.result
-        ≡ common_length (prefix_of o) c.down.rest.now = c.prefix_length_slice-common.ensures
-        ∙ ap (λ p. common_length p c.down.rest.now) c.prefix.ensures in
+    ≡ common_length (prefix_of o) c.down.rest.now = c.prefix_length_slice-common.ensures
+    ∙ ap (λ p. common_length p c.down.rest.now) c.prefix.ensures in
     let long : c.len.result ≡ length (prefix_of o) =
-        c.len.ensures ∙ ap length c.prefix-else-common-rest.ensures in
+    c.len.ensures ∙ ap length c.prefix-else-common-rest.ensures in
     let goes =
-        goes-on (prefix_of o) c.down.rest.now c.rest_of-rest.result.now
-        c.prefix_length_slice-common.result c.rest_of-rest.ensures matched c.if-common-rest.false
-        (let most = c.if-common-len.false in omega (arith, long, most)) in
+    goes-on (prefix_of o) c.down.rest.now c.rest_of-rest.result.now
+    c.prefix_length_slice-common.result c.rest_of-rest.ensures matched c.if-common-rest.false
+    (let most = c.if-common-len.false in omega (arith, long, most)) in
     let leaves : children_left bytes c.later_children-later.result
-        ≡ cond (goes_on c.args.part) (children_from
-        (slice_index_or c.rest_of-rest.result.now 0 0 + 1) (children_of o)) [] =
+    ≡ cond (goes_on c.args.part) (children_from
+    (slice_index_or c.rest_of-rest.result.now 0 0 + 1) (children_of o)) [] =
     c.later_children-later.ensures
-        ∙ ap (λ t. cond t (children_from (slice_index_or c.rest_of-rest.result.now 0 0 + 1)
-        (children_of o)) []) c.goes_on.ensures in
+    ∙ ap (λ t. cond t (children_from (slice_index_or c.rest_of-rest.result.now 0 0 + 1)
+    (children_of o)) []) c.goes_on.ensures in
     let inner = open_nodes bytes c.enter_part.new.self.frames.items in
     let segment = c.as_ref.ensures ∙ c.prefix-in-down.ensures in
     (step-missing _ _ _ _ _ _ _ _ _ c.down.invariant.way o c.open-node.new.work
-        c.open-node.ensures.work same _ _ goes inner _ _ c.in_ok-enter_part.ensures.frames segment
-        leaves c.in-None.ensures).1
+    c.open-node.ensures.work same _ _ goes inner _ _ c.in_ok-enter_part.ensures.frames segment
+    leaves c.in-None.ensures).1
 
 pub returns-in-None-clause-counted : goal.returns-in-None-clause-counted
 returns-in-None-clause-counted g c =
@@ -197,7 +202,7 @@ returns-in-None-clause-counted g c =
     let o = node_shape bytes c.open-node.result.now in
     let same : o ≡ s = c.open-node.ensures.shown in
     step-counted _ _ _ _ _ _ _ _ _ c.down.invariant.way o c.open-node.new.work
-        c.open-node.ensures.work same
+    c.open-node.ensures.work same
 
 pub down-smaller : goal.down-smaller
 down-smaller g c =
@@ -206,17 +211,17 @@ down-smaller g c =
     let o = node_shape bytes c.open-node.result.now in
     let same : o ≡ s = c.open-node.ensures.shown in
     let matched : c.prefix_length_slice-common.result
-        ≡ common_length (prefix_of o) c.down.rest.now = c.prefix_length_slice-common.ensures
-        ∙ ap (λ p. common_length p c.down.rest.now) c.prefix.ensures in
+    ≡ common_length (prefix_of o) c.down.rest.now = c.prefix_length_slice-common.ensures
+    ∙ ap (λ p. common_length p c.down.rest.now) c.prefix.ensures in
     let long : c.len.result ≡ length (prefix_of o) =
-        c.len.ensures ∙ ap length c.prefix-else-common-rest.ensures in
+    c.len.ensures ∙ ap length c.prefix-else-common-rest.ensures in
     let goes =
-        goes-on (prefix_of o) c.down.rest.now c.rest_of-rest.result.now
-        c.prefix_length_slice-common.result c.rest_of-rest.ensures matched c.if-common-rest.false
-        (let most = c.if-common-len.false in omega (arith, long, most)) in
+    goes-on (prefix_of o) c.down.rest.now c.rest_of-rest.result.now
+    c.prefix_length_slice-common.result c.rest_of-rest.ensures matched c.if-common-rest.false
+    (let most = c.if-common-len.false in omega (arith, long, most)) in
     step-lower _ _ _ _ _ _ _ _ _ c.down.invariant.way o c.open-node.new.work
-        c.open-node.ensures.work same _ _ goes
-        (pointer_shape bytes c.in-Some.child.now) c.in-Some.ensures
+    c.open-node.ensures.work same _ _ goes
+    (pointer_shape bytes c.in-Some.child.now) c.in-Some.ensures
 
 pub down-preserved : goal.down-preserved
 down-preserved g c =
@@ -225,20 +230,20 @@ down-preserved g c =
     let o = node_shape bytes c.open-node.result.now in
     let same : o ≡ s = c.open-node.ensures.shown in
     let matched : c.prefix_length_slice-common.result
-        ≡ common_length (prefix_of o) c.down.rest.now = c.prefix_length_slice-common.ensures
-        ∙ ap (λ p. common_length p c.down.rest.now) c.prefix.ensures in
+    ≡ common_length (prefix_of o) c.down.rest.now = c.prefix_length_slice-common.ensures
+    ∙ ap (λ p. common_length p c.down.rest.now) c.prefix.ensures in
     let long : c.len.result ≡ length (prefix_of o) =
-        c.len.ensures ∙ ap length c.prefix-else-common-rest.ensures in
+    c.len.ensures ∙ ap length c.prefix-else-common-rest.ensures in
     let goes =
-        goes-on (prefix_of o) c.down.rest.now c.rest_of-rest.result.now
-        c.prefix_length_slice-common.result c.rest_of-rest.ensures matched c.if-common-rest.false
-        (let most = c.if-common-len.false in omega (arith, long, most)) in
+    goes-on (prefix_of o) c.down.rest.now c.rest_of-rest.result.now
+    c.prefix_length_slice-common.result c.rest_of-rest.ensures matched c.if-common-rest.false
+    (let most = c.if-common-len.false in omega (arith, long, most)) in
     let leaves : children_left bytes c.later_children-later.result
-        ≡ cond (goes_on c.args.part) (children_from
-        (slice_index_or c.rest_of-rest.result.now 0 0 + 1) (children_of o)) [] =
+    ≡ cond (goes_on c.args.part) (children_from
+    (slice_index_or c.rest_of-rest.result.now 0 0 + 1) (children_of o)) [] =
     c.later_children-later.ensures
-        ∙ ap (λ t. cond t (children_from (slice_index_or c.rest_of-rest.result.now 0 0 + 1)
-        (children_of o)) []) c.goes_on.ensures in
+    ∙ ap (λ t. cond t (children_from (slice_index_or c.rest_of-rest.result.now 0 0 + 1)
+    (children_of o)) []) c.goes_on.ensures in
     let inner = open_nodes bytes c.enter_part.new.self.frames.items in
     let segment = c.as_ref.ensures ∙ c.prefix-in-down.ensures in
     record {

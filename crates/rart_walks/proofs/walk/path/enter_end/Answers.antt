@@ -14,5 +14,5 @@ returns-then-is_passed-clause-pairs g c =
     let path = concat (segments_of frames) in
     rw (c.if-is_passed.true, c.requires.pending, c.in_ok-enter_whole.ensures.frames)
     (ahead-push frames (prefix_of s, children_of s)
-        ∙ ap (λ z. z ++ pairs_ahead frames)
-        (sym (behind-behind path (prefix_of s) (pairs_of_all (children_of s)))))
+    ∙ ap (λ z. z ++ pairs_ahead frames)
+    (sym (behind-behind path (prefix_of s) (pairs_of_all (children_of s)))))

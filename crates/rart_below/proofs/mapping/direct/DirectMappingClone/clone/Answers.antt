@@ -6,8 +6,10 @@ pub returns : goal.returns
 returns g c =
     let Tied = g.C.Clone.is_clone in
     let slots =
-    slots_tied Tied _ (elim [ None ↦ elim [ None ↦ λ h. refl | Some copy ↦ λ h. absurd h ]
-        | Some child ↦ elim [ None ↦ λ h. absurd h | Some copy ↦ λ h. (copy, refl, h) ] ])
+    slots_tied Tied _ (elim [
+      | None ↦ elim [ None ↦ λ h. refl | Some copy ↦ λ h. absurd h ]
+      | Some child ↦ elim [ None ↦ λ h. absurd h | Some copy ↦ λ h. (copy, refl, h) ]
+    ])
     c.args.self.now.children.slots c.in_ok-clone.field-0
-        (c.in_ok-clone.ensures {u = tt}).cases.whole in
+    (c.in_ok-clone.ensures {u = tt}).cases.whole in
     record { cases = direct-order Tied _ _ c.args.self.now.count slots }

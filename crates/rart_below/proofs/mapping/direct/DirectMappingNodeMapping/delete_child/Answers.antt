@@ -6,7 +6,7 @@ pub returns-in_err-child-clause-order : goal.returns-in_err-child-clause-order
 returns-in_err-child-clause-order g c =
     let kept = kept_from_order c.args.self.now.children.slots c.args.self.now.count c.requires in
     (unchanged c.args.byte _ _ _ kept (c.in_err-child.ensures {u = tt}).value
-        (c.in_err-child.ensures {u = tt}).after).0
+    (c.in_err-child.ensures {u = tt}).after).0
 
 pub returns-in_err-child-clause-value : goal.returns-in_err-child-clause-value
 returns-in_err-child-clause-value g c =
@@ -17,7 +17,7 @@ pub returns-in_err-child-clause-children : goal.returns-in_err-child-clause-chil
 returns-in_err-child-clause-children g c =
     let kept = kept_from_order c.args.self.now.children.slots c.args.self.now.count c.requires in
     (unchanged c.args.byte _ _ _ kept (c.in_err-child.ensures {u = tt}).value
-        (c.in_err-child.ensures {u = tt}).after).1
+    (c.in_err-child.ensures {u = tt}).after).1
 
 pub overflow_sub-self : goal.overflow_sub-self
 overflow_sub-self g c =
@@ -28,7 +28,7 @@ pub returns-clause-order : goal.returns-clause-order
 returns-clause-order g c =
     let kept = kept_from_order c.args.self.now.children.slots c.args.self.now.count c.requires in
     (removed c.args.byte _ c.in_ok-child.child _ _ _ kept (c.in_ok-child.ensures {u = tt}).value
-        (c.in_ok-child.ensures {u = tt}).after refl).0
+    (c.in_ok-child.ensures {u = tt}).after refl).0
 
 pub returns-clause-value : goal.returns-clause-value
 returns-clause-value g c =
@@ -39,4 +39,4 @@ pub returns-clause-children : goal.returns-clause-children
 returns-clause-children g c =
     let kept = kept_from_order c.args.self.now.children.slots c.args.self.now.count c.requires in
     (removed c.args.byte _ c.in_ok-child.child _ _ _ kept (c.in_ok-child.ensures {u = tt}).value
-        (c.in_ok-child.ensures {u = tt}).after refl).1
+    (c.in_ok-child.ensures {u = tt}).after refl).1

@@ -6,6 +6,6 @@ pub returns : goal.returns
 returns g c =
     let kept = kept_from_order c.args.self.now.children.slots c.args.self.now.count c.requires in
     let within : c.args.byte < length c.args.self.now.children.slots =
-        omega (arith, kept.wide, c.ranges.byte.fits) in
+    omega (arith, kept.wide, c.ranges.byte.fits) in
     c.as_ref.ensures.value ∙ (sym c.index-self-byte.is
-        ∙ found c.args.byte _ _ within c.index-self-byte.is)
+    ∙ found c.args.byte _ _ within c.index-self-byte.is)

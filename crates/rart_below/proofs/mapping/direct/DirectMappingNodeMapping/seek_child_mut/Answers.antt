@@ -15,9 +15,13 @@ returns g c =
     let here = slot_was slots c.args.byte slot within was in
     let written = λ (left : g.row.C.Denot). of_lent c.as_mut.result slot _ copied
     (λ child held. replaced c.args.byte left child slots _ mapping.count kept
-        (omega (arith, c.ranges.byte.fits)) (held ∙ here) refl) in
+    (omega (arith, c.ranges.byte.fits)) (held ∙ here) refl) in
     let as_was =
-        ap (λ ended. record mapping { children = record { slots = ended } })
-        (set_as_was slots c.args.byte slot was) in
-    ((refl, written, as_was), record { writes_back = tt;
-        value = copied ∙ found c.args.byte slots slot within was })
+    ap (λ ended. record mapping { children = record { slots = ended } })
+    (set_as_was slots c.args.byte slot was) in (
+      (refl, written, as_was),
+      record {
+        writes_back = tt;
+        value = copied ∙ found c.args.byte slots slot within was;
+      },
+    )

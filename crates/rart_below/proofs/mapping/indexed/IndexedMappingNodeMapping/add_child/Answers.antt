@@ -7,8 +7,8 @@ replace_slot-requires g c =
     let mapping = c.args.self.now in
     let kept = kept_from_order mapping.index mapping.children.slots mapping.used c.requires.order in
     let free =
-        rw (← c.trailing_ones-place.ensures) at
-        (free_place mapping.index mapping.children.slots mapping.used kept c.requires.room) in
+    rw (← c.trailing_ones-place.ensures) at
+    (free_place mapping.index mapping.children.slots mapping.used kept c.requires.room) in
     omega (arith, free.0, kept.enough)
 
 pub overflow_shl-self : goal.overflow_shl-self
@@ -16,8 +16,8 @@ overflow_shl-self g c =
     let mapping = c.args.self.now in
     let kept = kept_from_order mapping.index mapping.children.slots mapping.used c.requires.order in
     let free =
-        rw (← c.trailing_ones-place.ensures) at
-        (free_place mapping.index mapping.children.slots mapping.used kept c.requires.room) in
+    rw (← c.trailing_ones-place.ensures) at
+    (free_place mapping.index mapping.children.slots mapping.used kept c.requires.room) in
     omega (arith, free.0)
 
 pub returns-clause-order : goal.returns-clause-order
@@ -25,19 +25,19 @@ returns-clause-order g c =
     let mapping = c.args.self.now in
     let kept = kept_from_order mapping.index mapping.children.slots mapping.used c.requires.order in
     let free =
-        rw (← c.trailing_ones-place.ensures) at
-        (free_place mapping.index mapping.children.slots mapping.used kept c.requires.room) in
+    rw (← c.trailing_ones-place.ensures) at
+    (free_place mapping.index mapping.children.slots mapping.used kept c.requires.room) in
     (added c.args.byte c.trailing_ones-place.result c.args.child _ _ _ _ _ _ kept
-        (omega (arith, c.ranges.byte.fits)) free.0 free.1 c.requires.absent refl
-        c.replace_slot.ensures.after refl).0
+    (omega (arith, c.ranges.byte.fits)) free.0 free.1 c.requires.absent refl
+    c.replace_slot.ensures.after refl).0
 
 pub returns-clause-children : goal.returns-clause-children
 returns-clause-children g c =
     let mapping = c.args.self.now in
     let kept = kept_from_order mapping.index mapping.children.slots mapping.used c.requires.order in
     let free =
-        rw (← c.trailing_ones-place.ensures) at
-        (free_place mapping.index mapping.children.slots mapping.used kept c.requires.room) in
+    rw (← c.trailing_ones-place.ensures) at
+    (free_place mapping.index mapping.children.slots mapping.used kept c.requires.room) in
     (added c.args.byte c.trailing_ones-place.result c.args.child _ _ _ _ _ _ kept
-        (omega (arith, c.ranges.byte.fits)) free.0 free.1 c.requires.absent refl
-        c.replace_slot.ensures.after refl).1
+    (omega (arith, c.ranges.byte.fits)) free.0 free.1 c.requires.absent refl
+    c.replace_slot.ensures.after refl).1

@@ -7,7 +7,7 @@ returns-then-place-ge-NO_SLOT-clause-value g c =
     let mapping = c.args.self.now in
     let kept = kept_from_order mapping.index mapping.children.slots mapping.used c.requires in
     sym (absent_past c.args.byte _ _ _ kept
-        (omega (arith, c.ranges.byte.fits)) c.if-place-ge-NO_SLOT.true)
+    (omega (arith, c.ranges.byte.fits)) c.if-place-ge-NO_SLOT.true)
 
 pub returns-then-place-ge-NO_SLOT-clause-children
     : goal.returns-then-place-ge-NO_SLOT-clause-children
@@ -21,20 +21,20 @@ returns-clause-order g c =
     let mapping = c.args.self.now in
     let kept = kept_from_order mapping.index mapping.children.slots mapping.used c.requires in
     (removed c.args.byte _ _ _ _ _ _ _ kept
-        (omega (arith, c.ranges.byte.fits)) refl c.if-place-ge-NO_SLOT.false refl
-        c.take_slot.ensures.after refl).0
+    (omega (arith, c.ranges.byte.fits)) refl c.if-place-ge-NO_SLOT.false refl
+    c.take_slot.ensures.after refl).0
 
 pub returns-clause-value : goal.returns-clause-value
 returns-clause-value g c =
     let mapping = c.args.self.now in
     let kept = kept_from_order mapping.index mapping.children.slots mapping.used c.requires in
     c.take_slot.ensures.value ∙ sym
-        (child_at-named c.args.byte _ _ _ kept (omega (arith, c.ranges.byte.fits)))
+    (child_at-named c.args.byte _ _ _ kept (omega (arith, c.ranges.byte.fits)))
 
 pub returns-clause-children : goal.returns-clause-children
 returns-clause-children g c =
     let mapping = c.args.self.now in
     let kept = kept_from_order mapping.index mapping.children.slots mapping.used c.requires in
     (removed c.args.byte _ _ _ _ _ _ _ kept
-        (omega (arith, c.ranges.byte.fits)) refl c.if-place-ge-NO_SLOT.false refl
-        c.take_slot.ensures.after refl).1
+    (omega (arith, c.ranges.byte.fits)) refl c.if-place-ge-NO_SLOT.false refl
+    c.take_slot.ensures.after refl).1

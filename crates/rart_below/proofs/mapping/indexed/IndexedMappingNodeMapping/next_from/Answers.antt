@@ -9,13 +9,13 @@ pub returns-in-Some : goal.returns-in-Some
 returns-in-Some g c =
     let slots = named_slots c.args.self.now.children.slots c.args.self.now.index in
     walked_to _ _ _ (slot_children 0 slots) c.loop-byte.invariant (slots-ascending 0 slots)
-        (sym c.seek_child.ensures ∙ ap option_copied c.in-Some.is)
+    (sym c.seek_child.ensures ∙ ap option_copied c.in-Some.is)
 
 pub loop-byte-preserved : goal.loop-byte-preserved
 loop-byte-preserved g c =
     let slots = named_slots c.args.self.now.children.slots c.args.self.now.index in
     walked_on _ _ (slot_children 0 slots) c.loop-byte.invariant
-        (sym c.seek_child.ensures ∙ ap option_copied c.in_default.is)
+    (sym c.seek_child.ensures ∙ ap option_copied c.in_default.is)
 
 pub returns : goal.returns
 returns g c =
@@ -23,5 +23,5 @@ returns g c =
     let kept = kept_from_order mapping.index mapping.children.slots mapping.used c.requires in
     let slots = named_slots mapping.children.slots mapping.index in
     walked_out _ _ (slot_children 0 slots) c.loop-byte.invariant
-        (λ later le. none_past later mapping.index mapping.children.slots mapping.used kept
-        (omega (arith, le, c.loop-byte-test.false)))
+    (λ later le. none_past later mapping.index mapping.children.slots mapping.used kept
+    (omega (arith, le, c.loop-byte-test.false)))

@@ -7,4 +7,4 @@ returns g c =
     let mapping = c.args.self.now in
     let kept = kept_from_order mapping.index mapping.children.slots mapping.used c.requires in
     c.child_in.ensures ∙ sym (child_at-named c.args.byte _ _ _ kept
-        (omega (arith, c.ranges.byte.fits)))
+    (omega (arith, c.ranges.byte.fits)))

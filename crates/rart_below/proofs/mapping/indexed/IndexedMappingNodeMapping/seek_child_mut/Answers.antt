@@ -8,8 +8,8 @@ returns-then-place-ge-NO_SLOT g c =
     let mapping = c.args.self.now in
     let kept = kept_from_order mapping.index mapping.children.slots mapping.used c.requires in
     let missing =
-        absent_past c.args.byte _ _ _ kept
-        (omega (arith, c.ranges.byte.fits)) c.if-place-ge-NO_SLOT.true in
+    absent_past c.args.byte _ _ _ kept
+    (omega (arith, c.ranges.byte.fits)) c.if-place-ge-NO_SLOT.true in
     ((refl, (λ left. tt), refl), record { writes_back = tt; value = sym missing })
 
 pub returns : goal.returns
@@ -26,11 +26,11 @@ returns g c =
     let here = slot_was slots place slot within was in
     let written = λ (left : g.row.C.Denot). of_lent c.as_mut.result slot _ copied
     (λ child held. replaced c.args.byte place left child mapping.index slots _ mapping.used kept
-        (omega (arith, c.ranges.byte.fits)) refl named (held ∙ here) refl) in
+    (omega (arith, c.ranges.byte.fits)) refl named (held ∙ here) refl) in
     let as_was =
-        ap (λ ended. record mapping { children = record { slots = ended } })
-        (set_as_was slots place slot was) in
+    ap (λ ended. record mapping { children = record { slots = ended } })
+    (set_as_was slots place slot was) in
     let value =
-        copied ∙ (here ∙ sym (child_at-named c.args.byte _ _ _ kept
-        (omega (arith, c.ranges.byte.fits)))) in
+    copied ∙ (here ∙ sym (child_at-named c.args.byte _ _ _ kept
+    (omega (arith, c.ranges.byte.fits)))) in
     ((refl, written, as_was), record { writes_back = tt; value = value })

@@ -8,8 +8,10 @@ returns g c =
     let Tied = g.C.Clone.is_clone in
     let keys = each_same _ _ (c.in_ok-keys.ensures {u = tt}).cases in
     let slots =
-    slots_tied Tied _ (elim [ None ↦ elim [ None ↦ λ h. refl | Some copy ↦ λ h. absurd h ]
-        | Some child ↦ elim [ None ↦ λ h. absurd h | Some copy ↦ λ h. (copy, refl, h) ] ])
+    slots_tied Tied _ (elim [
+      | None ↦ elim [ None ↦ λ h. refl | Some copy ↦ λ h. absurd h ]
+      | Some child ↦ elim [ None ↦ λ h. absurd h | Some copy ↦ λ h. (copy, refl, h) ]
+    ])
     c.args.self.now.children.slots c.in_ok-slots.slots
-        (c.in_ok-slots.ensures {u = tt}).cases.whole in
+    (c.in_ok-slots.ensures {u = tt}).cases.whole in
     record { cases = keyed-order Tied g.row.WIDTH _ _ _ _ keys slots }

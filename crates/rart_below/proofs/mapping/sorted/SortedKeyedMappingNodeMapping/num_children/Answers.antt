@@ -5,6 +5,6 @@ use Rattle.rart_below.proofs.mapping.sorted.SortedKeyedMappingNodeMapping.num_ch
 pub returns : goal.returns
 returns g c =
     let kept =
-        kept_from_order g.row.WIDTH c.args.self.now.keys.items c.args.self.now.children.slots
-        c.requires in
+    kept_from_order g.row.WIDTH c.args.self.now.keys.items c.args.self.now.children.slots
+    c.requires in
     c.len.ensures.value ∙ sym (length-kept _ _ _ kept)

@@ -5,16 +5,16 @@ use Rattle.rart_below.proofs.mapping.sorted.SortedKeyedMappingNodeMapping.seek_c
 pub returns-in_err-place : goal.returns-in_err-place
 returns-in_err-place g c =
     let kept =
-        kept_from_order g.row.WIDTH c.args.self.now.keys.items c.args.self.now.children.slots
-        c.requires in
+    kept_from_order g.row.WIDTH c.args.self.now.keys.items c.args.self.now.children.slots
+    c.requires in
     let missing = rw c.as_slice.ensures.value at (c.in_err-place.ensures {u = tt}) in
     ap option_copied c.from_residual.ensures ∙ sym (absent _ _ _ _ kept missing)
 
 pub returns : goal.returns
 returns g c =
     let kept =
-        kept_from_order g.row.WIDTH c.args.self.now.keys.items c.args.self.now.children.slots
-        c.requires in
+    kept_from_order g.row.WIDTH c.args.self.now.keys.items c.args.self.now.children.slots
+    c.requires in
     let place = rw c.as_slice.ensures.value at c.in_ok-place.ensures in
     c.as_ref.ensures.value ∙ (sym c.index-self-place.is
-        ∙ found _ _ _ _ _ _ kept place c.index-self-place.is)
+    ∙ found _ _ _ _ _ _ kept place c.index-self-place.is)

@@ -7,9 +7,13 @@ pub returns-in_default : goal.returns-in_default
 returns-in_default g c =
     let mapping = c.args.self.now in
     let kept = kept_from_order g.row.WIDTH mapping.keys.items mapping.children.slots c.requires in
-    let missing = rw c.as_slice.ensures.value at (c.in_default.ensures {u = tt}) in
-    ((refl, (λ left. tt), refl), record { writes_back = tt;
-        value = sym (absent _ c.args.byte _ _ kept missing) })
+    let missing = rw c.as_slice.ensures.value at (c.in_default.ensures {u = tt}) in (
+      (refl, (λ left. tt), refl),
+      record {
+        writes_back = tt;
+        value = sym (absent _ c.args.byte _ _ kept missing);
+      },
+    )
 
 pub returns : goal.returns
 returns g c =
@@ -22,10 +26,14 @@ returns g c =
     let kept = kept_from_order g.row.WIDTH keys slots c.requires in
     let place = rw c.as_slice.ensures.value at (c.in-Some.ensures {u = tt}) in
     let written =
-        λ (left : g.row.C.Denot). of_lent c.as_mut.result slot _ copied
-        (λ child held. replaced _ c.args.byte left keys slots _ c.in-Some.place kept place refl) in
+    λ (left : g.row.C.Denot). of_lent c.as_mut.result slot _ copied
+    (λ child held. replaced _ c.args.byte left keys slots _ c.in-Some.place kept place refl) in
     let as_was =
-        ap (λ ended. record mapping { children = record { slots = ended } })
-        (set_as_was slots c.in-Some.place slot was) in
-    ((refl, written, as_was), record { writes_back = tt;
-        value = copied ∙ found _ c.args.byte _ _ _ slot kept place was })
+    ap (λ ended. record mapping { children = record { slots = ended } })
+    (set_as_was slots c.in-Some.place slot was) in (
+      (refl, written, as_was),
+      record {
+        writes_back = tt;
+        value = copied ∙ found _ c.args.byte _ _ _ slot kept place was;
+      },
+    )

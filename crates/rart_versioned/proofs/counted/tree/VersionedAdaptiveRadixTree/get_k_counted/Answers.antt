@@ -18,7 +18,7 @@ returns-in-None-clause-value g c =
 pub returns-in-None-clause-entered : goal.returns-in-None-clause-entered
 returns-in-None-clause-entered g c keyed =
     let none : has_no_key c.args.self.now ≡ true =
-        rw (← c.self.view_is, c.in-None.is) (no-key g.row.V.Denot c.self.inside.version) in
+    rw (← c.self.view_is, c.in-None.is) (no-key g.row.V.Denot c.self.inside.version) in
     absurd (true≢false (sym none ∙ keyed))
 
 pub returns-in-Some-clause-value : goal.returns-in-Some-clause-value
@@ -27,7 +27,7 @@ returns-in-Some-clause-value g c =
     let w = g.K.KeyTrait.bytes c.args.key.now in
     let o = option_map f c.self.inside.root in
     rw (← c.self.view_is) (c.get_below.ensures.value
-        ∙ ap (found (f c.in-Some.root)) c.as_ref.ensures
+    ∙ ap (found (f c.in-Some.root)) c.as_ref.ensures
     ∙ sym (value-in g.K.KeyTrait.MAXIMUM_SIZE c.self.inside.version o c.self.inside.version w
     c.self.invariant ∙ ap (λ z. found_in (option_map f z) w) c.in-Some.is))
 
@@ -35,6 +35,6 @@ pub returns-in-Some-clause-counted : goal.returns-in-Some-clause-counted
 returns-in-Some-clause-counted g c =
     let s = pointer_shape g.K.PartialType.Partial.bytes c.in-Some.root in
     let most : path_bound s c.as_ref.result.now ≤ length (g.K.KeyTrait.bytes c.args.key.now) + 1 =
-        subst (λ (k : List ℕ). path_bound s c.as_ref.result.now ≤ length k + 1) c.as_ref.ensures
-        (path-most s c.as_ref.result.now) in
+    subst (λ (k : List ℕ). path_bound s c.as_ref.result.now ≤ length k + 1) c.as_ref.ensures
+    (path-most s c.as_ref.result.now) in
     counts-most c.get_below.ensures.counted most (omega arith)

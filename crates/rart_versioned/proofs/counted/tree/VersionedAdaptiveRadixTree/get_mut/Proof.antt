@@ -46,27 +46,29 @@ get_mut_spec 𝓤 𝓛 𝓜 𝓡 wired K V P LK LV LP k k-d e e-d q q-d o o-d r 
     let T : RattleType = param 1 V in
     let Key = plain {n = 4} (λ _. param 0 K) in
     let stayed : Stays ended.signature.params ended.kept =
-        (stay_dropped (mut_ref_to (0 ∷ []) tt (plain (λ _. R))) no, (stay_dropped Key no, tt)) in
+    (stay_dropped (mut_ref_to (0 ∷ []) tt (plain (λ _. R))) no, (stay_dropped Key no, tt)) in
     let args : Args =
-        bounded (a_type ∷ a_type ∷ a_type ∷ []) (K, (V, (P, tt)))
-        (dcons k-d (dcons e-d (dcons q-d
-        (dcons o-d (dcons r-d (dcons p-d (dcons v-d (dcons x-d (dcons y-d (dcons z-d dnil))))))))))
-        in
+    bounded (a_type ∷ a_type ∷ a_type ∷ []) (K, (V, (P, tt)))
+    (dcons k-d (dcons e-d (dcons q-d
+    (dcons o-d (dcons r-d (dcons p-d (dcons v-d (dcons x-d (dcons y-d (dcons z-d dnil))))))))))
+    in
     let c =
-        f.clauses K V P k k-d e e-d q q-d o o-d r r-d p p-d v v-d x-d y-d z-d 𝓛 𝓜.mem 𝓡.returns in
+    f.clauses K V P k k-d e e-d q q-d o o-d r r-d p p-d v v-d x-d y-d z-d 𝓛 𝓜.mem 𝓡.returns in
     let g-sig = g.signature K V P k k-d e e-d q q-d o o-d r r-d p p-d v v-d x-d y-d z-d in
     let G =
-        triple_of 𝓛 g-sig (g.spec K V P k k-d e e-d q q-d o o-d r r-d p p-d v v-d x-d y-d z-d 𝓛
-        𝓜.mem 𝓡.returns) in
+    triple_of 𝓛 g-sig (g.spec K V P k k-d e e-d q q-d o o-d r r-d p p-d v v-d x-d y-d z-d 𝓛
+    𝓜.mem 𝓡.returns) in
     let H = triple_of 𝓛 (h.signature V) (h.spec V 𝓛 𝓜.mem 𝓡.returns) in
     let g-end = g.ended K V P k k-d e e-d q q-d o o-d r r-d p p-d v v-d x-d y-d z-d in
     let 𝓣 = tables 𝓤 𝓛.H 𝓜 𝓡 𝓡.env in
     let fr = framed 𝓤 𝓛.H 𝓜 𝓣 in
     let W = walk_of 𝓛 ended stayed c in
-    proved_at 𝓛 ended stayed c 𝓜 𝓡 (Goes-spent_ref 𝓛 4 (0 ∷ []) tt (plain (λ _. R)),
-        (Goes-dropped 𝓛 4 Key no (λ κs x w. refl), tt))
+    proved_at 𝓛 ended stayed c 𝓜 𝓡 (
+      Goes-spent_ref 𝓛 4 (0 ∷ []) tt (plain (λ _. R)),
+      (Goes-dropped 𝓛 4 Key no (λ κs x w. refl), tt),
+    )
     (f.Key.name args) (inst_fn args code.function)
-        (code.unfolded 𝓤 𝓛.H 𝓜 𝓡 wired (K, (V, (P, tt))) k-d e-d q-d o-d r-d p-d v-d x-d y-d z-d)
+    (code.unfolded 𝓤 𝓛.H 𝓜 𝓡 wired (K, (V, (P, tt))) k-d e-d q-d o-d r-d p-d v-d x-d y-d z-d)
     (λ y are.
     let κs = y.0.0 in
     let qs = y.0.1 in
@@ -81,11 +83,11 @@ get_mut_spec 𝓤 𝓛 𝓜 𝓡 wired K V P LK LV LP k k-d e e-d q q-d o o-d r 
     let laws = reference-laws (named_lft 4 0 tt κs) T (param_laws 1 V LV) in
     let found_laws = Result-laws.the_row_laws _ _ laws Missing-laws.the_row_laws in
     let given_laws =
-        Result-laws.the_row_laws _ _ (Option-laws.the_row_laws _ laws) Err-laws.the_row_laws in
+    Result-laws.the_row_laws _ _ (Option-laws.the_row_laws _ laws) Err-laws.the_row_laws in
     let At : List Val → List Val → W.Ghost = λ us vs. ((κs, qs, bounds, a, (us, (vs, tt))), tt) in
     let Goes : List Val → List Val → Type 1 =
-        λ us vs. ent 𝓤 (W.pre (At us vs))
-        (WpFn 𝓤 𝓛.H 𝓣.C 𝓣.Λ (inst_fn args code.function) (W.args (At us vs)) (W.post (At us vs))) in
+    λ us vs. ent 𝓤 (W.pre (At us vs))
+    (WpFn 𝓤 𝓛.H 𝓣.C 𝓣.Λ (inst_fn args code.function) (W.args (At us vs)) (W.post (At us vs))) in
     let in-K = fact 𝓤 (κs.1.0 ⊑ K.lives) in
     let in-V = fact 𝓤 (κ-V ⊑ V.lives) in
     let in-P = fact 𝓤 (κs.1.1.1.0 ⊑ P.lives) in
@@ -93,77 +95,77 @@ get_mut_spec 𝓤 𝓛 𝓜 𝓡 wired K V P LK LV LP k k-d e e-d q q-d o o-d r 
     let after-V = sep 𝓤 in-P asked in
     let after-K = sep 𝓤 in-V after-V in
     let goes : (one : Val) → Holds (has_ty (layout K) one) × WT one
-        → Goes (mut_vals a.0) (one ∷ []) = λ one typed.
+    → Goes (mut_vals a.0) (one ∷ []) = λ one typed.
     let z : G.Ghost = ((κs, qs, bounds, a, (mut_vals a.0, (one ∷ [], tt))), tt) in
     fact_use 𝓤 (κ-V ⊑ V.lives) (via 𝓤 (sep 𝓤 in-K after-K)
-        (snd∗ 𝓤 (on_entry 𝓛 g-sig κs qs a z.0.4) (sep 𝓤 in-K after-K))
-        (via 𝓤 after-K (snd∗ 𝓤 in-K after-K) (fst∗ 𝓤 in-V after-V))) (λ within.
+    (snd∗ 𝓤 (on_entry 𝓛 g-sig κs qs a z.0.4) (sep 𝓤 in-K after-K))
+    (via 𝓤 after-K (snd∗ 𝓤 in-K after-K) (fst∗ 𝓤 in-V after-V))) (λ within.
     qed 𝓛 (raw (G.pre z) ∷ []) ∵ enter ! _ _ _ _ _ $
     alloc_all ! (λ l. pass_all ! refl ((tt, tt), (typed, tt)) $
     sets ! (addr ! (through ! refl (stop !))) refl (tt, tt) $ sets !
-        (of_opd ! (get ! refl)) refl typed $
+    (of_opd ! (get ! refl)) refl typed $
     calls_at ! fr G (g-met.met 𝓤 𝓛 𝓜 𝓡
-        (code.calls-rart_versioned::counted::tree::VersionedAdaptiveRadixTree::lent 𝓡.env wired) K V
-        P LK LV LP k k-d e e-d q q-d o o-d r r-d p p-d v v-d x-d y-d z-d mk me mq mo mr mp mv mx my
-        mz) z
+    (code.calls-rart_versioned::counted::tree::VersionedAdaptiveRadixTree::lent 𝓡.env wired) K V
+    P LK LV LP k k-d e e-d q q-d o o-d r r-d p p-d v v-d x-d y-d z-d mk me mq mo mr mp mv mx my
+    mz) z
     (and_then ! (get ! refl) (and_then ! (get ! refl) (no_more !))) (λ u.
     use1 𝓛
-        (later (some (λ (lent : Found.Denot).
-        ((‵ (flft κs.0 qs.0) ⊛ ‵ (flft κs.1.0 qs.1.0) ⊛ ‵ (flft κ-V q-V) ⊛ ‵
-        (flft κs.1.1.1.0 qs.1.1.1.0) ⊛ ‵ ftrue) ⊛ ‵ (Found.own_val lent (u ∷ []))) ⊛
+    (later (some (λ (lent : Found.Denot).
+    ((‵ (flft κs.0 qs.0) ⊛ ‵ (flft κs.1.0 qs.1.0) ⊛ ‵ (flft κ-V q-V) ⊛ ‵
+    (flft κs.1.1.1.0 qs.1.1.1.0) ⊛ ‵ ftrue) ⊛ ‵ (Found.own_val lent (u ∷ []))) ⊛
     some (λ (ws : Lasts g-end κs a). ‵ (lasts g-end κs a ws) ⊛ ‵
-        (LendsValue (param 0 K) T (param 2 P) k.MAXIMUM_SIZE k.bytes q.eq o.cmp r.partial_cmp p v
-        a.0 w lent) ⊛ raw (fact 𝓤 (IfOk lent (λ value. was ≡ Some value.now))) ⊛ raw
-        (fact 𝓤 (IfErr lent (λ missing. Explains missing was))))))) (id⊢ 𝓤 _) $
+    (LendsValue (param 0 K) T (param 2 P) k.MAXIMUM_SIZE k.bytes q.eq o.cmp r.partial_cmp p v
+    a.0 w lent) ⊛ raw (fact 𝓤 (IfOk lent (λ value. was ≡ Some value.now))) ⊛ raw
+    (fact 𝓤 (IfErr lent (λ missing. Explains missing was))))))) (id⊢ 𝓤 _) $
     await ! tt $ pick ! (λ lent. split ! $ split ! $ move ! (2 ∷ []) $ pick !
-        (λ ws. split ! $ drop ! $ split3 ! $
+    (λ ws. split ! $ drop ! $ split3 ! $
     move ! (1 ∷ []) $ heard ! _ (λ there.
-        move ! (1 ∷ []) $ heard ! _ (λ missing.
-        move ! (1 ∷ []) $ split3 ! $ move ! (2 ∷ []) $ split3 ! $ move ! (6 ∷ []) $
+    move ! (1 ∷ []) $ heard ! _ (λ missing.
+    move ! (1 ∷ []) $ split3 ! $ move ! (2 ∷ []) $ split3 ! $ move ! (6 ∷ []) $
     -- [the result; κ₂; κ₃; nothing; κ₀; κ₁; what follows]
     peeks ! Found (Is Found) (shows 𝓛 Found) lent (u ∷ [])
-        (λ is. lands_as ! refl refl ((found_laws.lawful 𝓛).typed lent (u ∷ []) is).0 $
+    (λ is. lands_as ! refl refl ((found_laws.lawful 𝓛).typed lent (u ∷ []) is).0 $
     let z' : H.Ghost =
-        (((κs.0, (κ-V, tt)), (qs.0, (q-V, tt)), (bounds.1.0, tt), (lent, tt), (u ∷ [], tt)), tt) in
+    (((κs.0, (κ-V, tt)), (qs.0, (q-V, tt)), (bounds.1.0, tt), (lent, tt), (u ∷ [], tt)), tt) in
     nothing ! $ move ! (1 ∷ 0 ∷ []) $ fjoin ! $ move ! (1 ∷ 3 ∷ []) $ join ! $ move !
-        (3 ∷ 0 ∷ []) $ join ! $ join ! $
+    (3 ∷ 0 ∷ []) $ join ! $ join ! $
     use0 𝓛 (raw in-V) (fact_i 𝓤 (κ-V ⊑ V.lives) (emp 𝓤) within) $ nothing ! $ move !
-        (1 ∷ 0 ∷ []) $ join ! $ move ! (1 ∷ 0 ∷ []) $ join ! $ use1 𝓛 (raw (H.pre z')) (id⊢ 𝓤 _) $
+    (1 ∷ 0 ∷ []) $ join ! $ move ! (1 ∷ 0 ∷ []) $ join ! $ use1 𝓛 (raw (H.pre z')) (id⊢ 𝓤 _) $
     calls_at ! fr H (h-met.met 𝓤 𝓛 𝓜 𝓡
-        (code.calls-rart_versioned::counted::missing::found_of 𝓡.env wired) V LV) z'
-        (and_then ! (get ! refl) (no_more !)) (λ u'.
+    (code.calls-rart_versioned::counted::missing::found_of 𝓡.env wired) V LV) z'
+    (and_then ! (get ! refl) (no_more !)) (λ u'.
     use1 𝓛 (later (some (λ (found : Given.Denot).
-        ((‵ (flft κs.0 qs.0) ⊛ ‵ (flft κ-V q-V) ⊛ ‵ ftrue) ⊛ ‵ (Given.own_val found (u' ∷ []))) ⊛
+    ((‵ (flft κs.0 qs.0) ⊛ ‵ (flft κ-V q-V) ⊛ ‵ ftrue) ⊛ ‵ (Given.own_val found (u' ∷ []))) ⊛
     some (λ (ws' : Lasts (h.ended V) z'.0.0 (lent, tt)). ‵
-        (lasts (h.ended V) z'.0.0 (lent, tt) ws') ⊛ raw (fact 𝓤 (found ≡ found_value lent))))))
-        (id⊢ 𝓤 _) $
+    (lasts (h.ended V) z'.0.0 (lent, tt) ws') ⊛ raw (fact 𝓤 (found ≡ found_value lent))))))
+    (id⊢ 𝓤 _) $
     await ! tt $ pick ! (λ found. split ! $ split ! $ move ! (2 ∷ []) $ pick !
-        (λ ws'. split ! $ drop ! $ heard ! _ (λ same. split3 ! $
+    (λ ws'. split ! $ drop ! $ heard ! _ (λ same. split3 ! $
     -- [κ₀; κ₂; nothing; the result; κ₃; κ₁; what follows]
     move ! (4 ∷ 2 ∷ []) $ join ! $ move ! (2 ∷ 0 ∷ []) $ join ! $ move !
-        (3 ∷ 0 ∷ []) $ join ! $ move ! (1 ∷ 0 ∷ []) $ join ! $ move ! (1 ∷ 2 ∷ 0 ∷ []) $
+    (3 ∷ 0 ∷ []) $ join ! $ move ! (1 ∷ 0 ∷ []) $ join ! $ move ! (1 ∷ 2 ∷ 0 ∷ []) $
     peeks ! Given (Is Given) (shows 𝓛 Given) found (u' ∷ [])
-        (λ is'. lands_as ! refl refl ((given_laws.lawful 𝓛).typed found (u' ∷ []) is').0 $
+    (λ is'. lands_as ! refl refl ((given_laws.lawful 𝓛).typed found (u' ∷ []) is').0 $
     returns ! (look_at ! 0 refl) $ free_all ! refl $
     rewrite ! 1 (λ (m : maybe.Option GName). ‵
-        (follows_if R T a.0.ghost_name m (λ left. with_key a.0.now w left 1) a.0.now))
-        (same-name lent ∙ ap found_name (sym same)) refl $
+    (follows_if R T a.0.ghost_name m (λ left. with_key a.0.now w left 1) a.0.now))
+    (same-name lent ∙ ap found_name (sym same)) refl $
     suffices ! _ (ends_at 𝓛 ended stayed c z u' found (tt, (tt, tt)) (tt, (tt, tt))) $
     nothing ! $ nothing ! $ fjoin ! $ nothing ! $ fjoin ! $ join ! $ move !
-        (2 ∷ 0 ∷ []) $ join ! $ frame ! $
+    (2 ∷ 0 ∷ []) $ join ! $ frame ! $
     use0 𝓛 (raw (fact 𝓤 (OnErr found (IsSome was))))
-        (fact_i 𝓤 (OnErr found (IsSome was)) (emp 𝓤)
-        (subst (λ x. OnErr x (IsSome was)) (sym same) (refused-there was lent missing))) $
+    (fact_i 𝓤 (OnErr found (IsSome was)) (emp 𝓤)
+    (subst (λ x. OnErr x (IsSome was)) (sym same) (refused-there was lent missing))) $
     use0 𝓛 (raw (fact 𝓤 (IfOk found (λ value. option_map (λ x. x.now) value ≡ was))))
-        (fact_i 𝓤 (IfOk found (λ value. option_map (λ x. x.now) value ≡ was)) (emp 𝓤)
-        (subst (λ x. IfOk x (λ value. option_map (λ x. x.now) value ≡ was)) (sym same)
-        (found-was was lent there missing))) $
+    (fact_i 𝓤 (IfOk found (λ value. option_map (λ x. x.now) value ≡ was)) (emp 𝓤)
+    (subst (λ x. IfOk x (λ value. option_map (λ x. x.now) value ≡ was)) (sym same)
+    (found-was was lent there missing))) $
     join ! $ move ! (1 ∷ []) $ frame ! $ done !))))))))))))) in
     let one : y.0.4.1.0 ≡ only y.0.4.1.0 ∷ [] =
-        one-value y.0.4.1.0 ((param_laws 0 K LK).single a.1.0 y.0.4.1.0 are.1.0) in
+    one-value y.0.4.1.0 ((param_laws 0 K LK).single a.1.0 y.0.4.1.0 are.1.0) in
     let typed =
-        (subst (Typed (layout K ∷ [])) one
-        (((param_laws 0 K LK).lawful 𝓛).typed a.1.0 y.0.4.1.0 are.1.0)).0 in
+    (subst (Typed (layout K ∷ [])) one
+    (((param_laws 0 K LK).lawful 𝓛).typed a.1.0 y.0.4.1.0 are.1.0)).0 in
     subst (λ (us : List Val). Goes us y.0.4.1.0)
-        (sym (mut_Tells (named 0) κs.0 R a.0 y.0.4.0 are.0))
-        (subst (Goes (mut_vals a.0)) (sym one) (goes (only y.0.4.1.0) typed)))
+    (sym (mut_Tells (named 0) κs.0 R a.0 y.0.4.0 are.0))
+    (subst (Goes (mut_vals a.0)) (sym one) (goes (only y.0.4.1.0) typed)))

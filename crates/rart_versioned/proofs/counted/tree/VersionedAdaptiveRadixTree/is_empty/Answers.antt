@@ -15,7 +15,7 @@ returns-in-Some g c =
     let f = pointer_shape g.K.PartialType.Partial.bytes in
     let most = g.K.KeyTrait.MAXIMUM_SIZE in
     let sound : IsSound most c.self.inside.version (Some (f c.in-Some.field-0)) =
-        subst (λ z. IsSound most c.self.inside.version (option_map f z)) c.in-Some.is
-        c.self.invariant in
+    subst (λ z. IsSound most c.self.inside.version (option_map f z)) c.in-Some.is
+    c.self.invariant in
     rw (← c.self.view_is, c.in-Some.is)
-        (sym (some-key (f c.in-Some.field-0) c.self.inside.version sound.0))
+    (sym (some-key (f c.in-Some.field-0) c.self.inside.version sound.0))

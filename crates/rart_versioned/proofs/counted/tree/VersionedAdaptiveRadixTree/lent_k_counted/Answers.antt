@@ -18,7 +18,7 @@ invariant_of-self-lent g c =
     let n = c.self.inside.version in
     let later = c.lend_in.new.number in
     let grown : n ≤ later =
-        not-fallen c.lend_in.result n later c.lend_in.ensures.raised c.lend_in.ensures.kept in
+    not-fallen c.lend_in.result n later c.lend_in.ensures.raised c.lend_in.ensures.kept in
     λ result. (
       (λ value. sound-later most n later (option_map f (c.lend_in.follows.lender value))
           ((c.lend_in.follows.holds value).1 most n c.self.invariant) grown),
@@ -37,19 +37,19 @@ returns g c =
     let n = c.self.inside.version in
     let before = option_map f c.self.inside.root in
     let here : value_at c.args.self.now w ≡ found_in before key =
-        rw (← c.self.view_is) (value-in most n before n w c.self.invariant
-        ∙ ap (found_in before) (sym same)) in (
+    rw (← c.self.view_is) (value-in most n before n w c.self.invariant
+    ∙ ap (found_in before) (sym same)) in (
       same-ends _ c.lend_in.result _ _ _ _
           (λ ok value.
           let after = option_map f (c.lend_in.follows.lender value) in
           let holds = c.lend_in.follows.holds value in
           let content : map_of after ≡ finite.insert (map_of before) w value =
           map-below before after key value (tree-in most n before c.self.invariant)
-              (tree-in most n after (holds.1 most n c.self.invariant)) (holds.0 ok)
-              ∙ ap (λ z. finite.insert (map_of before) z value) same in
+          (tree-in most n after (holds.1 most n c.self.invariant)) (holds.0 ok)
+          ∙ ap (λ z. finite.insert (map_of before) z value) same in
           rw (← c.self.view_is, content, at-ok c.lend_in.result ok c.lend_in.ensures.raised) refl)
           (both-at-err c.lend_in.result c.lend_in.follows.holds-at-none.0 c.lend_in.ensures.kept
-              (λ same kept. rw (← c.self.view_is, same, kept) refl)),
+          (λ same kept. rw (← c.self.view_is, same, kept) refl)),
       record {
         writes_back = tt;
         value = IfOk-weaker c.lend_in.result _ _ (λ value is. here ∙ is) c.lend_in.ensures.value;

@@ -15,11 +15,12 @@ invariant_of-self-in-None g c =
     let n = c.self.inside.version in
     let raised = c.requires.raised in
     sound-put g.K.KeyTrait.MAXIMUM_SIZE n (n + c.args.more) None
-        (f c.in_ok-leaf-in-None.leaf) w c.args.value tt (omega (arith, raised))
-        (g.met.K.KeyTrait.admitted c.args.key.now,
-        omega (arith, c.length_at-length.ensures, c.length_at-length.type_inv))
+    (f c.in_ok-leaf-in-None.leaf) w c.args.value tt (omega (arith, raised)) (
+      g.met.K.KeyTrait.admitted c.args.key.now,
+      omega (arith, c.length_at-length.ensures, c.length_at-length.type_inv),
+    )
     (subst (IsPutIn w c.args.value None) (sym c.in_ok-leaf-in-None.ensures.leaf)
-        (leaf-put w c.args.value))
+    (leaf-put w c.args.value))
 
 pub invariant_of-self-in-Some : goal.invariant_of-self-in-Some
 invariant_of-self-in-Some g c =
@@ -28,19 +29,22 @@ invariant_of-self-in-Some g c =
     let n = c.self.inside.version in
     let raised = c.requires.raised in
     let sound : IsSound g.K.KeyTrait.MAXIMUM_SIZE n (Some (f c.in-Some.root)) =
-        subst (λ z. IsSound g.K.KeyTrait.MAXIMUM_SIZE n (option_map f z)) c.in-Some.is
-        c.self.invariant in
+    subst (λ z. IsSound g.K.KeyTrait.MAXIMUM_SIZE n (option_map f z)) c.in-Some.is
+    c.self.invariant in
     sound-put g.K.KeyTrait.MAXIMUM_SIZE n (n + c.args.more) (Some (f c.in-Some.root))
-        (f c.insert_below.new.at) w c.args.value sound (omega (arith, raised))
-        (g.met.K.KeyTrait.admitted c.args.key.now,
-        omega (arith, c.length_at-length.ensures, c.length_at-length.type_inv))
+    (f c.insert_below.new.at) w c.args.value sound (omega (arith, raised)) (
+      g.met.K.KeyTrait.admitted c.args.key.now,
+      omega (arith, c.length_at-length.ensures, c.length_at-length.type_inv),
+    )
     (root-put w c.args.value (f c.in-Some.root)
-        (f c.insert_below.new.at) c.in_ok-old-in-Some.ensures.put)
+    (f c.insert_below.new.at) c.in_ok-old-in-Some.ensures.puts.0)
 
 pub returns-in_ok-leaf-in-None-clause-changes : goal.returns-in_ok-leaf-in-None-clause-changes
-returns-in_ok-leaf-in-None-clause-changes g c =
-    (rw (← c.self.view_is, c.in-None.is)
-        (sym (get-found None (g.K.KeyTrait.bytes c.args.key.now) tt)), search rules)
+returns-in_ok-leaf-in-None-clause-changes g c = (
+  rw (← c.self.view_is, c.in-None.is)
+      (sym (get-found None (g.K.KeyTrait.bytes c.args.key.now) tt)),
+  search rules,
+)
 
 pub returns-in_ok-old-in-Some-clause-changes : goal.returns-in_ok-old-in-Some-clause-changes
 returns-in_ok-old-in-Some-clause-changes g c =
@@ -49,26 +53,26 @@ returns-in_ok-old-in-Some-clause-changes g c =
     let n = c.self.inside.version in
     let o = option_map f c.self.inside.root in
     let sound : IsSound g.K.KeyTrait.MAXIMUM_SIZE n (Some (f c.in-Some.root)) =
-        subst (λ z. IsSound g.K.KeyTrait.MAXIMUM_SIZE n (option_map f z)) c.in-Some.is
-        c.self.invariant in (
-      rw (← c.self.view_is) (c.in_ok-old-in-Some.ensures.replaced
+    subst (λ z. IsSound g.K.KeyTrait.MAXIMUM_SIZE n (option_map f z)) c.in-Some.is
+    c.self.invariant in (
+      rw (← c.self.view_is) (c.in_ok-old-in-Some.ensures.puts.1
           ∙ sym (value-in g.K.KeyTrait.MAXIMUM_SIZE n o n w c.self.invariant
           ∙ ap (λ z. found_in (option_map f z) w) c.in-Some.is)),
       rw (← c.self.view_is, c.in-Some.is)
           (ap (λ m. record { content = m; number = n + c.args.more })
-              (map-put (Some (f c.in-Some.root)) (f c.insert_below.new.at) w c.args.value sound.0
-              (root-put w c.args.value (f c.in-Some.root)
-              (f c.insert_below.new.at) c.in_ok-old-in-Some.ensures.put))),
+          (map-put (Some (f c.in-Some.root)) (f c.insert_below.new.at) w c.args.value sound.0
+          (root-put w c.args.value (f c.in-Some.root)
+          (f c.insert_below.new.at) c.in_ok-old-in-Some.ensures.puts.0))),
     )
 
 pub returns-in_err-leaf-in-None-clause-counted : goal.returns-in_err-leaf-in-None-clause-counted
 returns-in_err-leaf-in-None-clause-counted g c =
     let none : has_no_key c.args.self.now ≡ true =
-        rw (← c.self.view_is, c.in-None.is) (no-key g.row.V.Denot c.self.inside.version) in
+    rw (← c.self.view_is, c.in-None.is) (no-key g.row.V.Denot c.self.inside.version) in
     record { at_most = search rules; at_least = λ keyed. absurd (true≢false (sym none ∙ keyed)) }
 
 pub returns-in_ok-leaf-in-None-clause-counted : goal.returns-in_ok-leaf-in-None-clause-counted
 returns-in_ok-leaf-in-None-clause-counted g c =
     let none : has_no_key c.args.self.now ≡ true =
-        rw (← c.self.view_is, c.in-None.is) (no-key g.row.V.Denot c.self.inside.version) in
+    rw (← c.self.view_is, c.in-None.is) (no-key g.row.V.Denot c.self.inside.version) in
     record { at_most = search rules; at_least = λ keyed. absurd (true≢false (sym none ∙ keyed)) }

@@ -8,7 +8,7 @@ returns-in-Ok-settle-clause-tries g c =
     let v = c.args.self.now in
     let w = g.K.KeyTrait.bytes c.args.key.now in
     let settles =
-        c.in-Ok-settle.ensures.ok ∙ (λ i.
-        version_after v w (c.of.ensures i) (c.rise_of-more.ensures i)) in
+    c.in-Ok-settle.ensures.ok ∙ (λ i.
+    version_after v w (c.of.ensures i) (c.rise_of-more.ensures i)) in
     subst (λ told. IsTried v w c.args.left told (Ok true) c.settle.new.self) (sym c.in-Ok.is)
-        (there-tried v w c.args.left c.in-Ok.told c.settle.new.self c.requires.present settles)
+    (there-tried v w c.args.left c.in-Ok.told c.settle.new.self c.requires.present settles)

@@ -20,9 +20,9 @@ unreachable-requires g c =
     let before = option_map f c.self.inside.root in
     let tree = tree-in g.K.KeyTrait.MAXIMUM_SIZE c.self.inside.version before c.self.invariant in
     let there : IsSome (found_in before w) =
-        there-found before w tree (subst
-        (λ (v : Version g.row.V.Denot). IsSome (finite.get v.content w))
-        (sym c.self.view_is) c.requires.present) in
+    there-found before w tree (subst
+    (λ (v : Version g.row.V.Denot). IsSome (finite.get v.content w))
+    (sym c.self.view_is) c.requires.present) in
     absurd (false≢true (subst (λ o. IsSome (found_in (option_map f o) w)) c.in_default.is there))
 
 pub remove_below-requires-clause-present : goal.remove_below-requires-clause-present
@@ -32,9 +32,9 @@ remove_below-requires-clause-present g c =
     let before = option_map f c.self.inside.root in
     let tree = tree-in g.K.KeyTrait.MAXIMUM_SIZE c.self.inside.version before c.self.invariant in
     let there : IsSome (found_in before w) =
-        there-found before w tree (subst
-        (λ (v : Version g.row.V.Denot). IsSome (finite.get v.content w))
-        (sym c.self.view_is) c.requires.present) in
+    there-found before w tree (subst
+    (λ (v : Version g.row.V.Denot). IsSome (finite.get v.content w))
+    (sym c.self.view_is) c.requires.present) in
     rw (c.as_ref.ensures) (subst (λ o. IsSome (found_in (option_map f o) w)) c.in-Some.is there)
 
 pub invariant_of-self-2 : goal.invariant_of-self-2
@@ -47,21 +47,21 @@ invariant_of-self-2 g c =
     let left = c.in_ok-removed.removed.left_unused in
     let root_is : after ≡ kept left (f c.remove_below.new.at) = elim c.if-removed.branch [
       | then-removed+in-Some-1 b ↦ ap (λ (i : _). option_map f i.root) b.self-inside-is
-      ∙ ap (λ t. kept t (f c.remove_below.new.at)) (sym b.if-removed.true)
+          ∙ ap (λ t. kept t (f c.remove_below.new.at)) (sym b.if-removed.true)
       | then-removed+in-None-1 b ↦ ap (λ (i : _). option_map f i.root) b.self-inside-is
-      ∙ ap (λ t. kept t (f c.remove_below.new.at)) (sym b.if-removed.true)
+          ∙ ap (λ t. kept t (f c.remove_below.new.at)) (sym b.if-removed.true)
       | else-removed b ↦ ap (λ (i : _). option_map f i.root) b.self-inside-is
-      ∙ ap (λ t. kept t (f c.remove_below.new.at)) (sym b.if-removed.false)
+          ∙ ap (λ t. kept t (f c.remove_below.new.at)) (sym b.if-removed.false)
     ] in
     let at_root : IsTaken w (f c.in-Some.root) (f c.remove_below.new.at) =
-        subst (λ k. IsTaken k (f c.in-Some.root) (f c.remove_below.new.at)) c.as_ref.ensures
-        c.in_ok-removed.ensures.taken in
+    subst (λ k. IsTaken k (f c.in-Some.root) (f c.remove_below.new.at)) c.as_ref.ensures
+    c.in_ok-removed.ensures.taken in
     let taken : IsTakenIn w before after =
-        subst (λ o. IsTakenIn w (option_map f o) after) (sym c.in-Some.is)
-        (root-taken w (f c.in-Some.root)
-        (f c.remove_below.new.at) left after at_root c.in_ok-removed.ensures.unused root_is) in
+    subst (λ o. IsTakenIn w (option_map f o) after) (sym c.in-Some.is)
+    (root-taken w (f c.in-Some.root)
+    (f c.remove_below.new.at) left after at_root c.in_ok-removed.ensures.unused root_is) in
     sound-taken g.K.KeyTrait.MAXIMUM_SIZE c.self.inside.version _ before after w c.self.invariant
-        (omega arith) taken
+    (omega arith) taken
 
 pub returns-clause-changes : goal.returns-clause-changes
 returns-clause-changes g c =
@@ -73,19 +73,19 @@ returns-clause-changes g c =
     let left = c.in_ok-removed.removed.left_unused in
     let root_is : after ≡ kept left (f c.remove_below.new.at) = elim c.if-removed.branch [
       | then-removed+in-Some-1 b ↦ ap (λ (i : _). option_map f i.root) b.self-inside-is
-      ∙ ap (λ t. kept t (f c.remove_below.new.at)) (sym b.if-removed.true)
+          ∙ ap (λ t. kept t (f c.remove_below.new.at)) (sym b.if-removed.true)
       | then-removed+in-None-1 b ↦ ap (λ (i : _). option_map f i.root) b.self-inside-is
-      ∙ ap (λ t. kept t (f c.remove_below.new.at)) (sym b.if-removed.true)
+          ∙ ap (λ t. kept t (f c.remove_below.new.at)) (sym b.if-removed.true)
       | else-removed b ↦ ap (λ (i : _). option_map f i.root) b.self-inside-is
-      ∙ ap (λ t. kept t (f c.remove_below.new.at)) (sym b.if-removed.false)
+          ∙ ap (λ t. kept t (f c.remove_below.new.at)) (sym b.if-removed.false)
     ] in
     let at_root : IsTaken w (f c.in-Some.root) (f c.remove_below.new.at) =
-        subst (λ k. IsTaken k (f c.in-Some.root) (f c.remove_below.new.at)) c.as_ref.ensures
-        c.in_ok-removed.ensures.taken in
+    subst (λ k. IsTaken k (f c.in-Some.root) (f c.remove_below.new.at)) c.as_ref.ensures
+    c.in_ok-removed.ensures.taken in
     let taken : IsTakenIn w before after =
-        subst (λ o. IsTakenIn w (option_map f o) after) (sym c.in-Some.is)
-        (root-taken w (f c.in-Some.root)
-        (f c.remove_below.new.at) left after at_root c.in_ok-removed.ensures.unused root_is) in (
+    subst (λ o. IsTakenIn w (option_map f o) after) (sym c.in-Some.is)
+    (root-taken w (f c.in-Some.root)
+    (f c.remove_below.new.at) left after at_root c.in_ok-removed.ensures.unused root_is) in (
       c.in_ok-removed.ensures.value ∙ ap (found (f c.in-Some.root)) c.as_ref.ensures
           ∙ ap (λ o. found_in (option_map f o) w) (sym c.in-Some.is) ∙ sym (get-found before w tree)
           ∙ ap (λ (v : Version g.row.V.Denot). value_at v w) c.self.view_is,
@@ -99,8 +99,8 @@ returns-in_err-removed-clause-counted g c =
     let f = pointer_shape g.K.PartialType.Partial.bytes in
     let w = g.K.KeyTrait.bytes c.args.key.now in
     let most : path_bound (f c.in-Some.root) c.as_ref.result.now ≤ length w + 1 =
-        subst (λ (k : List ℕ). path_bound (f c.in-Some.root) c.as_ref.result.now ≤ length k + 1)
-        c.as_ref.ensures (path-most (f c.in-Some.root) c.as_ref.result.now) in
+    subst (λ (k : List ℕ). path_bound (f c.in-Some.root) c.as_ref.result.now ≤ length k + 1)
+    c.as_ref.ensures (path-most (f c.in-Some.root) c.as_ref.result.now) in
     counts-most c.remove_below.ensures.counted most most
 
 pub returns-clause-counted : goal.returns-clause-counted
@@ -108,6 +108,6 @@ returns-clause-counted g c =
     let f = pointer_shape g.K.PartialType.Partial.bytes in
     let w = g.K.KeyTrait.bytes c.args.key.now in
     let most : path_bound (f c.in-Some.root) c.as_ref.result.now ≤ length w + 1 =
-        subst (λ (k : List ℕ). path_bound (f c.in-Some.root) c.as_ref.result.now ≤ length k + 1)
-        c.as_ref.ensures (path-most (f c.in-Some.root) c.as_ref.result.now) in
+    subst (λ (k : List ℕ). path_bound (f c.in-Some.root) c.as_ref.result.now ≤ length k + 1)
+    c.as_ref.ensures (path-most (f c.in-Some.root) c.as_ref.result.now) in
     counts-most c.remove_below.ensures.counted most most

@@ -10,10 +10,10 @@ returns-then-was_there-clause-updates g c =
     let w = g.K.KeyTrait.bytes c.args.key.now in
     let slot = c.in_ok-slot.ensures.slot in
     let there =
-        there-by-slot v w _ slot (sym c.is_occupied-was_there.ensures ∙ c.if-was_there.true) in
+    there-by-slot v w _ slot (sym c.is_occupied-was_there.ensures ∙ c.if-was_there.true) in
     let tell = tells g.F.FnOnce c.args.f v w _ _ _ slot c.f-told.ensures in
     updates-there g.F.FnOnce c.args.f v w AllocError _ _ _ tell there
-        (c.in_ok-settle.ensures.ok ∙ ap (λ change. version_after v w change 1) c.of.ensures)
+    (c.in_ok-settle.ensures.ok ∙ ap (λ change. version_after v w change 1) c.of.ensures)
 
 pub returns-clause-updates : goal.returns-clause-updates
 returns-clause-updates g c =
@@ -21,7 +21,7 @@ returns-clause-updates g c =
     let w = g.K.KeyTrait.bytes c.args.key.now in
     let slot = c.in_ok-slot.ensures.slot in
     let absent =
-        absent-by-slot v w _ slot (sym c.is_occupied-was_there.ensures ∙ c.if-was_there.false) in
+    absent-by-slot v w _ slot (sym c.is_occupied-was_there.ensures ∙ c.if-was_there.false) in
     let tell = tells g.F.FnOnce c.args.f v w _ _ _ slot c.f-told.ensures in
     updates-absent g.F.FnOnce c.args.f v w _ _ c.settle_absent.result _ tell absent
-        c.settle_absent.ensures.changes c.settle_absent.ensures.memory
+    c.settle_absent.ensures.changes c.settle_absent.ensures.memory

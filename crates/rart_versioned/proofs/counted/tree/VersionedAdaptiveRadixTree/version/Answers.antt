@@ -6,11 +6,11 @@ use Rattle.rart_versioned.proofs.counted.tree.VersionedAdaptiveRadixTree.version
 pub returns-clause-keys : goal.returns-clause-keys
 returns-clause-keys g c =
     few-in g.K.KeyTrait.MAXIMUM_SIZE c.self.inside.version
-        (option_map (pointer_shape g.K.PartialType.Partial.bytes) c.self.inside.root)
-        c.args.self.now c.self.invariant c.self.view_is
+    (option_map (pointer_shape g.K.PartialType.Partial.bytes) c.self.inside.root)
+    c.args.self.now c.self.invariant c.self.view_is
 
 pub returns-clause-lengths : goal.returns-clause-lengths
 returns-clause-lengths g c =
     lengths-in g.K.KeyTrait.MAXIMUM_SIZE c.self.inside.version
-        (option_map (pointer_shape g.K.PartialType.Partial.bytes) c.self.inside.root)
-        c.args.self.now c.self.invariant c.self.view_is
+    (option_map (pointer_shape g.K.PartialType.Partial.bytes) c.self.inside.root)
+    c.args.self.now c.self.invariant c.self.view_is

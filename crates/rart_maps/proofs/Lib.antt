@@ -1,8 +1,10 @@
 pub mod ElementLemmas
 pub mod FoundLemmas
+pub mod IterationLemmas
 pub mod MapLemmas
 pub mod OrderLemmas
 pub mod PairLawLemmas
+pub mod RangeLemmas
 pub mod SetLemmas
 pub mod StartLemmas
 pub mod VersionLemmas

@@ -91,7 +91,7 @@ low-meets (Included a) key = (le-at_most a key, at_most-le a key)
 low-meets (Excluded a) key = (lt-before a key, before-lt a key)
 low-meets Unbounded key = (λ _. tt, λ _. refl)
 
-high-meets : (high : Bound (List ℕ)) (key : List ℕ)
+pub high-meets : (high : Bound (List ℕ)) (key : List ℕ)
     → (is_up_to_end (as_partial_cmp byte_order) high key ≡ true) ↔ MeetsHigh high key
 high-meets (Included a) key = (le-at_most key a, at_most-le key a)
 high-meets (Excluded a) key = (lt-before key a, before-lt key a)

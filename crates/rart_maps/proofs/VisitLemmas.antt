@@ -1,10 +1,13 @@
 -- Calls on the members of a list: how they go on from one part of it to the next.
 use Rattle.std.proofs.Common.{◌≡◌, List, [], ◌∷◌, ◌++◌, Result, Ok, Err, refl, sym, ap, subst, ◌∙◌, append_assoc}
 use Rattle.std.proofs.lemmas.List.{append-nil}
+use Rattle.std.specs.declared.alloc.AllocError.{AllocError}
 use Rattle.std.specs.Fn.{Mut, Takes}
+use Rattle.std.specs.Result.{IsErr}
+use Rattle.std.proofs.lemmas.Bool.{false≢true}
 use Rattle.rart_below.specs.declared.visit.VisitControl.{VisitControl}
 use Rattle.rart_below.specs.declared.visit.VisitControl.TheVariants.{Continue, Stop}
-use Rattle.rart_maps.specs.Visits.{CalledOn, CallableOn, Answers, AnswersUpTo, CallableInTurn, VisitUpTo, VisitUntil}
+use Rattle.rart_maps.specs.Visits.{CalledOn, CallableOn, Answers, AnswersUpTo, CallableInTurn, Visits, VisitFront, VisitUpTo, VisitUntil}
 
 module _ {F A R X : Type 0} (g : Mut F A R) (Shows : A → X → Type 0) (answer : R) where
   -- the calls on one list, and then those on another
@@ -53,6 +56,11 @@ module _ {F A R X : Type 0} (g : Mut F A R) (Shows : A → X → Type 0) (answer
       subst (λ xs. Answers g Shows answer f xs last)
       (sym (append-nil before.0) ∙ sym before.1) before.2
 
+  pub up_to-over : {f last : F} {members left : List X} → left ≡ [] →
+      AnswersUpTo g Shows answer f members left last → Answers g Shows answer f members last
+  up_to-over {f} {last} {members} none before =
+      up_to-end (subst (λ left. AnswersUpTo g Shows answer f members left last) none before)
+
   -- What is callable on all members in turn is so on each part, when it comes to it,
   pub callable-part : {f j : F} {members left : List X} (part rest : List X) →
       left ≡ part ++ rest → CallableInTurn g Shows answer f members →
@@ -99,6 +107,13 @@ module _ {F A R X : Type 0} (g : Mut F A R) (Shows : A → X → Type 0) (answer
       let later = answers-collect Goes seen each xs calls.0 last calls.2 goes in
       let here = each f x calls.0 calls.1 later.0 in
       (here.0, later.1 ∙ ap (λ ys. ys ++ xs) here.1 ∙ append_assoc (seen f) (x ∷ []) xs)
+
+module _ {F A X : Type 0} (g : Mut F A (Unit {0})) (Shows : A → X → Type 0) where
+  -- What was called on a beginning, and was refused.
+  pub visits-refused : {f last : F} {members : List X} (result : Result (Unit {0}) AllocError) →
+      IsErr result → VisitFront g Shows f members last → Visits g Shows result f members last
+  visits-refused (Ok done) is front = absurd (false≢true is)
+  visits-refused (Err refused) is front = front
 
 module _ {F A X E : Type 0} (g : Mut F A (Result VisitControl E)) (Shows : A → X → Type 0) where
   -- A visit that ends on the next member, or within the next part, ends the visit of all members.

@@ -1,8 +1,11 @@
 -- What a visitor does: calls of its closure on the members of a list.
 use Rattle.std.specs.Prelude.{◌≡◌, ℕ, List, ◌∷◌, ◌++◌, Result, Ok, Err}
+use Rattle.std.specs.declared.alloc.AllocError.{AllocError}
 use Rattle.std.specs.Borrow.{Bor}
 use Rattle.std.specs.Fn.{Mut, Called, Takes}
 use Rattle.std.specs.List.{FoldsTo}
+use Rattle.rart_below.specs.declared.slot.Refusal.{Refusal}
+use Rattle.rart_below.specs.declared.slot.Refusal.TheVariants.{Callback, Memory}
 use Rattle.rart_below.specs.declared.visit.VisitControl.{VisitControl}
 use Rattle.rart_below.specs.declared.visit.VisitControl.TheVariants.{Continue, Stop}
 
@@ -59,6 +62,12 @@ module _ {F A X : Type 0} (g : Mut F A (Unit {0})) (Shows : A → X → Type 0) 
   abbrev pub VisitFront : F → List X → F → Type 0
   VisitFront f members f' = (rest : List X) × AnswersUpTo g Shows tt f members rest f'
 
+  -- what a visitor that takes memory has done, by its answer: a visit of all members, or, refused,
+  -- of a beginning
+  abbrev pub Visits : Result (Unit {0}) AllocError → F → List X → F → Type 0
+  Visits (Ok done) f members f' = Visit f members f'
+  Visits (Err refused) f members f' = VisitFront f members f'
+
   -- what its caller grants: f may be called on each member, in every state that is reached
   abbrev pub Visitable : F → List X → Type 0
   Visitable f members = CallableInTurn g Shows tt f members
@@ -78,11 +87,18 @@ module _ {F A X E : Type 0} (g : Mut F A (Result VisitControl E)) (Shows : A →
   VisitUntil f members (Ok Stop) f' = VisitUpTo f members (Ok Stop) f'
   VisitUntil f members (Err e) f' = VisitUpTo f members (Err e) f'
 
-  -- what a refusal leaves: f is called on the members of a beginning, and on each answers
-  -- `Continue`
+  -- what a refusal leaves: f is called on the members of a beginning, and answers `Continue`
   abbrev pub VisitUntilFront : F → List X → F → Type 0
   VisitUntilFront f members f' =
       (rest : List X) × AnswersUpTo g Shows (Ok Continue) f members rest f'
+
+  -- what a visitor that takes memory has done, by its answer: `Ok` tells that f answered no error,
+  -- and `Callback` which one; refused for memory, f answered `Continue` on a beginning
+  abbrev pub VisitsUntil : Result (Unit {0}) (Refusal E) → F → List X → F → Type 0
+  VisitsUntil (Ok done) f members f' =
+      (last : VisitControl) × VisitUntil f members (Ok last) f'
+  VisitsUntil (Err (Callback e)) f members f' = VisitUntil f members (Err e) f'
+  VisitsUntil (Err (Memory refused)) f members f' = VisitUntilFront f members f'
 
   -- what its caller grants: f may be called on each member, in every state that is reached
   abbrev pub VisitableUntil : F → List X → Type 0

@@ -1,9 +1,8 @@
 -- What a test of keys keeps of the pairs of a tree, or of the paths of its nodes, one node at a
 -- time.
-use Rattle.std.proofs.Common.{◌≡◌, ◌<◌, ℕ, suc, Bool, true, false, cond, inl, inr, List, [], ◌∷◌, ◌++◌, Option, Some, None, map, filter, refl, arith, sym, ap, subst, ◌∙◌}
+use Rattle.std.proofs.Common.{◌≡◌, ◌<◌, ℕ, suc, Bool, true, false, cond, inl, inr, List, [], ◌∷◌, ◌++◌, Option, Some, None, filter, refl, arith, sym, ap, subst, ◌∙◌}
 use Rattle.std.specs.Prelude.{⊤}
 use Rattle.std.proofs.lemmas.Bool.{cases_order}
-use Rattle.std.proofs.lemmas.List.{append_assoc, append-nil, map-append}
 use Rattle.std.proofs.lemmas.List.Elements.{filter-append}
 use Rattle.rart_below.specs.Children.{child_at, children_from, IsAscending}
 use Rattle.rart_below.specs.Laws.{IsBelow, below_from}
@@ -108,7 +107,7 @@ module _ {V A : Type 0} (own : Option V → List (List ℕ × A)) where
       ap (λ below. behind_path prefix (own value ++ below)) (gathered-entries forest)
 
   -- a test that is the same for each key that begins with the byte
-  keeping-begun : (test : List ℕ → Bool) (keep : Bool) (byte : ℕ) (s : Shape V)
+  pub keeping-begun : (test : List ℕ → Bool) (keep : Bool) (byte : ℕ) (s : Shape V)
       → BeginsWith byte (prefix_of s) → ((w : List ℕ) → test (byte ∷ w) ≡ keep)
       → keeping test (gathered s) ≡ cond keep (gathered s) []
   keeping-begun test keep byte (node [] value width forest) begins each = absurd begins

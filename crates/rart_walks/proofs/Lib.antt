@@ -1,3 +1,4 @@
+pub mod BeginningLemmas
 pub mod EndLemmas
 pub mod GatherLemmas
 pub mod LastLemmas

@@ -1,16 +1,15 @@
 -- Which keys of a tree are in the part that a string picks, one node at a time.
-use Rattle.std.proofs.Common.{◌≡◌, ◌+◌, ◌<◌, ℕ, suc, Bool, true, false, cond, List, [], ◌∷◌, ◌++◌, Option, Some, None, map, length, filter, refl, arith, sym, ap, subst, ◌∙◌}
-use Rattle.std.specs.Prelude.{⊤}
+use Rattle.std.proofs.Common.{◌≡◌, ◌<◌, ℕ, suc, Bool, true, false, cond, List, [], ◌∷◌, ◌++◌, Option, Some, None, refl, arith, sym, ap, ◌∙◌}
 use Rattle.std.specs.declared.cmp.Ordering.{Ordering}
 use Rattle.std.specs.declared.cmp.Ordering.TheVariants.{Less, Equal, Greater}
-use Rattle.std.specs.Ordering.{nat_cmp, ordering_then, is_le, is_lt}
+use Rattle.std.specs.Ordering.{ordering_then, is_le, is_lt}
 use Rattle.std.specs.Cmp.{nat_cmp_is}
 use Rattle.std.proofs.lemmas.Bool.{eq-eqb, ne_eqb}
 use Rattle.std.proofs.lemmas.List.{append-nil, append_assoc}
 use Rattle.rart_below.specs.Bytes.{begins, byte_order}
 use Rattle.rart_below.specs.Children.{child_at, children_from}
-use Rattle.rart_node.specs.Shape.{Shape, Forest, node, bare, grown, prefix_of, value_of, children_of}
-use Rattle.rart_shape.specs.Trees.{BeginsWith, IsTree, own_pair}
+use Rattle.rart_node.specs.Shape.{Shape, prefix_of, value_of, children_of}
+use Rattle.rart_shape.specs.Trees.{IsTree, own_pair}
 use Rattle.rart_walks.specs.declared.walk.path.Part.{Part}
 use Rattle.rart_walks.specs.declared.walk.path.Part.TheVariants.{Under, From, Behind}
 use Rattle.rart_walks.specs.Frames.{behind_path}
@@ -26,7 +25,7 @@ pub record GoesAlong (test : List ℕ → List ℕ → Bool) (more : Bool) : Typ
   pub upper : (b : ℕ) (u : List ℕ) (c : ℕ) (w : List ℕ) → b < c → test (b ∷ u) (c ∷ w) ≡ more
   pub inside : (b : ℕ) (w : List ℕ) → test [] (b ∷ w) ≡ true
 
-begins-along : (p u w : List ℕ) → begins (p ++ u) (p ++ w) ≡ begins u w
+pub begins-along : (p u w : List ℕ) → begins (p ++ u) (p ++ w) ≡ begins u w
 begins-along [] u w = refl
 begins-along (b ∷ p) u w = rw (eq-eqb b b refl) (begins-along p u w)
 

@@ -3,6 +3,7 @@ ghost use Rattle.std.specs.Prelude.{◌≡◌, ◌+◌, ◌≤◌, ◌++◌, ◌
 ghost use Rattle.std.specs.List.{concat};
 ghost use Rattle.std.specs.Option.{option_map, option_copied};
 ghost use Rattle.rart_below.specs.Bytes.{IsAdmitted};
+ghost use Rattle.rart_node.specs.Counts.{CountsUpTo};
 ghost use Rattle.rart_node.specs.NodeShapes.{node_shape, pointer_shape};
 ghost use Rattle.rart_node.specs.VersionedNodeIter.{children_left};
 ghost use Rattle.rart_node.specs.Shape.{IsAscending, prefix_of, value_of, children_of};
@@ -37,8 +38,8 @@ pub struct Walk<'a, P: Partial, V, T> {
 }
 
 impl<'a, P: Partial, V: Drop, T: Trail<'a>> Walk<'a, P, V, T> {
-    /// A walk with nothing left.
-    fn new(alloc: Global) -> Walk<'a, P, V, T>
+    /// A walk with nothing left. It takes no memory.
+    pub fn new(alloc: Global) -> Walk<'a, P, V, T>
         ensures walk { IsWalk P.bytes T.holds T.greatest result }
         ensures ended { position P.bytes result ≡ walk_end }
         ensures frames { open_nodes P.bytes result.frames.items ≡ [] }
@@ -147,8 +148,7 @@ impl<'a, P: Partial, V: Drop, T: Trail<'a>> Walk<'a, P, V, T> {
         ensures refused { OnErr result (position P.bytes self.new ≡ walk_end) }
         ensures entered { OnOk result (work.new.entered + (position P.bytes self.new).nodes
             ≡ work.old.entered + (position P.bytes self.old).nodes) }
-        ensures at_most { work.new.entered ≤ work.old.entered + (position P.bytes self.old).nodes }
-        ensures made { work.new.made ≡ work.old.made }
+        ensures counted { CountsUpTo (position P.bytes self.old).nodes 0 work.old work.new }
     {
         if let Some(value) = self.pending {
             self.pending = None;

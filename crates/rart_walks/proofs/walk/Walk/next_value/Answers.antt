@@ -1,12 +1,29 @@
-use Rattle.std.proofs.Common.{◌≡◌, ◌+◌, ◌++◌, ◌∷◌, [], List, Some, None, refl, arith, sym, ap, subst, ◌∙◌}
+use Rattle.std.proofs.Common.{◌≡◌, ◌≤◌, ℕ, ◌+◌, ◌++◌, ◌∷◌, [], Some, None, refl, arith, sym, ap, subst, ◌∙◌}
 use Rattle.std.specs.Option.{option_map}
+use Rattle.rart_node.specs.Counts.{Counts, CountsUpTo}
 use Rattle.rart_node.specs.NodeShapes.{node_shape, pointer_shape}
 use Rattle.rart_node.specs.Shape.{prefix_of, children_of, value_of}
 use Rattle.rart_shape.proofs.FindLemmas.{ascending, ordered}
-use Rattle.rart_walks.specs.Frames.{OpenNode, segments_of}
 use Rattle.rart_walks.specs.WalkFields.{open_nodes}
-use Rattle.rart_walks.proofs.WalkLemmas.{IsGoing, HasEntered, TookChild, TookNone, took-child, took-none, took-segments, took-left, took-tree, took-fits, took-counted, took-entered}
+use Rattle.rart_walks.proofs.WalkLemmas.{TookChild, TookNone, took-child, took-none, took-segments, took-left, took-tree, took-fits, took-counted, took-entered}
 use Rattle.rart_walks.proofs.walk.Walk.next_value.Goals as goal
+
+entered-more : (start : ℕ) (now after : Counts) → start ≤ now.entered →
+    after ≡ record now { entered = now.entered + 1 } → start ≤ after.entered
+entered-more start now after grows opens = let one = ap (λ z. z.entered) opens in
+    omega (arith, grows, one)
+
+walked : (most : ℕ) (start now after : Counts) → start.entered ≤ now.entered →
+    now.made ≡ start.made → after ≡ record now { entered = now.entered + 1 } →
+    after.entered ≤ start.entered + most → CountsUpTo most 0 start after
+walked most start now after grows made opens within =
+    let none = ap (λ z. z.made) opens ∙ made in
+    record {
+      entered_grows = entered-more start.entered now after grows opens;
+      entered_at_most = within;
+      made_grows = omega (arith, none);
+      made_at_most = omega (arith, none);
+    }
 
 pub step-init : goal.step-init
 step-init g c = record {
@@ -19,6 +36,7 @@ step-init g c = record {
         counted = refl;
       };
   none = c.in_default.is;
+  grows = omega arith;
   made = refl;
 }
 
@@ -44,8 +62,8 @@ enter-requires g c =
       ),
     )
 
-pub returns-in-Err-clause-at_most : goal.returns-in-Err-clause-at_most
-returns-in-Err-clause-at_most g c =
+pub returns-in-Err-clause-counted : goal.returns-in-Err-clause-counted
+returns-in-Err-clause-counted g c =
     let bytes = g.P.Partial.bytes in
     let s = pointer_shape bytes c.in-Some-next.child.now in
     let same : node_shape bytes c.open-node.result.now ≡ s = c.open-node.ensures.shown in
@@ -53,8 +71,11 @@ returns-in-Err-clause-at_most g c =
     (open_nodes bytes c.next_child.new.frames.items) =
     took-child _ _ _ s (ap (option_map (λ child. pointer_shape bytes child.now)) c.in-Some-next.is)
     c.in-Some-next_child.ensures in
+    let most =
     took-counted _ _ _ _ _ c.step.invariant.going s _ took _
-    (ap (λ w. w.entered) c.open-node.ensures.work)
+    (ap (λ w. w.entered) c.open-node.ensures.work) in
+    walked _ _ c.step.work _ c.step.invariant.grows c.step.invariant.made c.open-node.ensures.work
+    most
 
 pub returns-in-Some-value-clause-walk : goal.returns-in-Some-value-clause-walk
 returns-in-Some-value-clause-walk g c =
@@ -115,8 +136,8 @@ returns-in-Some-value-clause-entered g c =
     ∷ []) same) (ap (λ w. w.entered) c.open-node.ensures.work) in
     entered.counted
 
-pub returns-in-Some-value-clause-at_most : goal.returns-in-Some-value-clause-at_most
-returns-in-Some-value-clause-at_most g c =
+pub returns-in-Some-value-clause-counted : goal.returns-in-Some-value-clause-counted
+returns-in-Some-value-clause-counted g c =
     let bytes = g.P.Partial.bytes in
     let s = pointer_shape bytes c.in-Some-next.child.now in
     let same : node_shape bytes c.open-node.result.now ≡ s = c.open-node.ensures.shown in
@@ -124,8 +145,11 @@ returns-in-Some-value-clause-at_most g c =
     (open_nodes bytes c.next_child.new.frames.items) =
     took-child _ _ _ s (ap (option_map (λ child. pointer_shape bytes child.now)) c.in-Some-next.is)
     c.in-Some-next_child.ensures in
+    let most =
     took-counted _ _ _ _ _ c.step.invariant.going s _ took _
-    (ap (λ w. w.entered) c.open-node.ensures.work)
+    (ap (λ w. w.entered) c.open-node.ensures.work) in
+    walked _ _ c.step.work _ c.step.invariant.grows c.step.invariant.made c.open-node.ensures.work
+    most
 
 pub step-smaller-in_default-next : goal.step-smaller-in_default-next
 step-smaller-in_default-next g c =
@@ -153,6 +177,7 @@ step-preserved-in_default-next g c =
       holds_way = c.leave.ensures.holds;
       going = left.0;
       none = c.step.invariant.none;
+      grows = c.step.invariant.grows;
       made = c.step.invariant.made;
     }
 
@@ -189,10 +214,11 @@ step-preserved g c =
     ∙ ap (λ z. open_nodes bytes c.next_child.new.frames.items ++ (prefix_of z, children_of z)
     ∷ []) same) (ap (λ w. w.entered) c.open-node.ensures.work) in
     let none : value_of s ≡ None = sym (c.in_default-value.ensures ∙ ap value_of same) in
+    let grows = entered-more _ c.step.work _ c.step.invariant.grows c.open-node.ensures.work in
     record {
       holds_way = c.in_default-enter.ensures.holds;
       going = entered.passed none;
       none = c.step.invariant.none;
-      made = ap (λ w. w.made) c.open-node.ensures.work
-          ∙ c.step.invariant.made;
+      grows = grows;
+      made = ap (λ w. w.made) c.open-node.ensures.work ∙ c.step.invariant.made;
     }

@@ -1,4 +1,4 @@
-use Rattle.std.proofs.Common.{◌≡◌, None}
+use Rattle.std.proofs.Common.{◌≡◌, ◌≤◌, None}
 use Rattle.rart_walks.specs.Frames.{segments_of}
 use Rattle.rart_walks.specs.WalkFields.{open_nodes}
 use Rattle.rart_walks.proofs.WalkLemmas.{IsGoing, measure}
@@ -12,6 +12,7 @@ invariant-step g l = record {
       (open_nodes g.P.Partial.bytes l.initial.self.frames.items) l.initial.work.entered
       (open_nodes g.P.Partial.bytes l.self.frames.items) l.work.entered;
   none : l.self.pending ≡ None;
+  grows : l.initial.work.entered ≤ l.work.entered;
   made : l.work.made ≡ l.initial.work.made;
 }
 

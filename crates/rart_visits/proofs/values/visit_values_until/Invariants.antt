@@ -1,0 +1,21 @@
+use Rattle.std.proofs.Common.{length, map, Ok}
+use Rattle.rart_below.specs.declared.visit.VisitControl.TheVariants.{Continue}
+use Rattle.rart_maps.specs.Visits.{ByValue, AnswersUpTo}
+use Rattle.rart_walks.specs.WalkFields.{position, IsWalk}
+use Rattle.rart_visits.proofs.CountLemmas.{IsCounted}
+use Rattle.rart_visits.proofs.values.visit_values_until.Given as goal
+
+abbrev pub invariant-visiting : goal.invariant-visiting
+invariant-visiting g l =
+    let bytes = g.P.Partial.bytes in
+    let left = position bytes l.walk in
+    let start = position bytes l.fn.walk in
+    record {
+      walk : IsWalk bytes g.T.Trail.holds g.T.Trail.greatest l.walk;
+      calls : AnswersUpTo g.F.FnMut ByValue (Ok Continue) l.fn.f
+          (map (λ pair. pair.1) start.pairs) (map (λ pair. pair.1) left.pairs) l.f;
+      counted : IsCounted start.nodes l.fn.work left.nodes l.work;
+    }
+
+abbrev pub decreases-visiting : goal.decreases-visiting
+decreases-visiting g l = length (position g.P.Partial.bytes l.walk).pairs

@@ -1,0 +1,26 @@
+use Rattle.std.proofs.Common.{◌^◌, ◌-◌, length, Some}
+use Rattle.std.specs.Range.Bound.{bound_map}
+use Rattle.rart_maps.specs.FoundLaws.{KeysAscend}
+use Rattle.rart_maps.specs.Visits.{ByView, AnswersUpTo}
+use Rattle.rart_maps.proofs.RangeLemmas.{up_to}
+use Rattle.rart_walks.specs.WalkFields.{position, IsWalk}
+use Rattle.rart_walks.specs.Trails.{HoldsSegments}
+use Rattle.rart_visits.proofs.CountLemmas.{IsCounted}
+use Rattle.rart_visits.proofs.views.visit_views_up_to.Given as goal
+
+abbrev pub invariant-visiting : goal.invariant-visiting
+invariant-visiting g l =
+    let bytes = g.P.Partial.bytes in
+    let left = position bytes l.walk in
+    let start = position bytes l.fn.walk in
+    let high = bound_map (λ high. high.now) l.high in
+    record {
+      walk : IsWalk bytes HoldsSegments (Some (2 ^ 64 - 1)) l.walk;
+      ascend : KeysAscend (λ pair. pair.0) left.pairs;
+      calls : AnswersUpTo g.F.FnMut ByView tt l.fn.f (up_to high start.pairs)
+          (up_to high left.pairs) l.f;
+      counted : IsCounted start.nodes l.fn.work left.nodes l.work;
+    }
+
+abbrev pub decreases-visiting : goal.decreases-visiting
+decreases-visiting g l = length (position g.P.Partial.bytes l.walk).pairs

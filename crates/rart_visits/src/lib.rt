@@ -1,0 +1,13 @@
+//! Visits of the values of a tree of nodes: calls of a closure on each, in the order of their keys.
+//!
+//! A visitor calls its closure on what a walk has left, or along a probe. It knows prefixes and
+//! pointers alone, and no key type.
+#![tactic(auto)]
+
+mod matches;
+mod values;
+mod views;
+
+pub use matches::visit_beginnings;
+pub use values::{visit_values, visit_values_until};
+pub use views::{visit_views, visit_views_up_to};

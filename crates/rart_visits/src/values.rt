@@ -1,0 +1,66 @@
+//! Visits of values alone.
+ghost use Rattle.std.specs.Prelude.{map, Ok, Err};
+ghost use Rattle.rart_below.specs.declared.visit.VisitControl.TheVariants.{Continue, Stop};
+ghost use Rattle.rart_maps.specs.Visits.{ByValue, Visits, Visitable, VisitsUntil, VisitableUntil};
+ghost use Rattle.rart_node.specs.Counts.{CountsUpTo};
+ghost use Rattle.rart_walks.specs.WalkFields.{position, IsWalk};
+
+use rart_below::{Partial, Refusal, VisitControl};
+use rart_node::Work;
+use rart_walks::{Trail, Walk};
+use std::alloc::AllocError;
+
+/// Calls the closure on each value that a walk has left.
+///
+/// Refused for memory, it has called it on a beginning of them.
+pub fn visit_values<'a, P: Partial, V: Drop, T: Trail<'a>, F: FnMut(&V)>(
+    mut walk: Walk<'a, P, V, T>,
+    f: &mut F,
+    work: &mut Work,
+) -> Result<(), AllocError>
+    requires walk { IsWalk P.bytes T.holds T.greatest walk }
+    requires visitable { Visitable F.FnMut ByValue f.old
+        (map (λ pair. pair.1) (position P.bytes walk).pairs) }
+    ensures visits { Visits F.FnMut ByValue result f.old
+        (map (λ pair. pair.1) (position P.bytes walk.entry).pairs) f.new }
+    ensures counted { CountsUpTo (position P.bytes walk.entry).nodes 0 work.old work.new }
+{
+    'visiting: while let Some(value) = walk.next_value(work)? {
+        f(value);
+    }
+    Ok(())
+}
+
+/// Calls the closure on each value that a walk has left, up to the first on which it answers `Stop`
+/// or an error. Its error is answered as `Refusal::Callback`.
+///
+/// Refused for memory, the answer is `Refusal::Memory`: it has called the closure on a beginning of
+/// them, and each time the closure answered `Continue`.
+pub fn visit_values_until<
+    'a,
+    P: Partial,
+    V: Drop,
+    T: Trail<'a>,
+    E: Drop,
+    F: FnMut(&V) -> Result<VisitControl, E>,
+>(mut walk: Walk<'a, P, V, T>, f: &mut F, work: &mut Work) -> Result<(), Refusal<E>>
+    requires walk { IsWalk P.bytes T.holds T.greatest walk }
+    requires visitable { VisitableUntil F.FnMut ByValue f.old
+        (map (λ pair. pair.1) (position P.bytes walk).pairs) }
+    ensures visits { VisitsUntil F.FnMut ByValue result f.old
+        (map (λ pair. pair.1) (position P.bytes walk.entry).pairs) f.new }
+    ensures counted { CountsUpTo (position P.bytes walk.entry).nodes 0 work.old work.new }
+{
+    'visiting: loop {
+        let value = match walk.next_value(work) {
+            Ok(Some(value)) => value,
+            Ok(None) => return Ok(()),
+            Err(refused) => return Err(Refusal::Memory(refused)),
+        };
+        match f(value) {
+            Ok(VisitControl::Continue) => {}
+            Ok(VisitControl::Stop) => return Ok(()),
+            Err(error) => return Err(Refusal::Callback(error)),
+        }
+    }
+}

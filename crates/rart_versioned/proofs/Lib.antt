@@ -1,10 +1,14 @@
 pub mod MapLemmas
 pub mod KeyLemmas
+pub mod IterationLemmas
+pub mod KeyLengthLemmas
 pub mod LendingLemmas
 pub mod FoundLemmas
+pub mod ProbeLemmas
 pub mod OutcomeLemmas
 pub mod NodeBoundLemmas
 pub mod ProofSteps
 pub mod SoundLemmas
 pub mod RemovalLemmas
 pub mod SlotChangeLemmas
+pub mod VisitLemmas

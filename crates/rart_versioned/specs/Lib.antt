@@ -1,6 +1,9 @@
 pub mod ChangeCounts
+pub mod Entries
+pub mod IteratorFields
 pub mod Keys
 pub mod Lent
+pub mod ProbeFields
 pub mod Missing
 pub mod Roots
 pub mod SlotChanges
@@ -10,3 +13,5 @@ pub use Rattle.rart_below.specs.Clones
 pub use Rattle.rart_below.specs.declared.slot.SlotUpdate
 pub use Rattle.rart_node.specs.Counts
 pub use Rattle.rart_node.specs.contracts.work.Work
+pub use Rattle.rart_below.specs.declared.slot.Refusal
+pub use Rattle.rart_below.specs.declared.visit.VisitControl

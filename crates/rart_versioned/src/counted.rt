@@ -4,10 +4,13 @@ mod change;
 mod get_mut;
 mod insert;
 mod lookup;
+mod matches;
 pub(crate) mod missing;
 mod remove;
 mod tree;
 mod try_update;
 mod update;
+pub(crate) mod visitors;
+mod walks;
 
 pub use tree::VersionedAdaptiveRadixTree;

@@ -8,8 +8,9 @@ mod counted;
 mod plain;
 
 pub use counted::VersionedAdaptiveRadixTree;
+pub use plain::{VersionedIter, VersionedPrefixMatchIter, VersionedRange, VersionedValuesIter};
 pub use rart_below::{
-    ArrPartial, ArrayKey, DirectMapping, IndexedMapping, KeyTrait, NodeMapping, Partial, Refusal,
-    Slot, SlotUpdate, SortedKeyedMapping, VectorKey, VectorPartial,
+    ArrPartial, ArrayKey, DirectMapping, IndexedMapping, KeyTrait, LendingKeyView, NodeMapping,
+    Partial, Refusal, Slot, SlotUpdate, SortedKeyedMapping, VectorKey, VectorPartial, VisitControl,
 };
 pub use rart_node::{GrowError, NodeRef, VersionedNode, VersionedNodeIter, Work};

@@ -2,6 +2,17 @@
 
 mod get_mut;
 mod insert;
+mod iter;
 mod lookup;
+mod matches;
+mod prefix_match;
+mod range;
 mod remove;
 mod update;
+mod values;
+mod visitors;
+
+pub use iter::VersionedIter;
+pub use prefix_match::VersionedPrefixMatchIter;
+pub use range::VersionedRange;
+pub use values::VersionedValuesIter;

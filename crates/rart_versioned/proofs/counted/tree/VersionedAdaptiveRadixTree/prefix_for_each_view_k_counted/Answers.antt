@@ -1,0 +1,16 @@
+use Rattle.std.proofs.Common.{sym, subst, ap, ◌∙◌}
+use Rattle.rart_maps.specs.Pairs.{under}
+use Rattle.rart_maps.specs.Visits.{ByView, Visitable}
+use Rattle.rart_maps.proofs.VisitLemmas.{up_to-start, visits-refused}
+use Rattle.rart_versioned.proofs.counted.tree.VersionedAdaptiveRadixTree.prefix_for_each_view_k_counted.Goals as goal
+
+pub returns-in_err-walk-clause-visits : goal.returns-in_err-walk-clause-visits
+returns-in_err-walk-clause-visits g c =
+    let start = up_to-start g.F.FnMut ByView tt c.args.f.now _ in
+    visits-refused g.F.FnMut ByView c.from_residual.result c.from_residual.ensures.0 (_, start)
+
+pub visit_views-requires-clause-visitable : goal.visit_views-requires-clause-visitable
+visit_views-requires-clause-visitable g c =
+    let same = c.in_ok-walk.ensures.pairs
+    ∙ ap (under c.args.self.now.content) c.as_ref.ensures in
+    subst (Visitable g.F.FnMut ByView c.args.f.now) (sym same) c.requires.visitable

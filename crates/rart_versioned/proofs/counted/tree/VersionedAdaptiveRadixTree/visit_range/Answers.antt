@@ -1,0 +1,39 @@
+use Rattle.std.proofs.Common.{ℕ, List, sym, ap, subst, ◌∙◌}
+use Rattle.std.specs.Range.Bound.{bound_map}
+use Rattle.rart_maps.specs.FoundLaws.{KeysAscend}
+use Rattle.rart_maps.specs.Visits.{ByView, Visits, Visitable}
+use Rattle.rart_maps.proofs.RangeLemmas.{up_to, from-ascends, within-from}
+use Rattle.rart_maps.proofs.VisitLemmas.{up_to-start, visits-refused}
+use Rattle.rart_versioned.proofs.counted.tree.VersionedAdaptiveRadixTree.visit_range.Goals as goal
+
+pub returns-in_err-walk : goal.returns-in_err-walk
+returns-in_err-walk g c =
+    let start = up_to-start g.F.FnMut ByView tt c.args.f.now _ in
+    record {
+      visits = visits-refused g.F.FnMut ByView c.from_residual.result
+          c.from_residual.ensures.0 (_, start);
+    }
+
+pub visit_views_up_to-requires-clause-ascend : goal.visit_views_up_to-requires-clause-ascend
+visit_views_up_to-requires-clause-ascend g c =
+    subst (KeysAscend (λ (pair : List ℕ × g.row.V.Denot). pair.0)) (sym c.in_ok-walk.ensures.pairs)
+    (from-ascends c.args.self.now.content (bound_map (λ low. low.now) c.args.low))
+
+pub visit_views_up_to-requires-clause-visitable : goal.visit_views_up_to-requires-clause-visitable
+visit_views_up_to-requires-clause-visitable g c =
+    let low = bound_map (λ low. low.now) c.args.low in
+    let high = bound_map (λ high. high.now) c.args.high in
+    let same = within-from c.args.self.now.content low high
+    ∙ ap (up_to high) (sym c.in_ok-walk.ensures.pairs) in
+    subst (Visitable g.F.FnMut ByView c.args.f.now) same c.requires.visitable
+
+pub returns : goal.returns
+returns g c =
+    let low = bound_map (λ low. low.now) c.args.low in
+    let high = bound_map (λ high. high.now) c.args.high in
+    let same = within-from c.args.self.now.content low high
+    ∙ ap (up_to high) (sym c.in_ok-walk.ensures.pairs) in
+    let Done = λ (list : List (List ℕ × g.row.V.Denot)).
+    Visits g.F.FnMut ByView c.visit_views_up_to.result c.args.f.now list
+    c.visit_views_up_to.new.f in
+    record { visits = subst Done (sym same) c.visit_views_up_to.ensures.visits }

@@ -1,0 +1,113 @@
+//! Visitors over a tree, and their counts.
+ghost use Rattle.std.specs.Prelude.{map};
+ghost use Rattle.std.specs.Range.Bound.{bound_map};
+ghost use Rattle.rart_maps.specs.Bounds.{reach_bound};
+ghost use Rattle.rart_maps.specs.Pairs.{pairs, under, within};
+ghost use Rattle.rart_maps.specs.Visits.{ByValue, ByView, Visits, Visitable, VisitsUntil, VisitableUntil};
+ghost use Rattle.rart_node.specs.Counts.{CountsUpTo};
+
+use crate::counted::tree::VersionedAdaptiveRadixTree;
+use rart_below::{KeyTrait, LendingKeyView, Partial, Refusal, VisitControl};
+use rart_node::Work;
+use rart_visits::{visit_values, visit_values_until, visit_views, visit_views_up_to};
+use rart_walks::{NoTrail, SegmentTrail, Walk};
+use std::alloc::AllocError;
+use std::ops::Bound;
+
+impl<K: KeyTrait, V: Clone + Drop> VersionedAdaptiveRadixTree<K, V> {
+    /// As `prefix_for_each_view_k`, with the nodes entered counted into `work`: at most one more
+    /// than the prefix has bytes, and one for each string that the prefix begins and that begins a
+    /// key.
+    pub fn prefix_for_each_view_k_counted<F: FnMut(LendingKeyView<'_, '_>, &V)>(
+        &self,
+        prefix: &K,
+        f: &mut F,
+        work: &mut Work,
+    ) -> Result<(), AllocError>
+        requires visitable { Visitable F.FnMut ByView f.old
+            (under self.now.content (K.bytes prefix.now)) }
+        ensures visits { Visits F.FnMut ByView result f.old
+            (under self.now.content (K.bytes prefix.now)) f.new }
+        ensures counted { CountsUpTo (reach_bound self.now.content (K.bytes prefix.now)) 0
+            work.old work.new }
+    {
+        let walk = self.walk_under(prefix.as_ref(), work)?;
+        visit_views(walk, f, work)
+    }
+
+    /// As `prefix_values_for_each_k`, with the nodes entered counted into `work`: at most as many
+    /// as in `prefix_for_each_view_k_counted`.
+    pub fn prefix_values_for_each_k_counted<F: FnMut(&V)>(
+        &self,
+        prefix: &K,
+        f: &mut F,
+        work: &mut Work,
+    ) -> Result<(), AllocError>
+        requires visitable { Visitable F.FnMut ByValue f.old
+            (map (λ pair. pair.1) (under self.now.content (K.bytes prefix.now))) }
+        ensures visits { Visits F.FnMut ByValue result f.old
+            (map (λ pair. pair.1) (under self.now.content (K.bytes prefix.now))) f.new }
+        ensures counted { CountsUpTo (reach_bound self.now.content (K.bytes prefix.now)) 0
+            work.old work.new }
+    {
+        let walk: Walk<'_, K::PartialType, V, NoTrail> = self.walk_under(prefix.as_ref(), work)?;
+        visit_values(walk, f, work)
+    }
+
+    /// As `try_prefix_values_for_each_k`, with the nodes entered counted into `work`: at most as
+    /// many as in `prefix_for_each_view_k_counted`.
+    pub fn try_prefix_values_for_each_k_counted<E: Drop, F: FnMut(&V) -> Result<VisitControl, E>>(
+        &self,
+        prefix: &K,
+        f: &mut F,
+        work: &mut Work,
+    ) -> Result<(), Refusal<E>>
+        requires visitable { VisitableUntil F.FnMut ByValue f.old
+            (map (λ pair. pair.1) (under self.now.content (K.bytes prefix.now))) }
+        ensures visits { VisitsUntil F.FnMut ByValue result f.old
+            (map (λ pair. pair.1) (under self.now.content (K.bytes prefix.now))) f.new }
+        ensures counted { CountsUpTo (reach_bound self.now.content (K.bytes prefix.now)) 0
+            work.old work.new }
+    {
+        let walk: Result<Walk<'_, K::PartialType, V, NoTrail>, AllocError> = self.walk_under(
+            prefix.as_ref(),
+            work,
+        );
+        match walk {
+            Ok(walk) => visit_values_until(walk, f, work),
+            Err(refused) => Err(Refusal::Memory(refused)),
+        }
+    }
+
+    /// As `for_each_view`, with the nodes entered counted into `work`.
+    pub(crate) fn visit_all<F: FnMut(LendingKeyView<'_, '_>, &V)>(
+        &self,
+        f: &mut F,
+        work: &mut Work,
+    ) -> Result<(), AllocError>
+        requires visitable { Visitable F.FnMut ByView f.old (pairs self.now.content) }
+        ensures visits { Visits F.FnMut ByView result f.old (pairs self.now.content) f.new }
+    {
+        let walk = self.whole_walk(work)?;
+        visit_views(walk, f, work)
+    }
+
+    /// As `for_each_range_view`, the bounds by their bytes, with the nodes entered counted into
+    /// `work`.
+    pub(crate) fn visit_range<F: FnMut(LendingKeyView<'_, '_>, &V)>(
+        &self,
+        low: Bound<&[u8]>,
+        high: Bound<&[u8]>,
+        f: &mut F,
+        work: &mut Work,
+    ) -> Result<(), AllocError>
+        requires visitable { Visitable F.FnMut ByView f.old (within self.now.content
+            (bound_map (λ low. low.now) low) (bound_map (λ high. high.now) high)) }
+        ensures visits { Visits F.FnMut ByView result f.old (within self.now.content
+            (bound_map (λ low. low.now) low.entry) (bound_map (λ high. high.now) high.entry))
+            f.new }
+    {
+        let walk = self.walk_from(low, work)?;
+        visit_views_up_to(walk, high, f, work)
+    }
+}

@@ -1,0 +1,83 @@
+//! Walks over a tree, for its iterators and visitors.
+ghost use Rattle.std.specs.Prelude.{◌≡◌, ◌+◌, ◌≤◌, filter, length, IfOk};
+ghost use Rattle.std.specs.Ordering.{as_partial_cmp};
+ghost use Rattle.std.specs.Range.Bound.{is_from_start, bound_map};
+ghost use Rattle.rart_below.specs.Bytes.{byte_order};
+ghost use Rattle.rart_maps.specs.Bounds.{reach_bound};
+ghost use Rattle.rart_maps.specs.Pairs.{pairs, under};
+ghost use Rattle.rart_node.specs.Counts.{CountsUpTo};
+ghost use Rattle.rart_versioned.specs.IteratorFields.{AreAdmitted, KeepsKeys};
+ghost use Rattle.rart_walks.specs.WalkFields.{IsWalk, position};
+
+use crate::counted::tree::VersionedAdaptiveRadixTree;
+use rart_below::{KeyTrait, Partial};
+use rart_node::{NodeRef, Work};
+use rart_walks::{Trail, Walk};
+use std::alloc::AllocError;
+use std::ops::Bound;
+
+impl<K: KeyTrait, V: Clone + Drop> VersionedAdaptiveRadixTree<K, V> {
+    /// A walk over all pairs.
+    pub(crate) fn whole_walk<'a, T: Trail<'a>>(
+        &'a self,
+        work: &mut Work,
+    ) -> Result<Walk<'a, K::PartialType, V, T>, AllocError>
+        requires { KeepsKeys T.greatest }
+        ensures walk { IfOk result (IsWalk K.PartialType.bytes T.holds T.greatest) }
+        ensures pairs { IfOk result (λ walk. (position K.PartialType.bytes walk).pairs
+            ≡ pairs self.now.content) }
+        ensures admitted { IfOk result (λ walk. AreAdmitted K.MAXIMUM_SIZE
+            (position K.PartialType.bytes walk).pairs) }
+    {
+        match &self.root {
+            None => Ok(Walk::new(self.alloc)),
+            Some(root) => Walk::whole(self.alloc, root, work),
+        }
+    }
+
+    /// A walk over the pairs whose key a prefix begins.
+    ///
+    /// It enters at most one node for each byte of the prefix, and one. Then it has left to enter
+    /// at most one for each string that the prefix begins and that begins a key.
+    pub(crate) fn walk_under<'a, T: Trail<'a>>(
+        &'a self,
+        prefix: &[u8],
+        work: &mut Work,
+    ) -> Result<Walk<'a, K::PartialType, V, T>, AllocError>
+        requires { KeepsKeys T.greatest }
+        ensures walk { IfOk result (IsWalk K.PartialType.bytes T.holds T.greatest) }
+        ensures pairs { IfOk result (λ walk. (position K.PartialType.bytes walk).pairs
+            ≡ under self.now.content prefix.now) }
+        ensures admitted { IfOk result (λ walk. AreAdmitted K.MAXIMUM_SIZE
+            (position K.PartialType.bytes walk).pairs) }
+        ensures nodes { IfOk result (λ walk. length prefix.now + 1
+            + (position K.PartialType.bytes walk).nodes
+            ≤ reach_bound self.now.content prefix.now) }
+        ensures counted { CountsUpTo (length prefix.now + 1) 0 work.old work.new }
+    {
+        match &self.root {
+            None => Ok(Walk::new(self.alloc)),
+            Some(root) => Walk::under(self.alloc, root, prefix, work),
+        }
+    }
+
+    /// A walk over the pairs whose key meets a lower bound.
+    pub(crate) fn walk_from<'a, T: Trail<'a>>(
+        &'a self,
+        low: Bound<&[u8]>,
+        work: &mut Work,
+    ) -> Result<Walk<'a, K::PartialType, V, T>, AllocError>
+        requires { KeepsKeys T.greatest }
+        ensures walk { IfOk result (IsWalk K.PartialType.bytes T.holds T.greatest) }
+        ensures pairs { IfOk result (λ walk. (position K.PartialType.bytes walk).pairs
+            ≡ filter (λ pair. is_from_start (as_partial_cmp byte_order)
+            (bound_map (λ low. low.now) low.entry) pair.0) (pairs self.now.content)) }
+        ensures admitted { IfOk result (λ walk. AreAdmitted K.MAXIMUM_SIZE
+            (position K.PartialType.bytes walk).pairs) }
+    {
+        match &self.root {
+            None => Ok(Walk::new(self.alloc)),
+            Some(root) => Walk::from(self.alloc, root, low, work),
+        }
+    }
+}

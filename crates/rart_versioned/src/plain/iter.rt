@@ -1,0 +1,214 @@
+//! The pairs of a tree, in the order of their keys: all of them, or those under a prefix.
+ghost use Rattle.std.specs.Prelude.{◌≡◌, [], ◌∷◌, Some, IfSome, IfOk, OnOk};
+ghost use Rattle.rart_maps.specs.Pairs.{pairs, under};
+ghost use Rattle.rart_node.specs.NodeShapes.{pointer_shape};
+ghost use Rattle.rart_shape.specs.Trees.{pairs_of};
+ghost use Rattle.rart_versioned.specs.Entries.{HasKeys, pairs_to_come};
+ghost use Rattle.rart_versioned.specs.IteratorFields.{EntryGives, IsKeyWalk};
+ghost use Rattle.rart_walks.specs.WalkFields.{position};
+
+use crate::counted::VersionedAdaptiveRadixTree;
+use rart_below::{KeyTrait, Partial};
+use rart_node::{NodeRef, Work};
+use rart_walks::{KeyTrail, Walk};
+use std::alloc::{AllocError, Global};
+use std::marker::{Model, PhantomData};
+
+/// The pairs that are still to come.
+#[derive(Drop)]
+enum Entries<'a, P: Partial, V> {
+    /// None: of a tree without a key, or behind the one.
+    Empty,
+    /// One: of a root without children.
+    Entry(&'a [u8], &'a V),
+    /// That of the node where the walk starts, if it has a value, and then those of its children.
+    Walk(Walk<'a, P, V, KeyTrail>),
+}
+
+/// The pairs of a tree, or of a part of it, in the order of their keys.
+///
+/// Contracts see the pairs that are still to come, or `None` behind the end and behind a refusal.
+#[derive(Drop)]
+pub struct VersionedIter<'a, K: KeyTrait, P: Partial, V> {
+    alloc: Global,
+    entries: Option<Entries<'a, P, V>>,
+    key: PhantomData<K>,
+}
+
+impl<'a, K: KeyTrait, P: Partial, V> Model for VersionedIter<'a, K, P, V> {
+    ghost use Rattle.std.specs.Prelude.{List, ℕ, Option, IfSome};
+    ghost use Rattle.rart_versioned.specs.Entries.{HasKeys, entries_left};
+
+    ghost Value = { Option (List (List ℕ × V)) };
+
+    ghost view = { λ iter. entries_left P.bytes iter.entries };
+
+    ghost invariant = { λ iter. IfSome iter.entries (HasKeys P.bytes K.MAXIMUM_SIZE) };
+}
+
+impl<'a, K: KeyTrait, P: Partial, V: Drop> Iterator for VersionedIter<'a, K, P, V> {
+    type Item = Result<(K, &'a V), AllocError>;
+
+    ghost use Rattle.rart_maps.specs.Iterations.{ByKey, NextGives, items_left};
+
+    ghost next_gives = { NextGives (ByKey K.bytes) };
+
+    ghost remaining = { items_left };
+
+    fn next(&mut self) -> Option<Result<(K, &'a V), AllocError>> {
+        match &mut self.entries {
+            None => None,
+            Some(entries) => match next_entry(self.alloc, entries) {
+                Ok(Some(entry)) => Some(Ok(entry)),
+                Ok(None) => {
+                    self.entries = None;
+                    None
+                }
+                Err(refused) => {
+                    self.entries = None;
+                    Some(Err(refused))
+                }
+            },
+        }
+    }
+
+    /// That nothing comes any more is known behind the end alone.
+    fn size_hint(&self) -> (usize, Option<usize>) {
+        match &self.entries {
+            None => (0, Some(0)),
+            Some(_) => (0, None),
+        }
+    }
+}
+
+/// The next pair, with a key of its own.
+fn next_entry<'a, K: KeyTrait, P: Partial, V: Drop>(
+    alloc: Global,
+    entries: &mut Entries<'a, P, V>,
+) -> Result<Option<(K, &'a V)>, AllocError>
+    requires { HasKeys P.bytes K.MAXIMUM_SIZE entries.old }
+    ensures keys { OnOk result (HasKeys P.bytes K.MAXIMUM_SIZE entries.new) }
+    ensures gives { IfOk result (λ entry. EntryGives K.bytes (pairs_to_come P.bytes entries.old)
+        entry (pairs_to_come P.bytes entries.new)) }
+{
+    match entries {
+        Entries::Empty => Ok(None),
+        Entries::Entry(bytes, value) => {
+            let entry = (K::new_from_slice(alloc, *bytes)?, *value);
+            *entries = Entries::Empty;
+            Ok(Some(entry))
+        }
+        Entries::Walk(walk) => next_walked(alloc, walk),
+    }
+}
+
+/// The next pair of a walk, with a key of its own.
+fn next_walked<'a, K: KeyTrait, P: Partial, V: Drop>(
+    alloc: Global,
+    walk: &mut Walk<'a, P, V, KeyTrail>,
+) -> Result<Option<(K, &'a V)>, AllocError>
+    requires { IsKeyWalk P.bytes K.MAXIMUM_SIZE walk.old }
+    ensures walk { OnOk result (IsKeyWalk P.bytes K.MAXIMUM_SIZE walk.new) }
+    ensures gives { IfOk result (λ entry. EntryGives K.bytes (position P.bytes walk.old).pairs entry
+        (position P.bytes walk.new).pairs) }
+{
+    let Some(value) = walk.next_value(&mut Work::new())? else {
+        return Ok(None);
+    };
+    let key = K::new_from_slice(alloc, walk.trail().as_slice())?;
+    Ok(Some((key, value)))
+}
+
+/// The pair of a root without children.
+fn entry_of<'a, P: Partial, V: Drop>(root: &'a NodeRef<P, V>) -> Option<(&'a [u8], &'a V)>
+    ensures { IfSome result (λ entry. pairs_of (pointer_shape P.bytes root.now)
+        ≡ (entry.0.now, entry.1.now) ∷ []) }
+{
+    let node = root.open(&mut Work::new());
+    if !node.is_leaf() {
+        return None;
+    }
+    let value = node.value()?;
+    Some((node.prefix().as_ref(), value))
+}
+
+impl<K: KeyTrait, V: Clone + Drop> VersionedAdaptiveRadixTree<K, V> {
+    /// All pairs, in the order of their keys, each with a key of its own.
+    ///
+    /// ```
+    /// for item in list.iter()? {
+    ///     let (name, price) = item?;
+    ///     lines.push((name, *price))?;
+    /// }
+    /// ```
+    ///
+    /// Refused for memory, there is no iterator. A later refusal is an item, which is the last: so
+    /// without one the pairs are all. In Rust neither is there, and the items are pairs.
+    pub fn iter(&self) -> Result<VersionedIter<'_, K, K::PartialType, V>, AllocError>
+        ensures { IfOk result (λ iter. iter ≡ Some (pairs self.now.content)) }
+    {
+        let entries = self.entries()?;
+        Ok(VersionedIter {
+            alloc: self.alloc,
+            entries: Some(entries),
+            key: PhantomData,
+        })
+    }
+
+    /// All pairs.
+    fn entries(&self) -> Result<Entries<'_, K::PartialType, V>, AllocError>
+        ensures keys { IfOk result (HasKeys K.PartialType.bytes K.MAXIMUM_SIZE) }
+        ensures pairs { IfOk result (λ entries. pairs_to_come K.PartialType.bytes entries
+            ≡ pairs self.now.content) }
+    {
+        let Some(root) = &self.root else {
+            return Ok(Entries::Empty);
+        };
+        if let Some((bytes, value)) = entry_of(root) {
+            return Ok(Entries::Entry(bytes, value));
+        }
+        let walk = self.whole_walk(&mut Work::new())?;
+        Ok(Entries::Walk(walk))
+    }
+
+    /// The pairs whose key the prefix begins, in the order of their keys. The empty prefix begins
+    /// every key.
+    ///
+    /// ```
+    /// for item in list.prefix_iter_k(beginning)? {
+    ///     let (name, price) = item?;
+    ///     lines.push((name, *price))?;
+    /// }
+    /// ```
+    ///
+    /// It goes down to the prefix, which may end inside what its keys have in common, and no node
+    /// beside those under it is entered. Refusals are as `iter` tells them.
+    pub fn prefix_iter_k(
+        &self,
+        prefix: &K,
+    ) -> Result<VersionedIter<'_, K, K::PartialType, V>, AllocError>
+        ensures { IfOk result (λ iter. iter
+            ≡ Some (under self.now.content (K.bytes prefix.now))) }
+    {
+        let walk = self.walk_under(prefix.as_ref(), &mut Work::new())?;
+        Ok(VersionedIter {
+            alloc: self.alloc,
+            entries: Some(Entries::Walk(walk)),
+            key: PhantomData,
+        })
+    }
+
+    /// As `prefix_iter_k`, the prefix by value.
+    ///
+    /// ```
+    /// let names = list.prefix_iter(VectorKey::new_from_slice(alloc, b"tea")?)?;
+    /// ```
+    pub fn prefix_iter(
+        &self,
+        prefix: K,
+    ) -> Result<VersionedIter<'_, K, K::PartialType, V>, AllocError>
+        ensures { IfOk result (λ iter. iter ≡ Some (under self.now.content (K.bytes prefix))) }
+    {
+        self.prefix_iter_k(&prefix)
+    }
+}

@@ -1,0 +1,201 @@
+//! The pairs of a tree whose key begins a probe, the shortest first.
+ghost use Rattle.std.specs.Prelude.{◌≡◌, ◌≤◌, ◌<◌, ◌++◌, length, take, Some, IfOk, OnOk};
+ghost use Rattle.std.specs.Option.{option_map, option_copied};
+ghost use Rattle.rart_maps.specs.Pairs.{beginnings};
+ghost use Rattle.rart_node.specs.NodeShapes.{node_shape, pointer_shape};
+ghost use Rattle.rart_node.specs.Shape.{IsAscending, children_of, height};
+ghost use Rattle.rart_shape.specs.Trees.{IsTree};
+ghost use Rattle.rart_versioned.specs.IteratorFields.{EntryGives, ValueGives, child_on, height_in, matches_below};
+ghost use Rattle.rart_versioned.specs.ProbeFields.{IsWay, matches_on, next_node};
+ghost use Rattle.rart_walks.specs.Frames.{pending_pair};
+
+use crate::counted::VersionedAdaptiveRadixTree;
+use rart_below::{KeyTrait, Partial};
+use rart_node::{NodeRef, VersionedNode, Work};
+use rart_shape::{rest_of, strip_prefix};
+use std::alloc::{AllocError, Global};
+use std::marker::Model;
+
+/// How far down the probe it has come: the node that comes next, if there is one, and how many
+/// bytes of the probe stand above it.
+#[derive(Drop)]
+struct Way<'a, P: Partial, V> {
+    at: Option<&'a NodeRef<P, V>>,
+    depth: usize,
+}
+
+/// The pairs of a tree whose key begins a probe, the shortest first.
+///
+/// Contracts see the pairs that are still to come, or `None` behind the end and behind a refusal.
+#[derive(Drop)]
+pub struct VersionedPrefixMatchIter<'a, K: KeyTrait, P: Partial, V> {
+    alloc: Global,
+    probe: K,
+    way: Option<Way<'a, P, V>>,
+}
+
+impl<'a, K: KeyTrait, P: Partial, V> Model for VersionedPrefixMatchIter<'a, K, P, V> {
+    ghost use Rattle.std.specs.Prelude.{List, ℕ, Option, IfSome};
+    ghost use Rattle.rart_versioned.specs.ProbeFields.{IsWay, matches_left};
+
+    ghost Value = { Option (List (List ℕ × V)) };
+
+    ghost view = { λ iter. matches_left P.bytes (K.bytes iter.probe) iter.way };
+
+    ghost invariant = { λ iter. IfSome iter.way (IsWay P.bytes (K.bytes iter.probe)) };
+}
+
+impl<'a, K: KeyTrait, P: Partial, V: Drop> Iterator for VersionedPrefixMatchIter<'a, K, P, V> {
+    type Item = Result<(K, &'a V), AllocError>;
+
+    ghost use Rattle.rart_maps.specs.Iterations.{ByKey, NextGives, items_left};
+
+    ghost next_gives = { NextGives (ByKey K.bytes) };
+
+    ghost remaining = { items_left };
+
+    fn next(&mut self) -> Option<Result<(K, &'a V), AllocError>> {
+        match &mut self.way {
+            None => None,
+            Some(way) => match next_match(self.alloc, way, &self.probe) {
+                Ok(Some(entry)) => Some(Ok(entry)),
+                Ok(None) => {
+                    self.way = None;
+                    None
+                }
+                Err(refused) => {
+                    self.way = None;
+                    Some(Err(refused))
+                }
+            },
+        }
+    }
+
+    /// That nothing comes any more is known behind the end alone.
+    fn size_hint(&self) -> (usize, Option<usize>) {
+        match &self.way {
+            None => (0, Some(0)),
+            Some(_) => (0, None),
+        }
+    }
+}
+
+/// The next pair on the way, with a key of its own.
+fn next_match<'a, K: KeyTrait, P: Partial, V: Drop>(
+    alloc: Global,
+    way: &mut Way<'a, P, V>,
+    probe: &K,
+) -> Result<Option<(K, &'a V)>, AllocError>
+    requires { IsWay P.bytes (K.bytes probe.now) way.old }
+    ensures way { IsWay P.bytes (K.bytes probe.now) way.new }
+    ensures gives { IfOk result (λ entry. EntryGives K.bytes
+        (matches_on P.bytes (K.bytes probe.now) way.old) entry
+        (matches_on P.bytes (K.bytes probe.now) way.new)) }
+{
+    let bytes = probe.as_ref();
+    let Some(value) = next_value(way, bytes) else {
+        return Ok(None);
+    };
+    let key = K::new_from_slice(alloc, &bytes[..way.depth])?;
+    Ok(Some((key, value)))
+}
+
+/// The next value on the way. Its key is as much of the probe as the way has come down then.
+fn next_value<'a, P: Partial, V: Drop>(way: &mut Way<'a, P, V>, probe: &[u8]) -> Option<&'a V>
+    requires { IsWay P.bytes probe.now way.old }
+    ensures way { IsWay P.bytes probe.now way.new }
+    ensures gives { ValueGives (matches_on P.bytes probe.now way.old)
+        (take way.new.depth probe.now) result (matches_on P.bytes probe.now way.new) }
+{
+    'down: while let Some(at) = way.at {
+        let (value, next) = enter(at, probe, way.depth);
+        *way = next;
+        if let Some(value) = value {
+            return Some(value);
+        }
+    }
+    None
+}
+
+/// Enters the node that comes next: its value, if its key begins the probe, and the way from there.
+fn enter<'a, P: Partial, V: Drop>(
+    at: &'a NodeRef<P, V>,
+    probe: &[u8],
+    depth: usize,
+) -> (Option<&'a V>, Way<'a, P, V>)
+    requires tree { IsTree (pointer_shape P.bytes at.now) }
+    requires depth { depth ≤ length probe.now }
+    ensures way { IsWay P.bytes probe.now result.1 }
+    ensures gives { matches_below probe.now depth (Some (pointer_shape P.bytes at.now))
+        ≡ pending_pair (take result.1.depth probe.now) (option_copied result.0)
+        ++ matches_on P.bytes probe.now result.1 }
+    ensures lower { height_in (next_node P.bytes result.1) < height (pointer_shape P.bytes at.now) }
+{
+    let node = at.open(&mut Work::new());
+    match strip_prefix(rest_of(probe, depth), node.prefix()) {
+        None => (None, Way { at: None, depth }),
+        Some(rest) => {
+            let at = child_under(node, rest);
+            let depth = probe.len() - rest.len();
+            (node.value(), Way { at, depth })
+        }
+    }
+}
+
+/// The child of a node under the first byte of what is left of the probe.
+fn child_under<'a, P: Partial, V: Drop>(
+    node: &'a VersionedNode<P, V>,
+    rest: &[u8],
+) -> Option<&'a NodeRef<P, V>>
+    requires { IsAscending (node_shape P.bytes node.now) }
+    ensures { option_map (λ child. pointer_shape P.bytes child.now) result
+        ≡ child_on rest.now (children_of (node_shape P.bytes node.now)) }
+{
+    let byte = rest.first()?;
+    node.seek_child(*byte)
+}
+
+impl<K: KeyTrait, V: Clone + Drop> VersionedAdaptiveRadixTree<K, V> {
+    /// The pairs whose key begins the probe, the shortest first. The probe is copied.
+    ///
+    /// ```
+    /// for item in list.prefix_match_iter_k(text)? {
+    ///     let (name, price) = item?;
+    ///     lines.push((name, *price))?;
+    /// }
+    /// ```
+    ///
+    /// It looks at the nodes along the probe alone. Refused for memory, there is no iterator. A
+    /// later refusal is an item, which is the last: so without one the pairs are all. In Rust
+    /// neither is there, and the items are pairs.
+    pub fn prefix_match_iter_k(
+        &self,
+        probe: &K,
+    ) -> Result<VersionedPrefixMatchIter<'_, K, K::PartialType, V>, AllocError>
+        ensures { IfOk result (λ iter. iter
+            ≡ Some (beginnings self.now.content (K.bytes probe.now))) }
+    {
+        let probe = K::new_from_slice(self.alloc, probe.as_ref())?;
+        self.prefix_match_iter(probe)
+    }
+
+    /// As `prefix_match_iter_k`, the probe by value. It isn't copied: to make the iterator takes no
+    /// memory.
+    ///
+    /// ```
+    /// let stops = list.prefix_match_iter(VectorKey::new_from_slice(alloc, b"teapot")?)?;
+    /// ```
+    pub fn prefix_match_iter(
+        &self,
+        probe: K,
+    ) -> Result<VersionedPrefixMatchIter<'_, K, K::PartialType, V>, AllocError>
+        ensures { IfOk result (λ iter. iter ≡ Some (beginnings self.now.content (K.bytes probe))) }
+    {
+        let at = self.root.as_ref();
+        Ok(VersionedPrefixMatchIter {
+            alloc: self.alloc,
+            probe,
+            way: Some(Way { at, depth: 0 }),
+        })
+    }
+}

@@ -3,8 +3,10 @@
 //! `docs/USING.md` shows these functions.
 #![tactic(auto)]
 
+pub mod listing;
 pub mod prices;
 pub mod stock;
 #[cfg(test)]
 mod tests;
 pub mod values;
+pub mod visiting;

@@ -1,9 +1,14 @@
 //! With ample memory the calls succeed, which no contract can say.
-use crate::prices::{PriceList, before_and_after, set_price_counted, try_set_price};
+use crate::listing::{
+    all_prices, follows_a_refusal, listing, listing_along, listing_between, listing_under,
+};
+use crate::prices::{PriceList, before_and_after, set_price, set_price_counted, try_set_price};
 use crate::stock::{Stock, add};
 use crate::values::{Numbers, Readings, Text, Titles, keep, retitle};
+use crate::visiting::prices_under;
 use rart_versioned::{KeyTrait, VectorKey, Work};
 use std::alloc::{AllocError, Global};
+use std::process::Abort;
 use std::test::Fail;
 
 fn key(alloc: Global, name: &str) -> Result<VectorKey, AllocError> {
@@ -45,6 +50,24 @@ fn greatest_number_has_no_room(rt: HostRuntime) -> Result<(), Fail> {
 }
 
 #[test]
+fn prices_are_shown_in_the_order_of_names(rt: HostRuntime) -> Result<(), Fail> {
+    let alloc = rt.alloc();
+    let mut list = PriceList::new(alloc);
+    for (name, price) in [
+        ("tea", 300),
+        ("salt", 90),
+        ("teapot", 1500),
+        ("tealeaf", 120),
+    ] {
+        assert!(rt; list.version() < 1000);
+        set_price(alloc, &mut list, name, price)?;
+    }
+    let prices = prices_under(alloc, &list, &key(alloc, "tea")?)?;
+    assert_eq!(rt; prices.as_slice(), [300, 120, 1500].as_slice());
+    Ok(())
+}
+
+#[test]
 fn pieces_of_an_absent_name_are_those_added(rt: HostRuntime) -> Result<(), Fail> {
     let alloc = rt.alloc();
     let mut stock = Stock::new(alloc);
@@ -79,5 +102,51 @@ fn numbers_are_kept(rt: HostRuntime) -> Result<(), Fail> {
     assert!(rt; !replaced);
     let kept = readings.get(key(alloc, "tea")?).ok_or("none")?;
     assert_eq!(rt; kept.as_slice(), [3, 5].as_slice());
+    Ok(())
+}
+
+fn three_prices(alloc: Global) -> Result<PriceList, AllocError> {
+    let mut list = PriceList::new(alloc);
+    list.insert(key(alloc, "teapot")?, 1200)?;
+    list.insert(key(alloc, "tea")?, 300)?;
+    list.insert(key(alloc, "salt")?, 90)?;
+    Ok(list)
+}
+
+fn assert_lines(rt: &impl Abort, lines: &[(VectorKey, u64)], wanted: &[(&[u8], u64)]) {
+    assert_eq!(rt; lines.len(), wanted.len());
+    for (line, wanted) in lines.iter().zip(wanted.iter()) {
+        assert_eq!(rt; line.0.as_ref(), wanted.0);
+        assert_eq!(rt; line.1, wanted.1);
+    }
+}
+
+#[test]
+fn list_is_read_in_order(rt: HostRuntime) -> Result<(), Fail> {
+    let alloc = rt.alloc();
+    let list = three_prices(alloc)?;
+    let lines = listing(alloc, &list)?;
+    let wanted: [(&[u8], u64); 3] = [(b"salt", 90), (b"tea", 300), (b"teapot", 1200)];
+    assert_lines(&rt, lines.as_slice(), wanted.as_slice());
+    let prices = all_prices(alloc, &list)?;
+    assert_eq!(rt; prices.as_slice(), [90, 300, 1200].as_slice());
+    let mut items = list.iter()?;
+    assert!(rt; !follows_a_refusal(&mut items));
+    Ok(())
+}
+
+#[test]
+fn part_of_a_list_is_read(rt: HostRuntime) -> Result<(), Fail> {
+    let alloc = rt.alloc();
+    let list = three_prices(alloc)?;
+    let under = listing_under(alloc, &list, &key(alloc, "te")?)?;
+    let wanted: [(&[u8], u64); 2] = [(b"tea", 300), (b"teapot", 1200)];
+    assert_lines(&rt, under.as_slice(), wanted.as_slice());
+    let between = listing_between(alloc, &list, key(alloc, "salt")?, key(alloc, "teapot")?)?;
+    let wanted: [(&[u8], u64); 2] = [(b"salt", 90), (b"tea", 300)];
+    assert_lines(&rt, between.as_slice(), wanted.as_slice());
+    let along = listing_along(alloc, &list, &key(alloc, "teapots")?)?;
+    let wanted: [(&[u8], u64); 2] = [(b"tea", 300), (b"teapot", 1200)];
+    assert_lines(&rt, along.as_slice(), wanted.as_slice());
     Ok(())
 }

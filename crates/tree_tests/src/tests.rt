@@ -12,3 +12,5 @@ mod replacing;
 mod sharing;
 mod snapshots;
 mod updates;
+mod visitors;
+mod walks;

@@ -3,7 +3,7 @@
 use crate::tests::interpreter::Answer::*;
 use crate::tests::interpreter::Call::*;
 use crate::tests::interpreter::Change::*;
-use crate::tests::interpreter::Step::{Each, Rows};
+use crate::tests::interpreter::Step::{Each, InOrder, Rows};
 use crate::tests::interpreter::{Keys, Row, Sweep, assert_steps_on};
 use rart_versioned::ArrayKey;
 use std::alloc::Global;
@@ -24,8 +24,8 @@ fn keys(first: u32, end: u32) -> Keys<'static> {
     Keys::FourBytes(&[8], first, end)
 }
 
-// All are found and the next one isn't: in the tree, and in a snapshot of it whatever becomes of
-// the tree.
+// All are found and visited in order, and the next one isn't: in the tree, and in a snapshot of it
+// whatever becomes of the tree.
 fn assert_all_found(rt: &impl Abort, alloc: Global, count: u16) -> Result<(), Fail> {
     let count = u32::from(count);
     let all = keys(0, count);
@@ -35,9 +35,11 @@ fn assert_all_found(rt: &impl Abort, alloc: Global, count: u16) -> Result<(), Fa
         Each(Sweep::Insert, 0, all),
         Each(Sweep::Find, 0, all),
         Each(Sweep::Miss, 0, next),
+        InOrder(0, all),
         Rows(CHANGE),
         Each(Sweep::Find, 1, all),
         Each(Sweep::Miss, 1, next),
+        InOrder(1, all),
     ];
     assert_steps_on::<ArrayKey<8>>(rt, alloc, &steps)
 }

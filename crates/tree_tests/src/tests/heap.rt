@@ -2,8 +2,9 @@
 use crate::tests::interpreter::Answer::*;
 use crate::tests::interpreter::Call::*;
 use crate::tests::interpreter::Change::*;
-use crate::tests::interpreter::{Row, Step, assert_steps_on};
-use rart_versioned::{KeyTrait, VectorKey};
+use crate::tests::interpreter::Walk::*;
+use crate::tests::interpreter::{Pair, Row, Step, assert_steps_on};
+use rart_versioned::{KeyTrait, VectorKey, VersionedAdaptiveRadixTree};
 use std::alloc::{AllocError, Global};
 use std::process::Abort;
 use std::test::Fail;
@@ -33,7 +34,15 @@ const LONG: &[Row] = &[
     (Get(1, SECOND), Value(Some(2))),
     (Get(1, b""), Value(Some(3))),
     (Get(1, SHORTER), Value(None)),
+    (Gives(0, All, IN_ORDER), Flag(true)),
+    (Gives(1, All, IN_ORDER), Flag(true)),
+    (
+        Gives(1, Under(SHORTER), &[(FIRST, 1), (SECOND, 2)]),
+        Flag(true),
+    ),
 ];
+
+const IN_ORDER: &[Pair] = &[(b"", 3), (FIRST, 1), (SECOND, 2)];
 
 fn assert_ascending(
     rt: &impl Abort,
@@ -53,5 +62,34 @@ fn long_keys_are_found_and_ordered(rt: HostRuntime) -> Result<(), Fail> {
     assert_steps_on::<VectorKey>(&rt, rt.alloc(), &[Step::Rows(LONG)])?;
     assert_ascending(&rt, rt.alloc(), b"", FIRST)?;
     assert_ascending(&rt, rt.alloc(), FIRST, SECOND)?;
+    Ok(())
+}
+
+fn long_keys(alloc: Global) -> Result<VersionedAdaptiveRadixTree<VectorKey, u64>, AllocError> {
+    let mut tree = VersionedAdaptiveRadixTree::new(alloc);
+    tree.insert(VectorKey::new_from_slice(alloc, FIRST)?, 1)?;
+    tree.insert(VectorKey::new_from_slice(alloc, SECOND)?, 2)?;
+    tree.insert(VectorKey::new_from_slice(alloc, b"")?, 3)?;
+    Ok(tree)
+}
+
+// What comes are the pairs from the first on, as far as memory goes. Where it is refused on the
+// way, that is told once, and nothing follows.
+#[test]
+fn iterator_gives_a_beginning_and_then_tells_a_refusal(rt: HostRuntime) -> Result<(), Fail> {
+    let tree = long_keys(rt.alloc())?;
+    let mut items = tree.iter()?;
+    for (bytes, number) in IN_ORDER {
+        match items.next() {
+            Some(Ok((key, value))) => {
+                assert_eq!(rt; key.as_ref(), *bytes);
+                assert_eq!(rt; *value, *number);
+            }
+            Some(Err(_refused)) => break,
+            None => assert!(rt; false),
+        }
+    }
+    assert!(rt; items.next().is_none());
+    assert!(rt; items.next().is_none());
     Ok(())
 }

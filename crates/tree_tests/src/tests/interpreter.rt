@@ -11,8 +11,10 @@ mod lookup;
 mod step;
 mod updates;
 mod versions;
+mod visits;
+mod walks;
 
-pub use call::{Answer, Call, Change, Edit, Form, Outcome};
+pub use call::{Answer, Call, Change, Edit, Form, Outcome, Pair, Visit, Walk};
 pub use keys::Keys;
 use rart_versioned::{ArrayKey, KeyTrait, VectorKey};
 use std::alloc::Global;
@@ -20,6 +22,7 @@ use std::process::Abort;
 use std::test::Fail;
 pub use step::{Row, Step, Sweep};
 use versions::Versions;
+pub use visits::End;
 
 /// Runs a table, as `assert_steps` runs the steps that it is one of.
 pub fn assert_runs(rt: &impl Abort, alloc: Global, table: &[Row]) -> Result<(), Fail> {
@@ -50,6 +53,12 @@ pub fn assert_steps_on<K: KeyTrait>(
                 Step::Rows(rows) => assert_rows(rt, &mut versions, turn, at, rows)?,
                 Step::Each(sweep, place, keys) => {
                     assert_each(rt, &mut versions, turn, at, sweep, place, keys)?
+                }
+                Step::InOrder(place, keys) => {
+                    let answer = versions.answer(Form::ByReference, &Call::GivesEach(place, keys))?;
+                    assert_eq!(rt; answer, Answer::Flag(true), "step {at}");
+                    let answer = versions.viewed(place, keys)?;
+                    assert_eq!(rt; answer, Answer::Flag(true), "step {at}, by views");
                 }
             }
         }

@@ -10,7 +10,10 @@ use std::test::Fail;
 const ALL_BYTES: &[Step] = &[
     Rows(&[(New, Place(0))]),
     Each(Sweep::Insert, 0, Byte(b"", 0, 256)),
-    Rows(&[(Version(0), Number(256))]),
+    Rows(&[
+        (Version(0), Number(256)),
+        (GivesEach(0, Byte(b"", 0, 256)), Flag(true)),
+    ]),
     Each(Sweep::Remove, 0, Byte(b"", 0, 256)),
     Rows(&[(Version(0), Number(512)), (IsEmpty(0), Flag(true))]),
 ];

@@ -1,4 +1,8 @@
 //! The calls of a table, and the answers to them.
+use super::keys::Keys;
+use super::visits::End;
+use std::ops::Bound;
+
 /// The form of a call with a key.
 #[derive(Clone, Copy, Debug)]
 pub enum Form {
@@ -42,6 +46,49 @@ pub enum Call<'a> {
     Get(usize, &'a [u8]),
     /// A change by the key with these bytes, of the version at a place.
     At(usize, &'a [u8], Change),
+    /// A walk over the version at a place: `Flag`, whether it gives these pairs.
+    Gives(usize, Walk<'a>, &'a [Pair<'a>]),
+    /// `values_iter` of the version at a place: `Flag`, whether it gives these values.
+    GivesValues(usize, &'a [u64]),
+    /// `iter` and `values_iter` of the version at a place: `Flag`, whether they give these keys in
+    /// order, each with its number as its value, and nothing else.
+    GivesEach(usize, Keys<'a>),
+    /// A visitor of the version at a place, which is to show these entries: `Flag`, whether it
+    /// showed them in order and no other, or `CallbackError`.
+    Visits(usize, Visit<'a>, &'a [Pair<'a>]),
+}
+
+/// A key by its bytes, and its value.
+pub type Pair<'a> = (&'a [u8], u64);
+
+/// A call that gives pairs, one by one.
+#[derive(Clone, Copy)]
+pub enum Walk<'a> {
+    /// `iter`.
+    All,
+    /// `range` of these bounds.
+    Within(Bound<&'a [u8]>, Bound<&'a [u8]>),
+    /// `prefix_iter` of this prefix.
+    Under(&'a [u8]),
+    /// `prefix_match_iter` of this probe.
+    Beginning(&'a [u8]),
+}
+
+/// A visitor, with the bytes of its prefix, probe or bounds.
+#[derive(Clone, Copy)]
+pub enum Visit<'a> {
+    /// `for_each_view`.
+    Views,
+    /// `for_each_range_view`.
+    RangeViews(Bound<&'a [u8]>, Bound<&'a [u8]>),
+    /// `prefix_for_each_view`.
+    PrefixViews(&'a [u8]),
+    /// `prefix_values_for_each`: of the entries the values alone are shown.
+    PrefixValues(&'a [u8]),
+    /// `try_prefix_values_for_each` by a callback that ends the visit so.
+    ValuesUntil(&'a [u8], End),
+    /// `prefix_match_for_each`.
+    Matches(&'a [u8]),
 }
 
 /// A call that changes a version by a key.

@@ -23,6 +23,16 @@ impl Keys<'_> {
         }
     }
 
+    /// All keys.
+    pub fn all(&self, alloc: Global) -> Result<Vec<Vec<u8>>, AllocError> {
+        let (first, end) = self.bounds();
+        let mut all = Vec::new(alloc);
+        for number in first..end {
+            all.push(self.key(alloc, number)?)?;
+        }
+        Ok(all)
+    }
+
     /// The key with this number.
     pub fn key(&self, alloc: Global, number: u32) -> Result<Vec<u8>, AllocError> {
         let [a, b, c, d] = number.to_be_bytes();

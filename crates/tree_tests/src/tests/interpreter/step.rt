@@ -12,6 +12,9 @@ pub enum Step<'a> {
     Rows(&'a [Row<'a>]),
     /// A row for each key, all on the version at a place.
     Each(Sweep, usize, Keys<'a>),
+    /// All pairs of the version at a place are these keys in order, each with its number: what its
+    /// iterators give, and what its visitor shows.
+    InOrder(usize, Keys<'a>),
 }
 
 /// What is called with each key, and wanted of it.

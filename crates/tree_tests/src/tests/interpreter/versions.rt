@@ -3,10 +3,13 @@ ghost use Rattle.std.specs.Prelude.{◌+◌, ◌<◌, ◌≤◌, ◌^◌, length
 ghost use Rattle.rart_versioned.specs.Bytes.{IsAdmitted};
 ghost use Rattle.rart_maps.specs.Versions.{HasRoom};
 
-use super::call::{Answer, Call, Change, Form};
-use super::{changes, lookup, updates};
+use super::call::{Answer, Call, Change, Form, Pair, Visit, Walk};
+use super::keys::Keys;
+use super::walks::{bound_of, key_of};
+use super::{changes, lookup, updates, visits, walks};
 use rart_versioned::{KeyTrait, VersionedAdaptiveRadixTree};
 use std::alloc::{AllocError, Global};
+use std::ops::Bound;
 
 /// The tree that is called.
 pub type Tree<K> = VersionedAdaptiveRadixTree<K, u64>;
@@ -40,7 +43,28 @@ impl<K: KeyTrait> Versions<K> {
             Call::Version(place) => Ok(self.version(place)),
             Call::Get(place, bytes) => self.get(form, place, bytes),
             Call::At(place, bytes, change) => self.change(form, place, bytes, change),
+            Call::Visits(place, visit, entries) => match self.trees.get(place) {
+                Some(tree) => visited(self.alloc, tree, form, visit, entries),
+                None => Ok(Answer::NoVersion),
+            },
+            Call::Gives(place, walk, wanted) => self.gives(form, place, walk, wanted),
+            Call::GivesValues(place, wanted) => self.gives_values(place, wanted),
+            Call::GivesEach(place, keys) => self.gives_each(place, keys),
         }
+    }
+
+    /// Whether `for_each_view` of a version shows these keys and no other, each with its number.
+    pub fn viewed(&self, place: usize, keys: Keys) -> Result<Answer, AllocError> {
+        let Some(tree) = self.trees.get(place) else {
+            return Ok(Answer::NoVersion);
+        };
+        let (first, _end) = keys.bounds();
+        let all = keys.all(self.alloc)?;
+        let mut entries: Vec<Pair> = Vec::new(self.alloc);
+        for (index, key) in all.iter().enumerate() {
+            entries.push((key.as_slice(), u64::from(first).wrapping_add(index as u64)))?;
+        }
+        visits::views(tree, entries.as_slice())
     }
 
     fn put(&mut self, tree: Tree<K>) -> Result<Answer, AllocError> {
@@ -93,6 +117,33 @@ impl<K: KeyTrait> Versions<K> {
         Ok(lookup::get(tree, form, key))
     }
 
+    fn gives(
+        &self,
+        form: Form,
+        place: usize,
+        walk: Walk,
+        wanted: &[Pair],
+    ) -> Result<Answer, AllocError> {
+        match self.trees.get(place) {
+            Some(tree) => walks::gives(self.alloc, tree, form, walk, wanted),
+            None => Ok(Answer::NoVersion),
+        }
+    }
+
+    fn gives_values(&self, place: usize, wanted: &[u64]) -> Result<Answer, AllocError> {
+        match self.trees.get(place) {
+            Some(tree) => walks::gives_values(tree, wanted),
+            None => Ok(Answer::NoVersion),
+        }
+    }
+
+    fn gives_each(&self, place: usize, keys: Keys) -> Result<Answer, AllocError> {
+        match self.trees.get(place) {
+            Some(tree) => walks::gives_each(self.alloc, tree, keys),
+            None => Ok(Answer::NoVersion),
+        }
+    }
+
     fn change(
         &mut self,
         form: Form,
@@ -138,8 +189,39 @@ fn change_by<K: KeyTrait>(
     }
 }
 
+fn visited<K: KeyTrait>(
+    alloc: Global,
+    tree: &Tree<K>,
+    form: Form,
+    visit: Visit,
+    entries: &[Pair],
+) -> Result<Answer, AllocError> {
+    let bytes = match visit {
+        Visit::Views => return visits::views(tree, entries),
+        Visit::RangeViews(low, high) => {
+            let (Some(low), Some(high)) = (bound_of(alloc, low)?, bound_of(alloc, high)?) else {
+                return Ok(Answer::KeyTooLong);
+            };
+            return visits::range_views(tree, low, high, entries);
+        }
+        Visit::PrefixViews(bytes) => bytes,
+        Visit::PrefixValues(bytes) => bytes,
+        Visit::ValuesUntil(bytes, _) => bytes,
+        Visit::Matches(bytes) => bytes,
+    };
+    let Some(key) = key_of(alloc, bytes)? else {
+        return Ok(Answer::KeyTooLong);
+    };
+    match visit {
+        Visit::PrefixValues(_) => visits::prefix_values(tree, form, key, entries),
+        Visit::ValuesUntil(_, end) => visits::values_until(tree, form, key, end, entries),
+        Visit::Matches(_) => Ok(visits::matches(tree, form, key, entries)),
+        _ => visits::prefix_views(tree, form, key, entries),
+    }
+}
+
 // Whether a key may have these bytes.
-fn admits<K: KeyTrait>(key: &[u8]) -> bool
+pub fn admits<K: KeyTrait>(key: &[u8]) -> bool
     ensures { IsTrue result → IsAdmitted K.MAXIMUM_SIZE (length key.now) }
 {
     match K::MAXIMUM_SIZE {

@@ -4,7 +4,7 @@ use Rattle.std.proofs.lemmas.List.{length-append}
 use Rattle.std.specs.Prelude.{Option, Some, None, slice_get, slice_set}
 use Rattle.rart_maps.specs.Versions.{Version, with_rise}
 use Rattle.rart_family.specs.declared.family.command.Command.{Command}
-use Rattle.rart_family.specs.declared.family.command.Command.TheVariants.{New, NewAt, Snapshot, Duplicate, Discard, Version as NumberOf, IsEmpty, Get, GetMut, Insert, Replace, Remove, Delete, Update, TryUpdate}
+use Rattle.rart_family.specs.declared.family.command.Command.TheVariants.{New, NewAt, Snapshot, Duplicate, Discard, Version as NumberOf, IsEmpty, Get, GetMut, Insert, Replace, Remove, Delete, Update, TryUpdate, Iter, Values as ValuesOf, Range, Prefix, Matches, MatchesEach, Views, PrefixViews, RangeViews, PrefixValues, Until}
 use Rattle.rart_family.specs.Replies.{Reply, NoRoom}
 use Rattle.rart_family.specs.Families.{Family, Outcome, call_outcome, placement, change_outcome, version_at, after}
 use Rattle.rart_family.specs.Runs.{Step, Run}
@@ -84,6 +84,28 @@ module _ {K V : Type 0} (bytes : K → List ℕ) where
       kept_changes f P same place 1 _ (λ v. set place (Some v) refl)
   kept_after f P same push (TryUpdate place key write answer) set =
       kept_changes f P same place 2 _ (λ v. set place (Some v) refl)
+  kept_after f P same push (Iter place) set =
+      kept_called f P same _ (λ v. same) (version_at f place)
+  kept_after f P same push (ValuesOf place) set =
+      kept_called f P same _ (λ v. same) (version_at f place)
+  kept_after f P same push (Range place lo hi) set =
+      kept_called f P same _ (λ v. same) (version_at f place)
+  kept_after f P same push (Prefix place prefix) set =
+      kept_called f P same _ (λ v. same) (version_at f place)
+  kept_after f P same push (Matches place key) set =
+      kept_called f P same _ (λ v. same) (version_at f place)
+  kept_after f P same push (MatchesEach place key) set =
+      kept_called f P same _ (λ v. same) (version_at f place)
+  kept_after f P same push (Views place) set =
+      kept_called f P same _ (λ v. same) (version_at f place)
+  kept_after f P same push (PrefixViews place prefix) set =
+      kept_called f P same _ (λ v. same) (version_at f place)
+  kept_after f P same push (RangeViews place lo hi) set =
+      kept_called f P same _ (λ v. same) (version_at f place)
+  kept_after f P same push (PrefixValues place prefix) set =
+      kept_called f P same _ (λ v. same) (version_at f place)
+  kept_after f P same push (Until place prefix visits fails) set =
+      kept_called f P same _ (λ v. same) (version_at f place)
 
   -- The same after a step.
   kept_step : (P : Family V → Type 0) (old new : Family V) (c : Command K V) (r : Reply V)

@@ -1,5 +1,8 @@
+pub mod CollectionLemmas
+pub mod CountdownLemmas
 pub mod LawLemmas
 pub mod PlaceLemmas
+pub mod ReadLemmas
 pub mod RunLemmas
 pub mod WritingLemmas
 pub mod WantLemmas

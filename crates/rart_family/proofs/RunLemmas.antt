@@ -1,13 +1,13 @@
 -- Laws of steps and runs: want of memory is no command's own reply, a reply fixes the family after
 -- it, and a run goes on by one step at its end.
-use Rattle.std.proofs.Common.{◌≡◌, ℕ, ◌+◌, Bool, true, false, List, [], ◌∷◌, ◌++◌, refl, sym, ap, ◌∙◌, subst, add_assoc, ⊎_elim, zero-add, add-zero, rules}
+use Rattle.std.proofs.Common.{◌≡◌, ℕ, ◌+◌, Bool, true, false, cond, length, take, List, [], ◌∷◌, ◌++◌, refl, sym, ap, ◌∙◌, subst, add_assoc, ⊎_elim, zero-add, add-zero, rules}
 use Rattle.std.specs.Prelude.{Option, Some, None, Result, Ok, Err}
 use Rattle.rart_maps.specs.Versions.{Version}
 use Rattle.rart_family.specs.declared.family.command.Failure.{Failure}
 use Rattle.rart_family.specs.declared.family.command.Command.{Command}
-use Rattle.rart_family.specs.declared.family.command.Command.TheVariants.{New, NewAt, Snapshot, Duplicate, Discard, Version as NumberOf, IsEmpty, Get, GetMut, Insert, Replace, Remove, Delete, Update, TryUpdate}
-use Rattle.rart_family.specs.Replies.{Reply, NoMemory}
-use Rattle.rart_family.specs.Families.{Family, Outcome, call_outcome, tried_reply, version_at, reply_to, after}
+use Rattle.rart_family.specs.declared.family.command.Command.TheVariants.{New, NewAt, Snapshot, Duplicate, Discard, Version as NumberOf, IsEmpty, Get, GetMut, Insert, Replace, Remove, Delete, Update, TryUpdate, Iter, Values as ValuesOf, Range, Prefix, Matches, MatchesEach, Views, PrefixViews, RangeViews, PrefixValues, Until}
+use Rattle.rart_family.specs.Replies.{Reply, Stopped, NoMemory}
+use Rattle.rart_family.specs.Families.{Family, Outcome, call_outcome, tried_reply, is_reached, stopped, version_at, reply_to, after}
 use Rattle.rart_family.specs.Runs.{Step, Run, next}
 use Rattle.rart_family.specs.Costs.{along}
 
@@ -25,6 +25,17 @@ module _ {V : Type 0} (f : Family V) where
   tried_tells : (answer : Result Bool Failure) → is_no_memory (tried_reply {V = V} answer) ≡ false
   tried_tells (Ok flag) = refl
   tried_tells (Err failure) = refl
+
+either_tells : {V : Type 0} (b : Bool) (one other : Reply V) →
+    is_no_memory one ≡ false → is_no_memory other ≡ false → is_no_memory (cond b one other) ≡ false
+either_tells true one other tells told = tells
+either_tells false one other tells told = told
+
+stopped_tells : {V : Type 0} (visit : ℕ) (fails : Bool) (values : List V) →
+    is_no_memory (stopped visit fails values) ≡ false
+stopped_tells visit fails values =
+    either_tells (is_reached visit (length values))
+    (Stopped (take visit values) fails) (Stopped values false) refl refl
 
 module _ {K V : Type 0} (bytes : K → List ℕ) where
   pub reply_is_no_want : (f : Family V) (c : Command K V)
@@ -49,6 +60,18 @@ module _ {K V : Type 0} (bytes : K → List ℕ) where
       called_tells f _ (λ v. grind rules) (version_at f place)
   reply_is_no_want f (TryUpdate place key write answer) =
       called_tells f _ (λ v. grind (rules, tried_tells)) (version_at f place)
+  reply_is_no_want f (Iter place) = called_tells f _ (λ v. refl) (version_at f place)
+  reply_is_no_want f (ValuesOf place) = called_tells f _ (λ v. refl) (version_at f place)
+  reply_is_no_want f (Range place lo hi) = called_tells f _ (λ v. refl) (version_at f place)
+  reply_is_no_want f (Prefix place prefix) = called_tells f _ (λ v. refl) (version_at f place)
+  reply_is_no_want f (Matches place key) = called_tells f _ (λ v. refl) (version_at f place)
+  reply_is_no_want f (MatchesEach place key) = called_tells f _ (λ v. refl) (version_at f place)
+  reply_is_no_want f (Views place) = called_tells f _ (λ v. refl) (version_at f place)
+  reply_is_no_want f (PrefixViews place prefix) = called_tells f _ (λ v. refl) (version_at f place)
+  reply_is_no_want f (RangeViews place lo hi) = called_tells f _ (λ v. refl) (version_at f place)
+  reply_is_no_want f (PrefixValues place prefix) = called_tells f _ (λ v. refl) (version_at f place)
+  reply_is_no_want f (Until place prefix visits fails) =
+      called_tells f _ (λ v. stopped_tells visits fails _) (version_at f place)
 
   next_after : (f : Family V) (c : Command K V) (r : Reply V) → is_no_memory r ≡ false
       → next bytes f c r ≡ after bytes f c

@@ -1,7 +1,8 @@
 -- The worked runs, by computation.
 use Rattle.std.proofs.Common.{refl}
 use Rattle.std.specs.FinMap.{gets}
-use Rattle.rart_family.specs.WorkedRuns.{SnapshotKeepsItsValue, ChangesStayApart, CloneKeepsNumber, ReplacementGivesOldValue, AbsentKeyStaysAbsent, DeletionIsNotSeenInSnapshot, FailedUpdateKeepsValue, DiscardedPlaceIsNotUsedAgain, AnswerOutweighsWrite, RoomIsAsked, RoomTwoIsAsked, InsertionByUpdateTakesOne, RemovalOutweighsWrite, RemovalsRaiseNumber, UpdatesOfAnAbsentKey}
+use Rattle.rart_family.specs.WorkedRuns.{SnapshotKeepsItsValue, ChangesStayApart, CloneKeepsNumber, ReplacementGivesOldValue, AbsentKeyStaysAbsent, DeletionIsNotSeenInSnapshot, FailedUpdateKeepsValue, DiscardedPlaceIsNotUsedAgain, AnswerOutweighsWrite, RoomIsAsked, RoomTwoIsAsked, InsertionByUpdateTakesOne, RemovalOutweighsWrite, RemovalsRaiseNumber, UpdatesOfAnAbsentKey, ListsAreOfOneVersion, VisitsAreCountedFromOne}
+use Rattle.rart_maps.proofs.MapLemmas.{maps}
 
 pub snapshot_keeps_its_value : SnapshotKeepsItsValue
 snapshot_keeps_its_value = simp gets refl
@@ -47,3 +48,9 @@ removals_raise_number = simp gets refl
 
 pub updates_of_an_absent_key : UpdatesOfAnAbsentKey
 updates_of_an_absent_key = simp gets refl
+
+pub lists_are_of_one_version : ListsAreOfOneVersion
+lists_are_of_one_version = simp maps refl
+
+pub visits_are_counted_from_one : VisitsAreCountedFromOne
+visits_are_counted_from_one = simp maps refl

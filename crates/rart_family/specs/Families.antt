@@ -1,12 +1,14 @@
 -- A family of versions: what each command is replied, and what it leaves.
-use Rattle.std.specs.Prelude.{ℕ, ◌+◌, ◌^◌, Bool, if◌then◌else◌, nat_lt, List, [], ◌∷◌, ◌++◌, length, Option, Some, None, slice_get, slice_set, Result, Ok, Err}
+use Rattle.std.specs.Prelude.{ℕ, ◌+◌, ◌^◌, Bool, false, ◌&&◌, if◌then◌else◌, nat_lt, nat_le, List, [], ◌∷◌, ◌++◌, length, map, take, Option, Some, None, slice_get, slice_set, Result, Ok, Err}
 use Rattle.std.specs.Option.{unwrap_or}
+use Rattle.std.specs.Range.Bound.{bound_map}
 use Rattle.rart_maps.specs.Versions.{Version, empty_at, has_no_key, value_at, has_key, with_rise, with_key}
+use Rattle.rart_maps.specs.Pairs.{pairs, within, under, beginnings}
 use Rattle.rart_maps.specs.Changes.{after_removal, after_writing, slot_of, slot_update, slot_attempt}
 use Rattle.rart_family.specs.declared.family.command.Failure.{Failure}
 use Rattle.rart_family.specs.declared.family.command.Command.{Command}
-use Rattle.rart_family.specs.declared.family.command.Command.TheVariants.{New, NewAt, Snapshot, Duplicate, Discard, Version as NumberOf, IsEmpty, Get, GetMut, Insert, Replace, Remove, Delete, Update, TryUpdate}
-use Rattle.rart_family.specs.Replies.{Reply, Place, Discarded, Number, Flag, Value, Failed, NoVersion, NoRoom}
+use Rattle.rart_family.specs.declared.family.command.Command.TheVariants.{New, NewAt, Snapshot, Duplicate, Discard, Version as NumberOf, IsEmpty, Get, GetMut, Insert, Replace, Remove, Delete, Update, TryUpdate, Iter, Values as ValuesOf, Range, Prefix, Matches, MatchesEach, Views, PrefixViews, RangeViews, PrefixValues, Until}
+use Rattle.rart_family.specs.Replies.{Reply, Place, Discarded, Number, Flag, Value, Entries, Values, Stopped, Failed, NoVersion, NoRoom}
 
 -- places, each a version or discarded
 abbrev pub Family : Type 0 → Type 0
@@ -59,6 +61,23 @@ module _ {V : Type 0} where
   tried_reply (Ok flag) = Flag flag
   tried_reply (Err failure) = Failed
 
+-- whether the visit of this number comes, counted from 1, where so many values may be visited
+abbrev pub is_reached : ℕ → ℕ → Bool
+is_reached visit count = nat_lt 0 visit && nat_le visit count
+
+module _ {V : Type 0} where
+  -- the values of pairs, in their order
+  abbrev pub values_of : List (List ℕ × V) → List V
+  values_of found = map (λ pair. pair.1) found
+
+  -- A callback ends its visit of the values on the visit of this number, by its error where it
+  -- fails there: which values are visited, and whether it failed.
+  abbrev pub stopped : ℕ → Bool → List V → Reply V
+  stopped visit fails values =
+      if is_reached visit (length values)
+      then Stopped (take visit values) fails
+      else Stopped values false
+
 -- what a command's callback answers where it may fail
 abbrev pub callback_answer : {A : Type 0} → Option A → Result A Failure
 callback_answer None = Err (record {})
@@ -94,6 +113,27 @@ module _ {K V : Type 0} (bytes : K → List ℕ) where
       let after =
       slot_attempt v (bytes key) (slot_of (value_after_write (value_at v (bytes key)) write))
       (callback_answer answer) in (tried_reply after.0, after.1))
+  outcome f (Iter place) = read_outcome f place (λ v. Entries (pairs v.content))
+  outcome f (ValuesOf place) = read_outcome f place (λ v. Values (values_of (pairs v.content)))
+  outcome f (Range place lo hi) =
+      read_outcome f place (λ v. Entries
+      (within v.content (bound_map bytes lo) (bound_map bytes hi)))
+  outcome f (Prefix place prefix) =
+      read_outcome f place (λ v. Entries (under v.content (bytes prefix)))
+  outcome f (Matches place key) =
+      read_outcome f place (λ v. Entries (beginnings v.content (bytes key)))
+  outcome f (MatchesEach place key) =
+      read_outcome f place (λ v. Entries (beginnings v.content (bytes key)))
+  outcome f (Views place) = read_outcome f place (λ v. Entries (pairs v.content))
+  outcome f (PrefixViews place prefix) =
+      read_outcome f place (λ v. Entries (under v.content (bytes prefix)))
+  outcome f (RangeViews place lo hi) =
+      read_outcome f place (λ v. Entries
+      (within v.content (bound_map bytes lo) (bound_map bytes hi)))
+  outcome f (PrefixValues place prefix) =
+      read_outcome f place (λ v. Values (values_of (under v.content (bytes prefix))))
+  outcome f (Until place prefix visits fails) =
+      read_outcome f place (λ v. stopped visits fails (values_of (under v.content (bytes prefix))))
 
   abbrev pub reply_to : Family V → Command K V → Reply V
   reply_to f c = (outcome f c).0

@@ -1,7 +1,8 @@
 -- Laws that show what the definitions of families and runs mean.
 use Rattle.std.specs.Prelude.{◌≡◌, ◌≢◌, ℕ, ◌<◌, ◌≤◌, false, List, length, Option, Some, None, slice_get, IfSome, ◌⊎◌, ⊤}
+use Rattle.std.specs.declared.ops.Bound.{Bound}
 use Rattle.rart_family.specs.declared.family.command.Command.{Command}
-use Rattle.rart_family.specs.declared.family.command.Command.TheVariants.{Discard, Version as NumberOf, IsEmpty, Get, GetMut, Insert, Replace, Remove, Delete, Update, TryUpdate}
+use Rattle.rart_family.specs.declared.family.command.Command.TheVariants.{Discard, Version as NumberOf, IsEmpty, Get, GetMut, Insert, Replace, Remove, Delete, Update, TryUpdate, Iter, Values as ValuesOf, Range, Prefix, Matches, MatchesEach, Views, PrefixViews, RangeViews, PrefixValues, Until}
 use Rattle.rart_maps.specs.Versions.{has_key}
 use Rattle.rart_family.specs.Replies.{Reply, NoVersion, NoRoom, NoMemory}
 use Rattle.rart_family.specs.Families.{Family, version_at, reply_to}
@@ -18,6 +19,24 @@ place_changed (Delete place key) = Some place
 place_changed (Update place key write answer) = Some place
 place_changed (TryUpdate place key write answer) = Some place
 place_changed c = None
+
+-- The command reads a version, and nothing more.
+abbrev pub OnlyReads : {K V : Type 0} → Command K V → Type 0
+OnlyReads (NumberOf place) = ⊤
+OnlyReads (IsEmpty place) = ⊤
+OnlyReads (Get place key) = ⊤
+OnlyReads (Iter place) = ⊤
+OnlyReads (ValuesOf place) = ⊤
+OnlyReads (Range place lo hi) = ⊤
+OnlyReads (Prefix place prefix) = ⊤
+OnlyReads (Matches place key) = ⊤
+OnlyReads (MatchesEach place key) = ⊤
+OnlyReads (Views place) = ⊤
+OnlyReads (PrefixViews place prefix) = ⊤
+OnlyReads (RangeViews place lo hi) = ⊤
+OnlyReads (PrefixValues place prefix) = ⊤
+OnlyReads (Until place prefix visits fails) = ⊤
+OnlyReads c = ⊥
 
 module _ (K V : Type 0) (bytes : K → List ℕ) where
   -- A step leaves each place that is there but the one that its command may change.
@@ -73,3 +92,18 @@ module _ (K V : Type 0) (bytes : K → List ℕ) where
       (old new : Family V) (c : Command K V)
       → (reply_to bytes old c ≡ NoVersion) ⊎ (reply_to bytes old c ≡ NoRoom)
       → ¬ Step bytes old c NoMemory new
+
+  -- A step by a command that only reads leaves the family.
+  abbrev pub ReadsLeaveFamily : Type 0
+  ReadsLeaveFamily =
+      (old new : Family V) (c : Command K V) (r : Reply V)
+      → OnlyReads c → Step bytes old c r new → new ≡ old
+
+  -- A visitor is replied as the iterator over the same list.
+  abbrev pub VisitorsReplyAsIterators : Type 0
+  VisitorsReplyAsIterators =
+      (f : Family V) (place : ℕ) (key : K) (lo hi : Bound K)
+      → (reply_to bytes f (Views place) ≡ reply_to bytes f (Iter place))
+      × (reply_to bytes f (PrefixViews place key) ≡ reply_to bytes f (Prefix place key))
+      × (reply_to bytes f (RangeViews place lo hi) ≡ reply_to bytes f (Range place lo hi))
+      × (reply_to bytes f (MatchesEach place key) ≡ reply_to bytes f (Matches place key))

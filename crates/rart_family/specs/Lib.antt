@@ -1,5 +1,7 @@
 pub mod Attempts
+pub mod Collections
 pub mod Costs
+pub mod Countdowns
 pub mod Families
 pub mod Laws
 pub mod PlaceChanges

@@ -10,6 +10,8 @@ pub data Reply (V : Type 0) : Type 0 where
   Flag : Bool → Reply V
   Value : Option V → Reply V
   Entries : List (List ℕ × V) → Reply V
+  Values : List V → Reply V
+  Stopped : List V → Bool → Reply V
   Failed : Reply V
   NoVersion : Reply V
   NoRoom : Reply V
@@ -23,6 +25,8 @@ reply_value bytes (program_variants.Number n) = Number n
 reply_value bytes (program_variants.Flag b) = Flag b
 reply_value bytes (program_variants.Value v) = Value v
 reply_value bytes (program_variants.Entries es) = Entries (map (λ e. (bytes e.0, e.1)) es.items)
+reply_value bytes (program_variants.Values vs) = Values vs.items
+reply_value bytes (program_variants.Stopped vs failed) = Stopped vs.items failed
 reply_value bytes program_variants.Failed = Failed
 reply_value bytes program_variants.NoVersion = NoVersion
 reply_value bytes program_variants.NoRoom = NoRoom

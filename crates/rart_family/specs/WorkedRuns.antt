@@ -1,9 +1,10 @@
 -- Worked runs: commands on a family without a place, and their replies where no memory is refused.
 use Rattle.std.specs.Prelude.{◌≡◌, ℕ, true, false, List, [], ◌∷◌, Some, None, codes}
+use Rattle.std.specs.declared.ops.Bound.TheVariants.{Included, Excluded, Unbounded}
 use Rattle.rart_versioned.specs.SlotUpdate.TheVariants.{Keep, Insert as Put, Remove as TakeOut}
 use Rattle.rart_family.specs.declared.family.command.Command.{Command}
-use Rattle.rart_family.specs.declared.family.command.Command.TheVariants.{New, NewAt, Snapshot, Duplicate, Discard, Version as NumberOf, IsEmpty, Get, GetMut, Insert, Replace, Remove, Delete, Update, TryUpdate}
-use Rattle.rart_family.specs.Replies.{Reply, Place, Discarded, Number, Flag, Value, Failed, NoVersion, NoRoom}
+use Rattle.rart_family.specs.declared.family.command.Command.TheVariants.{New, NewAt, Snapshot, Duplicate, Discard, Version as NumberOf, IsEmpty, Get, GetMut, Insert, Replace, Remove, Delete, Update, TryUpdate, Iter, Values as ValuesOf, Range, Prefix, Matches, MatchesEach, Views, PrefixViews, RangeViews, PrefixValues, Until}
+use Rattle.rart_family.specs.Replies.{Reply, Place, Discarded, Number, Flag, Value, Entries, Values, Stopped, Failed, NoVersion, NoRoom}
 use Rattle.rart_family.specs.Families.{Family, reply_to, after}
 
 -- the commands' own replies, one after the other; a key is its bytes
@@ -203,3 +204,38 @@ updates_of_an_absent_key = (
 -- written and kept stays.
 abbrev pub UpdatesOfAnAbsentKey : Type 0
 UpdatesOfAnAbsentKey = IsReplied updates_of_an_absent_key
+
+abbrev pub lists_of_two_versions : WorkedRun
+lists_of_two_versions = (
+  New ∷ Insert 0 (codes "b") 2 ∷ Snapshot 0 ∷ Insert 0 (codes "ab") 3 ∷ Insert 0 (codes "a") 1 ∷
+      Iter 0 ∷ Iter 1 ∷ ValuesOf 0 ∷ Range 0 (Excluded (codes "a")) (Included (codes "b")) ∷
+      Prefix 0 (codes "a") ∷ Matches 0 (codes "abc") ∷ NumberOf 0 ∷ Iter 2 ∷ [],
+  Place 0 ∷ Flag false ∷ Place 1 ∷ Flag false ∷ Flag false ∷
+      Entries ((codes "a", 1) ∷ (codes "ab", 3) ∷ (codes "b", 2) ∷ []) ∷
+      Entries ((codes "b", 2) ∷ []) ∷ Values (1 ∷ 3 ∷ 2 ∷ []) ∷
+      Entries ((codes "ab", 3) ∷ (codes "b", 2) ∷ []) ∷
+      Entries ((codes "a", 1) ∷ (codes "ab", 3) ∷ []) ∷
+      Entries ((codes "a", 1) ∷ (codes "ab", 3) ∷ []) ∷ Number 3 ∷ NoVersion ∷ [],
+)
+
+-- Lists go in the order of keys, each in its own version, and change nothing.
+abbrev pub ListsAreOfOneVersion : Type 0
+ListsAreOfOneVersion = IsReplied lists_of_two_versions
+
+abbrev pub visits_of_a_version : WorkedRun
+visits_of_a_version = (
+  New ∷ Insert 0 (codes "pb") 1 ∷ Insert 0 (codes "pa") 0 ∷ Views 0 ∷
+      MatchesEach 0 (codes "pbc") ∷ PrefixViews 0 (codes "pb") ∷
+      RangeViews 0 Unbounded (Excluded (codes "pb")) ∷ PrefixValues 0 (codes "p") ∷
+      Until 0 (codes "p") 1 false ∷ Until 0 (codes "p") 1 true ∷ Until 0 (codes "p") 2 true ∷
+      Until 0 (codes "p") 0 true ∷ Until 0 (codes "p") 3 true ∷ Until 0 (codes "q") 1 true ∷ [],
+  Place 0 ∷ Flag false ∷ Flag false ∷ Entries ((codes "pa", 0) ∷ (codes "pb", 1) ∷ []) ∷
+      Entries ((codes "pb", 1) ∷ []) ∷ Entries ((codes "pb", 1) ∷ []) ∷
+      Entries ((codes "pa", 0) ∷ []) ∷ Values (0 ∷ 1 ∷ []) ∷ Stopped (0 ∷ []) false ∷
+      Stopped (0 ∷ []) true ∷ Stopped (0 ∷ 1 ∷ []) true ∷ Stopped (0 ∷ 1 ∷ []) false ∷
+      Stopped (0 ∷ 1 ∷ []) false ∷ Stopped [] false ∷ [],
+)
+
+-- A visit ends on the visit that is asked for, counted from 1, or on the last one.
+abbrev pub VisitsAreCountedFromOne : Type 0
+VisitsAreCountedFromOne = IsReplied visits_of_a_version

@@ -11,11 +11,14 @@ ghost use Rattle.rart_family.specs.Runs.{Step, Run};
 ghost use Rattle.rart_family.specs.declared.family.reply.Reply.TheVariants.{NoVersion, NoRoom};
 
 mod changes;
+mod collection;
 mod command;
 mod reads;
 mod reply;
 mod updates;
 mod versions;
+mod visits;
+mod walks;
 mod writing;
 
 pub use command::{Command, Failure};
@@ -183,6 +186,22 @@ impl<K: KeyTrait, V: Clone + Drop> Family<K, V> {
                 write,
                 answer,
             } => self.try_update(*place, key, write, answer, changes),
+            Command::Iter { place } => self.iter(*place),
+            Command::Values { place } => self.values(*place),
+            Command::Range { place, lo, hi } => self.range(*place, lo, hi),
+            Command::Prefix { place, prefix } => self.prefix(*place, prefix),
+            Command::Matches { place, key } => self.matches(*place, key),
+            Command::MatchesEach { place, key } => self.matches_each(*place, key),
+            Command::Views { place } => self.views(*place),
+            Command::PrefixViews { place, prefix } => self.prefix_views(*place, prefix),
+            Command::RangeViews { place, lo, hi } => self.range_views(*place, lo, hi),
+            Command::PrefixValues { place, prefix } => self.prefix_values(*place, prefix),
+            Command::Until {
+                place,
+                prefix,
+                visits,
+                fails,
+            } => self.until(*place, prefix, *visits, *fails),
         }
     }
 

@@ -1,7 +1,7 @@
 //! What the definitions of families mean: laws, each the contract of a function that does nothing.
-ghost use Rattle.rart_family.specs.Laws.{StepsAreIsolated, PlacesStay, RepliesFixSteps, RepliesFixRuns, NoReplyIsWant, NoWantWithoutMemory, NoWantBeforeLack};
-ghost use Rattle.rart_family.specs.WorkedCosts.{RefusedMemoryIsARun, SnapshotCosts, ChangesApartCost, CloneCosts, ReplacementsCost, AbsentRemovalCosts, DeletionCosts, FailedUpdateCosts, DiscardedPlaceCosts, WrittenAndInsertedCosts, RoomForOneCosts, RoomForTwoCosts, InsertionByUpdateCosts, WrittenAndRemovedCosts, NumbersOfRemovalsCost, UpdatesOfAnAbsentKeyCost, RefusedMemoryCosts};
-ghost use Rattle.rart_family.specs.WorkedRuns.{SnapshotKeepsItsValue, ChangesStayApart, CloneKeepsNumber, ReplacementGivesOldValue, AbsentKeyStaysAbsent, DeletionIsNotSeenInSnapshot, FailedUpdateKeepsValue, DiscardedPlaceIsNotUsedAgain, AnswerOutweighsWrite, RoomIsAsked, RoomTwoIsAsked, InsertionByUpdateTakesOne, RemovalOutweighsWrite, RemovalsRaiseNumber, UpdatesOfAnAbsentKey};
+ghost use Rattle.rart_family.specs.Laws.{StepsAreIsolated, PlacesStay, RepliesFixSteps, RepliesFixRuns, NoReplyIsWant, NoWantWithoutMemory, NoWantBeforeLack, ReadsLeaveFamily, VisitorsReplyAsIterators};
+ghost use Rattle.rart_family.specs.WorkedCosts.{RefusedMemoryIsARun, SnapshotCosts, ChangesApartCost, CloneCosts, ReplacementsCost, AbsentRemovalCosts, DeletionCosts, FailedUpdateCosts, DiscardedPlaceCosts, WrittenAndInsertedCosts, RoomForOneCosts, RoomForTwoCosts, InsertionByUpdateCosts, WrittenAndRemovedCosts, NumbersOfRemovalsCost, UpdatesOfAnAbsentKeyCost, ListsCost, RefusedMemoryCosts};
+ghost use Rattle.rart_family.specs.WorkedRuns.{SnapshotKeepsItsValue, ChangesStayApart, CloneKeepsNumber, ReplacementGivesOldValue, AbsentKeyStaysAbsent, DeletionIsNotSeenInSnapshot, FailedUpdateKeepsValue, DiscardedPlaceIsNotUsedAgain, AnswerOutweighsWrite, RoomIsAsked, RoomTwoIsAsked, InsertionByUpdateTakesOne, RemovalOutweighsWrite, RemovalsRaiseNumber, UpdatesOfAnAbsentKey, ListsAreOfOneVersion, VisitsAreCountedFromOne};
 
 use rart_versioned::KeyTrait;
 
@@ -34,6 +34,14 @@ pub fn want_of_memory_is_bounded<K: KeyTrait, V>()
     ensures before_lack { NoWantBeforeLack K V K.bytes }
 {}
 
+#[tactic(auto, using(crate::proofs::ReadLemmas::reads_leave_family, crate::proofs::ReadLemmas::visitors_reply_as_iterators))]
+/// A command that only reads leaves the family, and a visitor is replied as the iterator over the
+/// same list.
+pub fn reads_leave_families<K: KeyTrait, V>()
+    ensures family { ReadsLeaveFamily K V K.bytes }
+    ensures visitors { VisitorsReplyAsIterators K V K.bytes }
+{}
+
 /// Worked runs of commands, their expected replies found by hand.
 pub fn worked_runs()
     ensures snapshot_keeps_its_value { SnapshotKeepsItsValue }
@@ -51,6 +59,8 @@ pub fn worked_runs()
     ensures removal_outweighs_write { RemovalOutweighsWrite }
     ensures removals_raise_number { RemovalsRaiseNumber }
     ensures updates_of_an_absent_key { UpdatesOfAnAbsentKey }
+    ensures lists_are_of_one_version { ListsAreOfOneVersion }
+    ensures visits_are_counted_from_one { VisitsAreCountedFromOne }
 {}
 
 /// What the worked runs cost, found by hand; and a run in which memory is refused.
@@ -70,6 +80,7 @@ pub fn worked_costs()
     ensures written_and_removed_costs { WrittenAndRemovedCosts }
     ensures numbers_of_removals_cost { NumbersOfRemovalsCost }
     ensures updates_of_an_absent_key_cost { UpdatesOfAnAbsentKeyCost }
+    ensures lists_cost { ListsCost }
     ensures refused_memory_costs { RefusedMemoryCosts }
     ensures refused_memory_is_a_run { RefusedMemoryIsARun }
 {}

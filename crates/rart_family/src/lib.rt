@@ -9,7 +9,8 @@ pub mod laws;
 
 pub use family::{Command, Failure, Family, Reply};
 pub use rart_versioned::{
-    ArrPartial, ArrayKey, DirectMapping, GrowError, IndexedMapping, KeyTrait, NodeMapping, NodeRef,
-    Partial, Refusal, Slot, SlotUpdate, SortedKeyedMapping, VectorKey, VectorPartial,
-    VersionedAdaptiveRadixTree, VersionedNode, VersionedNodeIter, Work,
+    ArrPartial, ArrayKey, DirectMapping, GrowError, IndexedMapping, KeyTrait, LendingKeyView,
+    NodeMapping, NodeRef, Partial, Refusal, Slot, SlotUpdate, SortedKeyedMapping, VectorKey,
+    VectorPartial, VersionedAdaptiveRadixTree, VersionedIter, VersionedNode, VersionedNodeIter,
+    VersionedPrefixMatchIter, VersionedRange, VersionedValuesIter, VisitControl, Work,
 };

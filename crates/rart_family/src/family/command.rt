@@ -1,5 +1,6 @@
 //! The commands on a family of versions.
 use rart_versioned::SlotUpdate;
+use std::ops::Bound;
 
 /// One call on a version of a family.
 ///
@@ -86,8 +87,70 @@ pub enum Command<K, V> {
         write: Option<V>,
         answer: Option<SlotUpdate<V>>,
     },
+    /// All keys with their values, by an iterator: `Entries`.
+    Iter {
+        place: usize,
+    },
+    /// The values of all keys, in the order of the keys, by an iterator: `Values`.
+    Values {
+        place: usize,
+    },
+    /// The keys within the bounds, with their values, by an iterator: `Entries`. Keys are compared
+    /// by their bytes; bounds that no key meets give none.
+    Range {
+        place: usize,
+        lo: Bound<K>,
+        hi: Bound<K>,
+    },
+    /// The keys that the prefix begins, with their values, by an iterator: `Entries`.
+    Prefix {
+        place: usize,
+        prefix: K,
+    },
+    /// The keys that begin this one, with their values, the shortest first, by an iterator:
+    /// `Entries`.
+    Matches {
+        place: usize,
+        key: K,
+    },
+    /// As `Matches`, by a visitor: `Entries`.
+    MatchesEach {
+        place: usize,
+        key: K,
+    },
+    /// As `Iter`, by a visitor: `Entries`.
+    Views {
+        place: usize,
+    },
+    /// As `Prefix`, by a visitor: `Entries`.
+    PrefixViews {
+        place: usize,
+        prefix: K,
+    },
+    /// As `Range`, by a visitor: `Entries`.
+    RangeViews {
+        place: usize,
+        lo: Bound<K>,
+        hi: Bound<K>,
+    },
+    /// The values of the keys that the prefix begins, in the order of the keys, by a visitor:
+    /// `Values`.
+    PrefixValues {
+        place: usize,
+        prefix: K,
+    },
+    /// Visits the values of the keys that the prefix begins, in the order of the keys, by a visitor
+    /// whose callback ends the visit of number `visits`, counted from 1: it stops there, or answers
+    /// its error where `fails` is true. `Stopped`, with the values that were visited: all of them
+    /// where fewer come, or where `visits` is 0, which is never reached.
+    Until {
+        place: usize,
+        prefix: K,
+        visits: u64,
+        fails: bool,
+    },
 }
 
-/// The error of a callback of `Command::TryUpdate`.
+/// The error of a callback of `Command::TryUpdate` or `Command::Until`.
 #[derive(Drop)]
 pub struct Failure;

@@ -14,6 +14,11 @@ pub enum Reply<K, V> {
     Value(Option<V>),
     /// Keys with their values, ascending.
     Entries(Vec<(K, V)>),
+    /// Values, in the order of their keys.
+    Values(Vec<V>),
+    /// The values that were visited, the last one included, and whether the callback answered its
+    /// error there.
+    Stopped { values: Vec<V>, failed: bool },
     /// The callback answered its error.
     Failed,
     /// The place is past the last one, or was discarded.

@@ -1,4 +1,4 @@
-use Rattle.rart_family.proofs.WorkedRunLemmas.{snapshot_keeps_its_value, changes_stay_apart, clone_keeps_number, replacement_gives_old_value, absent_key_stays_absent, deletion_is_not_seen_in_snapshot, failed_update_keeps_value, discarded_place_is_not_used_again, answer_outweighs_write, room_is_asked, room_two_is_asked, insertion_by_update_takes_one, removal_outweighs_write, removals_raise_number, updates_of_an_absent_key}
+use Rattle.rart_family.proofs.WorkedRunLemmas.{snapshot_keeps_its_value, changes_stay_apart, clone_keeps_number, replacement_gives_old_value, absent_key_stays_absent, deletion_is_not_seen_in_snapshot, failed_update_keeps_value, discarded_place_is_not_used_again, answer_outweighs_write, room_is_asked, room_two_is_asked, insertion_by_update_takes_one, removal_outweighs_write, removals_raise_number, updates_of_an_absent_key, lists_are_of_one_version, visits_are_counted_from_one}
 use Rattle.rart_family.proofs.laws.worked_runs.Goals as goal
 
 pub returns-clause-snapshot_keeps_its_value : goal.returns-clause-snapshot_keeps_its_value
@@ -47,3 +47,9 @@ returns-clause-removals_raise_number c = removals_raise_number
 
 pub returns-clause-updates_of_an_absent_key : goal.returns-clause-updates_of_an_absent_key
 returns-clause-updates_of_an_absent_key c = updates_of_an_absent_key
+
+pub returns-clause-lists_are_of_one_version : goal.returns-clause-lists_are_of_one_version
+returns-clause-lists_are_of_one_version c = lists_are_of_one_version
+
+pub returns-clause-visits_are_counted_from_one : goal.returns-clause-visits_are_counted_from_one
+returns-clause-visits_are_counted_from_one c = visits_are_counted_from_one

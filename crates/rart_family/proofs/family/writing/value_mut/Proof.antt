@@ -5,7 +5,7 @@
 -- the drops of K, V and P.
 use Rattle.rart_versioned.proofs.ProofSteps.{◌≡◌, ◌+◌, ◌<◌, ◌^◌, [], ◌∷◌, refl, sym, ap, subst, ◌∙◌, proved, GName, ftrue, flft, id⊢, sep, emp, via, fst∗, snd∗, ◌⊑◌, fact, fact_use, fact_i, tables, inst_fn, Args, named, a_type, dcons, dnil, ‵, raw, ◌⊛◌, some, later, ◌$◌, ◌∵◌, !, qed, done, move, drop, use0, use1, split, split3, join, fjoin, suffices, pick, await, rewrite, frame, enter, addr, stop, no_more, and_then, returns, alloc_all, pass_all, free_all, look_at, get, through, sets, lands_as, RefOf, yes, no, follows_if, Is, shows, param, bounded, param_laws, RattleType, mut_vals, mut_Tells, shr_vals, shr_Tells, plain, mut_ref_to, named_lft, type_at, nothing, heard, peeks, calls_at, lasts, Lasts, on_entry, triple_of, framed, Stays, stay_dropped, Goes-dropped, Goes-spent_ref, gave_ref, Goes-gave_ref, ends_at}
 use mathlib.Core.Option as maybe
-use Rattle.std.specs.Prelude.{OnOk, OnErr, IfErr, IfOk, IsSome, is_some, true, false, None, ◌≤◌, ◌*◌}
+use Rattle.std.specs.Prelude.{OnOk, OnErr, IfErr, IfOk, IsSome, is_some, true, None, ◌*◌}
 use Rattle.std.specs.Borrow.{MutBor, name_if_ok}
 use Rattle.std.specs.Option.{option_map}
 use Rattle.std.proofs.result.Result.TheLaws as Result-laws

@@ -1,6 +1,7 @@
 //! Lines of commands, as the program reads them.
 use rart_family::{ArrayKey, Command, KeyTrait, SlotUpdate};
 use std::alloc::{AllocError, Global};
+use std::ops::Bound;
 
 /// A command as the program has it: keys of at most 16 bytes, and numbers for values.
 pub type LineCommand = Command<ArrayKey<16>, u64>;
@@ -28,8 +29,9 @@ impl From<AllocError> for LineError {
 /// The command of a line, without its line feed.
 ///
 /// A line is words parted by exactly one space. P, N and V are numbers of 1 to 20 digits, below
-/// `2^64`. K is an apostrophe and then the key, 0 to 16 bytes from 0x21 to 0x7E. W is a V or `-`.
-/// A is `keep`, `remove` or `insert V`.
+/// `2^64`. K is an apostrophe and then the key, 0 to 16 bytes from 0x21 to 0x7E. B is a bound: `i`
+/// and a K that is included, `x` and a K that is excluded, or `-` for none. W is a V or `-`. A is
+/// `keep`, `remove` or `insert V`.
 ///
 /// | line | command |
 /// |---|---|
@@ -43,6 +45,12 @@ impl From<AllocError> for LineError {
 /// | `update P K W A` | `Update` |
 /// | `try-update P K W A`, `try-update P K W fail` | `TryUpdate`, which answers its error for
 /// `fail` |
+/// | `iter P`, `values P`, `views P` | `Iter`, `Values`, `Views` |
+/// | `range P B B`, `range-views P B B` | `Range`, `RangeViews`, the lower bound first |
+/// | `prefix P K`, `prefix-views P K`, `prefix-values P K` | `Prefix`, `PrefixViews`,
+/// `PrefixValues` |
+/// | `matches P K`, `matches-each P K` | `Matches`, `MatchesEach` |
+/// | `until P K N stop`, `until P K N fail` | `Until`, which answers its error for `fail` |
 pub fn parse(alloc: Global, line: &[u8]) -> Result<LineCommand, LineError> {
     let words = words_of(alloc, line)?;
     match words.as_slice() {
@@ -51,6 +59,16 @@ pub fn parse(alloc: Global, line: &[u8]) -> Result<LineCommand, LineError> {
             number: parse_number(number)?,
         }),
         [name, place] => parse_place_command(name, parse_place(place)?),
+        [b"range", place, lo, hi] => Ok(Command::Range {
+            place: parse_place(place)?,
+            lo: parse_bound(alloc, lo)?,
+            hi: parse_bound(alloc, hi)?,
+        }),
+        [b"range-views", place, lo, hi] => Ok(Command::RangeViews {
+            place: parse_place(place)?,
+            lo: parse_bound(alloc, lo)?,
+            hi: parse_bound(alloc, hi)?,
+        }),
         [name, place, key, rest @ ..] => {
             let place = parse_place(place)?;
             let key = parse_key(alloc, key)?;
@@ -75,6 +93,9 @@ fn parse_place_command(name: &[u8], place: usize) -> Result<LineCommand, LineErr
         b"discard" => Ok(Command::Discard { place }),
         b"version" => Ok(Command::Version { place }),
         b"empty" => Ok(Command::IsEmpty { place }),
+        b"iter" => Ok(Command::Iter { place }),
+        b"values" => Ok(Command::Values { place }),
+        b"views" => Ok(Command::Views { place }),
         _ => Err(LineError::Bad),
     }
 }
@@ -86,9 +107,7 @@ fn parse_key_command(
     rest: &[&[u8]],
 ) -> Result<LineCommand, LineError> {
     match (name, rest) {
-        (b"get", []) => Ok(Command::Get { place, key }),
-        (b"remove", []) => Ok(Command::Remove { place, key }),
-        (b"delete", []) => Ok(Command::Delete { place, key }),
+        (_, []) => parse_bare_key_command(name, place, key),
         (b"update", [write, answer @ ..]) => Ok(Command::Update {
             place,
             key,
@@ -101,7 +120,31 @@ fn parse_key_command(
             write: parse_write(write)?,
             answer: parse_failing_answer(answer)?,
         }),
+        (b"until", [visits, end]) => Ok(Command::Until {
+            place,
+            prefix: key,
+            visits: parse_number(visits)?,
+            fails: parse_end(end)?,
+        }),
         (_, [value]) => parse_value_command(name, place, key, parse_number(value)?),
+        _ => Err(LineError::Bad),
+    }
+}
+
+fn parse_bare_key_command(
+    name: &[u8],
+    place: usize,
+    key: ArrayKey<16>,
+) -> Result<LineCommand, LineError> {
+    match name {
+        b"get" => Ok(Command::Get { place, key }),
+        b"remove" => Ok(Command::Remove { place, key }),
+        b"delete" => Ok(Command::Delete { place, key }),
+        b"prefix" => Ok(Command::Prefix { place, prefix: key }),
+        b"prefix-views" => Ok(Command::PrefixViews { place, prefix: key }),
+        b"prefix-values" => Ok(Command::PrefixValues { place, prefix: key }),
+        b"matches" => Ok(Command::Matches { place, key }),
+        b"matches-each" => Ok(Command::MatchesEach { place, key }),
         _ => Err(LineError::Bad),
     }
 }
@@ -149,6 +192,24 @@ fn parse_key(alloc: Global, word: &[u8]) -> Result<ArrayKey<16>, LineError> {
         [b'\'', key @ ..] if key.len() <= 16 && key.iter().all(|byte| byte.is_ascii_graphic()) => {
             Ok(ArrayKey::new_from_slice(alloc, key)?)
         }
+        _ => Err(LineError::Bad),
+    }
+}
+
+fn parse_bound(alloc: Global, word: &[u8]) -> Result<Bound<ArrayKey<16>>, LineError> {
+    match word {
+        b"-" => Ok(Bound::Unbounded),
+        [b'i', key @ ..] => Ok(Bound::Included(parse_key(alloc, key)?)),
+        [b'x', key @ ..] => Ok(Bound::Excluded(parse_key(alloc, key)?)),
+        _ => Err(LineError::Bad),
+    }
+}
+
+// Whether a visit ends by an error.
+fn parse_end(word: &[u8]) -> Result<bool, LineError> {
+    match word {
+        b"stop" => Ok(false),
+        b"fail" => Ok(true),
         _ => Err(LineError::Bad),
     }
 }

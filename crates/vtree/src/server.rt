@@ -154,6 +154,15 @@ pub(crate) fn write_reply<K: KeyTrait, W: Write>(
         ),
         Reply::Value(None) => write_text(writer, "none\n"),
         Reply::Entries(entries) => write_text(writer, entries_text(alloc, entries)?.as_str()),
+        Reply::Values(values) => write_values(alloc, "values", values, writer),
+        Reply::Stopped {
+            values,
+            failed: false,
+        } => write_values(alloc, "values", values, writer),
+        Reply::Stopped {
+            values,
+            failed: true,
+        } => write_values(alloc, "failed", values, writer),
         Reply::Failed => write_text(writer, "failed\n"),
         Reply::NoVersion => write_text(writer, "no version\n"),
         Reply::NoRoom => write_text(writer, "no room\n"),
@@ -168,6 +177,24 @@ fn entries_text<K: KeyTrait>(alloc: Global, entries: &[(K, u64)]) -> Result<Stri
         for byte in key.as_ref() {
             text.push(char::from(*byte))?;
         }
+        text.push_str(format!(in alloc; " {value}")?.as_str())?;
+    }
+    text.push('\n')?;
+    Ok(text)
+}
+
+fn write_values<W: Write>(
+    alloc: Global,
+    name: &str,
+    values: &[u64],
+    writer: &mut W,
+) -> Result<(), ServeError> {
+    write_text(writer, values_text(alloc, name, values)?.as_str())
+}
+
+fn values_text(alloc: Global, name: &str, values: &[u64]) -> Result<String, AllocError> {
+    let mut text = String::from_str(alloc, name)?;
+    for value in values {
         text.push_str(format!(in alloc; " {value}")?.as_str())?;
     }
     text.push('\n')?;

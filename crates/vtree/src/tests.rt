@@ -8,6 +8,8 @@ mod refusals;
 mod replies;
 mod streams;
 mod updates;
+mod visits;
+mod walks;
 
 use crate::server::{Served, serve};
 use std::alloc::Global;

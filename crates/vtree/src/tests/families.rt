@@ -5,6 +5,7 @@ ghost use Rattle.rart_family.specs.Bytes.{IsAdmitted};
 use crate::server::write_reply;
 use rart_family::{ArrayKey, Command, Family, KeyTrait, SlotUpdate, VectorKey, Work};
 use std::alloc::{AllocError, Global};
+use std::ops::Bound;
 use std::process::Abort;
 use std::test::Fail;
 
@@ -13,6 +14,16 @@ fn key_of<K: KeyTrait>(alloc: Global, byte: u8) -> Result<K, AllocError>
     requires { (length : ℕ) → length ≤ 1 → IsAdmitted K.MAXIMUM_SIZE length }
 {
     K::new_from_slice(alloc, &[byte])
+}
+
+fn bound_of<K: KeyTrait>(alloc: Global, bound: &Bound<u8>) -> Result<Bound<K>, AllocError>
+    requires { (length : ℕ) → length ≤ 1 → IsAdmitted K.MAXIMUM_SIZE length }
+{
+    Ok(match bound {
+        Bound::Included(byte) => Bound::Included(key_of(alloc, *byte)?),
+        Bound::Excluded(byte) => Bound::Excluded(key_of(alloc, *byte)?),
+        Bound::Unbounded => Bound::Unbounded,
+    })
 }
 
 fn answer_of(answer: &SlotUpdate<u64>) -> SlotUpdate<u64> {
@@ -86,6 +97,50 @@ fn keyed<K: KeyTrait>(
             key: key_of(alloc, *key)?,
             write: *write,
             answer: answer.as_ref().map(answer_of),
+        },
+        Command::Iter { place } => Command::Iter { place: *place },
+        Command::Values { place } => Command::Values { place: *place },
+        Command::Range { place, lo, hi } => Command::Range {
+            place: *place,
+            lo: bound_of(alloc, lo)?,
+            hi: bound_of(alloc, hi)?,
+        },
+        Command::Prefix { place, prefix } => Command::Prefix {
+            place: *place,
+            prefix: key_of(alloc, *prefix)?,
+        },
+        Command::Matches { place, key } => Command::Matches {
+            place: *place,
+            key: key_of(alloc, *key)?,
+        },
+        Command::MatchesEach { place, key } => Command::MatchesEach {
+            place: *place,
+            key: key_of(alloc, *key)?,
+        },
+        Command::Views { place } => Command::Views { place: *place },
+        Command::PrefixViews { place, prefix } => Command::PrefixViews {
+            place: *place,
+            prefix: key_of(alloc, *prefix)?,
+        },
+        Command::RangeViews { place, lo, hi } => Command::RangeViews {
+            place: *place,
+            lo: bound_of(alloc, lo)?,
+            hi: bound_of(alloc, hi)?,
+        },
+        Command::PrefixValues { place, prefix } => Command::PrefixValues {
+            place: *place,
+            prefix: key_of(alloc, *prefix)?,
+        },
+        Command::Until {
+            place,
+            prefix,
+            visits,
+            fails,
+        } => Command::Until {
+            place: *place,
+            prefix: key_of(alloc, *prefix)?,
+            visits: *visits,
+            fails: *fails,
         },
     })
 }
@@ -216,18 +271,117 @@ fn assert_slots_are_updated<K: KeyTrait>(rt: &impl Abort, alloc: Global) -> Resu
     Ok(())
 }
 
+fn assert_walks_list<K: KeyTrait>(rt: &impl Abort, alloc: Global) -> Result<(), Fail>
+    requires { (length : ℕ) → length ≤ 1 → IsAdmitted K.MAXIMUM_SIZE length }
+{
+    assert_run::<K>(
+        rt,
+        alloc,
+        &[
+            Command::New,
+            Command::Insert {
+                place: 0,
+                key: b'b',
+                value: 20,
+            },
+            Command::Insert {
+                place: 0,
+                key: b'a',
+                value: 10,
+            },
+            Command::Iter { place: 0 },
+            Command::Values { place: 0 },
+            Command::Range {
+                place: 0,
+                lo: Bound::Excluded(b'a'),
+                hi: Bound::Included(b'b'),
+            },
+            Command::Prefix {
+                place: 0,
+                prefix: b'a',
+            },
+            Command::Matches {
+                place: 0,
+                key: b'b',
+            },
+        ],
+        "at 0\nfalse\nfalse\nentries 'a 10 'b 20\nvalues 10 20\nentries 'b 20\nentries 'a 10\n\
+         entries 'b 20\n",
+    )?;
+    Ok(())
+}
+
+fn assert_visits_list<K: KeyTrait>(rt: &impl Abort, alloc: Global) -> Result<(), Fail>
+    requires { (length : ℕ) → length ≤ 1 → IsAdmitted K.MAXIMUM_SIZE length }
+{
+    assert_run::<K>(
+        rt,
+        alloc,
+        &[
+            Command::New,
+            Command::Insert {
+                place: 0,
+                key: b'b',
+                value: 20,
+            },
+            Command::Insert {
+                place: 0,
+                key: b'a',
+                value: 10,
+            },
+            Command::MatchesEach {
+                place: 0,
+                key: b'b',
+            },
+            Command::Views { place: 0 },
+            Command::PrefixViews {
+                place: 0,
+                prefix: b'a',
+            },
+            Command::RangeViews {
+                place: 0,
+                lo: Bound::Unbounded,
+                hi: Bound::Excluded(b'b'),
+            },
+            Command::PrefixValues {
+                place: 0,
+                prefix: b'b',
+            },
+            Command::Until {
+                place: 0,
+                prefix: b'a',
+                visits: 1,
+                fails: true,
+            },
+            Command::Until {
+                place: 0,
+                prefix: b'a',
+                visits: 2,
+                fails: true,
+            },
+        ],
+        "at 0\nfalse\nfalse\nentries 'b 20\nentries 'a 10 'b 20\nentries 'a 10\nentries 'a 10\n\
+         values 20\nfailed 10\nvalues 10\n",
+    )?;
+    Ok(())
+}
+
 #[test]
 fn inline_keys_are_commanded(rt: HostRuntime) -> Result<(), Fail> {
     assert_versions_are_made::<ArrayKey<16>>(&rt, rt.alloc())?;
     assert_versions_are_changed::<ArrayKey<16>>(&rt, rt.alloc())?;
-    assert_slots_are_updated::<ArrayKey<16>>(&rt, rt.alloc())
+    assert_slots_are_updated::<ArrayKey<16>>(&rt, rt.alloc())?;
+    assert_walks_list::<ArrayKey<16>>(&rt, rt.alloc())?;
+    assert_visits_list::<ArrayKey<16>>(&rt, rt.alloc())
 }
 
 #[test]
 fn heap_keys_are_commanded(rt: HostRuntime) -> Result<(), Fail> {
     assert_versions_are_made::<VectorKey>(&rt, rt.alloc())?;
     assert_versions_are_changed::<VectorKey>(&rt, rt.alloc())?;
-    assert_slots_are_updated::<VectorKey>(&rt, rt.alloc())
+    assert_slots_are_updated::<VectorKey>(&rt, rt.alloc())?;
+    assert_walks_list::<VectorKey>(&rt, rt.alloc())?;
+    assert_visits_list::<VectorKey>(&rt, rt.alloc())
 }
 
 #[test]

@@ -46,6 +46,51 @@ fn each_form_has_its_count_of_words(rt: HostRuntime) -> Result<(), Fail> {
 }
 
 #[test]
+fn each_walk_has_its_count_of_words(rt: HostRuntime) -> Result<(), Fail> {
+    assert_served(
+        &rt,
+        rt.alloc(),
+        "new / iter / iter 0 0 / values / values 0 'a / views / views 0 - / range 0 / range 0 - / \
+         range 0 - - - / range-views 0 - / range-views 0 i'a x'b - / prefix 0 / prefix 0 'a 'b / \
+         prefix-views 0 / prefix-values 0 'a 1 / matches 0 / matches 0 'a 1 / matches-each 0 / \
+         until 0 'a / until 0 'a 1 / until 0 'a stop / until 0 'a 1 stop 1",
+        "at 0 / bad line / bad line / bad line / bad line / bad line / bad line / bad line / bad line / \
+         bad line / bad line / bad line / bad line / bad line / bad line / bad line / bad line / \
+         bad line / bad line / bad line / bad line / bad line / bad line",
+        Served::BadLine,
+    )
+}
+
+#[test]
+fn bounds_have_their_sign(rt: HostRuntime) -> Result<(), Fail> {
+    assert_served(
+        &rt,
+        rt.alloc(),
+        "new / insert 0 'ii 1 / range 0 i' x' / range 0 i'ii i'ii / range 0 x'i - / \
+         range-views 0 - x'abcdefghijklmnop / range 0 'a 'b / range 0 ia xb / range 0 i x / \
+         range 0 I'a - / range 0 -- - / range 0 -'a - / range 0 - i'abcdefghijklmnopq / \
+         range-views 0 e'a - / range-views x - -",
+        "at 0 / false / entries / entries 'ii 1 / entries 'ii 1 / entries / bad line / bad line / \
+         bad line / bad line / bad line / bad line / bad line / bad line / bad line",
+        Served::BadLine,
+    )
+}
+
+#[test]
+fn visit_has_a_number_and_an_end(rt: HostRuntime) -> Result<(), Fail> {
+    assert_served(
+        &rt,
+        rt.alloc(),
+        "new / until 0 'a 00000000000000000001 stop / until 0 'a 18446744073709551615 fail / \
+         until 0 'a 18446744073709551616 stop / until 0 'a -1 stop / until 0 'a x fail / \
+         until 0 a 1 stop / until 0 'a 1 keep / until 0 'a 1 Stop / until 0 'a 1 failed",
+        "at 0 / values / values / bad line / bad line / bad line / bad line / bad line / bad line / \
+         bad line",
+        Served::BadLine,
+    )
+}
+
+#[test]
 fn words_stand_alone(rt: HostRuntime) -> Result<(), Fail> {
     assert_served(
         &rt,

@@ -32,6 +32,47 @@ fn place_past_the_last_one_has_no_version(rt: HostRuntime) -> Result<(), Fail> {
     )
 }
 
+#[test]
+fn walks_of_a_place_past_the_last_one_have_no_version(rt: HostRuntime) -> Result<(), Fail> {
+    assert_served(
+        &rt,
+        rt.alloc(),
+        "new / iter 1 / values 1 / range 1 - - / prefix 1 ' / matches 1 ' / matches-each 1 ' / \
+         views 1 / prefix-views 1 ' / range-views 1 - - / prefix-values 1 ' / until 1 ' 1 stop",
+        "at 0 / no version / no version / no version / no version / no version / no version / \
+         no version / no version / no version / no version / no version",
+        Served::Clean,
+    )
+}
+
+#[test]
+fn walks_of_a_discarded_place_have_no_version(rt: HostRuntime) -> Result<(), Fail> {
+    assert_served(
+        &rt,
+        rt.alloc(),
+        "new / insert 0 'a 1 / discard 0 / iter 0 / values 0 / range 0 i'a i'a / prefix 0 'a / \
+         matches 0 'a / matches-each 0 'a / views 0 / prefix-views 0 'a / range-views 0 i'a i'a / \
+         prefix-values 0 'a / until 0 'a 1 fail",
+        "at 0 / false / discarded / no version / no version / no version / no version / \
+         no version / no version / no version / no version / no version / no version / no version",
+        Served::Clean,
+    )
+}
+
+#[test]
+fn walks_ask_no_room(rt: HostRuntime) -> Result<(), Fail> {
+    assert_served(
+        &rt,
+        rt.alloc(),
+        "new-at 18446744073709551615 / iter 0 / values 0 / range 0 - - / prefix 0 ' / \
+         matches 0 ' / matches-each 0 ' / views 0 / prefix-views 0 ' / range-views 0 - - / \
+         prefix-values 0 ' / until 0 ' 1 stop",
+        "at 0 / entries / values / entries / entries / entries / entries / entries / entries / \
+         entries / values / values",
+        Served::Clean,
+    )
+}
+
 // The number is the greatest one, so a place that was tested after room would show `no room`.
 #[test]
 fn discarded_place_has_no_version(rt: HostRuntime) -> Result<(), Fail> {

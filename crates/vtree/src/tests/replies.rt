@@ -10,6 +10,8 @@ fn each_reply_has_its_line(rt: HostRuntime) -> Result<(), Fail> {
     let mut entries = Vec::new(alloc);
     entries.push((ArrayKey::<16>::new_from_slice(alloc, b"")?, 1))?;
     entries.push((ArrayKey::<16>::new_from_slice(alloc, b"a'b")?, u64::MAX))?;
+    let values = vec![in alloc; 0, u64::MAX]?;
+    let stopped = vec![in alloc; 3, 1]?;
     let replies = [
         (Reply::Place(0), "at 0\n"),
         (Reply::Discarded, "discarded\n"),
@@ -25,6 +27,22 @@ fn each_reply_has_its_line(rt: HostRuntime) -> Result<(), Fail> {
         (
             Reply::Entries(entries),
             "entries ' 1 'a'b 18446744073709551615\n",
+        ),
+        (Reply::Values(Vec::new(alloc)), "values\n"),
+        (Reply::Values(values), "values 0 18446744073709551615\n"),
+        (
+            Reply::Stopped {
+                values: Vec::new(alloc),
+                failed: false,
+            },
+            "values\n",
+        ),
+        (
+            Reply::Stopped {
+                values: stopped,
+                failed: true,
+            },
+            "failed 3 1\n",
         ),
         (Reply::Failed, "failed\n"),
         (Reply::NoVersion, "no version\n"),

@@ -1,6 +1,7 @@
 //! The keys that are measured with.
 use rand_core::utils::NextWord;
 use rand_pcg::Pcg32;
+use rart_versioned::{ArrayKey, KeyTrait};
 use std::alloc::{AllocError, Global};
 
 /// How keys are made.
@@ -45,4 +46,25 @@ fn key_of(words: &mut Pcg32, kind: Kind) -> [u8; 16] {
     }
     key[12..16].copy_from_slice(&words.next_word().to_be_bytes());
     key
+}
+
+/// The prefixes of one byte more than all keys of this kind share, in order: together they begin
+/// all of them.
+pub fn prefixes_of(alloc: Global, kind: Kind) -> Result<Vec<ArrayKey<16>>, AllocError> {
+    let mut prefixes = Vec::new(alloc);
+    for last in 0..=u8::MAX {
+        prefixes.push(prefix_of(alloc, kind, last)?)?;
+    }
+    Ok(prefixes)
+}
+
+fn prefix_of(alloc: Global, kind: Kind, last: u8) -> Result<ArrayKey<16>, AllocError> {
+    match kind {
+        Kind::Random => ArrayKey::new_from_slice(alloc, &[last]),
+        Kind::Shared => {
+            let mut bytes = [7; 13];
+            bytes[12] = last;
+            ArrayKey::new_from_slice(alloc, &bytes)
+        }
+    }
 }

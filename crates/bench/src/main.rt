@@ -1,24 +1,21 @@
 //! Times of the versioned tree beside those of std's `BTreeMap`, over the same loops, in
-//! nanoseconds an operation, the least of five passes. With the word `run` as argument it measures;
-//! else it says how to.
+//! nanoseconds an operation, and an entry for walks, the least of five passes. With the word `run`
+//! as argument it measures; else it says how to.
 #![tactic(auto)]
 
 ghost use Rattle.std.specs.Prelude.{◌<◌};
 
 mod keys;
 mod stores;
+mod walk_times;
+mod walks;
 
 use keys::{Kind, keys_of};
-use rart_versioned::{ArrayKey, VersionedAdaptiveRadixTree};
 use std::alloc::{AllocError, Global};
-use std::collections::BTreeMap;
-use std::env;
 use std::time::Instant;
-use stores::Store;
-
-type Tree = VersionedAdaptiveRadixTree<ArrayKey<16>, u64>;
-
-type Sorted = BTreeMap<[u8; 16], u64>;
+use std::{env, fmt};
+use stores::{Sorted, Store, Tree};
+use walk_times::measure_walks;
 
 /// How often each thing is timed. The least time is printed.
 const PASSES: usize = 5;
@@ -80,12 +77,50 @@ struct KeySet<K> {
     changed: Vec<K>,
 }
 
+/// Nanoseconds an operation.
+#[derive(Clone, Copy)]
+struct Times {
+    /// An insertion while the store is built.
+    build: u128,
+    /// A lookup that finds its key.
+    hit: u128,
+    /// One that doesn't.
+    miss: u128,
+    /// A snapshot and one insertion into it.
+    one_a_snapshot: u128,
+    /// An insertion, where each snapshot gets a hundred.
+    hundred_a_snapshot: u128,
+}
+
+impl Times {
+    /// The lesser of each.
+    fn least(self, other: Times) -> Times {
+        Times {
+            build: self.build.min(other.build),
+            hit: self.hit.min(other.hit),
+            miss: self.miss.min(other.miss),
+            one_a_snapshot: self.one_a_snapshot.min(other.one_a_snapshot),
+            hundred_a_snapshot: self.hundred_a_snapshot.min(other.hundred_a_snapshot),
+        }
+    }
+}
+
+impl fmt::Display for Times {
+    fn fmt<W: fmt::Write>(&self, f: &mut fmt::Formatter<W>) -> fmt::Result {
+        write!(
+            f,
+            "build {}, hit {}, miss {}, ",
+            self.build, self.hit, self.miss
+        )?;
+        write!(f, "snapshot and one {}, ", self.one_a_snapshot)?;
+        write!(f, "a hundred a snapshot {}", self.hundred_a_snapshot)
+    }
+}
+
 /// What one pass gave.
 #[derive(Drop)]
 struct Taken {
-    /// Nanoseconds an operation: building, lookups that hit and that miss, a snapshot with one
-    /// insertion, a hundred insertions a snapshot.
-    times: [u128; 5],
+    times: Times,
     /// How many of the keys were found.
     hit: u64,
     /// How many of the others were found.
@@ -96,7 +131,7 @@ struct Taken {
 fn pass<S: Store>(rt: &HostRuntime, keys: &KeySet<S::Key>) -> anyhow::Result<Taken> {
     let start = Instant::now(rt)?;
     let store = build::<S>(rt.alloc(), &keys.built)?;
-    let built = start.elapsed(rt)?.as_nanos();
+    let build_time = start.elapsed(rt)?.as_nanos();
 
     let start = Instant::now(rt)?;
     let hit = hits(&store, &keys.built);
@@ -117,20 +152,20 @@ fn pass<S: Store>(rt: &HostRuntime, keys: &KeySet<S::Key>) -> anyhow::Result<Tak
     let all = (keys.built.len() as u128).max(1);
     let some = (keys.changed.len() as u128).max(1);
     Ok(Taken {
-        times: [
-            built / all,
-            hit_time / all,
-            miss_time / all,
-            one_time / some,
-            hundred_time / some,
-        ],
+        times: Times {
+            build: build_time / all,
+            hit: hit_time / all,
+            miss: miss_time / all,
+            one_a_snapshot: one_time / some,
+            hundred_a_snapshot: hundred_time / some,
+        },
         hit,
         missed,
     })
 }
 
-// The least of each of the five times, over all passes.
-fn times<S: Store>(rt: &HostRuntime, kind: Kind, count: usize) -> anyhow::Result<[u128; 5]> {
+// The least of each time, over all passes.
+fn least_times<S: Store>(rt: &HostRuntime, kind: Kind, count: usize) -> anyhow::Result<Times> {
     let alloc = rt.alloc();
     let keys = KeySet {
         built: all_keys::<S>(alloc, kind, count, 1)?,
@@ -141,24 +176,17 @@ fn times<S: Store>(rt: &HostRuntime, kind: Kind, count: usize) -> anyhow::Result
     println!(rt; "  {} found, {} of the others", first.hit, first.missed)?;
     let mut least = first.times;
     for _ in 1..PASSES {
-        let next = pass::<S>(rt, &keys)?;
-        for (least, time) in least.iter_mut().zip(next.times) {
-            *least = (*least).min(time);
-        }
+        least = least.least(pass::<S>(rt, &keys)?.times);
     }
     Ok(least)
 }
 
 fn measure(rt: &HostRuntime, kind: Kind, count: usize) -> anyhow::Result<()> {
-    println!(rt; "{} keys, {count}", kind.name())?;
-    let [a, b, c, d, e] = times::<Tree>(rt, kind, count)?;
-    println!(rt;
-        "  tree:     build {a}, hit {b}, miss {c}, snapshot and one {d}, a hundred a snapshot {e}"
-    )?;
-    let [a, b, c, d, e] = times::<Sorted>(rt, kind, count)?;
-    println!(rt;
-        "  BTreeMap: build {a}, hit {b}, miss {c}, snapshot and one {d}, a hundred a snapshot {e}"
-    )?;
+    println!(rt; "{} keys, {count}, nanoseconds an operation", kind.name())?;
+    let tree = least_times::<Tree>(rt, kind, count)?;
+    println!(rt; "  tree:     {tree}")?;
+    let sorted = least_times::<Sorted>(rt, kind, count)?;
+    println!(rt; "  BTreeMap: {sorted}")?;
     Ok(())
 }
 
@@ -170,6 +198,7 @@ fn main(rt: HostRuntime) -> anyhow::Result<()> {
     for kind in [Kind::Random, Kind::Shared] {
         for count in [1_000, 10_000, 100_000] {
             measure(&rt, kind, count)?;
+            measure_walks(&rt, kind, count)?;
         }
     }
     Ok(())

@@ -3,6 +3,10 @@ use rart_versioned::{ArrayKey, KeyTrait, VersionedAdaptiveRadixTree};
 use std::alloc::{AllocError, Global};
 use std::collections::BTreeMap;
 
+pub type Tree = VersionedAdaptiveRadixTree<ArrayKey<16>, u64>;
+
+pub type Sorted = BTreeMap<[u8; 16], u64>;
+
 /// What is measured.
 pub trait Store: Drop {
     type Key: Drop;

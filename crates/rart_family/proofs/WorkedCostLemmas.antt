@@ -4,7 +4,7 @@ use Rattle.std.specs.Prelude.{ℕ, Some, [], ◌∷◌, codes}
 use Rattle.std.specs.FinMap.{gets}
 use Rattle.rart_maps.specs.Versions.{empty_at, with_key}
 use Rattle.rart_family.specs.Families.{Family}
-use Rattle.rart_family.specs.WorkedCosts.{RefusedMemoryIsARun, SnapshotCosts, ChangesApartCost, CloneCosts, ReplacementsCost, AbsentRemovalCosts, DeletionCosts, FailedUpdateCosts, DiscardedPlaceCosts, WrittenAndInsertedCosts, RoomForOneCosts, RoomForTwoCosts, InsertionByUpdateCosts, WrittenAndRemovedCosts, RefusedMemoryCosts, NumbersOfRemovalsCost, UpdatesOfAnAbsentKeyCost, ListsCost}
+use Rattle.rart_family.specs.WorkedCosts.{RefusedMemoryIsARun, SnapshotCosts, ChangesApartCost, CloneCosts, ReplacementsCost, AbsentRemovalCosts, DeletionCosts, FailedUpdateCosts, DiscardedPlaceCosts, WrittenAndInsertedCosts, RoomForOneCosts, RoomForTwoCosts, InsertionByUpdateCosts, WrittenAndRemovedCosts, RefusedMemoryCosts, NumbersOfRemovalsCost, UpdatesOfAnAbsentKeyCost, ListsCost, VisitsCost}
 
 pub snapshot_costs : SnapshotCosts
 snapshot_costs = simp gets refl
@@ -92,3 +92,6 @@ updates_of_an_absent_key_cost = simp gets refl
 
 pub lists_cost : ListsCost
 lists_cost = simp gets refl
+
+pub visits_cost : VisitsCost
+visits_cost = simp gets refl

@@ -5,7 +5,7 @@ use Rattle.rart_family.specs.Replies.{Place, Flag, Value, NoVersion, NoMemory}
 use Rattle.rart_family.specs.Families.{Family}
 use Rattle.rart_family.specs.Runs.{Run}
 use Rattle.rart_family.specs.Costs.{read_cost, read_least, change_cost, change_least, touch_least}
-use Rattle.rart_family.specs.WorkedRuns.{WorkedRun, snapshot_of_a_value, changes_apart, clone_and_snapshot, replacements, removal_of_an_absent_key, deletion_beside_a_snapshot, failed_update, discarded_place, written_and_inserted, room_for_one, room_for_two, insertion_by_update, written_and_removed, numbers_of_removals, updates_of_an_absent_key, lists_of_two_versions}
+use Rattle.rart_family.specs.WorkedRuns.{WorkedRun, snapshot_of_a_value, changes_apart, clone_and_snapshot, replacements, removal_of_an_absent_key, deletion_beside_a_snapshot, failed_update, discarded_place, written_and_inserted, room_for_one, room_for_two, insertion_by_update, written_and_removed, numbers_of_removals, updates_of_an_absent_key, lists_of_two_versions, visits_of_a_version}
 
 -- The sums of a run: how many nodes it enters to read, makes to change and enters to change.
 pub record Sums : Type 0 where
@@ -100,6 +100,10 @@ UpdatesOfAnAbsentKeyCost = Costs updates_of_an_absent_key 1 2 1 21 6
 -- Lists cost nothing beside the insertions of "b", "ab" and "a".
 abbrev pub ListsCost : Type 0
 ListsCost = Costs lists_of_two_versions 0 0 3 10 2
+
+-- so do visits
+abbrev pub VisitsCost : Type 0
+VisitsCost = Costs visits_of_a_version 0 0 2 8 1
 
 -- What is refused for memory leaves the family; and then there is no version at place 1.
 abbrev pub refused_memory : WorkedRun

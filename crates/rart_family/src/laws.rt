@@ -1,6 +1,6 @@
 //! What the definitions of families mean: laws, each the contract of a function that does nothing.
 ghost use Rattle.rart_family.specs.Laws.{StepsAreIsolated, PlacesStay, RepliesFixSteps, RepliesFixRuns, NoReplyIsWant, NoWantWithoutMemory, NoWantBeforeLack, ReadsLeaveFamily, VisitorsReplyAsIterators};
-ghost use Rattle.rart_family.specs.WorkedCosts.{RefusedMemoryIsARun, SnapshotCosts, ChangesApartCost, CloneCosts, ReplacementsCost, AbsentRemovalCosts, DeletionCosts, FailedUpdateCosts, DiscardedPlaceCosts, WrittenAndInsertedCosts, RoomForOneCosts, RoomForTwoCosts, InsertionByUpdateCosts, WrittenAndRemovedCosts, NumbersOfRemovalsCost, UpdatesOfAnAbsentKeyCost, ListsCost, RefusedMemoryCosts};
+ghost use Rattle.rart_family.specs.WorkedCosts.{RefusedMemoryIsARun, SnapshotCosts, ChangesApartCost, CloneCosts, ReplacementsCost, AbsentRemovalCosts, DeletionCosts, FailedUpdateCosts, DiscardedPlaceCosts, WrittenAndInsertedCosts, RoomForOneCosts, RoomForTwoCosts, InsertionByUpdateCosts, WrittenAndRemovedCosts, NumbersOfRemovalsCost, UpdatesOfAnAbsentKeyCost, ListsCost, VisitsCost, RefusedMemoryCosts};
 ghost use Rattle.rart_family.specs.WorkedRuns.{SnapshotKeepsItsValue, ChangesStayApart, CloneKeepsNumber, ReplacementGivesOldValue, AbsentKeyStaysAbsent, DeletionIsNotSeenInSnapshot, FailedUpdateKeepsValue, DiscardedPlaceIsNotUsedAgain, AnswerOutweighsWrite, RoomIsAsked, RoomTwoIsAsked, InsertionByUpdateTakesOne, RemovalOutweighsWrite, RemovalsRaiseNumber, UpdatesOfAnAbsentKey, ListsAreOfOneVersion, VisitsAreCountedFromOne};
 
 use rart_versioned::KeyTrait;
@@ -81,6 +81,7 @@ pub fn worked_costs()
     ensures numbers_of_removals_cost { NumbersOfRemovalsCost }
     ensures updates_of_an_absent_key_cost { UpdatesOfAnAbsentKeyCost }
     ensures lists_cost { ListsCost }
+    ensures visits_cost { VisitsCost }
     ensures refused_memory_costs { RefusedMemoryCosts }
     ensures refused_memory_is_a_run { RefusedMemoryIsARun }
 {}

@@ -4,7 +4,7 @@ use Rattle.std.specs.Fn.{Mut}
 use Rattle.rart_below.specs.declared.visit.VisitControl.{VisitControl}
 use Rattle.rart_below.specs.declared.visit.VisitControl.TheVariants.{Continue, Stop}
 use Rattle.rart_maps.specs.Visits.{CalledOn, CallableOn, Answers, AnswersUpTo, CallableInTurn, VisitUpTo, VisitUntil}
-use Rattle.rart_maps.specs.VisitLaws.{VisitOfNothing, VisitOfParts, FrontOfVisit, VisitableStepByStep, IfContinues, UntilNothing, UntilStepByStep}
+use Rattle.rart_maps.specs.VisitLaws.{VisitOfNothing, VisitOfParts, FrontOfVisit, VisitableStepByStep, IfContinues, UntilNothing, UntilStepByStep, FrontOfUntil, UntilCallableStepByStep}
 use Rattle.rart_maps.proofs.VisitLemmas.{answers-append}
 
 same_first : {A : Type 0} {x y : A} {xs ys : List A} → x ∷ xs ≡ y ∷ ys → x ≡ y
@@ -148,3 +148,13 @@ module _ {F A X E : Type 0} (g : Mut F A (Result VisitControl E)) (Shows : A →
 
   pub until_step_by_step : UntilStepByStep g Shows
   until_step_by_step x xs f f' last = (until-steps x xs f f' last, until-from x xs f f' last)
+
+  pub front_of_until : FrontOfUntil g Shows
+  front_of_until members f f' =
+      (λ v. (v.1.0, v.0, v.1.1, v.1.2), λ v. (v.1, (v.0, v.2, v.3)))
+
+  pub until_callable_step_by_step : UntilCallableStepByStep g Shows
+  until_callable_step_by_step x xs f = (
+    callable-first g Shows (Ok Continue) x xs f,
+    λ both. callable-from g Shows (Ok Continue) x xs f both.0 both.1,
+  )

@@ -3,7 +3,7 @@ use Rattle.std.specs.Prelude.{◌≡◌, ◌↔◌, List, [], ◌∷◌, ◌++�
 use Rattle.std.specs.Fn.{Mut}
 use Rattle.rart_below.specs.declared.visit.VisitControl.{VisitControl}
 use Rattle.rart_below.specs.declared.visit.VisitControl.TheVariants.{Continue, Stop}
-use Rattle.rart_maps.specs.Visits.{CalledOn, CallableOn, Visit, VisitFront, Visitable, VisitUntil}
+use Rattle.rart_maps.specs.Visits.{CalledOn, CallableOn, Visit, VisitFront, Visitable, VisitUntil, VisitUntilFront, VisitableUntil}
 
 module _ {F A X : Type 0} (g : Mut F A (Unit {0})) (Shows : A → X → Type 0) where
   -- A visit of nothing leaves its closure as it was.
@@ -44,3 +44,17 @@ module _ {F A X E : Type 0} (g : Mut F A (Result VisitControl E)) (Shows : A →
       VisitUntil g Shows f (x ∷ xs) last f'
       ↔ ((answer : Result VisitControl E) × (j : F) × CalledOn g Shows f x answer j
       × IfContinues answer (VisitUntil g Shows j xs last f') ((j ≡ f') × (last ≡ answer)))
+
+  -- What a refused visit leaves is what a visit leaves that goes on behind each member of a
+  -- beginning.
+  abbrev pub FrontOfUntil : Type 0
+  FrontOfUntil = (members : List X) (f f' : F) → VisitUntilFront g Shows f members f'
+      ↔ ((front rest : List X) × (members ≡ front ++ rest)
+      × VisitUntil g Shows f front (Ok Continue) f')
+
+  -- What may be called on the members in turn may be called on the first, and, whatever that call
+  -- leaves where it answers `Continue`, on the others in turn.
+  abbrev pub UntilCallableStepByStep : Type 0
+  UntilCallableStepByStep = (x : X) (xs : List X) (f : F) → VisitableUntil g Shows f (x ∷ xs)
+      ↔ (CallableOn g Shows f x
+      × ((j : F) → CalledOn g Shows f x (Ok Continue) j → VisitableUntil g Shows j xs))

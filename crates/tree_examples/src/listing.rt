@@ -18,7 +18,7 @@ pub fn listing(alloc: Global, list: &PriceList) -> Result<Vec<(VectorKey, u64)>,
     Ok(lines)
 }
 
-/// Puts the names in order behind what is there, each with its price. Refused for memory, a
+/// Puts the names in order into an empty list, each with its price. Refused for memory, a
 /// beginning of them is there.
 pub fn list_into(list: &PriceList, lines: &mut Vec<(VectorKey, u64)>) -> Result<(), AllocError>
     requires empty { lines.old.items ≡ [] }

@@ -1,6 +1,7 @@
 // What no clause says: the lines of the program, and that calls succeed where there is memory.
 
 mod changes;
+mod commands;
 mod families;
 mod lines;
 mod models;

@@ -181,8 +181,8 @@ impl<K: KeyTrait, V: Clone + Drop> VersionedAdaptiveRadixTree<K, V> {
     /// }
     /// ```
     ///
-    /// It goes down to the prefix, which may end inside what its keys have in common, and no node
-    /// beside those under it is entered. Refusals are as `iter` tells them.
+    /// It goes down to the prefix, which may end inside what its keys have in common. Refusals are
+    /// as `iter` tells them.
     pub fn prefix_iter_k(
         &self,
         prefix: &K,

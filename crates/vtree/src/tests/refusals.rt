@@ -84,7 +84,7 @@ fn discarded_place_has_no_version(rt: HostRuntime) -> Result<(), Fail> {
          remove 0 'a / delete 0 'a / update 0 'a - keep / try-update 0 'a - fail",
         "at 0 / discarded / no version / no version / no version / no version / no version / \
          no version / no version / no version / no version / no version / no version / \
-         no version / no version / no version",
+         no version / no version",
         Served::Clean,
     )
 }

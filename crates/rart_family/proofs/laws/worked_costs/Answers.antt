@@ -1,4 +1,4 @@
-use Rattle.rart_family.proofs.WorkedCostLemmas.{snapshot_costs, changes_apart_cost, clone_costs, replacements_cost, absent_removal_costs, deletion_costs, failed_update_costs, discarded_place_costs, written_and_inserted_costs, room_for_one_costs, room_for_two_costs, insertion_by_update_costs, written_and_removed_costs, refused_memory_costs, refused_memory_is_a_run, numbers_of_removals_cost, updates_of_an_absent_key_cost, lists_cost}
+use Rattle.rart_family.proofs.WorkedCostLemmas.{snapshot_costs, changes_apart_cost, clone_costs, replacements_cost, absent_removal_costs, deletion_costs, failed_update_costs, discarded_place_costs, written_and_inserted_costs, room_for_one_costs, room_for_two_costs, insertion_by_update_costs, written_and_removed_costs, refused_memory_costs, refused_memory_is_a_run, numbers_of_removals_cost, updates_of_an_absent_key_cost, lists_cost, visits_cost}
 use Rattle.rart_family.proofs.laws.worked_costs.Goals as goal
 
 pub returns-clause-snapshot_costs : goal.returns-clause-snapshot_costs
@@ -54,3 +54,6 @@ returns-clause-updates_of_an_absent_key_cost c = updates_of_an_absent_key_cost
 
 pub returns-clause-lists_cost : goal.returns-clause-lists_cost
 returns-clause-lists_cost c = lists_cost
+
+pub returns-clause-visits_cost : goal.returns-clause-visits_cost
+returns-clause-visits_cost c = visits_cost

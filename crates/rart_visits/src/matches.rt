@@ -27,7 +27,7 @@ pub fn visit_beginnings<P: Partial, V: Drop, F: FnMut(&[u8], &V)>(
     requires visitable { Visitable F.FnMut BySlice f.old
         (filter (λ pair. begins pair.0 probe.now) (pairs_of (pointer_shape P.bytes root.now))) }
     ensures visits { Visit F.FnMut BySlice f.old
-        (filter (λ pair. begins pair.0 probe.now) (pairs_of (pointer_shape P.bytes root.now))) f.new }
+        (filter (λ p. begins p.0 probe.now) (pairs_of (pointer_shape P.bytes root.now))) f.new }
     ensures counted { CountsUpTo (path_bound (pointer_shape P.bytes root.now) probe.now) 0
         work.old work.new }
     ensures entered { work.old.entered < work.new.entered }

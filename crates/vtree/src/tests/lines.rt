@@ -54,7 +54,8 @@ fn each_walk_has_its_count_of_words(rt: HostRuntime) -> Result<(), Fail> {
          range 0 - - - / range-views 0 - / range-views 0 i'a x'b - / prefix 0 / prefix 0 'a 'b / \
          prefix-views 0 / prefix-values 0 'a 1 / matches 0 / matches 0 'a 1 / matches-each 0 / \
          until 0 'a / until 0 'a 1 / until 0 'a stop / until 0 'a 1 stop 1",
-        "at 0 / bad line / bad line / bad line / bad line / bad line / bad line / bad line / bad line / \
+        "at 0 / bad line / bad line / bad line / bad line / bad line / bad line / bad line / \
+         bad line / \
          bad line / bad line / bad line / bad line / bad line / bad line / bad line / bad line / \
          bad line / bad line / bad line / bad line / bad line / bad line",
         Served::BadLine,
@@ -84,7 +85,8 @@ fn visit_has_a_number_and_an_end(rt: HostRuntime) -> Result<(), Fail> {
         "new / until 0 'a 00000000000000000001 stop / until 0 'a 18446744073709551615 fail / \
          until 0 'a 18446744073709551616 stop / until 0 'a -1 stop / until 0 'a x fail / \
          until 0 a 1 stop / until 0 'a 1 keep / until 0 'a 1 Stop / until 0 'a 1 failed",
-        "at 0 / values / values / bad line / bad line / bad line / bad line / bad line / bad line / \
+        "at 0 / values / values / bad line / bad line / bad line / bad line / bad line / \
+         bad line / \
          bad line",
         Served::BadLine,
     )

@@ -75,7 +75,8 @@ fn values_come_in_the_order_of_their_keys(rt: HostRuntime) -> Result<(), Fail> {
         rt.alloc(),
         "new / insert 0 'ab 3 / insert 0 'b 9 / insert 0 'a 4 / insert 0 'abc 1 / \
          prefix-values 0 'a / prefix-values 0 ' / prefix-values 0 'ab / prefix-values 0 'abcd",
-        "at 0 / false / false / false / false / values 4 3 1 / values 4 3 1 9 / values 3 1 / values",
+        "at 0 / false / false / false / false / values 4 3 1 / values 4 3 1 9 / values 3 1 / \
+         values",
         Served::Clean,
     )
 }

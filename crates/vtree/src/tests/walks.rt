@@ -8,7 +8,8 @@ fn snapshot_keeps_its_entries(rt: HostRuntime) -> Result<(), Fail> {
     assert_served(
         &rt,
         rt.alloc(),
-        "new / insert 0 'key1 1 / snapshot 0 / insert 0 'key2 2 / insert 1 'key3 3 / iter 0 / iter 1",
+        "new / insert 0 'key1 1 / snapshot 0 / insert 0 'key2 2 / insert 1 'key3 3 / iter 0 / \
+         iter 1",
         "at 0 / false / at 1 / false / false / entries 'key1 1 'key2 2 / entries 'key1 1 'key3 3",
         Served::Clean,
     )
@@ -149,7 +150,8 @@ fn emptied_version_lists_nothing(rt: HostRuntime) -> Result<(), Fail> {
         "new / insert 0 'a 1 / delete 0 'a / iter 0 / values 0 / range 0 - - / prefix 0 ' / \
          matches 0 'a / matches-each 0 'a / views 0 / prefix-views 0 ' / range-views 0 - - / \
          prefix-values 0 ' / until 0 ' 1 fail",
-        "at 0 / false / true / entries / values / entries / entries / entries / entries / entries / \
+        "at 0 / false / true / entries / values / entries / entries / entries / entries / \
+         entries / \
          entries / entries / values / values",
         Served::Clean,
     )

@@ -7,6 +7,7 @@ mod heap;
 mod indexed;
 mod inline;
 mod mappings;
+mod plain;
 mod refusals;
 mod sorted;
 mod views;

@@ -4,7 +4,7 @@ use Rattle.std.specs.Int.{from_le_bytes, w32, w64}
 use Rattle.std.proofs.lemmas.List.{take-append-drop, drop-drop, length-drop, length-take-le}
 use Rattle.std.proofs.lemmas.Nat.{le_bytes_4, le_bytes_8}
 use Rattle.rart_below.specs.Bytes.{common_length}
-use Rattle.rart_below.proofs.CommonLengthLemmas.{common_length-append}
+use Rattle.rart_below.proofs.CommonLengthLemmas.{common_length-append, common_length-split}
 
 abbrev AreBytes : List ℕ → Type 0
 AreBytes bytes = (place : ℕ) → get_or bytes place 0 < 256
@@ -63,32 +63,39 @@ past_block count place left right has same =
     ∙ common_length-append (block count place left) _ _ in
     omega (arith, whole, length-block count place left has)
 
+-- a beginning that is the same in both is longer by a block that is
+longer_by : (count place : ℕ) (left right : List ℕ) → HasBlock count place left
+    → block count place left ≡ block count place right → place ≤ common_length left right
+    → place + count ≤ common_length left right
+longer_by count place left right has same le =
+    let split = common_length-split left right place le in
+    let past = past_block count place left right has same in
+    omega (arith, split, past)
+
 module _ (place number : ℕ) (left right : List ℕ) where
   -- the same where the block of each is this number
-  pub common_length-past_eight : HasBlock 8 place left → HasBlock 8 place right
+  pub longer_by_eight : HasBlock 8 place left → HasBlock 8 place right
       → number ≡ from_le_bytes w64 (take 8 (drop place left))
       → number ≡ from_le_bytes w64 (take 8 (drop place right))
-      → place + 8 + common_length (drop (place + 8) left) (drop (place + 8) right)
-      ≡ place + common_length (drop place left) (drop place right)
-  common_length-past_eight has_left has_right is_left is_right =
+      → place ≤ common_length left right → place + 8 ≤ common_length left right
+  longer_by_eight has_left has_right is_left is_right =
       let bytes_left =
       le_bytes_8 (block 8 place left) number (length-block 8 place left has_left)
       (AreBytes-block 8 place left has_left) is_left in
       let bytes_right =
       le_bytes_8 (block 8 place right) number (length-block 8 place right has_right)
       (AreBytes-block 8 place right has_right) is_right in
-      past_block 8 place left right has_left (sym bytes_left ∙ bytes_right)
+      longer_by 8 place left right has_left (sym bytes_left ∙ bytes_right)
 
-  pub common_length-past_four : HasBlock 4 place left → HasBlock 4 place right
+  pub longer_by_four : HasBlock 4 place left → HasBlock 4 place right
       → number ≡ from_le_bytes w32 (take 4 (drop place left))
       → number ≡ from_le_bytes w32 (take 4 (drop place right))
-      → place + 4 + common_length (drop (place + 4) left) (drop (place + 4) right)
-      ≡ place + common_length (drop place left) (drop place right)
-  common_length-past_four has_left has_right is_left is_right =
+      → place ≤ common_length left right → place + 4 ≤ common_length left right
+  longer_by_four has_left has_right is_left is_right =
       let bytes_left =
       le_bytes_4 (block 4 place left) number (length-block 4 place left has_left)
       (AreBytes-block 4 place left has_left) is_left in
       let bytes_right =
       le_bytes_4 (block 4 place right) number (length-block 4 place right has_right)
       (AreBytes-block 4 place right has_right) is_right in
-      past_block 4 place left right has_left (sym bytes_left ∙ bytes_right)
+      longer_by 4 place left right has_left (sym bytes_left ∙ bytes_right)

@@ -1,5 +1,5 @@
 -- Children in slots that stand beside their keys.
-use Rattle.std.proofs.Common.{◌≡◌, ◌<◌, ◌≤◌, ◌≢◌, inl, inr, ℕ, zero, suc, length, true, false, cond, List, [], ◌∷◌, ◌++◌, refl, ap, sym, ◌∙◌, arith, get_or, take, set, Option, None, Some}
+use Rattle.std.proofs.Common.{◌≡◌, ◌<◌, ◌≤◌, ◌≢◌, inl, inr, ℕ, zero, suc, length, ◌+◌, true, false, cond, List, [], ◌∷◌, ◌++◌, refl, ap, sym, ◌∙◌, arith, get_or, take, set, Option, None, Some}
 use Rattle.std.specs.List.{insert, remove}
 use Rattle.std.specs.Prelude.{nat_lt}
 use Rattle.std.proofs.lemmas.Bool.{cases_lt, lt-ltb, le-ltb}
@@ -19,6 +19,13 @@ rank-skip : (byte key : ℕ) (keys : List ℕ) → byte ≤ key → rank byte (k
 rank-skip byte key keys h =
     let counts : nat_lt key byte ≡ false = le-ltb key byte h in
     sum_by-cons (λ k. cond (nat_lt k byte) 1 0) key keys ∙ rw counts (omega arith)
+
+-- each key is below such a number
+pub rank-past : (from : ℕ) (keys : List ℕ) → ((place : ℕ) → get_or keys place 0 < from)
+    → rank from keys ≡ length keys
+rank-past from [] below = refl
+rank-past from (key ∷ keys) below =
+    rank-later from key keys (below zero) ∙ ap suc (rank-past from keys (λ k. below (suc k)))
 
 module _ {C : Type 0} where
   abbrev pub IsFilled : List ℕ → List (Option C) → Type 0
@@ -49,6 +56,43 @@ module _ {C : Type 0} where
   rank-stop byte key child keys slots h order le =
       rank-skip byte key keys le ∙ rank-below byte key keys slots h le
       (ascending_parts (key, child) (keyed_children keys slots) order).0
+
+  -- keys that ascend behind a number leave room for it below each byte
+  rank-room : (byte least : ℕ) (keys : List ℕ) (slots : List (Option C)) → IsFilled keys slots
+      → IsAscending (keyed_children keys slots) → IsBelow least (keyed_children keys slots)
+      → least < byte → rank byte keys + suc least ≤ byte
+  rank-room byte least [] slots h order below lt = omega (arith, lt)
+  rank-room byte least (key ∷ keys) [] h order below lt = cc
+  rank-room byte least (key ∷ keys) (None ∷ slots) h order below lt = cc
+  rank-room byte least (key ∷ keys) (Some child ∷ slots) h order below lt =
+      let first = (below_parts least (key, child) (keyed_children keys slots) below).0 in
+      let parts = ascending_parts (key, child) (keyed_children keys slots) order in
+      elim (cases_lt key byte) [
+        | inl less ↦
+            let later = rank-later byte key keys less in
+            let rest = rank-room byte key keys slots h parts.1 parts.0 less in
+            omega (arith, first, later, rest)
+        | inr more ↦
+            let stop = rank-stop byte key child keys slots h order more in
+            omega (arith, stop, lt)
+      ]
+
+  -- no more keys that ascend are below a byte than there are numbers below it
+  pub rank-small : (byte : ℕ) (keys : List ℕ) (slots : List (Option C)) → IsFilled keys slots
+      → IsAscending (keyed_children keys slots) → rank byte keys ≤ byte
+  rank-small byte [] slots h order = omega arith
+  rank-small byte (key ∷ keys) [] h order = cc
+  rank-small byte (key ∷ keys) (None ∷ slots) h order = cc
+  rank-small byte (key ∷ keys) (Some child ∷ slots) h order =
+      let parts = ascending_parts (key, child) (keyed_children keys slots) order in
+      elim (cases_lt key byte) [
+        | inl less ↦
+            let later = rank-later byte key keys less in
+            let rest = rank-room byte key keys slots h parts.1 parts.0 less in
+            omega (arith, later, rest)
+        | inr more ↦
+            let stop = rank-stop byte key child keys slots h order more in omega (arith, stop)
+      ]
 
   -- where the byte is among the keys, its child stands at its rank
   pub child_at-rank : (byte : ℕ) (keys : List ℕ) (slots : List (Option C)) → IsFilled keys slots

@@ -1,9 +1,13 @@
 -- A move of children from the front of one list to the end of another.
-use Rattle.std.proofs.Common.{◌≡◌, ◌<◌, ℕ, suc, length, ◌+◌, true, List, [], ◌∷◌, ◌++◌, refl, ap, sym, ◌∙◌, subst, arith, append_assoc, length-append, None, Some}
+use Rattle.std.proofs.Common.{◌≡◌, ◌<◌, ℕ, suc, length, ◌+◌, drop, set, get_or, true, Option, List, [], ◌∷◌, ◌++◌, refl, ap, sym, ◌∙◌, subst, arith, append_assoc, length-append, None, Some}
 use Rattle.std.specs.Prelude.{nat_le}
 use Rattle.std.proofs.lemmas.Bool.Decides.{nat_tests}
+use Rattle.std.proofs.lemmas.List.{length-drop, drop-set-lt}
+use Rattle.std.proofs.Math.Seq.{drop-cons}
 use Rattle.rart_below.specs.Children.{child_at, with_child, without_child, children_from, first_of, IsAscending}
 use Rattle.rart_below.specs.Laws.{IsBelow}
+use Rattle.rart_below.specs.Layouts.{keyed_children, is_filled}
+use Rattle.rart_below.proofs.KeyedChildrenLemmas.{slots_enough, held_beside}
 use Rattle.rart_below.proofs.AscendingLemmas.{below_parts, ascending_parts, child_at-later, child_at-here, with_child-later, without_child-here, without_child-below, children_from-below}
 
 module _ {C : Type 0} where
@@ -89,3 +93,78 @@ module _ {C : Type 0} where
   children_from-zero (child ∷ children) =
       let kept : nat_le 0 child.0 ≡ true = grind (arith, nat_tests) in
       rw kept (ap (λ (l : List (ℕ × C)). child ∷ l) (children_from-zero children))
+
+  -- A walk over slots has come to this place: from here on each key has a child beside it, and
+  -- what was moved and these children make the whole.
+  pub record IsMoving (place : ℕ) (keys : List ℕ) (slots : List (Option C))
+      (moved all : List (ℕ × C)) : Type 0 where
+    pub filled : is_filled (drop place keys) (drop place slots) ≡ true
+    pub together : moved ++ keyed_children (drop place keys) (drop place slots) ≡ all
+
+  pub record SlotMoves (place : ℕ) (child : C) (keys : List ℕ) (slots : List (Option C))
+      (moved all : List (ℕ × C)) : Type 0 where
+    pub absent : child_at (get_or keys place 0) moved ≡ None
+    pub room : length moved < length all
+    pub moving : IsMoving (place + 1) keys (set slots place None)
+        (with_child (get_or keys place 0) child moved) all
+
+  module _ (place : ℕ) (keys : List ℕ) (slots : List (Option C)) (moved all : List (ℕ × C))
+      (lt : place < length keys) (at : IsMoving place keys slots moved all) where
+    pub moving-within : place < length slots
+    moving-within =
+        let enough = slots_enough (drop place keys) (drop place slots) at.filled in
+        let left = length-drop place keys in
+        let right = length-drop place slots in
+        omega (arith, lt, enough, left, right)
+
+    keys-first : drop place keys ≡ get_or keys place 0 ∷ drop (suc place) keys
+    keys-first = drop-cons keys place 0 lt
+
+    pub moving-held : get_or slots place None ≡ None → ⊥
+    moving-held is =
+        let slots-first : drop place slots ≡ None ∷ drop (suc place) slots =
+        drop-cons slots place None moving-within ∙ ap (λ o. o ∷ drop (suc place) slots) is in
+        held_beside (get_or keys place 0 ∷ drop (suc place) keys) (None ∷ drop (suc place) slots) 0
+        (subst (λ k. is_filled k (None ∷ drop (suc place) slots) ≡ true) keys-first
+        (subst (λ s. is_filled (drop place keys) s ≡ true) slots-first at.filled))
+        (omega arith) refl
+
+    module _ (child : C) (is : get_or slots place None ≡ Some child) (order : IsAscending all) where
+      slots-first : drop place slots ≡ Some child ∷ drop (suc place) slots
+      slots-first = drop-cons slots place None moving-within
+          ∙ ap (λ o. o ∷ drop (suc place) slots) is
+
+      abbrev rest : List (ℕ × C)
+      rest = keyed_children (drop (suc place) keys) (drop (suc place) slots)
+
+      whole : moved ++ (get_or keys place 0, child) ∷ rest ≡ all
+      whole =
+          sym (ap (λ k. moved ++ keyed_children k (Some child ∷ drop (suc place) slots)) keys-first)
+          ∙ sym (ap (λ s. moved ++ keyed_children (drop place keys) s) slots-first)
+          ∙ at.together
+
+      still-filled : is_filled (drop (suc place) keys) (drop (suc place) slots) ≡ true
+      still-filled =
+          subst (λ k. is_filled k (Some child ∷ drop (suc place) slots) ≡ true) keys-first
+          (subst (λ s. is_filled (drop place keys) s ≡ true) slots-first at.filled)
+
+      pub slot_moves : SlotMoves place child keys slots moved all
+      slot_moves =
+          let last =
+          with_child-last moved (get_or keys place 0, child) rest
+          (subst IsAscending (sym whole) order) in
+          let later : drop (suc place) (set slots place None) ≡ drop (suc place) slots =
+          drop-set-lt (suc place) slots place None (omega arith) in
+          let next : place + 1 ≡ suc place = omega arith in
+          let put : with_child (get_or keys place 0) child moved ++ rest ≡ all =
+          ap (λ l. l ++ rest) last.1
+          ∙ append_assoc moved ((get_or keys place 0, child) ∷ []) rest ∙ whole in
+          record {
+            absent = last.0;
+            room = omega (arith, simp length-append at (ap length whole));
+            moving =
+                rw next (record {
+                  filled = rw later still-filled;
+                  together = rw later put;
+                });
+          }

@@ -10,7 +10,7 @@ use Rattle.rart_below.specs.Children.{child_at, with_child, without_child, child
 use Rattle.rart_below.specs.Layouts.{rank, keyed_children, is_filled, IsPlaceOf, IsAbsent}
 use Rattle.rart_below.specs.Laws.{length-keyed_children}
 use Rattle.rart_below.proofs.AscendingLemmas.{ascending-with_child, ascending-where_key, without_child-absent}
-use Rattle.rart_below.proofs.KeyedChildrenLemmas.{slots_enough, child_at-rank, child_at-no_rank, keyed-insert, keyed-set, keyed-remove, children_from-rank, children_from-past, held_beside}
+use Rattle.rart_below.proofs.KeyedChildrenLemmas.{slots_enough, rank-small, child_at-rank, child_at-no_rank, keyed-insert, keyed-set, keyed-remove, children_from-rank, children_from-past, held_beside}
 
 module _ {C : Type 0} where
   -- the test of a mapping by keys
@@ -59,6 +59,16 @@ module _ {C : Type 0} where
   pub length-kept : (width : ℕ) (keys : List ℕ) (slots : List (Option C)) → IsKept width keys slots
       → length (keyed_children keys slots) ≡ length keys
   length-kept width keys slots kept = length-keyed_children keys slots kept.filled
+
+  pub rank-kept : (width byte : ℕ) (keys : List ℕ) (slots : List (Option C))
+      → IsKept width keys slots → rank byte keys ≤ byte
+  rank-kept width byte keys slots kept = rank-small byte keys slots kept.filled kept.ascending
+
+  -- the same where the test of the mapping has been made
+  pub rank-in_order : (width byte : ℕ) (keys : List ℕ) (slots : List (Option C))
+      → in_order width keys slots ≡ true → rank byte keys ≤ byte
+  rank-in_order width byte keys slots order =
+      rank-kept width byte keys slots (kept_from_order width keys slots order)
 
   pub found : (width byte : ℕ) (keys : List ℕ) (slots : List (Option C)) (place : ℕ) (o : Option C)
       → IsKept width keys slots → IsPlaceOf byte keys place → o ≡ get_or slots place o

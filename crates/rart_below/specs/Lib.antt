@@ -9,5 +9,6 @@ pub mod Layouts
 pub mod LendingKeyView
 pub mod Lent
 pub mod Mapped
+pub mod Plain
 pub mod SlotArray
 pub mod SortedKeyedMapping

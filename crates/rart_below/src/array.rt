@@ -14,10 +14,14 @@ pub struct ArrPartial<const N: usize> {
     bytes: ArrayVec<u8, N>,
 }
 
+// Bytes of the full length are copied whole, by a copy whose length the compiler knows.
 fn inline_bytes<const N: usize>(bytes: &[u8]) -> ArrayVec<u8, N>
     requires { length bytes.now ≤ N }
     ensures { result.items ≡ bytes.now }
 {
+    if let Ok(whole) = <[u8; N]>::try_from(bytes) {
+        return ArrayVec::from(whole);
+    }
     let mut inline = ArrayVec::new();
     let _ = inline.try_extend_from_slice(bytes);
     inline

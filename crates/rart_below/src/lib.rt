@@ -6,6 +6,7 @@ mod array;
 mod key;
 mod mapping;
 mod partial;
+mod plain;
 mod prefix_length;
 mod slot;
 mod vector;
@@ -14,8 +15,9 @@ mod visit;
 
 pub use array::{ArrPartial, ArrayKey};
 pub use key::KeyTrait;
-pub use mapping::{DirectMapping, IndexedMapping, NodeMapping, SortedKeyedMapping, move_children};
+pub use mapping::{DirectMapping, IndexedMapping, NodeMapping, SortedKeyedMapping};
 pub use partial::Partial;
+pub use plain::{AdaptiveRadixTree, PlainIter};
 pub use slot::{Refusal, Slot, SlotUpdate};
 pub use vector::{VectorKey, VectorPartial};
 pub use view::LendingKeyView;

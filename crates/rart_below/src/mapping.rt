@@ -8,14 +8,12 @@ ghost use Rattle.rart_below.specs.Lent.{LendsChild};
 
 mod direct;
 mod indexed;
-mod moves;
 mod slot_array;
 mod slots;
 mod sorted;
 
 pub use direct::DirectMapping;
 pub use indexed::IndexedMapping;
-pub use moves::move_children;
 pub use sorted::SortedKeyedMapping;
 
 /// A finite map from bytes to children, visited ascending.

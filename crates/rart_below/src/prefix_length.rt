@@ -5,17 +5,16 @@ ghost use Rattle.rart_below.specs.Bytes.{common_length};
 
 /// The length of the longest common beginning.
 ///
-/// Where both are long enough, blocks of bytes are compared as numbers first, and only the bytes
-/// behind them one by one.
+/// Where both are long enough, blocks of eight or of four bytes are compared as numbers first, of
+/// which the last may overlap the one before. Only where a block differs are bytes compared one by
+/// one.
 #[tactic(auto, using(crate::proofs::CommonLengthLemmas::common_step, crate::proofs::CommonLengthLemmas::common_stop, crate::proofs::CommonLengthLemmas::common_stop_left, crate::proofs::CommonLengthLemmas::common_stop_right))]
 pub(crate) fn prefix_length(left: &[u8], right: &[u8]) -> usize
     ensures { result ≡ common_length left.now right.now }
 {
-    let mut matched = 0;
-    if left.len() >= 8 && right.len() >= 8 {
-        matched = equal_blocks(left, right);
-    }
-    while matched < left.len() && matched < right.len() {
+    let shorter = left.len().min(right.len());
+    let mut matched = equal_blocks(left, right, shorter);
+    while matched < shorter {
         if left[matched] != right[matched] {
             return matched;
         }
@@ -24,23 +23,62 @@ pub(crate) fn prefix_length(left: &[u8], right: &[u8]) -> usize
     matched
 }
 
-/// The length of the blocks from the front that are the same in both: as many of eight bytes as
-/// there are, and then one of four.
-fn equal_blocks(left: &[u8], right: &[u8]) -> usize
-    ensures in_left { result ≤ length left.now }
-    ensures in_right { result ≤ length right.now }
-    ensures equal { result + common_length (drop result left.now) (drop result right.now)
-        ≡ common_length left.now right.now }
+/// The length of a beginning that is the same in both: of all blocks before the first that differs,
+/// or of the shorter one where no block does. Fewer than four bytes make no block.
+fn equal_blocks(left: &[u8], right: &[u8], shorter: usize) -> usize
+    requires in_left { shorter ≤ length left.now }
+    requires in_right { shorter ≤ length right.now }
+    ensures at_most { result ≤ shorter }
+    ensures equal { result ≤ common_length left.now right.now }
 {
-    let shorter = left.len().min(right.len());
+    if shorter >= 8 {
+        return equal_by_eight(left, right, shorter);
+    }
+    if shorter >= 4 {
+        return equal_by_four(left, right, shorter);
+    }
+    0
+}
+
+/// The same by blocks of eight bytes, of which the last ends where the shorter one does.
+fn equal_by_eight(left: &[u8], right: &[u8], shorter: usize) -> usize
+    requires long { 8 ≤ shorter }
+    requires in_left { shorter ≤ length left.now }
+    requires in_right { shorter ≤ length right.now }
+    ensures at_most { result ≤ shorter }
+    ensures equal { result ≤ common_length left.now right.now }
+{
     let mut matched = 0;
-    while shorter - matched >= 8 && eight_at(left, matched) == eight_at(right, matched) {
+    while shorter - matched >= 8 {
+        if eight_at(left, matched) != eight_at(right, matched) {
+            return matched;
+        }
         matched += 8;
     }
-    if shorter - matched >= 4 && four_at(left, matched) == four_at(right, matched) {
-        matched += 4;
+    let last = shorter - 8;
+    if eight_at(left, last) == eight_at(right, last) {
+        return shorter;
     }
     matched
+}
+
+/// The same by two blocks of four bytes, where there are at most eight.
+fn equal_by_four(left: &[u8], right: &[u8], shorter: usize) -> usize
+    requires long { 4 ≤ shorter }
+    requires short { shorter ≤ 8 }
+    requires in_left { shorter ≤ length left.now }
+    requires in_right { shorter ≤ length right.now }
+    ensures at_most { result ≤ shorter }
+    ensures equal { result ≤ common_length left.now right.now }
+{
+    if four_at(left, 0) != four_at(right, 0) {
+        return 0;
+    }
+    let last = shorter - 4;
+    if four_at(left, last) == four_at(right, last) {
+        return shorter;
+    }
+    4
 }
 
 /// The eight bytes from this place on, as one number.

@@ -1,6 +1,6 @@
 //! The mappings of width 4 and 16, and the move from one to the other.
 use crate::tests::mappings::{assert_children_change, assert_four_children, assert_next};
-use rart_below::{NodeMapping, SortedKeyedMapping, move_children};
+use rart_below::{NodeMapping, SortedKeyedMapping};
 use std::test::Fail;
 
 #[test]
@@ -34,7 +34,7 @@ fn children_move_to_a_wider_mapping(rt: HostRuntime) -> Result<(), Fail> {
     let mut narrow: SortedKeyedMapping<u32, 4> = SortedKeyedMapping::new();
     assert_four_children(&rt, &mut narrow);
     let mut wide: SortedKeyedMapping<u32, 16> = SortedKeyedMapping::new();
-    move_children(&mut narrow, &mut wide);
+    narrow.move_into(&mut wide);
     assert_eq!(rt; narrow.num_children(), 0);
     assert_eq!(rt; wide.num_children(), 4);
     assert_next(&rt, &wide, 0, 0, 2);

@@ -1,5 +1,5 @@
 //! The mapping of width 48: an index from each byte to its slot.
-ghost use Rattle.std.specs.Prelude.{◌≡◌, [], IsTrue};
+ghost use Rattle.std.specs.Prelude.{◌≡◌, ◌≤◌, [], length, IsTrue};
 ghost use Rattle.rart_below.specs.Layouts.{SameBytes};
 ghost use Rattle.rart_below.specs.IndexedMapping.{indexed_children, indexed_in_order};
 
@@ -37,6 +37,30 @@ impl<C> IndexedMapping<C> {
                 ),
             },
             used: 0,
+        }
+    }
+}
+
+impl<C: Drop> IndexedMapping<C> {
+    /// Moves the children into another mapping, which is empty and has room for them, in one walk
+    /// over the index. This one is left empty.
+    pub fn move_into<M: NodeMapping<C>>(&mut self, to: &mut M)
+        requires order { IsTrue (indexed_in_order self.old) }
+        requires to_order { IsTrue (M.in_order to.old) }
+        requires empty { M.children to.old ≡ [] }
+        requires room { length (indexed_children self.old) ≤ M.width }
+        ensures order { IsTrue (indexed_in_order self.new) }
+        ensures emptied { indexed_children self.new ≡ [] }
+        ensures to_order { IsTrue (M.in_order to.new) }
+        ensures children { M.children to.new ≡ indexed_children self.old }
+    {
+        let mut least = 0;
+        while let Some((byte, _)) = self.next_from(least) {
+            let Some(child) = self.delete_child(byte) else {
+                unreachable!()
+            };
+            to.add_child(byte, child);
+            least = byte as usize + 1;
         }
     }
 }

@@ -1,11 +1,11 @@
 //! The mapping of width 4 and 16: bytes in ascending order, with a child beside each.
-ghost use Rattle.std.specs.Prelude.{◌≡◌, ◌≤◌, [], Some, None, length, MatchOption, IsTrue};
+ghost use Rattle.std.specs.Prelude.{◌≡◌, ◌≤◌, ℕ, [], Some, None, length, MatchOption, IsTrue};
 ghost use Rattle.rart_below.specs.Layouts.{SameBytes, IsAbsent, IsPlaceOf, rank};
 ghost use Rattle.rart_below.specs.SortedKeyedMapping.{sorted_children, sorted_in_order};
 
 use super::NodeMapping;
 use super::slot_array::SlotArray;
-use super::slots::{insert_slot, remove_slot, replace_slot};
+use super::slots::{insert_slot, remove_slot, replace_slot, take_slot};
 use arrayvec::ArrayVec;
 use std::alloc::AllocError;
 use std::array;
@@ -19,24 +19,34 @@ pub struct SortedKeyedMapping<C, const WIDTH: usize> {
 }
 
 /// How many of the keys are below the byte. It looks at each key, so that no branch depends on
-/// them.
+/// them, and counts in a byte, of which a register holds sixteen.
 fn rank_of(keys: &[u8], byte: u8) -> usize
+    requires { rank byte keys.now ≤ byte }
     ensures value { result ≡ rank byte keys.now }
     ensures fits { result ≤ length keys.now }
 {
-    keys.iter().filter(|key| **key < byte).count()
+    let mut rank = 0u8;
+    for key in keys {
+        rank += u8::from(*key < byte);
+    }
+    usize::from(rank)
 }
 
 /// How many of the keys are below the number.
 fn rank_from(keys: &[u8], from: usize) -> usize
+    requires { (byte : ℕ) → rank byte keys.now ≤ byte }
     ensures value { result ≡ rank from keys.now }
     ensures fits { result ≤ length keys.now }
 {
-    keys.iter().filter(|key| usize::from(**key) < from).count()
+    if from > usize::from(u8::MAX) {
+        return keys.len();
+    }
+    rank_of(keys, from as u8)
 }
 
 /// Where the byte stands among ascending keys.
 fn place_of(keys: &[u8], byte: u8) -> Option<usize>
+    requires { rank byte keys.now ≤ byte }
     ensures { MatchOption result (IsAbsent byte keys.now) (IsPlaceOf byte keys.now) }
 {
     let place = rank_of(keys, byte);
@@ -59,6 +69,29 @@ impl<C, const WIDTH: usize> SortedKeyedMapping<C, WIDTH> {
                 slots: array::from_fn(|_| None),
             },
         }
+    }
+}
+
+impl<C: Drop, const WIDTH: usize> SortedKeyedMapping<C, WIDTH> {
+    /// Moves the children into another mapping, which is empty and has room for them, in one walk
+    /// over the slots. This one is left empty.
+    pub fn move_into<M: NodeMapping<C>>(&mut self, to: &mut M)
+        requires order { IsTrue (sorted_in_order self.old) }
+        requires to_order { IsTrue (M.in_order to.old) }
+        requires empty { M.children to.old ≡ [] }
+        requires room { length (sorted_children self.old) ≤ M.width }
+        ensures order { IsTrue (sorted_in_order self.new) }
+        ensures emptied { sorted_children self.new ≡ [] }
+        ensures to_order { IsTrue (M.in_order to.new) }
+        ensures children { M.children to.new ≡ sorted_children self.old }
+    {
+        for place in 0..self.keys.len() {
+            let Some(child) = take_slot(&mut self.children.slots, place) else {
+                unreachable!()
+            };
+            to.add_child(self.keys.as_slice()[place], child);
+        }
+        self.keys.clear();
     }
 }
 

@@ -1,12 +1,12 @@
-use Rattle.std.proofs.Common.{length, ◌-◌, ◌≡◌, ◌+◌, ◌≤◌, drop}
+use Rattle.std.proofs.Common.{◌-◌, ◌≡◌, ◌+◌, ◌≤◌, drop}
 use Rattle.rart_below.specs.Bytes.{common_length}
 use Rattle.rart_below.proofs.prefix_length.prefix_length.Given as goal
 
 abbrev pub invariant-loop-matched : goal.invariant-loop-matched
 invariant-loop-matched l =
-    (l.matched ≤ length l.left) × (l.matched ≤ length l.right)
+    (l.matched ≤ l.shorter)
     × (l.matched + common_length (drop l.matched l.left) (drop l.matched l.right)
     ≡ common_length l.left l.right)
 
 abbrev pub decreases-loop-matched : goal.decreases-loop-matched
-decreases-loop-matched l = length l.left - l.matched
+decreases-loop-matched l = l.shorter - l.matched

@@ -1,6 +1,12 @@
 use Rattle.std.proofs.Common.{arith, length, ◌<◌, rules}
-use Rattle.rart_below.proofs.SortedMappingLemmas.{kept_from_order, length-kept, added}
+use Rattle.rart_below.proofs.SortedMappingLemmas.{rank-in_order, kept_from_order, length-kept, added}
 use Rattle.rart_below.proofs.mapping.sorted.SortedKeyedMappingNodeMapping.add_child.Goals as goal
+
+pub rank_of-place-requires : goal.rank_of-place-requires
+rank_of-place-requires g c =
+    rw c.as_slice.ensures.value
+    (rank-in_order g.row.WIDTH c.args.byte c.args.self.now.keys.items
+    c.args.self.now.children.slots c.requires.order)
 
 pub insert-requires : goal.insert-requires
 insert-requires g c =

@@ -1,5 +1,11 @@
-use Rattle.rart_below.proofs.SortedMappingLemmas.{kept_from_order, never_empty, next_found, next_none}
+use Rattle.rart_below.proofs.SortedMappingLemmas.{rank-in_order, kept_from_order, never_empty, next_found, next_none}
 use Rattle.rart_below.proofs.mapping.sorted.SortedKeyedMappingNodeMapping.next_from.Goals as goal
+
+pub rank_from-place-requires : goal.rank_from-place-requires
+rank_from-place-requires g c byte =
+    rw c.as_slice-keys.ensures.value
+    (rank-in_order g.row.WIDTH byte c.args.self.now.keys.items c.args.self.now.children.slots
+    c.requires)
 
 pub unreachable-requires : goal.unreachable-requires
 unreachable-requires g c =

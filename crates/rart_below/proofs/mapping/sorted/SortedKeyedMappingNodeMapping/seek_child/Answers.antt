@@ -1,6 +1,12 @@
 use Rattle.std.proofs.Common.{sym, ◌∙◌, ap, option_copied}
-use Rattle.rart_below.proofs.SortedMappingLemmas.{kept_from_order, found, absent}
+use Rattle.rart_below.proofs.SortedMappingLemmas.{rank-in_order, kept_from_order, found, absent}
 use Rattle.rart_below.proofs.mapping.sorted.SortedKeyedMappingNodeMapping.seek_child.Goals as goal
+
+pub place_of-requires : goal.place_of-requires
+place_of-requires g c =
+    rw c.as_slice.ensures.value
+    (rank-in_order g.row.WIDTH c.args.byte c.args.self.now.keys.items
+    c.args.self.now.children.slots c.requires)
 
 pub returns-in_err-place : goal.returns-in_err-place
 returns-in_err-place g c =

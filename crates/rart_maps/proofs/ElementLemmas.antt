@@ -1,5 +1,5 @@
 -- What stands in a filter, in what a partial function gives, and in the entries of a map.
-use Rattle.std.proofs.Common.{◌≡◌, ◌↔◌, ◌⊎◌, zero, suc, Bool, true, false, cond, List, [], ◌∷◌, refl, sym, ap, subst, ◌∙◌, ⊎_elim, inl, inr, arith}
+use Rattle.std.proofs.Common.{◌≡◌, ◌↔◌, ◌⊎◌, zero, suc, Bool, true, false, cond, List, [], ◌∷◌, map, refl, sym, ap, subst, ◌∙◌, ⊎_elim, inl, inr, arith}
 use Rattle.std.specs.Prelude.{Option, Some, None, T, Contains, All, AllPairs, filter}
 use Rattle.std.specs.List.{filter_map, cons_option, list_any}
 use Rattle.std.specs.Option.{unwrap_or, is_some}
@@ -101,6 +101,14 @@ module _ {A : Type 0} where
       (list_any-contains p xs, λ found. contains-list_any p xs found.0 found.1 found.2)
 
 module _ {A B : Type 0} where
+  pub Contains-map : (f : A → B) (xs : List A) (x : A) → Contains xs x → Contains (map f xs) (f x)
+  Contains-map f [] x there = absurd (Contains-nil x there)
+  Contains-map f (y ∷ xs) x there =
+      ⊎_elim
+      (λ is. subst (λ z. Contains (map f (y ∷ xs)) (f z)) is (Contains-here (f y) (map f xs)))
+      (λ later. Contains-later (f y) (map f xs) (f x) (Contains-map f xs x later))
+      (Contains-cases y xs x there)
+
   filter_map-contains : (h : A → Option B) (xs : List A) (y : B) → Contains (filter_map h xs) y
       → (x : A) × Contains xs x × (h x ≡ Some y)
   filter_map-contains h [] y there = absurd (Contains-nil y there)

@@ -1,5 +1,5 @@
 -- Loops over an iterator: what was taken and what is still to come.
-use Rattle.std.proofs.Common.{◌≡◌, List, [], ◌∷◌, ◌++◌, ℕ, Option, Some, None, refl, sym, ap, subst, ◌∙◌, append_assoc, append-nil, ⊎_elim}
+use Rattle.std.proofs.Common.{◌≡◌, List, [], ◌∷◌, ◌++◌, ℕ, Option, Some, refl, sym, ap, subst, ◌∙◌, append_assoc, append-nil, ⊎_elim}
 use Rattle.std.specs.Prelude.{Ok}
 use Rattle.std.specs.Borrow.{Bor}
 use Rattle.std.proofs.lemmas.Option.{same_Some, none-some}

@@ -1,5 +1,6 @@
 pub mod ElementLemmas
 pub mod FoundLemmas
+pub mod IterationLawLemmas
 pub mod IterationLemmas
 pub mod MapLemmas
 pub mod OrderLemmas

@@ -249,16 +249,21 @@ begins-shorter (b ∷ u) v (c ∷ w) is =
 
 module _ {V : Type 0} where
   -- A string is one of the beginnings exactly if it begins some key.
+  pub contains-beginnings : (list : List (List ℕ × V)) (u : List ℕ)
+      → set.contains (set.from_list {R = byte_order} (flat_map (λ pair. beginnings_of pair.0) list))
+      u ≡ list_any (λ pair. begins u pair.0) list
+  contains-beginnings list u =
+      set.contains-from_list nat_list_cmp_total
+      (flat_map (λ pair. beginnings_of pair.0) list) u
+      ∙ list_any-same (eq_by_cmp byte_order u) (bytes_eq u) (is_eq-slice_cmp u)
+      (flat_map (λ pair. beginnings_of pair.0) list)
+      ∙ list_any-flat_map (bytes_eq u) (λ pair. beginnings_of pair.0) list
+      ∙ list_any-same (λ pair. list_any (bytes_eq u) (beginnings_of pair.0))
+      (λ pair. begins u pair.0) (λ pair. one-of_beginnings u pair.0) list
+
   pub contains-starts : (m : Map V) (u : List ℕ)
       → set.contains (starts m) u ≡ list_any (λ pair. begins u pair.0) (pairs m)
-  contains-starts m u =
-      set.contains-from_list nat_list_cmp_total
-      (flat_map (λ pair. beginnings_of pair.0) (pairs m)) u
-      ∙ list_any-same (eq_by_cmp byte_order u) (bytes_eq u) (is_eq-slice_cmp u)
-      (flat_map (λ pair. beginnings_of pair.0) (pairs m))
-      ∙ list_any-flat_map (bytes_eq u) (λ pair. beginnings_of pair.0) (pairs m)
-      ∙ list_any-same (λ pair. list_any (bytes_eq u) (beginnings_of pair.0))
-      (λ pair. begins u pair.0) (λ pair. one-of_beginnings u pair.0) (pairs m)
+  contains-starts m u = contains-beginnings (pairs m) u
 
   pub contains-shared : (left right : Map V) (u : List ℕ)
       → set.contains (shared left right) u

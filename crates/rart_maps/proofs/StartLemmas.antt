@@ -1,8 +1,8 @@
 -- Which strings begin the keys of maps, and how many of them a string begins.
-use Rattle.std.proofs.Common.{◌≡◌, ◌<◌, ◌≤◌, ◌+◌, ◌⊎◌, ℕ, zero, suc, Bool, true, false, cond, ◌&&◌, ◌||◌, List, [], ◌∷◌, ◌++◌, map, append-nil, refl, sym, ap, subst, ◌∙◌, ⊎_elim, inl, inr, arith, Option, Some, None}
+use Rattle.std.proofs.Common.{◌≡◌, ◌<◌, ◌≤◌, ◌+◌, ◌⊎◌, ℕ, zero, suc, Bool, true, false, cond, ◌&&◌, ◌||◌, List, [], ◌∷◌, ◌++◌, map, append-nil, append_assoc, refl, sym, ap, subst, ◌∙◌, ⊎_elim, inl, inr, arith, Option, Some, None}
 use mathlib.Core.Bool.{and-true, and-false, or-false}
 use Rattle.std.specs.Prelude.{◌==◌, Contains, count_by, sum_by}
-use Rattle.std.specs.List.{range_with_len}
+use Rattle.std.specs.List.{range_with_len, flat_map}
 use Rattle.std.specs.Option.{is_some}
 use Rattle.std.specs.Ordering.{nat_cmp, eq_by_cmp, is_lt}
 use Rattle.std.specs.Cmp.{ranked, eq_by_cmp_equiv, unsigned_tied}
@@ -18,12 +18,12 @@ use Rattle.std.proofs.lemmas.List.Sums.{sum_by-cons}
 use Rattle.std.proofs.lemmas.Map.Text.{is_eq-slice_cmp}
 use Rattle.rart_below.specs.Bytes.{byte_order, begins}
 use Rattle.rart_maps.specs.Versions.{Map}
-use Rattle.rart_maps.specs.Pairs.{Strings, pairs, starts, shared}
-use Rattle.rart_maps.specs.StartLaws.{strings_under, with_byte, all_bytes, HasByteKeys, sum_of_parts, StringsUnderSplit, StringsUnderAreApart, StringsUnderAddUp, StartsBeginKeys, SharedAreInBoth, StartsAddUp, SharedAddUp}
-use Rattle.rart_maps.proofs.ElementLemmas.{Contains-here, Contains-later, list_any-is}
+use Rattle.rart_maps.specs.Pairs.{Strings, pairs, beginnings_of, starts, shared}
+use Rattle.rart_maps.specs.StartLaws.{strings_under, how_many_under, HasStarts, with_byte, all_bytes, HasByteKeys, sum_of_parts, StringsUnderSplit, StringsUnderAreApart, StringsUnderAddUp, StartsBeginKeys, SharedAreInBoth, StartsAddUp, SharedAddUp}
+use Rattle.rart_maps.proofs.ElementLemmas.{Contains-here, Contains-later, Contains-map, list_any-is}
 use Rattle.rart_maps.proofs.FoundLemmas.{Contains-pairs}
 use Rattle.rart_maps.proofs.OrderLemmas.{byte_order-IsAntisymmetric, lt-less, begins-append, begins-rest}
-use Rattle.rart_maps.proofs.PairLawLemmas.{begins-shorter, contains-starts, contains-shared}
+use Rattle.rart_maps.proofs.PairLawLemmas.{begins-shorter, contains-beginnings, contains-starts, contains-shared}
 use Rattle.rart_maps.proofs.SetLemmas.{contains-kept, elements, len-retain, len-retain-weaker, Contains-elements}
 
 -- ---- starts and shared
@@ -427,3 +427,50 @@ pub len-strings_under-append : (strings : Strings) (s rest : List ℕ)
 len-strings_under-append strings s rest =
     len-retain-weaker nat_list_cmp_total byte_order-IsAntisymmetric strings (begins (s ++ rest))
     (begins s) (λ k is. begins-shorter s rest k is)
+
+-- The empty string begins every string.
+pub under-all : (strings : Strings) → strings_under strings [] ≡ strings
+under-all strings =
+    set.same_set nat_list_cmp_total byte_order-IsAntisymmetric (strings_under strings []) strings
+    (λ q. contains-strings_under strings [] q ∙ and-true (set.contains strings q))
+
+-- A string that goes on with a byte begins no more than the byte does.
+pub under-byte : (strings : Strings) (above : List ℕ) (byte : ℕ) (rest : List ℕ)
+    → how_many_under strings (above ++ byte ∷ rest)
+    ≤ how_many_under strings (with_byte above byte)
+under-byte strings above byte rest =
+    subst (λ w. how_many_under strings w ≤ how_many_under strings (with_byte above byte))
+    (append_assoc above (byte ∷ []) rest)
+    (len-strings_under-append strings (with_byte above byte) rest)
+
+-- ---- lists of pairs whose keys begin with strings of a set
+
+pub begins-behind : (p u w : List ℕ) → begins u w ≡ true → begins (p ++ u) (p ++ w) ≡ true
+begins-behind [] u w is = is
+begins-behind (b ∷ p) u w is =
+    and_from (b == b) (begins (p ++ u) (p ++ w)) (eq-eqb b b refl) (begins-behind p u w is)
+
+module _ {V : Type 0} where
+  -- each string that begins a key of a list, among all of them
+  pub starts-all : (list : List (List ℕ × V))
+      → HasStarts (set.from_list (flat_map (λ pair. beginnings_of pair.0) list)) [] list
+  starts-all list pair there u is =
+      contains-beginnings list u
+      ∙ (list_any-is (λ pair. begins u pair.0) list).1 (pair, there, is)
+
+  pub starts-behind : (strings : Strings) (above prefix : List ℕ) (list : List (List ℕ × V))
+      → HasStarts strings above (map (λ pair. (prefix ++ pair.0, pair.1)) list)
+      → HasStarts strings (above ++ prefix) list
+  starts-behind strings above prefix list has pair there u is =
+      ap (set.contains strings) (append_assoc above prefix u)
+      ∙ has (prefix ++ pair.0, pair.1)
+      (Contains-map (λ pair. (prefix ++ pair.0, pair.1)) list pair there)
+      (prefix ++ u) (begins-behind prefix u pair.0 is)
+
+  module _ (strings : Strings) (above : List ℕ) (front back : List (List ℕ × V))
+      (has : HasStarts strings above (front ++ back)) where
+    pub starts-front : HasStarts strings above front
+    starts-front pair there = has pair (Contains-append_left front back pair there)
+
+    pub starts-back : HasStarts strings above back
+    starts-back pair there = has pair (Contains-append_right front back pair there)

@@ -1,10 +1,10 @@
 -- The laws of visits.
-use Rattle.std.proofs.Common.{◌≡◌, ◌⊎◌, List, [], ◌∷◌, ◌++◌, Result, Ok, Err, refl, sym, ap, subst, inl, inr, ⊎_elim}
+use Rattle.std.proofs.Common.{◌≡◌, ◌⊎◌, ℕ, List, [], ◌∷◌, ◌++◌, Result, Ok, Err, refl, sym, ap, subst, inl, inr, ⊎_elim}
 use Rattle.std.specs.Fn.{Mut}
 use Rattle.rart_below.specs.declared.visit.VisitControl.{VisitControl}
 use Rattle.rart_below.specs.declared.visit.VisitControl.TheVariants.{Continue, Stop}
 use Rattle.rart_maps.specs.Visits.{CalledOn, CallableOn, Answers, AnswersUpTo, CallableInTurn, VisitUpTo, VisitUntil}
-use Rattle.rart_maps.specs.VisitLaws.{VisitOfNothing, VisitOfParts, FrontOfVisit, VisitableStepByStep, IfContinues, UntilNothing, UntilStepByStep, FrontOfUntil, UntilCallableStepByStep}
+use Rattle.rart_maps.specs.VisitLaws.{ArgumentsShowTheirMembers, VisitsTell, VisitOfNothing, VisitOfParts, FrontOfVisit, VisitableStepByStep, IfContinues, UntilNothing, UntilStepByStep, FrontOfUntil, UntilCallableStepByStep, EndsOnOne, UntilDone, UntilCallbackRefuses, UntilMemoryIsRefused}
 use Rattle.rart_maps.proofs.VisitLemmas.{answers-append}
 
 same_first : {A : Type 0} {x y : A} {xs ys : List A} → x ∷ xs ≡ y ∷ ys → x ≡ y
@@ -71,6 +71,10 @@ module _ {F A X : Type 0} (g : Mut F A (Unit {0})) (Shows : A → X → Type 0) 
   pub front_of_visit : FrontOfVisit g Shows
   front_of_visit members f f' =
       (λ v. (v.1.0, v.0, v.1.1, v.1.2), λ v. (v.1, (v.0, v.2, v.3)))
+
+  pub visits_tell : VisitsTell g Shows
+  visits_tell members f f' refused =
+      ((λ v. v, λ v. v), (λ v. (v.1.0, v.0, v.1.1, v.1.2), λ v. (v.1, (v.0, v.2, v.3))))
 
   pub visitable_step_by_step : VisitableStepByStep g Shows
   visitable_step_by_step x xs f =
@@ -158,3 +162,45 @@ module _ {F A X E : Type 0} (g : Mut F A (Result VisitControl E)) (Shows : A →
     callable-first g Shows (Ok Continue) x xs f,
     λ both. callable-from g Shows (Ok Continue) x xs f both.0 both.1,
   )
+
+  ends-on_one : (members : List X) (f f' : F) (answer : Result VisitControl E) →
+      VisitUpTo g Shows f members answer f' → EndsOnOne g Shows f members answer f'
+  ends-on_one members f f' answer (x, rest, j, before, called) =
+      (before.0, x, rest, j, before.1, before.2, called)
+
+  on_one-ends : (members : List X) (f f' : F) (answer : Result VisitControl E) →
+      EndsOnOne g Shows f members answer f' → VisitUpTo g Shows f members answer f'
+  on_one-ends members f f' answer (front, x, rest, j, is, calls, called) =
+      (x, rest, j, (front, is, calls), called)
+
+  done-either : (members : List X) (f f' : F) (last : VisitControl) →
+      VisitUntil g Shows f members (Ok last) f' →
+      VisitUntil g Shows f members (Ok Continue) f' ⊎ EndsOnOne g Shows f members (Ok Stop) f'
+  done-either members f f' Continue v = inl v
+  done-either members f f' Stop v = inr (ends-on_one members f f' (Ok Stop) v)
+
+  pub until_done : UntilDone g Shows
+  until_done members f f' = (
+    λ v. done-either members f f' v.0 v.1,
+    λ either. ⊎_elim (λ all. (Continue, all))
+        (λ one. (Stop, on_one-ends members f f' (Ok Stop) one)) either,
+  )
+
+  pub until_callback_refuses : UntilCallbackRefuses g Shows
+  until_callback_refuses members f f' e =
+      (ends-on_one members f f' (Err e), on_one-ends members f f' (Err e))
+
+  pub until_memory_is_refused : UntilMemoryIsRefused g Shows
+  until_memory_is_refused members f f' refused =
+      (λ v. (v.1.0, v.0, v.1.1, v.1.2), λ v. (v.1, (v.0, v.2, v.3)))
+
+pub arguments_show_their_members : (K V : Type 0) (bytes : K → List ℕ) →
+    ArgumentsShowTheirMembers K V bytes
+arguments_show_their_members K V bytes key k slice r s w x y = (
+  (λ v. v, λ v. v),
+  (λ v. v, λ v. v),
+  (λ v. v, λ v. v),
+  (λ v. v, λ v. v),
+  (λ v. v, λ v. v),
+  (λ v. v, λ v. v),
+)

@@ -1,6 +1,7 @@
 pub mod Bounds
 pub mod Changes
 pub mod FoundLaws
+pub mod IterationLaws
 pub mod Iterations
 pub mod Order
 pub mod PairLaws

@@ -1,5 +1,5 @@
 -- Which strings begin the keys of maps, and how many of them a string begins.
-use Rattle.std.specs.Prelude.{◌≡◌, ◌≢◌, ◌↔◌, ◌⊎◌, ℕ, ◌+◌, ◌<◌, ◌==◌, List, [], ◌∷◌, ◌++◌, All, IsTrue, sum_by, count_by, if◌then◌else◌}
+use Rattle.std.specs.Prelude.{◌≡◌, ◌≢◌, ◌↔◌, ◌⊎◌, ℕ, ◌+◌, ◌<◌, ◌==◌, List, [], ◌∷◌, ◌++◌, All, Contains, IsTrue, sum_by, count_by, if◌then◌else◌}
 use Rattle.std.specs.List.{range_with_len}
 use Rattle.std.specs.FinMap as finite
 use Rattle.std.specs.FinSet as set
@@ -10,6 +10,10 @@ use Rattle.rart_maps.specs.Pairs.{Strings, starts, shared}
 -- the strings of a set that s begins
 abbrev pub strings_under : Strings → List ℕ → Strings
 strings_under strings s = set.retain strings (begins s)
+
+-- how many strings of a set s begins
+abbrev pub how_many_under : Strings → List ℕ → ℕ
+how_many_under strings s = set.len (strings_under strings s)
 
 -- s with one byte more
 abbrev pub with_byte : List ℕ → ℕ → List ℕ
@@ -48,6 +52,11 @@ StringsUnderAddUp = (strings : Strings) (s bytes : List ℕ) → HasNextBytesOnc
     set.len (strings_under strings s) ≡ sum_of_parts strings s bytes
 
 module _ {V : Type 0} where
+  -- Behind the bytes above, each string that begins a key of the list is in the set.
+  abbrev pub HasStarts : Strings → List ℕ → List (List ℕ × V) → Type 0
+  HasStarts strings above list = (pair : List ℕ × V) → Contains list pair → (u : List ℕ)
+      → IsTrue (begins u pair.0) → IsTrue (set.contains strings (above ++ u))
+
   -- Each key is a string of bytes.
   abbrev pub HasByteKeys : Map V → Type 0
   HasByteKeys m = (key : List ℕ) → IsTrue (finite.contains_key m key) → All (λ b. b < 256) key

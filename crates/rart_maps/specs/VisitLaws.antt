@@ -1,9 +1,12 @@
 -- What visits are, a call at a time and part by part.
-use Rattle.std.specs.Prelude.{◌≡◌, ◌↔◌, List, [], ◌∷◌, ◌++◌, Result, Ok, Err}
+use Rattle.std.specs.Prelude.{◌≡◌, ◌↔◌, ◌⊎◌, ℕ, List, [], ◌∷◌, ◌++◌, Result, Ok, Err}
+use Rattle.std.specs.Borrow.{Bor}
 use Rattle.std.specs.Fn.{Mut}
+use Rattle.std.specs.declared.alloc.AllocError.{AllocError}
+use Rattle.rart_below.specs.declared.slot.Refusal.TheVariants.{Callback, Memory}
 use Rattle.rart_below.specs.declared.visit.VisitControl.{VisitControl}
 use Rattle.rart_below.specs.declared.visit.VisitControl.TheVariants.{Continue, Stop}
-use Rattle.rart_maps.specs.Visits.{CalledOn, CallableOn, Visit, VisitFront, Visitable, VisitUntil, VisitUntilFront, VisitableUntil}
+use Rattle.rart_maps.specs.Visits.{CalledOn, CallableOn, Visit, VisitFront, Visits, ByView, BySlice, ByValue, ByViewPair, ByKeyPair, ByValuePair, Visitable, VisitUntil, VisitUntilFront, VisitsUntil, VisitableUntil}
 
 module _ {F A X : Type 0} (g : Mut F A (Unit {0})) (Shows : A → X → Type 0) where
   -- A visit of nothing leaves its closure as it was.
@@ -14,6 +17,14 @@ module _ {F A X : Type 0} (g : Mut F A (Unit {0})) (Shows : A → X → Type 0) 
   abbrev pub VisitOfParts : Type 0
   VisitOfParts = (xs ys : List X) (f f' : F) → Visit g Shows f (xs ++ ys) f'
       ↔ ((j : F) × Visit g Shows f xs j × Visit g Shows j ys f')
+
+  -- A visitor that answers `Ok` has made a visit of all members; refused for memory, one of a
+  -- beginning.
+  abbrev pub VisitsTell : Type 0
+  VisitsTell = (members : List X) (f f' : F) (refused : AllocError) →
+      (Visits g Shows (Ok tt) f members f' ↔ Visit g Shows f members f')
+      × (Visits g Shows (Err refused) f members f'
+      ↔ ((front rest : List X) × (members ≡ front ++ rest) × Visit g Shows f front f'))
 
   -- What a refused visit leaves is what the visit of a beginning leaves.
   abbrev pub FrontOfVisit : Type 0
@@ -58,3 +69,41 @@ module _ {F A X E : Type 0} (g : Mut F A (Result VisitControl E)) (Shows : A →
   UntilCallableStepByStep = (x : X) (xs : List X) (f : F) → VisitableUntil g Shows f (x ∷ xs)
       ↔ (CallableOn g Shows f x
       × ((j : F) → CalledOn g Shows f x (Ok Continue) j → VisitableUntil g Shows j xs))
+
+  -- f is called on the members of a beginning, and answers `Continue` on each but the last, on
+  -- which it gives this answer.
+  abbrev pub EndsOnOne : F → List X → Result VisitControl E → F → Type 0
+  EndsOnOne f members answer f' = (front : List X) × (x : X) × (rest : List X) × (j : F)
+      × (members ≡ front ++ x ∷ rest) × VisitUntil g Shows f front (Ok Continue) j
+      × CalledOn g Shows j x answer f'
+
+  -- A visitor that answers `Ok` has called f on all members, each answered `Continue`, or on those
+  -- up to one that it answered `Stop`.
+  abbrev pub UntilDone : Type 0
+  UntilDone = (members : List X) (f f' : F) → VisitsUntil g Shows (Ok tt) f members f'
+      ↔ (VisitUntil g Shows f members (Ok Continue) f' ⊎ EndsOnOne f members (Ok Stop) f')
+
+  -- One that answers an error of the callback, on those up to one that f answered that error.
+  abbrev pub UntilCallbackRefuses : Type 0
+  UntilCallbackRefuses = (members : List X) (f f' : F) (e : E) →
+      VisitsUntil g Shows (Err (Callback e)) f members f' ↔ EndsOnOne f members (Err e) f'
+
+  -- One that was refused for memory, on a beginning of the members, each answered `Continue`.
+  abbrev pub UntilMemoryIsRefused : Type 0
+  UntilMemoryIsRefused = (members : List X) (f f' : F) (refused : AllocError) →
+      VisitsUntil g Shows (Err (Memory refused)) f members f'
+      ↔ ((front rest : List X) × (members ≡ front ++ rest)
+      × VisitUntil g Shows f front (Ok Continue) f')
+
+-- What a closure is shown: a key of these bytes, and references to these values, in this order.
+module _ (K V : Type 0) (bytes : K → List ℕ) where
+  abbrev pub ArgumentsShowTheirMembers : Type 0
+  ArgumentsShowTheirMembers = (key : List ℕ) (k : K) (slice : Bor (List ℕ)) (r s : Bor V)
+      (w : List ℕ) (x y : V) →
+      (ByView (key, (r, tt)) (w, x) ↔ ((key ≡ w) × (r.now ≡ x)))
+      × (BySlice (slice, (r, tt)) (w, x) ↔ ((slice.now ≡ w) × (r.now ≡ x)))
+      × (ByValue (r, tt) x ↔ (r.now ≡ x))
+      × (ByViewPair (key, (r, (s, tt))) (w, x, y) ↔ ((key ≡ w) × (r.now ≡ x) × (s.now ≡ y)))
+      × (ByKeyPair bytes (k, (r, (s, tt))) (w, x, y)
+      ↔ ((bytes k ≡ w) × (r.now ≡ x) × (s.now ≡ y)))
+      × (ByValuePair (r, (s, tt)) (x, y) ↔ ((r.now ≡ x) × (s.now ≡ y)))

@@ -24,6 +24,22 @@ module _ {V : Type 0} where
   abbrev pub ByValue : Bor V × Unit {0} → V → Type 0
   ByValue shown value = shown.0.now ≡ value
 
+  -- a key of two maps with what either has there, by a view of the key and references to both
+  -- values
+  abbrev pub ByViewPair : List ℕ × (Bor V × (Bor V × Unit {0})) → List ℕ × V × V → Type 0
+  ByViewPair shown entry =
+      (shown.0 ≡ entry.0) × (shown.1.0.now ≡ entry.1) × (shown.1.1.0.now ≡ entry.2)
+
+  -- the same, by a key with these bytes
+  abbrev pub ByKeyPair :
+      {K : Type 0} → (K → List ℕ) → K × (Bor V × (Bor V × Unit {0})) → List ℕ × V × V → Type 0
+  ByKeyPair bytes shown entry =
+      (bytes shown.0 ≡ entry.0) × (shown.1.0.now ≡ entry.1) × (shown.1.1.0.now ≡ entry.2)
+
+  -- two values, by references
+  abbrev pub ByValuePair : Bor V × (Bor V × Unit {0}) → V × V → Type 0
+  ByValuePair shown values = (shown.0.now ≡ values.0) × (shown.1.0.now ≡ values.1)
+
 -- ---- one call, and a call on each member
 
 -- A closure f is shown a member x by arguments a where `Shows a x`.

@@ -1,9 +1,10 @@
 -- Worked values of what is read off maps, found by hand.
-use Rattle.std.specs.Prelude.{◌≡◌, ℕ, [], ◌∷◌, codes}
+use Rattle.std.specs.Prelude.{◌≡◌, ℕ, [], ◌∷◌, IsTrue, codes}
 use Rattle.std.specs.declared.ops.Bound.TheVariants.{Included, Excluded, Unbounded}
 use Rattle.std.specs.FinMap as finite
+use Rattle.std.specs.FinSet as set
 use Rattle.rart_maps.specs.Versions.{Map}
-use Rattle.rart_maps.specs.Pairs.{within, under, beginnings, common}
+use Rattle.rart_maps.specs.Pairs.{within, under, beginnings, common, shared}
 
 abbrev pub letters : Map ℕ
 letters = finite.from_entries
@@ -98,3 +99,41 @@ CommonLeftFirst = common letters more_letters ≡ (codes "b", 2, 20) ∷ (codes 
 -- A key of the one that only begins a key of the other is not in common.
 abbrev pub CommonNone : Type 0
 CommonNone = common words stems ≡ []
+
+abbrev pub few : Map ℕ
+few = finite.from_entries ((codes "a", 1) ∷ (codes "ab", 2) ∷ (codes "b", 3) ∷ [])
+
+abbrev pub tens : Map ℕ
+tens = finite.from_entries ((codes "ab", 20) ∷ (codes "b", 30) ∷ (codes "c", 40) ∷ [])
+
+abbrev pub CommonOfTwo : Type 0
+CommonOfTwo = common few tens ≡ (codes "ab", 2, 20) ∷ (codes "b", 3, 30) ∷ []
+
+abbrev pub one_key : ℕ → Map ℕ
+one_key value = finite.from_entries ((codes "abc", value) ∷ [])
+
+abbrev pub CommonOfOne : Type 0
+CommonOfOne = common (one_key 1) (one_key 10) ≡ (codes "abc", 1, 10) ∷ []
+
+-- With a map of no key nothing is in common.
+abbrev pub CommonOfEmpty : Type 0 → Type 0
+CommonOfEmpty V = (m : Map V) → (common finite.empty m ≡ []) × (common m finite.empty ≡ [])
+
+-- ---- strings that begin keys of both
+
+-- Four, "", a, ab and b. The key a of the one only begins a key of the other.
+abbrev pub SharedOfTwo : Type 0
+SharedOfTwo = (set.len (shared few tens) ≡ 4)
+    × IsTrue (set.contains (shared few tens) [])
+    × IsTrue (set.contains (shared few tens) (codes "a"))
+    × IsTrue (set.contains (shared few tens) (codes "ab"))
+    × IsTrue (set.contains (shared few tens) (codes "b"))
+
+-- Each beginning of the key, "", a, ab and abc.
+abbrev pub SharedOfOne : Type 0
+SharedOfOne = set.len (shared (one_key 1) (one_key 10)) ≡ 4
+
+-- With a map of no key none is shared.
+abbrev pub SharedOfEmpty : Type 0 → Type 0
+SharedOfEmpty V = (m : Map V) →
+    (set.len (shared finite.empty m) ≡ 0) × (set.len (shared m finite.empty) ≡ 0)

@@ -1,6 +1,7 @@
-//! What the words on maps, their pairs and visits mean: laws, each the contract of a function that
-//! does nothing.
+//! What the words on maps, their pairs, iterations and visits mean: laws, each the contract of a
+//! function that does nothing.
 
+pub mod iterations;
 pub mod pairs;
 pub mod starts;
 pub mod strings;

@@ -1,6 +1,6 @@
 //! Worked values of what is read off maps and of the bounds, found by hand.
 ghost use Rattle.rart_maps.specs.WorkedBounds.{LookupOfNoByte, LookupOfThreeBytes, ChangeOfNoByte, ChangeOfThreeBytes, TouchOfNoByte, TouchOfThreeBytes, MeetOfTwo, MeetBelowOne, MeetWithItself, MeetOfEmpty, ReachOfTwo, ReachOfAll, ReachOfNone, MeetOfDistinct, MeetInsideKeys, ReachOfFive, ReachOfOne, ReachPastKeys};
-ghost use Rattle.rart_maps.specs.WorkedPairs.{WithinIncluded, WithinExcluded, WithinOtherKeys, WithinLowAlone, WithinHighAlone, WithinReversed, WithinOneKey, WithinNoKey, UnderTwo, UnderOne, UnderItself, UnderEmpty, UnderNone, BeginningsShortestFirst, BeginningsOfKey, BeginningsNone, CommonLeftFirst, CommonNone};
+ghost use Rattle.rart_maps.specs.WorkedPairs.{WithinIncluded, WithinExcluded, WithinOtherKeys, WithinLowAlone, WithinHighAlone, WithinReversed, WithinOneKey, WithinNoKey, UnderTwo, UnderOne, UnderItself, UnderEmpty, UnderNone, BeginningsShortestFirst, BeginningsOfKey, BeginningsNone, CommonLeftFirst, CommonNone, CommonOfTwo, CommonOfOne, CommonOfEmpty, SharedOfTwo, SharedOfOne, SharedOfEmpty};
 
 /// Worked values: the pairs within two bounds, that include or exclude their key, one bound alone,
 /// the other way round, and of one key twice.
@@ -32,9 +32,20 @@ pub fn worked_beginnings()
 {}
 
 /// Worked values: the keys in common, the left map's value first.
-pub fn worked_common()
+pub fn worked_common<V>()
     ensures left_first { CommonLeftFirst }
     ensures none { CommonNone }
+    ensures two { CommonOfTwo }
+    ensures one { CommonOfOne }
+    ensures empty { CommonOfEmpty V }
+{}
+
+/// Worked values: the strings that begin keys of both maps, of which more may be than keys in
+/// common.
+pub fn worked_shared<V>()
+    ensures two { SharedOfTwo }
+    ensures one { SharedOfOne }
+    ensures empty { SharedOfEmpty V }
 {}
 
 /// Worked values of the bounds: of a key of no byte and of three, of two maps, of a map without a

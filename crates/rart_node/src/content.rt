@@ -10,9 +10,7 @@ ghost use Rattle.rart_node.specs.Shape.{IsFullAt, is_full_at, wider, widened};
 use crate::node_ref::NodeRef;
 use crate::wide_box::WideBox;
 use crate::work::Work;
-use rart_below::{
-    DirectMapping, IndexedMapping, NodeMapping, Partial, SortedKeyedMapping, move_children,
-};
+use rart_below::{DirectMapping, IndexedMapping, NodeMapping, Partial, SortedKeyedMapping};
 use std::alloc::{AllocError, Global};
 
 /// Where a node keeps its children: nowhere in a leaf, else in a mapping of one of four widths.
@@ -215,17 +213,17 @@ impl<P: Partial, V: Drop> Content<P, V> {
             Layout::Leaf => *self = Layout::Node4(Box::new(alloc, SortedKeyedMapping::new())?),
             Layout::Node4(mapping) => {
                 let mut wider = Box::new(alloc, SortedKeyedMapping::new())?;
-                move_children(&mut **mapping, &mut *wider);
+                mapping.move_into(&mut *wider);
                 *self = Layout::Node16(WideBox { boxed: wider });
             }
             Layout::Node16(mapping) => {
                 let mut wider = Box::new(alloc, IndexedMapping::new())?;
-                move_children(&mut *mapping.boxed, &mut *wider);
+                mapping.boxed.move_into(&mut *wider);
                 *self = Layout::Node48(WideBox { boxed: wider });
             }
             Layout::Node48(mapping) => {
                 let mut wider = Box::new(alloc, DirectMapping::new())?;
-                move_children(&mut *mapping.boxed, &mut *wider);
+                mapping.boxed.move_into(&mut *wider);
                 *self = Layout::Node256(WideBox { boxed: wider });
             }
             Layout::Node256(_) => unreachable!(),

@@ -19,6 +19,9 @@ use std::alloc::{AllocError, Global};
 
 /// Puts a value at what is left of a key behind `depth` bytes, below a pointer, and gives the value
 /// that was there. Refused for memory, the pointer shows what it showed.
+///
+/// It calls itself once for each node of the way. `split`, which only the last of them may call, is
+/// not inlined, so that a level takes little of the machine's stack.
 pub fn insert_below<K: KeyTrait, V: Clone + Drop>(
     alloc: Global,
     at: &mut NodeRef<K::PartialType, V>,
@@ -59,6 +62,7 @@ pub fn insert_below<K: KeyTrait, V: Clone + Drop>(
 
 /// Puts a value at a key that leaves a node's prefix at `end`, an index into the key: the node gets
 /// a parent with what they share. Nothing was there. Refused for memory, the node is as before.
+#[inline(never)]
 fn split<K: KeyTrait, V: Clone + Drop>(
     alloc: Global,
     node: &mut VersionedNode<K::PartialType, V>,

@@ -441,7 +441,8 @@ module _ {V : Type 0} where
     took-left after took inner leaves =
         let is : inner ≡ took.front =
         leaves took.front (took.segment, []) (took.same ∙ took.before_is) in
-        subst (λ z. IsGoing greatest start count z entered × (measure z < measure frames)) (sym is) (
+        subst (λ z. IsGoing greatest start count z entered × (measure z < measure frames))
+        (sym is) (
           left-going greatest start count frames entered going took.front took.segment
               took.before_is,
           left-smaller greatest start count frames entered going took.front

@@ -1,5 +1,5 @@
 //! Where a walk keeps the way to the node that it stands at.
-ghost use Rattle.std.specs.Prelude.{◌≡◌, ◌-◌, ℕ, ◌^◌, List, [], ◌∷◌, ◌++◌, Option, Some, None, length, map, is_ok, if◌then◌else◌};
+ghost use Rattle.std.specs.Prelude.{◌≡◌, ◌-◌, ℕ, ◌^◌, Bool, true, false, List, [], ◌∷◌, ◌++◌, Option, Some, None, IsTrue, OnErr, length, map, is_ok, if◌then◌else◌};
 ghost use Rattle.std.specs.List.{concat};
 ghost use Rattle.rart_below.specs.Bytes.{IsAdmitted};
 ghost use Rattle.rart_walks.specs.Trails.{HoldsBytes, HoldsSegments, HoldsNothing};
@@ -10,12 +10,15 @@ use std::marker::Model;
 /// Where a walk keeps the prefixes of the nodes from the root to the one that it stands at: its
 /// segments.
 ///
-/// Contracts see by `holds` which segments a trail keeps, the root's first, and by `greatest` how
-/// long they may be, joined, or `None` where each length will do.
+/// Contracts see by `holds` which segments a trail keeps, the root's first, by `greatest` how long
+/// they may be, joined, or `None` where each length will do, and by `can_refuse` whether a segment
+/// may be refused for want of memory.
 pub trait Trail<'a>: Drop {
     ghost holds: { Self → List (List ℕ) → Type 0 };
 
     ghost greatest: { Option ℕ };
+
+    ghost can_refuse: { Bool };
 
     /// A trail with no segment.
     fn new(alloc: Global) -> Self
@@ -25,8 +28,9 @@ pub trait Trail<'a>: Drop {
     fn push(&mut self, segment: &'a [u8]) -> Result<(), AllocError>
         requires { (segments : List (List ℕ)) × holds self.old segments
             × IsAdmitted greatest (length (concat (segments ++ segment.now ∷ []))) }
-        ensures { (segments : List (List ℕ)) → holds self.old segments
-            → holds self.new (if is_ok result then segments ++ segment.now ∷ [] else segments) };
+        ensures keeps { (segments : List (List ℕ)) → holds self.old segments
+            → holds self.new (if is_ok result then segments ++ segment.now ∷ [] else segments) }
+        ensures refused { OnErr result (IsTrue can_refuse) };
 
     /// Takes the last segment off, which is this one.
     fn pop(&mut self, segment: &'a [u8])
@@ -62,6 +66,8 @@ impl<'a> Trail<'a> for KeyTrail {
     ghost holds = { HoldsBytes };
 
     ghost greatest = { None };
+
+    ghost can_refuse = { true };
 
     fn new(alloc: Global) -> KeyTrail {
         KeyTrail {
@@ -120,6 +126,8 @@ impl<'a> Trail<'a> for SegmentTrail<'a> {
 
     ghost greatest = { Some (2 ^ 64 - 1) };
 
+    ghost can_refuse = { true };
+
     fn new(alloc: Global) -> SegmentTrail<'a> {
         SegmentTrail {
             segments: Vec::new(alloc),
@@ -149,6 +157,8 @@ impl<'a> Trail<'a> for NoTrail {
     ghost holds = { HoldsNothing };
 
     ghost greatest = { None };
+
+    ghost can_refuse = { false };
 
     fn new(_alloc: Global) -> NoTrail {
         NoTrail

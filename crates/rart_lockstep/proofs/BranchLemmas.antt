@@ -1,0 +1,86 @@
+-- The next steps of a way down two trees: to the children where one prefix has ended, or both.
+use Rattle.std.proofs.Common.{◌≡◌, ◌⊎◌, ⊎_elim, ℕ, List, [], ◌∷◌, Option, Some, slice_get, refl, sym, ap, ◌∙◌}
+use Rattle.std.specs.List.{cons_option}
+use Rattle.std.specs.Option.{option_map}
+use Rattle.rart_below.specs.Children.{child_at}
+use Rattle.rart_node.specs.Shape.{Shape, node, IsAscending, prefix_of, value_of, children_of, entries_of, with_prefix}
+use Rattle.rart_lockstep.specs.Branches.{first_byte}
+use Rattle.rart_lockstep.specs.Children.{common_children}
+use Rattle.rart_lockstep.specs.Sides.{value_here, arms}
+use Rattle.rart_lockstep.proofs.ChildLemmas.{common-first, common-none}
+
+module _ {V : Type 0} where
+  pub children-with : (s : Shape V) (p : List ℕ) → children_of (with_prefix p s) ≡ children_of s
+  children-with (node prefix value width forest) p = refl
+
+  pub arms-ended : (s : Shape V) → prefix_of s ≡ [] → arms s ≡ children_of s
+  arms-ended (node [] value width forest) end = refl
+  arms-ended (node (b ∷ prefix) value width forest) end = cc
+
+  pub value-ended : (s : Shape V) → prefix_of s ≡ [] → value_here s ≡ value_of s
+  value-ended (node [] value width forest) end = refl
+  value-ended (node (b ∷ prefix) value width forest) end = cc
+
+  -- The right one goes on with a byte: the left one has ended, and its child under the byte is
+  -- next.
+  pub branch-left : (s t : Shape V) (b : ℕ) → IsAscending s
+      → (prefix_of s ≡ []) ⊎ (prefix_of t ≡ []) → slice_get (prefix_of t) 0 ≡ Some b
+      → common_children (arms s) (arms t)
+      ≡ cons_option (option_map (λ child. (first_byte (prefix_of t), (child, t)))
+      (child_at b (children_of s))) []
+  branch-left s (node [] value width forest) b order ends first = cc
+  branch-left (node (a ∷ p) other w below) (node (c ∷ q) value width forest) b order ends first =
+      ⊎_elim (λ is. absurd (cons-nil a p is)) (λ is. absurd (cons-nil c q is)) ends
+    where
+      cons-nil : (b : ℕ) (w : List ℕ) → b ∷ w ≡ [] → ⊥
+      cons-nil b w is = cc
+  branch-left (node [] other w below) (node (c ∷ q) value width forest) b order ends first =
+      let t : Shape V = node (c ∷ q) value width forest in
+      let same : c ≡ b = cc in
+      common-first (entries_of below) c t [] order refl
+      ∙ ap (cons_option (option_map (λ child. (c, (child, t))) (child_at c (entries_of below))))
+      (common-none (entries_of below))
+      ∙ ap (λ byte. cons_option (option_map (λ child. (c, (child, t)))
+      (child_at byte (entries_of below))) []) same
+
+  -- So the other way round.
+  pub branch-right : (s t : Shape V) (b : ℕ) → prefix_of t ≡ []
+      → slice_get (prefix_of s) 0 ≡ Some b
+      → common_children (arms s) (arms t)
+      ≡ cons_option (option_map (λ child. (first_byte (prefix_of s), (s, child)))
+      (child_at b (children_of t))) []
+  branch-right (node [] value width forest) t b ends first = cc
+  branch-right (node (c ∷ p) value width forest) t b ends first =
+      let s : Shape V = node (c ∷ p) value width forest in
+      let same : c ≡ b = cc in
+      ap (λ children. common_children ((c, s) ∷ []) children) (arms-ended t ends)
+      ∙ ap (λ byte. cons_option (option_map (λ child. (c, (s, child)))
+      (child_at byte (children_of t))) []) same
+
+  abbrev to_left : Shape V → Option (Shape V) → List (ℕ × (Shape V × Shape V))
+  to_left t found =
+      cons_option (option_map (λ child. (first_byte (prefix_of t), (child, t))) found) []
+
+  abbrev to_right : Shape V → Option (Shape V) → List (ℕ × (Shape V × Shape V))
+  to_right s found =
+      cons_option (option_map (λ child. (first_byte (prefix_of s), (s, child))) found) []
+
+  -- what is found under the byte, as the calls know it
+  pub step-left : (n t : Shape V) (p rest : List ℕ) (b : ℕ) (found : Option (Shape V))
+      → IsAscending (with_prefix p n) → (p ≡ []) ⊎ (prefix_of t ≡ []) → rest ≡ prefix_of t
+      → Some b ≡ slice_get rest 0 → found ≡ child_at b (children_of n)
+      → to_left t found ≡ common_children (arms (with_prefix p n)) (arms t)
+  step-left (node q value width forest) t p rest b found order ends is first here =
+      let first_of : slice_get (prefix_of t) 0 ≡ Some b =
+      ap (λ w. slice_get w 0) (sym is) ∙ sym first in
+      ap (to_left t) here
+      ∙ sym (branch-left (node p value width forest) t b order ends first_of)
+
+  pub step-right : (s n : Shape V) (p rest : List ℕ) (b : ℕ) (found : Option (Shape V))
+      → p ≡ [] → rest ≡ prefix_of s
+      → Some b ≡ slice_get rest 0 → found ≡ child_at b (children_of n)
+      → to_right s found ≡ common_children (arms s) (arms (with_prefix p n))
+  step-right s (node q value width forest) p rest b found ends is first here =
+      let first_of : slice_get (prefix_of s) 0 ≡ Some b =
+      ap (λ w. slice_get w 0) (sym is) ∙ sym first in
+      ap (to_right s) here ∙ sym (branch-right s (node p value width forest) b ends first_of)

@@ -1,0 +1,11 @@
+pub mod ArmLemmas
+pub mod BranchLemmas
+pub mod ChildLemmas
+pub mod CommonLemmas
+pub mod EnterLemmas
+pub mod LockstepLemmas
+pub mod MeetingLemmas
+pub mod SharedLemmas
+pub mod SideLemmas
+pub mod StepLemmas
+pub mod VisitLemmas

@@ -1,0 +1,24 @@
+use Rattle.std.proofs.Common.{sym, ◌∙◌, ⊎_elim, inl, inr}
+use Rattle.rart_node.specs.NodeShapes.{node_shape}
+use Rattle.rart_lockstep.specs.SideFields.{side_shape}
+use Rattle.rart_lockstep.proofs.BranchLemmas.{step-left}
+use Rattle.rart_lockstep.proofs.StepLemmas.{prefix-with}
+use Rattle.rart_lockstep.proofs.branches.Branches.new.Goals as goal
+
+pub returns-in_default-seek_child : goal.returns-in_default-seek_child
+returns-in_default-seek_child g c =
+    let bytes = g.P.Partial.bytes in
+    let n = node_shape bytes c.args.left.node.now in
+    let t = side_shape bytes c.args.right in
+    step-left n t _ _ _ _ c.requires.left
+    (⊎_elim (λ is. inl (sym (prefix-with n _) ∙ is)) (λ is. inr is) c.requires.ended)
+    c.rest.ensures c.in-Some.ensures.value c.in_default-seek_child.ensures
+
+pub returns-in-Some : goal.returns-in-Some
+returns-in-Some g c =
+    let bytes = g.P.Partial.bytes in
+    let n = node_shape bytes c.args.left.node.now in
+    let t = side_shape bytes c.args.right in
+    step-left n t _ _ _ _ c.requires.left
+    (⊎_elim (λ is. inl (sym (prefix-with n _) ∙ is)) (λ is. inr is) c.requires.ended)
+    c.rest.ensures c.in-Some.ensures.value c.in-Some-seek_child.ensures

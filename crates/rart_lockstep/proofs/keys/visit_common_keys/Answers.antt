@@ -1,0 +1,34 @@
+use Rattle.rart_maps.specs.Visits.{ByKeyPair}
+use Rattle.rart_node.specs.NodeShapes.{pointer_shape}
+use Rattle.rart_walks.specs.Trails.{HoldsBytes}
+use Rattle.rart_lockstep.specs.declared.keys.KeyMaker.{KeyMaker}
+use Rattle.rart_lockstep.proofs.MeetingLemmas.{may-start, met-end, counted-roots}
+use Rattle.rart_lockstep.proofs.keys.visit_common_keys.Goals as goal
+
+pub meet_below-requires-clause-meets : goal.meet_below-requires-clause-meets
+meet_below-requires-clause-meets g c =
+    let s = pointer_shape g.P.Partial.bytes c.args.left.now in
+    let t = pointer_shape g.P.Partial.bytes c.args.right.now in
+    let opened = c.open-at.ensures in
+    may-start g.F.FnMut (ByKeyPair g.K.KeyTrait.bytes)
+    (λ (maker : KeyMaker g.row.K.Denot). HoldsBytes maker.trail) s t _ _ opened.left opened.right
+    g.K.KeyTrait.MAXIMUM_SIZE _ c.args.f.now c.new-trail.ensures c.requires.admitted
+    c.requires.visitable
+
+pub returns-clause-visits : goal.returns-clause-visits
+returns-clause-visits g c =
+    let s = pointer_shape g.P.Partial.bytes c.args.left.now in
+    let t = pointer_shape g.P.Partial.bytes c.args.right.now in
+    let opened = c.open-at.ensures in
+    met-end g.F.FnMut (ByKeyPair g.K.KeyTrait.bytes)
+    (λ (maker : KeyMaker g.row.K.Denot). HoldsBytes maker.trail) s t _ _ opened.left opened.right
+    _ _
+    c.args.f.now c.meet_below.new.f c.meet_below.result c.new-trail.ensures c.meet_below.ensures.met
+
+pub returns-clause-counted : goal.returns-clause-counted
+returns-clause-counted g c =
+    let s = pointer_shape g.P.Partial.bytes c.args.left.now in
+    let t = pointer_shape g.P.Partial.bytes c.args.right.now in
+    let opened = c.open-at.ensures in
+    counted-roots s t _ _ opened.left opened.right c.args.work.now _ _ opened.work
+    c.meet_below.ensures.enters

@@ -1,0 +1,10 @@
+pub mod Branches
+pub mod ChildFields
+pub mod Children
+pub mod Commons
+pub mod Entries
+pub mod Joints
+pub mod Meetings
+pub mod SideFields
+pub mod Sides
+pub mod Steps

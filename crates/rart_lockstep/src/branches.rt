@@ -1,0 +1,85 @@
+//! Where the way down two trees goes on: from byte to byte that leads on in both.
+ghost use Rattle.std.specs.Prelude.{◌≡◌, ◌⊎◌, [], IfSome, is_some, if◌then◌else◌};
+ghost use Rattle.std.specs.Option.{option_map};
+ghost use Rattle.rart_node.specs.NodeShapes.{node_shape};
+ghost use Rattle.rart_node.specs.Shape.{IsAscending, prefix_of};
+
+use crate::children::CommonChildren;
+use crate::side::Side;
+use rart_below::Partial;
+use rart_node::{NodeRef, Work};
+
+/// The next steps of a way down two trees, of which one stands at the end of a node's prefix, or
+/// both do.
+///
+/// Contracts see them by `branches_left`: each is a byte, and what it leads to on either side.
+#[derive(Drop)]
+pub(crate) enum Branches<'a, P: Partial, V> {
+    /// The left prefix has ended: its child under the right one's next byte, if there is one.
+    Left(Option<(&'a NodeRef<P, V>, Side<'a, P, V>)>),
+    /// The right prefix has ended.
+    Right(Option<(Side<'a, P, V>, &'a NodeRef<P, V>)>),
+    /// Both have ended.
+    Both(CommonChildren<'a, P, V>),
+}
+
+impl<'a, P: Partial, V: Drop> Branches<'a, P, V> {
+    ghost use Rattle.rart_node.specs.Counts.{CountsUpTo};
+    ghost use Rattle.rart_lockstep.specs.Branches.{branches_left};
+    ghost use Rattle.rart_lockstep.specs.Children.{TakesPair, common_children};
+    ghost use Rattle.rart_lockstep.specs.SideFields.{side_shape};
+    ghost use Rattle.rart_lockstep.specs.Sides.{arms};
+
+    pub(crate) fn new(left: Side<'a, P, V>, right: Side<'a, P, V>) -> Branches<'a, P, V>
+        requires left { IsAscending (side_shape P.bytes left) }
+        requires right { IsAscending (side_shape P.bytes right) }
+        requires ended { (prefix_of (side_shape P.bytes left) ≡ [])
+            ⊎ (prefix_of (side_shape P.bytes right) ≡ []) }
+        ensures { branches_left P.bytes result
+            ≡ common_children (arms (side_shape P.bytes left.entry))
+            (arms (side_shape P.bytes right.entry)) }
+    {
+        if let Some(byte) = right.rest().first() {
+            let Some(child) = left.node.seek_child(*byte) else {
+                return Branches::Left(None);
+            };
+            return Branches::Left(Some((child, right)));
+        }
+        if let Some(byte) = left.rest().first() {
+            let Some(child) = right.node.seek_child(*byte) else {
+                return Branches::Right(None);
+            };
+            return Branches::Right(Some((left, child)));
+        }
+        Branches::Both(CommonChildren::new(left.node, right.node))
+    }
+
+    /// Takes the next step: two nodes at most are entered.
+    pub(crate) fn next(&mut self, work: &mut Work) -> Option<(Side<'a, P, V>, Side<'a, P, V>)>
+        ensures takes { TakesPair (branches_left P.bytes self.old)
+            (option_map (λ pair. (side_shape P.bytes pair.0, side_shape P.bytes pair.1)) result)
+            (branches_left P.bytes self.new) }
+        ensures whole { IfSome result (λ pair. (pair.0.from ≡ 0) ⊎ (pair.1.from ≡ 0)) }
+        ensures counted { CountsUpTo (if is_some result then 2 else 0) 0
+            work.old work.new }
+    {
+        match self {
+            Branches::Left(step) => {
+                let (child, right) = step.take()?;
+                let left = Side::whole(child.open(work));
+                Some((left, right))
+            }
+            Branches::Right(step) => {
+                let (left, child) = step.take()?;
+                let right = Side::whole(child.open(work));
+                Some((left, right))
+            }
+            Branches::Both(children) => {
+                let (left, right) = children.next()?;
+                let left = left.open(work);
+                let right = right.open(work);
+                Some((Side::whole(left), Side::whole(right)))
+            }
+        }
+    }
+}

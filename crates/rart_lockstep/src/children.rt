@@ -1,0 +1,70 @@
+//! The children that two nodes have under the same bytes.
+ghost use Rattle.std.specs.Prelude.{◌≡◌};
+ghost use Rattle.std.specs.Option.{option_map};
+ghost use Rattle.rart_node.specs.NodeShapes.{node_shape};
+ghost use Rattle.rart_node.specs.Shape.{IsAscending};
+
+use rart_below::Partial;
+use rart_node::{NodeRef, VersionedNode, VersionedNodeIter};
+
+/// The children of two nodes under the same bytes, two at a time, in the order of these. The node
+/// with fewer children leads, and the other is asked for each of its bytes.
+#[derive(Drop)]
+pub(crate) struct CommonChildren<'a, P: Partial, V> {
+    leading: VersionedNodeIter<'a, P, V>,
+    other: &'a VersionedNode<P, V>,
+    right_leads: bool,
+    ghost order: { IsAscending (node_shape P.bytes other.now) },
+}
+
+impl<'a, P: Partial, V: Drop> CommonChildren<'a, P, V> {
+    ghost use Rattle.rart_node.specs.NodeShapes.{pointer_shape};
+    ghost use Rattle.rart_node.specs.Shape.{children_of};
+    ghost use Rattle.rart_lockstep.specs.ChildFields.{pairs_left};
+    ghost use Rattle.rart_lockstep.specs.Children.{TakesPair, common_children};
+
+    pub(crate) fn new(
+        left: &'a VersionedNode<P, V>,
+        right: &'a VersionedNode<P, V>,
+    ) -> CommonChildren<'a, P, V>
+        requires left { IsAscending (node_shape P.bytes left.now) }
+        requires right { IsAscending (node_shape P.bytes right.now) }
+        ensures { pairs_left P.bytes result
+            ≡ common_children (children_of (node_shape P.bytes left.now))
+            (children_of (node_shape P.bytes right.now)) }
+    {
+        if right.num_children() < left.num_children() {
+            return CommonChildren {
+                leading: right.iter(),
+                other: left,
+                right_leads: true,
+            };
+        }
+        CommonChildren {
+            leading: left.iter(),
+            other: right,
+            right_leads: false,
+        }
+    }
+
+    /// Takes the next two: the left node's child and the right one's.
+    pub(crate) fn next(&mut self) -> Option<(&'a NodeRef<P, V>, &'a NodeRef<P, V>)>
+        ensures { TakesPair (pairs_left P.bytes self.old)
+            (option_map (λ pair. (
+              pointer_shape P.bytes pair.0.now,
+              pointer_shape P.bytes pair.1.now,
+            )) result)
+            (pairs_left P.bytes self.new) }
+    {
+        'seeking: while let Some((byte, child)) = self.leading.next() {
+            if let Some(other) = self.other.seek_child(byte) {
+                return Some(if self.right_leads {
+                    (other, child)
+                } else {
+                    (child, other)
+                });
+            }
+        }
+        None
+    }
+}

@@ -1,0 +1,41 @@
+//! The number of keys of two trees.
+ghost use Rattle.std.specs.Prelude.{◌≡◌, ◌+◌, ◌*◌, ◌<◌, ◌≤◌, ◌^◌, length};
+ghost use Rattle.std.specs.FinSet as set;
+ghost use Rattle.rart_lockstep.specs.Commons.{commons, shared_of};
+ghost use Rattle.rart_node.specs.Counts.{CountsUpTo};
+ghost use Rattle.rart_node.specs.NodeShapes.{pointer_shape};
+ghost use Rattle.rart_shape.specs.Trees.{IsTree};
+
+use crate::values::visit_common_values;
+use rart_below::Partial;
+use rart_node::{NodeRef, Work};
+
+/// How many keys two trees have in common.
+///
+/// It enters nodes as `visit_common_values` does, and takes no memory.
+pub fn count_common<P: Partial, V: Drop>(
+    left: &NodeRef<P, V>,
+    right: &NodeRef<P, V>,
+    work: &mut Work,
+) -> usize
+    requires left { IsTree (pointer_shape P.bytes left.now) }
+    requires right { IsTree (pointer_shape P.bytes right.now) }
+    requires fits { length (commons (pointer_shape P.bytes left.now)
+        (pointer_shape P.bytes right.now)) < 2 ^ 64 }
+    ensures count { result ≡ length (commons (pointer_shape P.bytes left.now)
+        (pointer_shape P.bytes right.now)) }
+    ensures counted { CountsUpTo (2 * set.len (shared_of (pointer_shape P.bytes left.now)
+        (pointer_shape P.bytes right.now))) 0 work.old work.new }
+    ensures entered { work.old.entered + 2 ≤ work.new.entered }
+{
+    let mut count = 0usize;
+    visit_common_values(
+        left,
+        right,
+        &mut |_left: &V, _right: &V| {
+            count += 1;
+        },
+        work,
+    );
+    count
+}

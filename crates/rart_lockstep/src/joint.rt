@@ -1,0 +1,84 @@
+//! A place in two trees at once.
+ghost use Rattle.std.specs.Prelude.{◌≡◌, ◌⊎◌, ◌+◌, ◌≤◌, ℕ, [], ◌∷◌, ◌++◌, List, Bool, Option, Some, None, length, take, if◌then◌else◌, is_ok, is_some, IsTrue, OnErr, IfSome};
+ghost use Rattle.std.specs.Option.{option_map};
+ghost use Rattle.std.specs.List.{concat};
+ghost use Rattle.rart_below.specs.Bytes.{common_length, IsAdmitted};
+ghost use Rattle.rart_node.specs.Counts.{CountsUpTo};
+ghost use Rattle.rart_node.specs.Shape.{Shape, IsAscending, prefix_of};
+ghost use Rattle.rart_lockstep.specs.Children.{TakesPair, common_children};
+ghost use Rattle.rart_lockstep.specs.Joints.{CommonBytes};
+ghost use Rattle.rart_lockstep.specs.Sides.{behind_bytes, arms};
+
+use rart_node::Work;
+use std::alloc::AllocError;
+
+/// A place in two trees at once, and the trail that keeps the way there.
+///
+/// It names no lifetime, so that what calls itself over places names none: the prover has no
+/// theorem for such a function under a bound that names one. Contracts see the two nodes by `left`
+/// and `right`, without the bytes that are passed, and by `HasWhole` that the prefix of one is
+/// whole.
+pub(crate) trait Joint<V, T>: Drop {
+    type Branches: Drop;
+
+    ghost left: { Self → Shape V };
+
+    ghost right: { Self → Shape V };
+
+    ghost HasWhole: { Self → Type 0 };
+
+    ghost branches_left: { Self.Branches → List (ℕ × (Shape V × Shape V)) };
+
+    ghost holds: { T → List (List ℕ) → Type 0 };
+
+    ghost greatest: { Option ℕ };
+
+    ghost can_refuse: { Bool };
+
+    /// How many bytes both have in common, or `None` where neither ends behind them.
+    fn common(&self) -> Option<usize>
+        requires whole { HasWhole self.now }
+        ensures { CommonBytes (left self.now) (right self.now) result };
+
+    /// Puts these bytes of the left prefix on the trail. Refused for memory, it is as it was.
+    fn push(&self, count: usize, trail: &mut T) -> Result<(), AllocError>
+        requires inside { count ≤ length (prefix_of (left self.now)) }
+        requires short { (segments : List (List ℕ)) × holds trail.old segments
+            × IsAdmitted greatest
+            (length (concat (segments ++ take count (prefix_of (left self.now)) ∷ []))) }
+        ensures keeps { (segments : List (List ℕ)) → holds trail.old segments
+            → holds trail.new (if is_ok result
+            then segments ++ take count (prefix_of (left self.now)) ∷ [] else segments) }
+        ensures refused { OnErr result (IsTrue can_refuse) };
+
+    /// Takes them off the trail.
+    fn pop(&self, count: usize, trail: &mut T)
+        requires inside { count ≤ length (prefix_of (left self.now)) }
+        requires kept { (segments : List (List ℕ))
+            × holds trail.old (segments ++ take count (prefix_of (left self.now)) ∷ []) }
+        ensures { (segments : List (List ℕ))
+            → holds trail.old (segments ++ take count (prefix_of (left self.now)) ∷ [])
+            → holds trail.new segments };
+
+    /// The same two nodes with so many bytes passed on either side.
+    fn behind(&self, count: usize) -> Self
+        requires left_inside { count ≤ length (prefix_of (left self.now)) }
+        requires right_inside { count ≤ length (prefix_of (right self.now)) }
+        ensures left { left result ≡ behind_bytes count (left self.now) }
+        ensures right { right result ≡ behind_bytes count (right self.now) };
+
+    /// The next steps, where the prefix of one has ended, or of both.
+    fn branches(self) -> Self::Branches
+        requires left { IsAscending (left self) }
+        requires right { IsAscending (right self) }
+        requires ended { (prefix_of (left self) ≡ []) ⊎ (prefix_of (right self) ≡ []) }
+        ensures { branches_left result ≡ common_children (arms (left self)) (arms (right self)) };
+
+    /// Takes the next step. It enters two nodes at most, and none where there is no step.
+    fn next(branches: &mut Self::Branches, work: &mut Work) -> Option<Self>
+        ensures takes { TakesPair (branches_left branches.old)
+            (option_map (λ at. (left at, right at)) result) (branches_left branches.new) }
+        ensures whole { IfSome result HasWhole }
+        ensures counted { CountsUpTo (if is_some result then 2 else 0) 0
+            work.old work.new };
+}

@@ -1,0 +1,110 @@
+//! Visits of the keys of two trees, each made anew.
+ghost use Rattle.std.specs.Prelude.{◌+◌, ◌*◌, ◌≤◌, true};
+ghost use Rattle.std.specs.FinSet as set;
+ghost use Rattle.rart_lockstep.specs.Commons.{commons, shared_of};
+ghost use Rattle.rart_maps.specs.Visits.{ByKeyPair, CallableOn, CalledOn, Visits, Visitable};
+ghost use Rattle.rart_node.specs.Counts.{CountsUpTo};
+ghost use Rattle.rart_node.specs.NodeShapes.{pointer_shape};
+ghost use Rattle.rart_shape.specs.Trees.{IsTree, pairs_of};
+ghost use Rattle.rart_walks.specs.Walks.{AreShort};
+
+use crate::lockstep::meet_below;
+use crate::meeting::Meeting;
+use crate::sides::Sides;
+use rart_below::{KeyTrait, Partial};
+use rart_node::{NodeRef, Work};
+use rart_walks::{KeyTrail, Trail};
+use std::alloc::{AllocError, Global};
+use std::marker::PhantomData;
+
+/// Calls the closure on each key of two trees, in order: with the key and references to what either
+/// tree has there.
+///
+/// Refused for memory, it has called it on a beginning of them. Two nodes are entered for each
+/// string that begins keys of both at most, and the two that the pointers show at least.
+pub fn visit_common_keys<'a, K: KeyTrait, P: Partial, V: Drop, F: FnMut(K, &'a V, &'a V)>(
+    alloc: Global,
+    left: &'a NodeRef<P, V>,
+    right: &'a NodeRef<P, V>,
+    f: &mut F,
+    work: &mut Work,
+) -> Result<(), AllocError>
+    requires left { IsTree (pointer_shape P.bytes left.now) }
+    requires right { IsTree (pointer_shape P.bytes right.now) }
+    requires admitted { AreShort K.MAXIMUM_SIZE (pairs_of (pointer_shape P.bytes left.now)) }
+    requires visitable { Visitable F.FnMut (ByKeyPair K.bytes) f.old
+        (commons (pointer_shape P.bytes left.now) (pointer_shape P.bytes right.now)) }
+    ensures visits { Visits F.FnMut (ByKeyPair K.bytes) result f.old
+        (commons (pointer_shape P.bytes left.now) (pointer_shape P.bytes right.now)) f.new }
+    ensures counted { CountsUpTo (2 * set.len (shared_of (pointer_shape P.bytes left.now)
+        (pointer_shape P.bytes right.now))) 0 work.old work.new }
+    ensures entered { work.old.entered + 2 ≤ work.new.entered }
+{
+    let mut trail: KeyMaker<K> = KeyMaker::new(alloc);
+    let at = Sides::open(left, right, work);
+    meet_below(at, &mut trail, f, work)
+}
+
+// A trail that makes keys.
+#[derive(Drop)]
+struct KeyMaker<K> {
+    alloc: Global,
+    trail: KeyTrail,
+    made: PhantomData<K>,
+}
+
+impl<'a, K: KeyTrait> Trail<'a> for KeyMaker<K> {
+    ghost use Rattle.rart_walks.specs.Trails.{HoldsBytes};
+
+    ghost holds = { λ maker. HoldsBytes maker.trail };
+
+    ghost greatest = { K.MAXIMUM_SIZE };
+
+    ghost can_refuse = { true };
+
+    fn new(alloc: Global) -> KeyMaker<K> {
+        KeyMaker {
+            alloc,
+            trail: KeyTrail::new(alloc),
+            made: PhantomData,
+        }
+    }
+
+    fn push(&mut self, segment: &'a [u8]) -> Result<(), AllocError> {
+        self.trail.push(segment)
+    }
+
+    fn pop(&mut self, segment: &'a [u8]) {
+        self.trail.pop(segment);
+    }
+}
+
+impl<'a, K: KeyTrait, P: Partial, V: Drop, F: FnMut(K, &'a V, &'a V)> Meeting<V, KeyMaker<K>, F>
+    for Sides<'a, P, V> {
+    ghost use Rattle.std.specs.Borrow.{Bor};
+
+    ghost Arguments = { K × (Bor V × (Bor V × Unit {0})) };
+
+    ghost calls = { F.FnMut };
+
+    ghost Shows = { ByKeyPair K.bytes };
+
+    fn meet(&self, trail: &KeyMaker<K>, f: &mut F) -> Result<(), AllocError> {
+        let Some((left, right)) = self.values_here() else {
+            return Ok(());
+        };
+        let key = K::new_from_slice(trail.alloc, trail.trail.as_slice())?;
+        call(key, left, right, f);
+        Ok(())
+    }
+}
+
+// A call on a key and two values.
+fn call<'a, K: KeyTrait, V, F: FnMut(K, &'a V, &'a V)>(key: K, left: &'a V, right: &'a V, f: &mut F)
+    requires { CallableOn F.FnMut (ByKeyPair K.bytes) f.old
+        (K.bytes key, left.now, right.now) }
+    ensures { CalledOn F.FnMut (ByKeyPair K.bytes) f.old (K.bytes key, left.now, right.now) tt
+        f.new }
+{
+    f(key, left, right);
+}

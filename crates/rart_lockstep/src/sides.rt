@@ -1,0 +1,107 @@
+//! Two sides of the way down two trees.
+ghost use Rattle.std.specs.Prelude.{◌≡◌, ◌⊎◌, ◌+◌};
+ghost use Rattle.std.specs.Option.{option_map};
+ghost use Rattle.rart_node.specs.NodeShapes.{pointer_shape};
+ghost use Rattle.rart_lockstep.specs.Entries.{both};
+ghost use Rattle.rart_lockstep.specs.Sides.{value_here};
+
+use crate::branches::Branches;
+use crate::joint::Joint;
+use crate::side::Side;
+use rart_below::Partial;
+use rart_node::{NodeRef, Work};
+use rart_walks::Trail;
+use std::alloc::AllocError;
+
+/// A place in either tree, side by side.
+#[derive(Drop)]
+pub(crate) struct Sides<'a, P: Partial, V> {
+    pub(crate) left: Side<'a, P, V>,
+    pub(crate) right: Side<'a, P, V>,
+}
+
+impl<'a, P: Partial, V: Drop> Sides<'a, P, V> {
+    ghost use Rattle.rart_lockstep.specs.SideFields.{side_shape};
+
+    /// The nodes that two pointers show: both are entered.
+    pub(crate) fn open(
+        left: &'a NodeRef<P, V>,
+        right: &'a NodeRef<P, V>,
+        work: &mut Work,
+    ) -> Sides<'a, P, V>
+        ensures left { side_shape P.bytes result.left ≡ pointer_shape P.bytes left.now }
+        ensures right { side_shape P.bytes result.right ≡ pointer_shape P.bytes right.now }
+        ensures whole { result.left.from ≡ 0 }
+        ensures work { work.new ≡ record work.old { entered = work.old.entered + 2 } }
+    {
+        Sides {
+            left: Side::whole(left.open(work)),
+            right: Side::whole(right.open(work)),
+        }
+    }
+
+    /// The values of the key that ends here, if both have one.
+    pub(crate) fn values_here(&self) -> Option<(&'a V, &'a V)>
+        ensures { option_map (λ pair. (pair.0.now, pair.1.now)) result
+            ≡ both (value_here (side_shape P.bytes self.now.left))
+            (value_here (side_shape P.bytes self.now.right)) }
+    {
+        Some((self.left.value_here()?, self.right.value_here()?))
+    }
+}
+
+impl<'a, P: Partial, V: Drop, T: Trail<'a>> Joint<V, T> for Sides<'a, P, V> {
+    type Branches = Branches<'a, P, V>;
+
+    ghost use Rattle.rart_lockstep.specs.Branches.{branches_left};
+    ghost use Rattle.rart_lockstep.specs.SideFields.{side_shape};
+
+    ghost left = { λ at. side_shape P.bytes at.left };
+
+    ghost right = { λ at. side_shape P.bytes at.right };
+
+    ghost HasWhole = { λ at. (at.left.from ≡ 0) ⊎ (at.right.from ≡ 0) };
+
+    ghost branches_left = { branches_left P.bytes };
+
+    ghost holds = { T.holds };
+
+    ghost greatest = { T.greatest };
+
+    ghost can_refuse = { T.can_refuse };
+
+    fn common(&self) -> Option<usize> {
+        let common = self.left.common_with(&self.right);
+        if !self.left.is_longer(common) {
+            return Some(common);
+        }
+        if !self.right.is_longer(common) {
+            return Some(common);
+        }
+        None
+    }
+
+    fn push(&self, count: usize, trail: &mut T) -> Result<(), AllocError> {
+        trail.push(self.left.first(count))
+    }
+
+    fn pop(&self, count: usize, trail: &mut T) {
+        trail.pop(self.left.first(count));
+    }
+
+    fn behind(&self, count: usize) -> Self {
+        Sides {
+            left: self.left.behind(count),
+            right: self.right.behind(count),
+        }
+    }
+
+    fn branches(self) -> Branches<'a, P, V> {
+        Branches::new(self.left, self.right)
+    }
+
+    fn next(branches: &mut Branches<'a, P, V>, work: &mut Work) -> Option<Self> {
+        let (left, right) = branches.next(work)?;
+        Some(Sides { left, right })
+    }
+}

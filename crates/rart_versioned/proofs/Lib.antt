@@ -1,4 +1,6 @@
+pub mod CommonLemmas
 pub mod MapLemmas
+pub mod MeetLemmas
 pub mod KeyLemmas
 pub mod IterationLemmas
 pub mod KeyLengthLemmas
@@ -11,4 +13,5 @@ pub mod ProofSteps
 pub mod SoundLemmas
 pub mod RemovalLemmas
 pub mod SlotChangeLemmas
+pub mod UnversionedLemmas
 pub mod VisitLemmas

@@ -3,6 +3,7 @@
 mod change;
 mod get_mut;
 mod insert;
+mod intersect;
 mod lookup;
 mod matches;
 pub(crate) mod missing;

@@ -10,7 +10,8 @@ mod plain;
 pub use counted::VersionedAdaptiveRadixTree;
 pub use plain::{VersionedIter, VersionedPrefixMatchIter, VersionedRange, VersionedValuesIter};
 pub use rart_below::{
-    ArrPartial, ArrayKey, DirectMapping, IndexedMapping, KeyTrait, LendingKeyView, NodeMapping,
-    Partial, Refusal, Slot, SlotUpdate, SortedKeyedMapping, VectorKey, VectorPartial, VisitControl,
+    AdaptiveRadixTree, ArrPartial, ArrayKey, DirectMapping, IndexedMapping, KeyTrait,
+    LendingKeyView, NodeMapping, Partial, PlainIter, Refusal, Slot, SlotUpdate, SortedKeyedMapping,
+    VectorKey, VectorPartial, VisitControl,
 };
 pub use rart_node::{GrowError, NodeRef, VersionedNode, VersionedNodeIter, Work};

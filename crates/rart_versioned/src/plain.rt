@@ -2,12 +2,14 @@
 
 mod get_mut;
 mod insert;
+mod intersect;
 mod iter;
 mod lookup;
 mod matches;
 mod prefix_match;
 mod range;
 mod remove;
+mod unversioned;
 mod update;
 mod values;
 mod visitors;

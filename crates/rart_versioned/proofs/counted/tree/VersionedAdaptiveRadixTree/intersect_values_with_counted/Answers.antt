@@ -1,0 +1,11 @@
+use Rattle.std.proofs.Common.{refl, sym, subst, map}
+use Rattle.rart_maps.specs.Visits.{ByValuePair, Visitable}
+use Rattle.rart_versioned.proofs.counted.tree.VersionedAdaptiveRadixTree.intersect_values_with_counted.Goals as goal
+
+pub visit_common_values-requires : goal.visit_common_values-requires
+visit_common_values-requires g c κs =
+    let roots = c.in-Some.ensures.both in
+    let visitable =
+    subst (λ list. Visitable g.F.FnMut ByValuePair c.args.f.now
+    (map (λ entry. (entry.1, entry.2)) list)) (sym roots.commons_are) c.requires.visitable in
+    ((refl, tt), (roots.left_tree, (roots.right_tree, visitable)))

@@ -1,0 +1,131 @@
+//! Intersections of two trees, and their counts.
+ghost use Rattle.std.specs.Prelude.{◌≡◌, ◌+◌, ◌≤◌, false, length, map, IfNone, IfSome};
+ghost use Rattle.rart_maps.specs.Bounds.{meet_bound};
+ghost use Rattle.rart_maps.specs.Pairs.{common};
+ghost use Rattle.rart_maps.specs.Versions.{has_no_key};
+ghost use Rattle.rart_maps.specs.Visits.{ByKeyPair, ByValuePair, ByViewPair, Visit, Visits, Visitable};
+ghost use Rattle.rart_node.specs.Counts.{CountsUpTo};
+ghost use Rattle.rart_node.specs.NodeShapes.{pointer_shape};
+ghost use Rattle.rart_versioned.specs.Meets.{AreRoots, HaveNoCommon};
+
+use crate::counted::tree::VersionedAdaptiveRadixTree;
+use rart_below::{KeyTrait, LendingKeyView, Partial};
+use rart_lockstep::{count_common, visit_common_keys, visit_common_values, visit_common_views};
+use rart_node::{NodeRef, Work};
+use std::alloc::AllocError;
+
+impl<K: KeyTrait, V: Clone + Drop> VersionedAdaptiveRadixTree<K, V> {
+    /// As `intersect_with`, with the nodes entered counted into `work`: at most two for each string
+    /// that begins a key of both, so none where either map has no key, and at least two where both
+    /// have one.
+    pub fn intersect_with_counted<'a, F: FnMut(K, &'a V, &'a V)>(
+        &'a self,
+        other: &'a VersionedAdaptiveRadixTree<K, V>,
+        f: &mut F,
+        work: &mut Work,
+    ) -> Result<(), AllocError>
+        requires visitable { Visitable F.FnMut (ByKeyPair K.bytes) f.old
+            (common self.now.content other.now.content) }
+        ensures visits { Visits F.FnMut (ByKeyPair K.bytes) result f.old
+            (common self.now.content other.now.content) f.new }
+        ensures counted { CountsUpTo (meet_bound self.now.content other.now.content) 0
+            work.old work.new }
+        ensures entered { has_no_key self.now ≡ false → has_no_key other.now ≡ false
+            → work.old.entered + 2 ≤ work.new.entered }
+    {
+        match self.both_roots(other) {
+            None => Ok(()),
+            Some((left, right)) => visit_common_keys(self.alloc, left, right, f, work),
+        }
+    }
+
+    /// As `intersect_lending_with`, with the nodes entered counted into `work`, as many as in
+    /// `intersect_with_counted`.
+    pub fn intersect_lending_with_counted<'a, F: FnMut(LendingKeyView<'_, '_>, &V, &V)>(
+        &'a self,
+        other: &'a VersionedAdaptiveRadixTree<K, V>,
+        f: &mut F,
+        work: &mut Work,
+    ) -> Result<(), AllocError>
+        requires visitable { Visitable F.FnMut ByViewPair f.old
+            (common self.now.content other.now.content) }
+        ensures visits { Visits F.FnMut ByViewPair result f.old
+            (common self.now.content other.now.content) f.new }
+        ensures counted { CountsUpTo (meet_bound self.now.content other.now.content) 0
+            work.old work.new }
+        ensures entered { has_no_key self.now ≡ false → has_no_key other.now ≡ false
+            → work.old.entered + 2 ≤ work.new.entered }
+    {
+        match self.both_roots(other) {
+            None => Ok(()),
+            Some((left, right)) => visit_common_views(self.alloc, left, right, f, work),
+        }
+    }
+
+    /// As `intersect_values_with`, with the nodes entered counted into `work`, as many as in
+    /// `intersect_with_counted`.
+    pub fn intersect_values_with_counted<'a, F: FnMut(&'a V, &'a V)>(
+        &'a self,
+        other: &'a VersionedAdaptiveRadixTree<K, V>,
+        f: &mut F,
+        work: &mut Work,
+    )
+        requires visitable { Visitable F.FnMut ByValuePair f.old
+            (map (λ entry. (entry.1, entry.2)) (common self.now.content other.now.content)) }
+        ensures visits { Visit F.FnMut ByValuePair f.old
+            (map (λ entry. (entry.1, entry.2)) (common self.now.content other.now.content)) f.new }
+        ensures counted { CountsUpTo (meet_bound self.now.content other.now.content) 0
+            work.old work.new }
+        ensures entered { has_no_key self.now ≡ false → has_no_key other.now ≡ false
+            → work.old.entered + 2 ≤ work.new.entered }
+    {
+        match self.both_roots(other) {
+            None => {}
+            Some((left, right)) => visit_common_values(left, right, f, work),
+        }
+    }
+
+    /// As `intersect_count`, with the nodes entered counted into `work`, as many as in
+    /// `intersect_with_counted`.
+    pub fn intersect_count_counted(
+        &self,
+        other: &VersionedAdaptiveRadixTree<K, V>,
+        work: &mut Work,
+    ) -> usize
+        ensures count { result ≡ length (common self.now.content other.now.content) }
+        ensures counted { CountsUpTo (meet_bound self.now.content other.now.content) 0
+            work.old work.new }
+        ensures entered { has_no_key self.now ≡ false → has_no_key other.now ≡ false
+            → work.old.entered + 2 ≤ work.new.entered }
+    {
+        match self.both_roots(other) {
+            None => 0,
+            Some((left, right)) => {
+                // (there are at most as many keys as the number says, so a number holds them)
+                let _number = self.version();
+                count_common(left, right, work)
+            }
+        }
+    }
+
+    /// The roots of both, unless either has no key.
+    fn both_roots<'a>(
+        &'a self,
+        other: &'a VersionedAdaptiveRadixTree<K, V>,
+    ) -> Option<
+        (
+            &'a NodeRef<K::PartialType, V>,
+            &'a NodeRef<K::PartialType, V>,
+        ),
+    >
+        ensures both { IfSome result (λ roots. AreRoots K.MAXIMUM_SIZE
+            (pointer_shape K.PartialType.bytes roots.0.now)
+            (pointer_shape K.PartialType.bytes roots.1.now) self.now other.now) }
+        ensures lacking { IfNone result (HaveNoCommon self.now other.now) }
+    {
+        match (&self.root, &other.root) {
+            (Some(left), Some(right)) => Some((left, right)),
+            _ => None,
+        }
+    }
+}

@@ -40,6 +40,12 @@ const LONG: &[Row] = &[
         Gives(1, Under(SHORTER), &[(FIRST, 1), (SECOND, 2)]),
         Flag(true),
     ),
+    (At(0, SECOND, Insert(20)), Flag(true)),
+    (At(0, SHORTER, Insert(4)), Flag(false)),
+    (
+        Intersects(0, 1, &[(b"", 3, 3), (FIRST, 1, 1), (SECOND, 20, 2)]),
+        Flag(true),
+    ),
 ];
 
 const IN_ORDER: &[Pair] = &[(b"", 3), (FIRST, 1), (SECOND, 2)];

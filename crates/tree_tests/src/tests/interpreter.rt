@@ -6,15 +6,17 @@
 
 mod call;
 mod changes;
+mod intersections;
 mod keys;
 mod lookup;
+mod plain;
 mod step;
 mod updates;
 mod versions;
 mod visits;
 mod walks;
 
-pub use call::{Answer, Call, Change, Edit, Form, Outcome, Pair, Visit, Walk};
+pub use call::{Answer, Both, Call, Change, Edit, Form, Outcome, Pair, Visit, Walk};
 pub use keys::Keys;
 use rart_versioned::{ArrayKey, KeyTrait, VectorKey};
 use std::alloc::Global;
@@ -59,6 +61,10 @@ pub fn assert_steps_on<K: KeyTrait>(
                     assert_eq!(rt; answer, Answer::Flag(true), "step {at}");
                     let answer = versions.viewed(place, keys)?;
                     assert_eq!(rt; answer, Answer::Flag(true), "step {at}, by views");
+                }
+                Step::Flattened(keys) => {
+                    let answer = versions.flattened(keys)?;
+                    assert_eq!(rt; answer, Answer::Flag(true), "step {at}");
                 }
             }
         }

@@ -56,10 +56,22 @@ pub enum Call<'a> {
     /// A visitor of the version at a place, which is to show these entries: `Flag`, whether it
     /// showed them in order and no other, or `CallbackError`.
     Visits(usize, Visit<'a>, &'a [Pair<'a>]),
+    /// `intersect_with`, `intersect_lending_with`, `intersect_values_with` and `intersect_count` of
+    /// the versions at two places: `Flag`, whether each showed these entries in order and no other,
+    /// and they were counted.
+    Intersects(usize, usize, &'a [Both<'a>]),
+    /// `intersect_count` of the versions at two places: `Number`.
+    IntersectCount(usize, usize),
+    /// `into_unversioned` of the last version, which is taken off the list: `Flag`, whether the
+    /// plain tree has these pairs and no other, and none of these keys.
+    FlattenLast(&'a [Pair<'a>], &'a [&'a [u8]]),
 }
 
 /// A key by its bytes, and its value.
 pub type Pair<'a> = (&'a [u8], u64);
+
+/// A key by its bytes, and the values that two versions have at it, the first one's first.
+pub type Both<'a> = (&'a [u8], u64, u64);
 
 /// A call that gives pairs, one by one.
 #[derive(Clone, Copy)]

@@ -15,6 +15,9 @@ pub enum Step<'a> {
     /// All pairs of the version at a place are these keys in order, each with its number: what its
     /// iterators give, and what its visitor shows.
     InOrder(usize, Keys<'a>),
+    /// All pairs of the plain tree that the last version becomes, which is taken off the list, are
+    /// these keys, each with its number.
+    Flattened(Keys<'a>),
 }
 
 /// What is called with each key, and wanted of it.

@@ -3,10 +3,10 @@ ghost use Rattle.std.specs.Prelude.{◌+◌, ◌<◌, ◌≤◌, ◌^◌, length
 ghost use Rattle.rart_versioned.specs.Bytes.{IsAdmitted};
 ghost use Rattle.rart_maps.specs.Versions.{HasRoom};
 
-use super::call::{Answer, Call, Change, Form, Pair, Visit, Walk};
+use super::call::{Answer, Both, Call, Change, Form, Pair, Visit, Walk};
 use super::keys::Keys;
 use super::walks::{bound_of, key_of};
-use super::{changes, lookup, updates, visits, walks};
+use super::{changes, intersections, lookup, plain, updates, visits, walks};
 use rart_versioned::{KeyTrait, VersionedAdaptiveRadixTree};
 use std::alloc::{AllocError, Global};
 use std::ops::Bound;
@@ -50,6 +50,14 @@ impl<K: KeyTrait> Versions<K> {
             Call::Gives(place, walk, wanted) => self.gives(form, place, walk, wanted),
             Call::GivesValues(place, wanted) => self.gives_values(place, wanted),
             Call::GivesEach(place, keys) => self.gives_each(place, keys),
+            Call::Intersects(place, other, entries) => {
+                self.intersects(form, place, other, entries)
+            }
+            Call::IntersectCount(place, other) => Ok(self.intersect_count(form, place, other)),
+            Call::FlattenLast(wanted, absent) => match self.trees.pop() {
+                Some(tree) => plain::flattens(self.alloc, tree, wanted, absent),
+                None => Ok(Answer::NoVersion),
+            },
         }
     }
 
@@ -58,13 +66,20 @@ impl<K: KeyTrait> Versions<K> {
         let Some(tree) = self.trees.get(place) else {
             return Ok(Answer::NoVersion);
         };
-        let (first, _end) = keys.bounds();
         let all = keys.all(self.alloc)?;
-        let mut entries: Vec<Pair> = Vec::new(self.alloc);
-        for (index, key) in all.iter().enumerate() {
-            entries.push((key.as_slice(), u64::from(first).wrapping_add(index as u64)))?;
-        }
+        let entries = numbered(self.alloc, keys, all.as_slice())?;
         visits::views(tree, entries.as_slice())
+    }
+
+    /// Whether `into_unversioned` of the last version, which is taken off the list, has these keys
+    /// and no other, each with its number.
+    pub fn flattened(&mut self, keys: Keys) -> Result<Answer, AllocError> {
+        let Some(tree) = self.trees.pop() else {
+            return Ok(Answer::NoVersion);
+        };
+        let all = keys.all(self.alloc)?;
+        let entries = numbered(self.alloc, keys, all.as_slice())?;
+        plain::flattens(self.alloc, tree, entries.as_slice(), &[])
     }
 
     fn put(&mut self, tree: Tree<K>) -> Result<Answer, AllocError> {
@@ -144,6 +159,26 @@ impl<K: KeyTrait> Versions<K> {
         }
     }
 
+    fn intersects(
+        &self,
+        form: Form,
+        place: usize,
+        other: usize,
+        entries: &[Both],
+    ) -> Result<Answer, AllocError> {
+        let (Some(tree), Some(other)) = (self.trees.get(place), self.trees.get(other)) else {
+            return Ok(Answer::NoVersion);
+        };
+        intersections::intersects(tree, other, form, entries)
+    }
+
+    fn intersect_count(&self, form: Form, place: usize, other: usize) -> Answer {
+        let (Some(tree), Some(other)) = (self.trees.get(place), self.trees.get(other)) else {
+            return Answer::NoVersion;
+        };
+        Answer::Number(intersections::count(tree, other, form) as u64)
+    }
+
     fn change(
         &mut self,
         form: Form,
@@ -163,6 +198,20 @@ impl<K: KeyTrait> Versions<K> {
         }
         change_by(tree, form, key, change)
     }
+}
+
+// Each of the keys with its number.
+fn numbered<'a>(
+    alloc: Global,
+    keys: Keys,
+    all: &'a [Vec<u8>],
+) -> Result<Vec<Pair<'a>>, AllocError> {
+    let (first, _end) = keys.bounds();
+    let mut entries: Vec<Pair> = Vec::new(alloc);
+    for (index, key) in all.iter().enumerate() {
+        entries.push((key.as_slice(), u64::from(first).wrapping_add(index as u64)))?;
+    }
+    Ok(entries)
 }
 
 fn change_by<K: KeyTrait>(

@@ -6,11 +6,11 @@ use Rattle.std.specs.Global.{Vec}
 use Rattle.std.specs.Fn.{Mut}
 use Rattle.std.specs.declared.alloc.AllocError.{AllocError}
 use Rattle.std.specs.Borrow.{Bor}
-use Rattle.rart_maps.specs.Pairs.{pairs}
+use Rattle.rart_maps.specs.Pairs.{pairs, common}
 use Rattle.rart_maps.specs.Versions.{Version, has_key}
 use Rattle.rart_maps.specs.Visits.{CalledOn, CallableOn, CallableInTurn, Visit}
 use Rattle.rart_maps.proofs.ElementLemmas.{Contains-here, Contains-later, Contains-filter}
-use Rattle.rart_maps.proofs.FoundLemmas.{Contains-pairs}
+use Rattle.rart_maps.proofs.FoundLemmas.{Contains-pairs, common_is_found}
 use Rattle.rart_versioned.specs.Bytes.{IsAdmitted}
 use Rattle.rart_versioned.specs.Keys.{IsKeyLength}
 use Rattle.rart_maps.specs.Iterations.{ByKey, NextGives}
@@ -36,6 +36,16 @@ pub filtered-admitted : {V : Type 0} (v : Version V) (most : Option ℕ) →
     Contains (filter p (pairs v.content)) pair → IsAdmitted most (length pair.0)
 filtered-admitted v most lengths p pair there =
     pair-admitted v most lengths pair ((Contains-filter p (pairs v.content) pair).0 there).0
+
+-- So have those that it has in common with another.
+pub common-admitted : {V : Type 0} (v w : Version V) (most : Option ℕ) →
+    ((key : List ℕ) → IsTrue (has_key v key) → IsKeyLength most (length key)) →
+    (entry : List ℕ × V × V) → Contains (common v.content w.content) entry →
+    IsAdmitted most (length entry.0)
+common-admitted {V} v w most lengths entry there =
+    let found = (common_is_found V v.content w.content entry.0 entry.1 entry.2).0 there in
+    let has : IsTrue (has_key v entry.0) = rw found.0 refl in
+    (lengths entry.0 has).0
 
 module _ {K V : Type 0} (bytes : K → List ℕ) where
   -- An entry that is pushed is seen behind those before it.

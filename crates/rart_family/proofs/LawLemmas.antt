@@ -4,9 +4,9 @@ use Rattle.std.proofs.lemmas.List.{length-append}
 use Rattle.std.specs.Prelude.{Option, Some, None, slice_get, slice_set}
 use Rattle.rart_maps.specs.Versions.{Version, with_rise}
 use Rattle.rart_family.specs.declared.family.command.Command.{Command}
-use Rattle.rart_family.specs.declared.family.command.Command.TheVariants.{New, NewAt, Snapshot, Duplicate, Discard, Version as NumberOf, IsEmpty, Get, GetMut, Insert, Replace, Remove, Delete, Update, TryUpdate, Iter, Values as ValuesOf, Range, Prefix, Matches, MatchesEach, Views, PrefixViews, RangeViews, PrefixValues, Until}
+use Rattle.rart_family.specs.declared.family.command.Command.TheVariants.{New, NewAt, Snapshot, Duplicate, Discard, Version as NumberOf, IsEmpty, Get, GetMut, Insert, Replace, Remove, Delete, Update, TryUpdate, Iter, Values as ValuesOf, Range, Prefix, Matches, MatchesEach, Views, PrefixViews, RangeViews, PrefixValues, Until, Intersect, IntersectViews, IntersectValues, IntersectCount, Flatten}
 use Rattle.rart_family.specs.Replies.{Reply, NoRoom}
-use Rattle.rart_family.specs.Families.{Family, Outcome, call_outcome, placement, change_outcome, version_at, after}
+use Rattle.rart_family.specs.Families.{Family, Outcome, call_outcome, placement, meet_outcome, change_outcome, version_at, after}
 use Rattle.rart_family.specs.Runs.{Step, Run}
 use Rattle.rart_family.specs.Laws.{place_changed, StepsAreIsolated, PlacesStay, RepliesFixSteps, RepliesFixRuns, NoReplyIsWant}
 use Rattle.rart_family.proofs.RunLemmas.{is_no_memory, reply_is_no_want, step_next}
@@ -37,6 +37,11 @@ module _ {V : Type 0} (f : Family V) (P : Family V → Type 0) (same : P f) wher
       → (found : Option (Version V)) → P (call_outcome f call found).1
   kept_called call kept None = same
   kept_called call kept (Some v) = kept v
+
+  kept_met : (left right : ℕ) (reply : Version V → Version V → Reply V)
+      → P (meet_outcome f left right reply).1
+  kept_met left right reply =
+      kept_called _ (λ one. kept_called _ (λ other. same) (version_at f right)) (version_at f left)
 
   kept_room : (b : Bool) (outcome : Outcome V) → P outcome.1 → P (cond b outcome (NoRoom, f)).1
   kept_room true outcome kept = kept
@@ -105,6 +110,12 @@ module _ {K V : Type 0} (bytes : K → List ℕ) where
   kept_after f P same push (PrefixValues place prefix) set =
       kept_called f P same _ (λ v. same) (version_at f place)
   kept_after f P same push (Until place prefix visits fails) set =
+      kept_called f P same _ (λ v. same) (version_at f place)
+  kept_after f P same push (Intersect left right) set = kept_met f P same left right _
+  kept_after f P same push (IntersectViews left right) set = kept_met f P same left right _
+  kept_after f P same push (IntersectValues left right) set = kept_met f P same left right _
+  kept_after f P same push (IntersectCount left right) set = kept_met f P same left right _
+  kept_after f P same push (Flatten place) set =
       kept_called f P same _ (λ v. same) (version_at f place)
 
   -- The same after a step.

@@ -1,17 +1,28 @@
--- Commands that only read: they leave the family, and visitors are replied as iterators.
-use Rattle.std.proofs.Common.{◌≡◌, ℕ, List, refl, ◌∙◌, ⊎_elim}
+-- Commands that only read: they leave the family, visitors are replied as iterators, and
+-- intersections swap with their places.
+use Rattle.std.proofs.Common.{◌≡◌, ℕ, List, map, length, refl, sym, ap, ◌∙◌, ⊎_elim}
+use Rattle.std.proofs.lemmas.List.{length-map}
+use Rattle.std.proofs.lemmas.Simd.{map-map}
 use Rattle.std.specs.Prelude.{Option, Some, None}
-use Rattle.rart_maps.specs.Versions.{Version}
+use Rattle.rart_maps.specs.Versions.{Map, Version}
+use Rattle.rart_maps.specs.Pairs.{common}
+use Rattle.rart_maps.proofs.PairLawLemmas.{common_swaps}
 use Rattle.rart_family.specs.declared.family.command.Command.{Command}
-use Rattle.rart_family.specs.declared.family.command.Command.TheVariants.{Version as NumberOf, IsEmpty, Get, Iter, Values as ValuesOf, Range, Prefix, Matches, MatchesEach, Views, PrefixViews, RangeViews, PrefixValues, Until}
-use Rattle.rart_family.specs.Replies.{Reply}
-use Rattle.rart_family.specs.Families.{Family, call_outcome, version_at, after}
-use Rattle.rart_family.specs.Laws.{OnlyReads, ReadsLeaveFamily, VisitorsReplyAsIterators}
+use Rattle.rart_family.specs.declared.family.command.Command.TheVariants.{Version as NumberOf, IsEmpty, Get, Iter, Values as ValuesOf, Range, Prefix, Matches, MatchesEach, Views, PrefixViews, RangeViews, PrefixValues, Until, Intersect, IntersectViews, IntersectValues, IntersectCount, Flatten}
+use Rattle.rart_family.specs.Replies.{Reply, Pairs, ValuePairs, Count, NoVersion}
+use Rattle.rart_family.specs.Families.{Family, Outcome, call_outcome, value_pairs_of, meet_outcome, version_at, after}
+use Rattle.rart_family.specs.Laws.{swapped_reply, OnlyReads, ReadsLeaveFamily, VisitorsReplyAsIterators, IntersectionsSwap}
 
 called_leaves : {V : Type 0} (f : Family V) (reply : Version V → Reply V)
     (found : Option (Version V)) → (call_outcome f (λ v. (reply v, f)) found).1 ≡ f
 called_leaves f reply None = refl
 called_leaves f reply (Some v) = refl
+
+met_leaves : {V : Type 0} (f : Family V) (reply : Version V → Version V → Reply V)
+    (left right : Option (Version V))
+    → (call_outcome f (λ one. call_outcome f (λ other. (reply one other, f)) right) left).1 ≡ f
+met_leaves f reply None right = refl
+met_leaves f reply (Some one) right = called_leaves f (reply one) right
 
 module _ {K V : Type 0} (bytes : K → List ℕ) where
   after_reading : (f : Family V) (c : Command K V) → OnlyReads c → after bytes f c ≡ f
@@ -29,7 +40,48 @@ module _ {K V : Type 0} (bytes : K → List ℕ) where
   after_reading f (RangeViews place lo hi) reads = called_leaves f _ (version_at f place)
   after_reading f (PrefixValues place prefix) reads = called_leaves f _ (version_at f place)
   after_reading f (Until place prefix visits fails) reads = called_leaves f _ (version_at f place)
+  after_reading f (Intersect left right) reads =
+      met_leaves f _ (version_at f left) (version_at f right)
+  after_reading f (IntersectViews left right) reads =
+      met_leaves f _ (version_at f left) (version_at f right)
+  after_reading f (IntersectValues left right) reads =
+      met_leaves f _ (version_at f left) (version_at f right)
+  after_reading f (IntersectCount left right) reads =
+      met_leaves f _ (version_at f left) (version_at f right)
+  after_reading f (Flatten place) reads = called_leaves f _ (version_at f place)
   after_reading f c reads = absurd reads
+
+-- Where what is replied of two versions in turn is what is replied of them swapped, so it is where
+-- either may be lacking.
+met_turns : {V : Type 0} (f : Family V) (turned : Reply V → Reply V) → NoVersion ≡ turned NoVersion
+    → (reply other : Version V → Version V → Reply V)
+    → ((one two : Version V) → other two one ≡ turned (reply one two))
+    → (left right : Option (Version V))
+    → (call_outcome f (λ two. call_outcome f (λ one. (other two one, f)) left) right).0
+    ≡ turned (call_outcome f (λ one. call_outcome f (λ two. (reply one two, f)) right) left).0
+met_turns f turned none reply other turns None None = none
+met_turns f turned none reply other turns None (Some two) = none
+met_turns f turned none reply other turns (Some one) None = none
+met_turns f turned none reply other turns (Some one) (Some two) = turns one two
+
+module _ {V : Type 0} where
+  pairs-swap : (one two : Map V) → Pairs (common two one) ≡ swapped_reply (Pairs (common one two))
+  pairs-swap one two = ap Pairs (common_swaps V one two)
+
+  value_pairs-swap : (one two : Map V) → ValuePairs (value_pairs_of (common two one))
+      ≡ swapped_reply (ValuePairs (value_pairs_of (common one two)))
+  value_pairs-swap one two =
+      ap (λ found. ValuePairs (value_pairs_of found)) (common_swaps V one two)
+      ∙ ap ValuePairs (map-map _ _ (common one two) ∙ sym (map-map _ _ (common one two)))
+
+  abbrev counted : ℕ → Reply V
+  counted number = Count number
+
+  count-stays : (one two : Map V)
+      → counted (length (common two one)) ≡ counted (length (common one two))
+  count-stays one two =
+      ap (λ found. counted (length found)) (common_swaps V one two)
+      ∙ ap counted (length-map (common one two) _)
 
 module _ (K V : Type 0) (bytes : K → List ℕ) where
   pub reads_leave_family : ReadsLeaveFamily K V bytes
@@ -38,3 +90,13 @@ module _ (K V : Type 0) (bytes : K → List ℕ) where
 
   pub visitors_reply_as_iterators : VisitorsReplyAsIterators K V bytes
   visitors_reply_as_iterators f place key lo hi = (refl, refl, refl, refl)
+
+  pub intersections_swap : IntersectionsSwap K V bytes
+  intersections_swap f left right =
+      let one = version_at f left in
+      let two = version_at f right in (
+        met_turns f swapped_reply refl _ _ (λ a b. pairs-swap a.content b.content) one two,
+        refl,
+        met_turns f swapped_reply refl _ _ (λ a b. value_pairs-swap a.content b.content) one two,
+        met_turns f (λ r. r) refl _ _ (λ a b. count-stays a.content b.content) one two,
+      )

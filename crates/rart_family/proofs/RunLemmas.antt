@@ -5,9 +5,9 @@ use Rattle.std.specs.Prelude.{Option, Some, None, Result, Ok, Err}
 use Rattle.rart_maps.specs.Versions.{Version}
 use Rattle.rart_family.specs.declared.family.command.Failure.{Failure}
 use Rattle.rart_family.specs.declared.family.command.Command.{Command}
-use Rattle.rart_family.specs.declared.family.command.Command.TheVariants.{New, NewAt, Snapshot, Duplicate, Discard, Version as NumberOf, IsEmpty, Get, GetMut, Insert, Replace, Remove, Delete, Update, TryUpdate, Iter, Values as ValuesOf, Range, Prefix, Matches, MatchesEach, Views, PrefixViews, RangeViews, PrefixValues, Until}
+use Rattle.rart_family.specs.declared.family.command.Command.TheVariants.{New, NewAt, Snapshot, Duplicate, Discard, Version as NumberOf, IsEmpty, Get, GetMut, Insert, Replace, Remove, Delete, Update, TryUpdate, Iter, Values as ValuesOf, Range, Prefix, Matches, MatchesEach, Views, PrefixViews, RangeViews, PrefixValues, Until, Intersect, IntersectViews, IntersectValues, IntersectCount, Flatten}
 use Rattle.rart_family.specs.Replies.{Reply, Stopped, NoMemory}
-use Rattle.rart_family.specs.Families.{Family, Outcome, call_outcome, tried_reply, is_reached, stopped, version_at, reply_to, after}
+use Rattle.rart_family.specs.Families.{Family, Outcome, call_outcome, meet_outcome, tried_reply, is_reached, stopped, version_at, reply_to, after}
 use Rattle.rart_family.specs.Runs.{Step, Run, next}
 use Rattle.rart_family.specs.Costs.{along}
 
@@ -21,6 +21,12 @@ module _ {V : Type 0} (f : Family V) where
       → is_no_memory (call_outcome f call found).0 ≡ false
   called_tells call tells None = refl
   called_tells call tells (Some v) = tells v
+
+  met_tells : (reply : Version V → Version V → Reply V)
+      → ((one other : Version V) → is_no_memory (reply one other) ≡ false) → (left right : ℕ)
+      → is_no_memory (meet_outcome f left right reply).0 ≡ false
+  met_tells reply tells left right =
+      called_tells _ (λ one. called_tells _ (tells one) (version_at f right)) (version_at f left)
 
   tried_tells : (answer : Result Bool Failure) → is_no_memory (tried_reply {V = V} answer) ≡ false
   tried_tells (Ok flag) = refl
@@ -72,6 +78,11 @@ module _ {K V : Type 0} (bytes : K → List ℕ) where
   reply_is_no_want f (PrefixValues place prefix) = called_tells f _ (λ v. refl) (version_at f place)
   reply_is_no_want f (Until place prefix visits fails) =
       called_tells f _ (λ v. stopped_tells visits fails _) (version_at f place)
+  reply_is_no_want f (Intersect left right) = met_tells f _ (λ one other. refl) left right
+  reply_is_no_want f (IntersectViews left right) = met_tells f _ (λ one other. refl) left right
+  reply_is_no_want f (IntersectValues left right) = met_tells f _ (λ one other. refl) left right
+  reply_is_no_want f (IntersectCount left right) = met_tells f _ (λ one other. refl) left right
+  reply_is_no_want f (Flatten place) = called_tells f _ (λ v. refl) (version_at f place)
 
   next_after : (f : Family V) (c : Command K V) (r : Reply V) → is_no_memory r ≡ false
       → next bytes f c r ≡ after bytes f c

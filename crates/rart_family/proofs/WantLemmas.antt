@@ -4,7 +4,7 @@ use Rattle.std.specs.Prelude.{Option, Some, None, IfSome, is_some, slice_set}
 use Rattle.rart_maps.specs.Versions.{Version, value_at, has_key}
 use Rattle.rart_maps.specs.Changes.{after_removal}
 use Rattle.rart_family.specs.declared.family.command.Command.{Command}
-use Rattle.rart_family.specs.declared.family.command.Command.TheVariants.{Discard, Version as NumberOf, IsEmpty, Get, Remove, Delete}
+use Rattle.rart_family.specs.declared.family.command.Command.TheVariants.{Discard, Version as NumberOf, IsEmpty, Get, Remove, Delete, IntersectCount}
 use Rattle.rart_family.specs.Replies.{Reply, Value, Flag, NoRoom, NoMemory}
 use Rattle.rart_family.specs.Families.{Family, Outcome, call_outcome, version_at, reply_to}
 use Rattle.rart_family.specs.Runs.{Step, may_want_memory}
@@ -69,6 +69,9 @@ module _ {K V : Type 0} (bytes : K → List ℕ) where
       (slice_set f place (Some (after_removal v (bytes key))))
       (delete_not V place key (has_key v (bytes key))
       (lacks_at (version_at f place) (bytes key) v none is)))
+  takes_none f (IntersectCount left right) none =
+      called_not {K = K} f (IntersectCount left right) _ (version_at f left) (λ one is.
+      called_not {K = K} f (IntersectCount left right) _ (version_at f right) (λ other is. refl))
   takes_none f c none = absurd none
 
   no_step : (old new : Family V) (c : Command K V)

@@ -1,8 +1,40 @@
 -- The worked runs, by computation.
-use Rattle.std.proofs.Common.{refl}
+use Rattle.std.proofs.Common.{◌≡◌, ℕ, true, false, cond, refl, sym, ap, ◌∙◌}
+use Rattle.std.specs.Prelude.{Some, None, codes}
+use Rattle.std.specs.FinMap as finite
 use Rattle.std.specs.FinMap.{gets}
-use Rattle.rart_family.specs.WorkedRuns.{SnapshotKeepsItsValue, ChangesStayApart, CloneKeepsNumber, ReplacementGivesOldValue, AbsentKeyStaysAbsent, DeletionIsNotSeenInSnapshot, FailedUpdateKeepsValue, DiscardedPlaceIsNotUsedAgain, AnswerOutweighsWrite, RoomIsAsked, RoomTwoIsAsked, InsertionByUpdateTakesOne, RemovalOutweighsWrite, RemovalsRaiseNumber, UpdatesOfAnAbsentKey, ListsAreOfOneVersion, VisitsAreCountedFromOne}
+use Rattle.rart_family.specs.WorkedRuns.{SnapshotKeepsItsValue, ChangesStayApart, CloneKeepsNumber, ReplacementGivesOldValue, AbsentKeyStaysAbsent, DeletionIsNotSeenInSnapshot, FailedUpdateKeepsValue, DiscardedPlaceIsNotUsedAgain, AnswerOutweighsWrite, RoomIsAsked, RoomTwoIsAsked, InsertionByUpdateTakesOne, RemovalOutweighsWrite, RemovalsRaiseNumber, UpdatesOfAnAbsentKey, ListsAreOfOneVersion, VisitsAreCountedFromOne, FlatteningLeavesItsVersion, IntersectionHasKeysOfBoth, DeletedKeyIsInNoIntersection, EmptyVersionMeetsNothing, BeginningIsNoKeyOfBoth, IntersectionNeedsBothVersions}
+use Rattle.std.specs.Cmp.{IsTotalOrder, Equal-is}
+use Rattle.std.specs.Cmp.Lexicographic.{nat_list_cmp_total}
+use Rattle.std.specs.Ordering.{eq_by_cmp}
+use Rattle.std.specs.declared.cmp.Ordering.{Ordering}
+use Rattle.rart_maps.specs.Versions.{Map}
 use Rattle.rart_maps.proofs.MapLemmas.{maps}
+
+module _ {K X : Type 0} {R : K → K → Ordering} (total : IsTotalOrder R)
+    (same : finite.IsAntisymmetric R) where
+  -- To take out a key that was not there before it was put in leaves what was there.
+  remove-insert : (m : finite.FinMap R X) (key : K) (value : X) → finite.get m key ≡ None
+      → finite.remove (finite.insert m key value) key ≡ m
+  remove-insert m key value absent =
+      finite.same_map total same _ m (λ q.
+      finite.get-remove total (finite.insert m key value) key q
+      ∙ ap (cond (eq_by_cmp R q key) None) (finite.get-insert total m key value q)
+      ∙ elim (eq_by_cmp R q key) as (λ t. eq_by_cmp R q key ≡ t
+      → cond t None (cond t (Some value) (finite.get m q)) ≡ finite.get m q) [
+        | true ↦ λ tied. sym (ap (finite.get m) (same q key ((Equal-is (R q key)).0 tied)) ∙ absent)
+        | false ↦ λ _. refl
+      ] refl)
+
+abbrev pub abc_alone : Map ℕ
+abc_alone = finite.insert finite.empty (codes "abc") 1
+
+-- what is left of the two keys abc and abd where abd is deleted
+pub abc-left : finite.remove (finite.insert abc_alone (codes "abd") 2) (codes "abd") ≡ abc_alone
+abc-left =
+    remove-insert nat_list_cmp_total
+    (finite.slice_cmp-IsAntisymmetric finite.nat_cmp-IsAntisymmetric) abc_alone (codes "abd") 2
+    (simp gets refl)
 
 pub snapshot_keeps_its_value : SnapshotKeepsItsValue
 snapshot_keeps_its_value = simp gets refl
@@ -54,3 +86,21 @@ lists_are_of_one_version = simp maps refl
 
 pub visits_are_counted_from_one : VisitsAreCountedFromOne
 visits_are_counted_from_one = simp maps refl
+
+pub flattening_leaves_its_version : FlatteningLeavesItsVersion
+flattening_leaves_its_version = simp maps refl
+
+pub intersection_has_keys_of_both : IntersectionHasKeysOfBoth
+intersection_has_keys_of_both = simp maps refl
+
+pub deleted_key_is_in_no_intersection : DeletedKeyIsInNoIntersection
+deleted_key_is_in_no_intersection = simp (maps, abc-left) refl
+
+pub empty_version_meets_nothing : EmptyVersionMeetsNothing
+empty_version_meets_nothing = simp maps refl
+
+pub beginning_is_no_key_of_both : BeginningIsNoKeyOfBoth
+beginning_is_no_key_of_both = simp maps refl
+
+pub intersection_needs_both_versions : IntersectionNeedsBothVersions
+intersection_needs_both_versions = simp maps refl

@@ -8,6 +8,10 @@ module _ {K V : Type 0} (bytes : K → List ℕ) where
   abbrev pub pairs_of : List (K × V) → List (List ℕ × V)
   pairs_of entries = map (λ entry. (bytes entry.0, entry.1)) entries
 
+  -- the same of keys with two values each
+  abbrev pub triples_of : List (K × V × V) → List (List ℕ × V × V)
+  triples_of entries = map (λ entry. (bytes entry.0, entry.1, entry.2)) entries
+
 -- A walk w may give an answer, and leave w', where `gives w answer w'`. Its item a is a member x
 -- where `Shows a x`.
 module _ {W A X E : Type 0} (gives : W → Option (Result A E) → W → Type 0)

@@ -2,9 +2,9 @@
 use Rattle.std.specs.Prelude.{◌≡◌, ℕ, ◌+◌, ◌*◌, ◌≤◌, List, ◌∷◌, Option, Some, None, if◌then◌else◌}
 use Rattle.rart_versioned.specs.Counts.{Counts}
 use Rattle.rart_maps.specs.Versions.{Version, has_no_key}
-use Rattle.rart_maps.specs.Bounds.{lookup_bound, change_bound}
+use Rattle.rart_maps.specs.Bounds.{lookup_bound, change_bound, meet_bound}
 use Rattle.rart_family.specs.declared.family.command.Command.{Command}
-use Rattle.rart_family.specs.declared.family.command.Command.TheVariants.{Get, GetMut, Insert, Replace, Remove, Delete, Update, TryUpdate}
+use Rattle.rart_family.specs.declared.family.command.Command.TheVariants.{Get, GetMut, Insert, Replace, Remove, Delete, Update, TryUpdate, Intersect, IntersectViews, IntersectValues, IntersectCount}
 use Rattle.rart_family.specs.Replies.{Reply, NoVersion, NoRoom, NoMemory}
 use Rattle.rart_family.specs.Families.{Family, version_at}
 use Rattle.rart_family.specs.Runs.{next}
@@ -28,6 +28,17 @@ module _ {V : Type 0} where
   one_with_key None = 0
   one_with_key (Some v) = if has_no_key v then 0 else 1
 
+  -- how many nodes an intersection enters at most, where there are both versions
+  abbrev pub meet_cost : Option (Version V) → Option (Version V) → ℕ
+  meet_cost None other = 0
+  meet_cost (Some one) None = 0
+  meet_cost (Some one) (Some other) = meet_bound one.content other.content
+
+  -- 2 where there are two versions with a key
+  abbrev pub two_with_keys : Option (Version V) → Option (Version V) → ℕ
+  two_with_keys None other = 0
+  two_with_keys (Some one) other = if has_no_key one then 0 else 2 * one_with_key other
+
 -- From the counts before to those after, so many nodes were entered to read, and none was made.
 pub record ReadsBetween (least most : ℕ) (before after : Counts) : Type 0 where
   pub entered_at_least : before.entered + least ≤ after.entered
@@ -46,11 +57,27 @@ module _ {K V : Type 0} (bytes : K → List ℕ) where
   -- a command, replied so, enters at most so many nodes to read
   abbrev pub read_cost_of : Family V → Command K V → Reply V → ℕ
   read_cost_of f (Get place key) r = if_called r (lookup_bound (bytes key))
+  read_cost_of f (Intersect left right) r =
+      if_called r (meet_cost (version_at f left) (version_at f right))
+  read_cost_of f (IntersectViews left right) r =
+      if_called r (meet_cost (version_at f left) (version_at f right))
+  read_cost_of f (IntersectValues left right) r =
+      if_called r (meet_cost (version_at f left) (version_at f right))
+  read_cost_of f (IntersectCount left right) r =
+      if_called r (meet_cost (version_at f left) (version_at f right))
   read_cost_of f c r = 0
 
   -- and at least so many
   abbrev pub read_least_of : Family V → Command K V → Reply V → ℕ
   read_least_of f (Get place key) r = if_done r (one_with_key (version_at f place))
+  read_least_of f (Intersect left right) r =
+      if_done r (two_with_keys (version_at f left) (version_at f right))
+  read_least_of f (IntersectViews left right) r =
+      if_done r (two_with_keys (version_at f left) (version_at f right))
+  read_least_of f (IntersectValues left right) r =
+      if_done r (two_with_keys (version_at f left) (version_at f right))
+  read_least_of f (IntersectCount left right) r =
+      if_done r (two_with_keys (version_at f left) (version_at f right))
   read_least_of f c r = 0
 
   -- it makes at most so many nodes to change its version

@@ -3,12 +3,12 @@ use Rattle.std.specs.Prelude.{ℕ, ◌+◌, ◌^◌, Bool, false, ◌&&◌, if�
 use Rattle.std.specs.Option.{unwrap_or}
 use Rattle.std.specs.Range.Bound.{bound_map}
 use Rattle.rart_maps.specs.Versions.{Version, empty_at, has_no_key, value_at, has_key, with_rise, with_key}
-use Rattle.rart_maps.specs.Pairs.{pairs, within, under, beginnings}
+use Rattle.rart_maps.specs.Pairs.{pairs, within, under, beginnings, common}
 use Rattle.rart_maps.specs.Changes.{after_removal, after_writing, slot_of, slot_update, slot_attempt}
 use Rattle.rart_family.specs.declared.family.command.Failure.{Failure}
 use Rattle.rart_family.specs.declared.family.command.Command.{Command}
-use Rattle.rart_family.specs.declared.family.command.Command.TheVariants.{New, NewAt, Snapshot, Duplicate, Discard, Version as NumberOf, IsEmpty, Get, GetMut, Insert, Replace, Remove, Delete, Update, TryUpdate, Iter, Values as ValuesOf, Range, Prefix, Matches, MatchesEach, Views, PrefixViews, RangeViews, PrefixValues, Until}
-use Rattle.rart_family.specs.Replies.{Reply, Place, Discarded, Number, Flag, Value, Entries, Values, Stopped, Failed, NoVersion, NoRoom}
+use Rattle.rart_family.specs.declared.family.command.Command.TheVariants.{New, NewAt, Snapshot, Duplicate, Discard, Version as NumberOf, IsEmpty, Get, GetMut, Insert, Replace, Remove, Delete, Update, TryUpdate, Iter, Values as ValuesOf, Range, Prefix, Matches, MatchesEach, Views, PrefixViews, RangeViews, PrefixValues, Until, Intersect, IntersectViews, IntersectValues, IntersectCount, Flatten}
+use Rattle.rart_family.specs.Replies.{Reply, Place, Discarded, Number, Flag, Value, Entries, Values, Stopped, Pairs, ValuePairs, Count, Failed, NoVersion, NoRoom}
 
 -- places, each a version or discarded
 abbrev pub Family : Type 0 → Type 0
@@ -44,6 +44,11 @@ module _ {V : Type 0} (family : Family V) where
   abbrev pub read_outcome : ℕ → (Version V → Reply V) → Outcome V
   read_outcome place reply = at_place place (λ v. (reply v, family))
 
+  -- a call that reads the versions at two places, and leaves the family; so where either has none
+  abbrev pub meet_outcome : ℕ → ℕ → (Version V → Version V → Reply V) → Outcome V
+  meet_outcome left right reply =
+      at_place left (λ one. at_place right (λ other. (reply one other, family)))
+
   -- a call that replaces the version at its place
   abbrev pub change_outcome : ℕ → ℕ → (Version V → Reply V × Version V) → Outcome V
   change_outcome place room call =
@@ -69,6 +74,10 @@ module _ {V : Type 0} where
   -- the values of pairs, in their order
   abbrev pub values_of : List (List ℕ × V) → List V
   values_of found = map (λ pair. pair.1) found
+
+  -- the values of what two maps have in common, in the order of the keys
+  abbrev pub value_pairs_of : List (List ℕ × V × V) → List (V × V)
+  value_pairs_of found = map (λ entry. (entry.1, entry.2)) found
 
   -- A callback ends its visit of the values on the visit of this number, by its error where it
   -- fails there: which values are visited, and whether it failed.
@@ -134,6 +143,16 @@ module _ {K V : Type 0} (bytes : K → List ℕ) where
       read_outcome f place (λ v. Values (values_of (under v.content (bytes prefix))))
   outcome f (Until place prefix visits fails) =
       read_outcome f place (λ v. stopped visits fails (values_of (under v.content (bytes prefix))))
+  outcome f (Intersect left right) =
+      meet_outcome f left right (λ one other. Pairs (common one.content other.content))
+  outcome f (IntersectViews left right) =
+      meet_outcome f left right (λ one other. Pairs (common one.content other.content))
+  outcome f (IntersectValues left right) =
+      meet_outcome f left right (λ one other.
+      ValuePairs (value_pairs_of (common one.content other.content)))
+  outcome f (IntersectCount left right) =
+      meet_outcome f left right (λ one other. Count (length (common one.content other.content)))
+  outcome f (Flatten place) = read_outcome f place (λ v. Entries (pairs v.content))
 
   abbrev pub reply_to : Family V → Command K V → Reply V
   reply_to f c = (outcome f c).0

@@ -1,10 +1,10 @@
 -- Laws that show what the definitions of families and runs mean.
-use Rattle.std.specs.Prelude.{◌≡◌, ◌≢◌, ℕ, ◌<◌, ◌≤◌, false, List, length, Option, Some, None, slice_get, IfSome, ◌⊎◌, ⊤}
+use Rattle.std.specs.Prelude.{◌≡◌, ◌≢◌, ℕ, ◌<◌, ◌≤◌, false, List, length, map, Option, Some, None, slice_get, IfSome, ◌⊎◌, ⊤}
 use Rattle.std.specs.declared.ops.Bound.{Bound}
 use Rattle.rart_family.specs.declared.family.command.Command.{Command}
-use Rattle.rart_family.specs.declared.family.command.Command.TheVariants.{Discard, Version as NumberOf, IsEmpty, Get, GetMut, Insert, Replace, Remove, Delete, Update, TryUpdate, Iter, Values as ValuesOf, Range, Prefix, Matches, MatchesEach, Views, PrefixViews, RangeViews, PrefixValues, Until}
+use Rattle.rart_family.specs.declared.family.command.Command.TheVariants.{Discard, Version as NumberOf, IsEmpty, Get, GetMut, Insert, Replace, Remove, Delete, Update, TryUpdate, Iter, Values as ValuesOf, Range, Prefix, Matches, MatchesEach, Views, PrefixViews, RangeViews, PrefixValues, Until, Intersect, IntersectViews, IntersectValues, IntersectCount, Flatten}
 use Rattle.rart_maps.specs.Versions.{has_key}
-use Rattle.rart_family.specs.Replies.{Reply, NoVersion, NoRoom, NoMemory}
+use Rattle.rart_family.specs.Replies.{Reply, Pairs, ValuePairs, NoVersion, NoRoom, NoMemory}
 use Rattle.rart_family.specs.Families.{Family, version_at, reply_to}
 use Rattle.rart_family.specs.Runs.{Step, Run}
 
@@ -36,7 +36,18 @@ OnlyReads (PrefixViews place prefix) = ⊤
 OnlyReads (RangeViews place lo hi) = ⊤
 OnlyReads (PrefixValues place prefix) = ⊤
 OnlyReads (Until place prefix visits fails) = ⊤
+OnlyReads (Intersect left right) = ⊤
+OnlyReads (IntersectViews left right) = ⊤
+OnlyReads (IntersectValues left right) = ⊤
+OnlyReads (IntersectCount left right) = ⊤
+OnlyReads (Flatten place) = ⊤
 OnlyReads c = ⊥
+
+-- a reply with the two values of each key swapped
+abbrev pub swapped_reply : {V : Type 0} → Reply V → Reply V
+swapped_reply (Pairs found) = Pairs (map (λ entry. (entry.0, entry.2, entry.1)) found)
+swapped_reply (ValuePairs found) = ValuePairs (map (λ pair. (pair.1, pair.0)) found)
+swapped_reply r = r
 
 module _ (K V : Type 0) (bytes : K → List ℕ) where
   -- A step leaves each place that is there but the one that its command may change.
@@ -75,6 +86,7 @@ module _ (K V : Type 0) (bytes : K → List ℕ) where
   TakesNoMemory f (Discard place) = ⊤
   TakesNoMemory f (NumberOf place) = ⊤
   TakesNoMemory f (IsEmpty place) = ⊤
+  TakesNoMemory f (IntersectCount left right) = ⊤
   TakesNoMemory f (Get place key) = LacksKey f place key
   TakesNoMemory f (Remove place key) = LacksKey f place key
   TakesNoMemory f (Delete place key) = LacksKey f place key
@@ -107,3 +119,17 @@ module _ (K V : Type 0) (bytes : K → List ℕ) where
       × (reply_to bytes f (PrefixViews place key) ≡ reply_to bytes f (Prefix place key))
       × (reply_to bytes f (RangeViews place lo hi) ≡ reply_to bytes f (Range place lo hi))
       × (reply_to bytes f (MatchesEach place key) ≡ reply_to bytes f (Matches place key))
+
+  -- With the places swapped, an intersection is replied the same keys in the same order with their
+  -- values swapped, and the same count; and both forms that give keys are replied the same.
+  abbrev pub IntersectionsSwap : Type 0
+  IntersectionsSwap =
+      (f : Family V) (left right : ℕ)
+      → (reply_to bytes f (Intersect right left)
+      ≡ swapped_reply (reply_to bytes f (Intersect left right)))
+      × (reply_to bytes f (IntersectViews left right)
+      ≡ reply_to bytes f (Intersect left right))
+      × (reply_to bytes f (IntersectValues right left)
+      ≡ swapped_reply (reply_to bytes f (IntersectValues left right)))
+      × (reply_to bytes f (IntersectCount right left)
+      ≡ reply_to bytes f (IntersectCount left right))

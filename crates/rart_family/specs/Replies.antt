@@ -12,6 +12,9 @@ pub data Reply (V : Type 0) : Type 0 where
   Entries : List (List ℕ × V) → Reply V
   Values : List V → Reply V
   Stopped : List V → Bool → Reply V
+  Pairs : List (List ℕ × V × V) → Reply V
+  ValuePairs : List (V × V) → Reply V
+  Count : ℕ → Reply V
   Failed : Reply V
   NoVersion : Reply V
   NoRoom : Reply V
@@ -27,6 +30,10 @@ reply_value bytes (program_variants.Value v) = Value v
 reply_value bytes (program_variants.Entries es) = Entries (map (λ e. (bytes e.0, e.1)) es.items)
 reply_value bytes (program_variants.Values vs) = Values vs.items
 reply_value bytes (program_variants.Stopped vs failed) = Stopped vs.items failed
+reply_value bytes (program_variants.Pairs es) =
+    Pairs (map (λ e. (bytes e.0, e.1, e.2)) es.items)
+reply_value bytes (program_variants.ValuePairs ps) = ValuePairs ps.items
+reply_value bytes (program_variants.Count n) = Count n
 reply_value bytes program_variants.Failed = Failed
 reply_value bytes program_variants.NoVersion = NoVersion
 reply_value bytes program_variants.NoRoom = NoRoom

@@ -5,7 +5,7 @@ use Rattle.rart_family.specs.Replies.{Place, Flag, Value, NoVersion, NoMemory}
 use Rattle.rart_family.specs.Families.{Family}
 use Rattle.rart_family.specs.Runs.{Run}
 use Rattle.rart_family.specs.Costs.{read_cost, read_least, change_cost, change_least, touch_least}
-use Rattle.rart_family.specs.WorkedRuns.{WorkedRun, snapshot_of_a_value, changes_apart, clone_and_snapshot, replacements, removal_of_an_absent_key, deletion_beside_a_snapshot, failed_update, discarded_place, written_and_inserted, room_for_one, room_for_two, insertion_by_update, written_and_removed, numbers_of_removals, updates_of_an_absent_key, lists_of_two_versions, visits_of_a_version}
+use Rattle.rart_family.specs.WorkedRuns.{WorkedRun, snapshot_of_a_value, changes_apart, clone_and_snapshot, replacements, removal_of_an_absent_key, deletion_beside_a_snapshot, failed_update, discarded_place, written_and_inserted, room_for_one, room_for_two, insertion_by_update, written_and_removed, numbers_of_removals, updates_of_an_absent_key, lists_of_two_versions, visits_of_a_version, flattened_version, keys_of_both, key_of_both_after_deletion, empty_beside_a_key, keys_that_begin_others, intersections_of_lost_places}
 
 -- The sums of a run: how many nodes it enters to read, makes to change and enters to change.
 pub record Sums : Type 0 where
@@ -104,6 +104,32 @@ ListsCost = Costs lists_of_two_versions 0 0 3 10 2
 -- so do visits
 abbrev pub VisitsCost : Type 0
 VisitsCost = Costs visits_of_a_version 0 0 2 8 1
+
+-- and the way to a plain tree
+abbrev pub FlatteningCosts : Type 0
+FlatteningCosts = Costs flattened_version 0 0 2 12 1
+
+-- Four intersections. Four strings begin a key of both, "", a, ab and b, so each enters 8 at most;
+-- and each enters 2 at least.
+abbrev pub IntersectionsCost : Type 0
+IntersectionsCost = Costs keys_of_both 8 32 6 20 4
+
+-- Four strings again, "", a, ab and abc.
+abbrev pub IntersectionAfterDeletionCosts : Type 0
+IntersectionAfterDeletionCosts = Costs key_of_both_after_deletion 2 8 3 20 2
+
+-- With a version without a key an intersection enters none. One lookup, and one of a lost place.
+abbrev pub EmptyIntersectionsCost : Type 0
+EmptyIntersectionsCost = Costs empty_beside_a_key 1 2 1 3 0
+
+-- Seven strings in three intersections, the beginnings of abcdef; and the one of a version with
+-- itself, where each of the ten strings that begin its keys begins one of both.
+abbrev pub BeginningsCost : Type 0
+BeginningsCost = Costs keys_that_begin_others 8 62 6 38 4
+
+-- Two strings, "" and a, in two intersections. Where a version is lacking none is entered.
+abbrev pub LostPlacesCost : Type 0
+LostPlacesCost = Costs intersections_of_lost_places 4 8 2 6 1
 
 -- What is refused for memory leaves the family; and then there is no version at place 1.
 abbrev pub refused_memory : WorkedRun

@@ -3,8 +3,8 @@ use Rattle.std.specs.Prelude.{◌≡◌, ℕ, true, false, List, [], ◌∷◌, 
 use Rattle.std.specs.declared.ops.Bound.TheVariants.{Included, Excluded, Unbounded}
 use Rattle.rart_versioned.specs.SlotUpdate.TheVariants.{Keep, Insert as Put, Remove as TakeOut}
 use Rattle.rart_family.specs.declared.family.command.Command.{Command}
-use Rattle.rart_family.specs.declared.family.command.Command.TheVariants.{New, NewAt, Snapshot, Duplicate, Discard, Version as NumberOf, IsEmpty, Get, GetMut, Insert, Replace, Remove, Delete, Update, TryUpdate, Iter, Values as ValuesOf, Range, Prefix, Matches, MatchesEach, Views, PrefixViews, RangeViews, PrefixValues, Until}
-use Rattle.rart_family.specs.Replies.{Reply, Place, Discarded, Number, Flag, Value, Entries, Values, Stopped, Failed, NoVersion, NoRoom}
+use Rattle.rart_family.specs.declared.family.command.Command.TheVariants.{New, NewAt, Snapshot, Duplicate, Discard, Version as NumberOf, IsEmpty, Get, GetMut, Insert, Replace, Remove, Delete, Update, TryUpdate, Iter, Values as ValuesOf, Range, Prefix, Matches, MatchesEach, Views, PrefixViews, RangeViews, PrefixValues, Until, Intersect, IntersectViews, IntersectValues, IntersectCount, Flatten}
+use Rattle.rart_family.specs.Replies.{Reply, Place, Discarded, Number, Flag, Value, Entries, Values, Stopped, Pairs, ValuePairs, Count, Failed, NoVersion, NoRoom}
 use Rattle.rart_family.specs.Families.{Family, reply_to, after}
 
 -- the commands' own replies, one after the other; a key is its bytes
@@ -239,3 +239,85 @@ visits_of_a_version = (
 -- A visit ends on the visit that is asked for, counted from 1, or on the last one.
 abbrev pub VisitsAreCountedFromOne : Type 0
 VisitsAreCountedFromOne = IsReplied visits_of_a_version
+
+abbrev pub flattened_version : WorkedRun
+flattened_version = (
+  New ∷ Flatten 0 ∷ Insert 0 (codes "key2") 84 ∷ Insert 0 (codes "key1") 42 ∷ Flatten 0 ∷
+      NumberOf 0 ∷ Discard 0 ∷ Flatten 0 ∷ Flatten 1 ∷ [],
+  Place 0 ∷ Entries [] ∷ Flag false ∷ Flag false ∷
+      Entries ((codes "key1", 42) ∷ (codes "key2", 84) ∷ []) ∷ Number 2 ∷ Discarded ∷
+      NoVersion ∷ NoVersion ∷ [],
+)
+
+-- What a version has is listed by way of a plain tree, and the version stays.
+abbrev pub FlatteningLeavesItsVersion : Type 0
+FlatteningLeavesItsVersion = IsReplied flattened_version
+
+abbrev pub keys_of_both : WorkedRun
+keys_of_both = (
+  New ∷ Insert 0 (codes "a") 1 ∷ Insert 0 (codes "ab") 2 ∷ Insert 0 (codes "b") 3 ∷ New ∷
+      Insert 1 (codes "ab") 20 ∷ Insert 1 (codes "b") 30 ∷ Insert 1 (codes "c") 40 ∷
+      Intersect 0 1 ∷ Intersect 1 0 ∷ IntersectValues 0 1 ∷ IntersectCount 0 1 ∷ [],
+  Place 0 ∷ Flag false ∷ Flag false ∷ Flag false ∷ Place 1 ∷ Flag false ∷ Flag false ∷
+      Flag false ∷ Pairs ((codes "ab", 2, 20) ∷ (codes "b", 3, 30) ∷ []) ∷
+      Pairs ((codes "ab", 20, 2) ∷ (codes "b", 30, 3) ∷ []) ∷
+      ValuePairs ((2, 20) ∷ (3, 30) ∷ []) ∷ Count 2 ∷ [],
+)
+
+-- An intersection has the keys of both versions, the left one's values first.
+abbrev pub IntersectionHasKeysOfBoth : Type 0
+IntersectionHasKeysOfBoth = IsReplied keys_of_both
+
+abbrev pub key_of_both_after_deletion : WorkedRun
+key_of_both_after_deletion = (
+  New ∷ Insert 0 (codes "abc") 1 ∷ Insert 0 (codes "abd") 2 ∷ Delete 0 (codes "abd") ∷ New ∷
+      Insert 1 (codes "abc") 10 ∷ Intersect 0 1 ∷ [],
+  Place 0 ∷ Flag false ∷ Flag false ∷ Flag true ∷ Place 1 ∷ Flag false ∷
+      Pairs ((codes "abc", 1, 10) ∷ []) ∷ [],
+)
+
+-- A key that was deleted is in no intersection, whatever it left of the tree.
+abbrev pub DeletedKeyIsInNoIntersection : Type 0
+DeletedKeyIsInNoIntersection = IsReplied key_of_both_after_deletion
+
+abbrev pub empty_beside_a_key : WorkedRun
+empty_beside_a_key = (
+  New ∷ New ∷ Insert 1 (codes "a") 1 ∷ Intersect 0 1 ∷ IntersectCount 0 1 ∷ Snapshot 1 ∷
+      Discard 1 ∷ Get 1 (codes "a") ∷ Get 2 (codes "a") ∷ New ∷ [],
+  Place 0 ∷ Place 1 ∷ Flag false ∷ Pairs [] ∷ Count 0 ∷ Place 2 ∷ Discarded ∷ NoVersion ∷
+      Value (Some 1) ∷ Place 3 ∷ [],
+)
+
+-- A version without a key has none in common with another.
+abbrev pub EmptyVersionMeetsNothing : Type 0
+EmptyVersionMeetsNothing = IsReplied empty_beside_a_key
+
+abbrev pub keys_that_begin_others : WorkedRun
+keys_that_begin_others = (
+  New ∷ Insert 0 (codes "abcdef") 1 ∷ Insert 0 (codes "abcxyz") 2 ∷ New ∷
+      Insert 1 (codes "ab") 10 ∷ Insert 1 (codes "abc") 20 ∷ Insert 1 (codes "abcdef") 30 ∷
+      Insert 1 (codes "abd") 40 ∷ IntersectViews 0 1 ∷ Intersect 1 0 ∷ IntersectCount 0 1 ∷
+      Intersect 0 0 ∷ [],
+  Place 0 ∷ Flag false ∷ Flag false ∷ Place 1 ∷ Flag false ∷ Flag false ∷ Flag false ∷
+      Flag false ∷ Pairs ((codes "abcdef", 1, 30) ∷ []) ∷ Pairs ((codes "abcdef", 30, 1) ∷ []) ∷
+      Count 1 ∷ Pairs ((codes "abcdef", 1, 1) ∷ (codes "abcxyz", 2, 2) ∷ []) ∷ [],
+)
+
+-- A key of the one that only begins keys of the other is in no intersection; and a version has all
+-- its keys in common with itself.
+abbrev pub BeginningIsNoKeyOfBoth : Type 0
+BeginningIsNoKeyOfBoth = IsReplied keys_that_begin_others
+
+abbrev pub intersections_of_lost_places : WorkedRun
+intersections_of_lost_places = (
+  New ∷ Insert 0 (codes "a") 1 ∷ Intersect 0 1 ∷ IntersectViews 1 0 ∷ Snapshot 0 ∷
+      Replace 1 (codes "a") 5 ∷ IntersectValues 0 1 ∷ Discard 0 ∷ Intersect 0 1 ∷
+      IntersectCount 1 0 ∷ IntersectViews 1 1 ∷ NumberOf 1 ∷ [],
+  Place 0 ∷ Flag false ∷ NoVersion ∷ NoVersion ∷ Place 1 ∷ Value (Some 1) ∷
+      ValuePairs ((1, 5) ∷ []) ∷ Discarded ∷ NoVersion ∷ NoVersion ∷
+      Pairs ((codes "a", 5, 5) ∷ []) ∷ Number 3 ∷ [],
+)
+
+-- Where either place has no version there is no intersection; and an intersection changes nothing.
+abbrev pub IntersectionNeedsBothVersions : Type 0
+IntersectionNeedsBothVersions = IsReplied intersections_of_lost_places

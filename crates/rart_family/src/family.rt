@@ -13,6 +13,8 @@ ghost use Rattle.rart_family.specs.declared.family.reply.Reply.TheVariants.{NoVe
 mod changes;
 mod collection;
 mod command;
+mod flatten;
+mod intersections;
 mod reads;
 mod reply;
 mod updates;
@@ -79,7 +81,8 @@ impl<K: KeyTrait, V: Clone + Drop> Family<K, V> {
     /// Does the commands in order, and answers as many replies.
     ///
     /// The replies are those of separate sorted maps, each copied when its version was made.
-    /// `reads` counts the nodes that lookups enter, `changes` those that changes enter and make.
+    /// `reads` counts the nodes that lookups and intersections enter, `changes` those that changes
+    /// enter and make.
     /// `Err` comes before the first command, where memory for the replies was refused: the family
     /// and both counts are then as before.
     pub fn run(
@@ -202,6 +205,13 @@ impl<K: KeyTrait, V: Clone + Drop> Family<K, V> {
                 visits,
                 fails,
             } => self.until(*place, prefix, *visits, *fails),
+            Command::Intersect { left, right } => self.intersect(*left, *right, reads),
+            Command::IntersectViews { left, right } => self.intersect_views(*left, *right, reads),
+            Command::IntersectValues { left, right } => self.intersect_values(*left, *right, reads),
+            Command::IntersectCount { left, right } => {
+                Ok(self.intersect_count(*left, *right, reads))
+            }
+            Command::Flatten { place } => self.flatten(*place),
         }
     }
 

@@ -1,7 +1,7 @@
 //! What the definitions of families mean: laws, each the contract of a function that does nothing.
-ghost use Rattle.rart_family.specs.Laws.{StepsAreIsolated, PlacesStay, RepliesFixSteps, RepliesFixRuns, NoReplyIsWant, NoWantWithoutMemory, NoWantBeforeLack, ReadsLeaveFamily, VisitorsReplyAsIterators};
-ghost use Rattle.rart_family.specs.WorkedCosts.{RefusedMemoryIsARun, SnapshotCosts, ChangesApartCost, CloneCosts, ReplacementsCost, AbsentRemovalCosts, DeletionCosts, FailedUpdateCosts, DiscardedPlaceCosts, WrittenAndInsertedCosts, RoomForOneCosts, RoomForTwoCosts, InsertionByUpdateCosts, WrittenAndRemovedCosts, NumbersOfRemovalsCost, UpdatesOfAnAbsentKeyCost, ListsCost, VisitsCost, RefusedMemoryCosts};
-ghost use Rattle.rart_family.specs.WorkedRuns.{SnapshotKeepsItsValue, ChangesStayApart, CloneKeepsNumber, ReplacementGivesOldValue, AbsentKeyStaysAbsent, DeletionIsNotSeenInSnapshot, FailedUpdateKeepsValue, DiscardedPlaceIsNotUsedAgain, AnswerOutweighsWrite, RoomIsAsked, RoomTwoIsAsked, InsertionByUpdateTakesOne, RemovalOutweighsWrite, RemovalsRaiseNumber, UpdatesOfAnAbsentKey, ListsAreOfOneVersion, VisitsAreCountedFromOne};
+ghost use Rattle.rart_family.specs.Laws.{StepsAreIsolated, PlacesStay, RepliesFixSteps, RepliesFixRuns, NoReplyIsWant, NoWantWithoutMemory, NoWantBeforeLack, ReadsLeaveFamily, VisitorsReplyAsIterators, IntersectionsSwap};
+ghost use Rattle.rart_family.specs.WorkedCosts.{RefusedMemoryIsARun, SnapshotCosts, ChangesApartCost, CloneCosts, ReplacementsCost, AbsentRemovalCosts, DeletionCosts, FailedUpdateCosts, DiscardedPlaceCosts, WrittenAndInsertedCosts, RoomForOneCosts, RoomForTwoCosts, InsertionByUpdateCosts, WrittenAndRemovedCosts, NumbersOfRemovalsCost, UpdatesOfAnAbsentKeyCost, ListsCost, VisitsCost, FlatteningCosts, IntersectionsCost, IntersectionAfterDeletionCosts, EmptyIntersectionsCost, BeginningsCost, LostPlacesCost, RefusedMemoryCosts};
+ghost use Rattle.rart_family.specs.WorkedRuns.{SnapshotKeepsItsValue, ChangesStayApart, CloneKeepsNumber, ReplacementGivesOldValue, AbsentKeyStaysAbsent, DeletionIsNotSeenInSnapshot, FailedUpdateKeepsValue, DiscardedPlaceIsNotUsedAgain, AnswerOutweighsWrite, RoomIsAsked, RoomTwoIsAsked, InsertionByUpdateTakesOne, RemovalOutweighsWrite, RemovalsRaiseNumber, UpdatesOfAnAbsentKey, ListsAreOfOneVersion, VisitsAreCountedFromOne, FlatteningLeavesItsVersion, IntersectionHasKeysOfBoth, DeletedKeyIsInNoIntersection, EmptyVersionMeetsNothing, BeginningIsNoKeyOfBoth, IntersectionNeedsBothVersions};
 
 use rart_versioned::KeyTrait;
 
@@ -42,6 +42,12 @@ pub fn reads_leave_families<K: KeyTrait, V>()
     ensures visitors { VisitorsReplyAsIterators K V K.bytes }
 {}
 
+/// With its places swapped, an intersection is replied the same keys with their values swapped, and
+/// the same count.
+pub fn intersections_swap<K: KeyTrait, V>()
+    ensures { IntersectionsSwap K V K.bytes }
+{}
+
 /// Worked runs of commands, their expected replies found by hand.
 pub fn worked_runs()
     ensures snapshot_keeps_its_value { SnapshotKeepsItsValue }
@@ -61,6 +67,12 @@ pub fn worked_runs()
     ensures updates_of_an_absent_key { UpdatesOfAnAbsentKey }
     ensures lists_are_of_one_version { ListsAreOfOneVersion }
     ensures visits_are_counted_from_one { VisitsAreCountedFromOne }
+    ensures flattening_leaves_its_version { FlatteningLeavesItsVersion }
+    ensures intersection_has_keys_of_both { IntersectionHasKeysOfBoth }
+    ensures deleted_key_is_in_no_intersection { DeletedKeyIsInNoIntersection }
+    ensures empty_version_meets_nothing { EmptyVersionMeetsNothing }
+    ensures beginning_is_no_key_of_both { BeginningIsNoKeyOfBoth }
+    ensures intersection_needs_both_versions { IntersectionNeedsBothVersions }
 {}
 
 /// What the worked runs cost, found by hand; and a run in which memory is refused.
@@ -82,6 +94,12 @@ pub fn worked_costs()
     ensures updates_of_an_absent_key_cost { UpdatesOfAnAbsentKeyCost }
     ensures lists_cost { ListsCost }
     ensures visits_cost { VisitsCost }
+    ensures flattening_costs { FlatteningCosts }
+    ensures intersections_cost { IntersectionsCost }
+    ensures intersection_after_deletion_costs { IntersectionAfterDeletionCosts }
+    ensures empty_intersections_cost { EmptyIntersectionsCost }
+    ensures beginnings_cost { BeginningsCost }
+    ensures lost_places_cost { LostPlacesCost }
     ensures refused_memory_costs { RefusedMemoryCosts }
     ensures refused_memory_is_a_run { RefusedMemoryIsARun }
 {}

@@ -2,7 +2,7 @@
 ghost use Rattle.std.specs.Prelude.{◌≡◌, ◌++◌, ◌∷◌, [], length, Ok, IfOk, OnOk};
 ghost use Rattle.rart_versioned.specs.Clones.{ClonesEqual};
 ghost use Rattle.rart_versioned.specs.Bytes.{IsAdmitted};
-ghost use Rattle.rart_family.specs.Collections.{pairs_of, Keeps};
+ghost use Rattle.rart_family.specs.Collections.{pairs_of, triples_of, Keeps};
 ghost use Rattle.rart_family.specs.Countdowns.{Visited};
 
 use super::Failure;
@@ -67,6 +67,75 @@ impl<V: Clone + Drop> Collection<V> {
             }
         }
     }
+}
+
+impl<K: KeyTrait, V: Clone + Drop> Collection<(K, V, V)> {
+    pub(super) fn keep_pair(&mut self, key: K, left: &V, right: &V)
+        requires clones { ClonesEqual V.is_clone }
+        ensures { Keeps (triples_of K.bytes) self.old.kept
+            ((K.bytes key, left.now, right.now) ∷ []) self.new.kept }
+    {
+        if let Ok(entries) = &mut self.kept {
+            if let Err(refused) = push_pair(entries, key, left, right) {
+                self.kept = Err(refused);
+            }
+        }
+    }
+
+    pub(super) fn keep_view_pair(&mut self, key: &LendingKeyView<'_, '_>, left: &V, right: &V)
+        requires admitted { IsAdmitted K.MAXIMUM_SIZE (length key.now) }
+        requires clones { ClonesEqual V.is_clone }
+        ensures { Keeps (triples_of K.bytes) self.old.kept
+            ((key.now, left.now, right.now) ∷ []) self.new.kept }
+    {
+        if self.kept.is_ok() {
+            match key.to_key(self.alloc) {
+                Ok(key) => self.keep_pair(key, left, right),
+                Err(refused) => self.kept = Err(refused),
+            }
+        }
+    }
+}
+
+impl<V: Clone + Drop> Collection<(V, V)> {
+    pub(super) fn keep_values(&mut self, left: &V, right: &V)
+        requires clones { ClonesEqual V.is_clone }
+        ensures { Keeps (λ values. values) self.old.kept ((left.now, right.now) ∷ [])
+            self.new.kept }
+    {
+        if let Ok(values) = &mut self.kept {
+            if let Err(refused) = push_values(values, left, right) {
+                self.kept = Err(refused);
+            }
+        }
+    }
+}
+
+fn push_pair<K: KeyTrait, V: Clone + Drop>(
+    entries: &mut Vec<(K, V, V)>,
+    key: K,
+    left: &V,
+    right: &V,
+) -> Result<(), AllocError>
+    requires clones { ClonesEqual V.is_clone }
+    ensures { OnOk result (triples_of K.bytes entries.new.items
+        ≡ triples_of K.bytes entries.old.items ++ (K.bytes key, left.now, right.now) ∷ []) }
+{
+    entries.push((key, left.clone()?, right.clone()?))?;
+    Ok(())
+}
+
+fn push_values<V: Clone + Drop>(
+    values: &mut Vec<(V, V)>,
+    left: &V,
+    right: &V,
+) -> Result<(), AllocError>
+    requires clones { ClonesEqual V.is_clone }
+    ensures { OnOk result
+        (values.new.items ≡ values.old.items ++ (left.now, right.now) ∷ []) }
+{
+    values.push((left.clone()?, right.clone()?))?;
+    Ok(())
 }
 
 fn push_view<K: KeyTrait, V: Clone + Drop>(

@@ -149,6 +149,32 @@ pub enum Command<K, V> {
         visits: u64,
         fails: bool,
     },
+    /// The keys that both versions have, each with the left one's value and the right one's:
+    /// `Pairs`.
+    Intersect {
+        left: usize,
+        right: usize,
+    },
+    /// As `Intersect`, by views of the keys: `Pairs`.
+    IntersectViews {
+        left: usize,
+        right: usize,
+    },
+    /// The values of the keys that both versions have, in the order of the keys: `ValuePairs`.
+    IntersectValues {
+        left: usize,
+        right: usize,
+    },
+    /// How many keys both versions have: `Count`.
+    IntersectCount {
+        left: usize,
+        right: usize,
+    },
+    /// All keys with their values, by way of a plain tree that is made of a clone: `Entries`. The
+    /// version stays.
+    Flatten {
+        place: usize,
+    },
 }
 
 /// The error of a callback of `Command::TryUpdate` or `Command::Until`.

@@ -19,6 +19,12 @@ pub enum Reply<K, V> {
     /// The values that were visited, the last one included, and whether the callback answered its
     /// error there.
     Stopped { values: Vec<V>, failed: bool },
+    /// The keys of two versions, ascending, each with the left version's value and the right one's.
+    Pairs(Vec<(K, V, V)>),
+    /// The values of the keys of two versions, in the order of the keys, the left version's first.
+    ValuePairs(Vec<(V, V)>),
+    /// How many keys two versions both have.
+    Count(usize),
     /// The callback answered its error.
     Failed,
     /// The place is past the last one, or was discarded.

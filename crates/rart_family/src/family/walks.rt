@@ -99,7 +99,7 @@ fn bound_copy<K: KeyTrait>(alloc: Global, bound: &Bound<K>) -> Result<Bound<K>, 
     }
 }
 
-fn key_copy<K: KeyTrait>(alloc: Global, key: &K) -> Result<K, AllocError>
+pub(super) fn key_copy<K: KeyTrait>(alloc: Global, key: &K) -> Result<K, AllocError>
     ensures { IfOk result (λ copy. K.bytes copy ≡ K.bytes key.now) }
 {
     K::new_from_slice(alloc, key.as_ref())

@@ -1,4 +1,4 @@
-use Rattle.rart_family.proofs.WorkedRunLemmas.{snapshot_keeps_its_value, changes_stay_apart, clone_keeps_number, replacement_gives_old_value, absent_key_stays_absent, deletion_is_not_seen_in_snapshot, failed_update_keeps_value, discarded_place_is_not_used_again, answer_outweighs_write, room_is_asked, room_two_is_asked, insertion_by_update_takes_one, removal_outweighs_write, removals_raise_number, updates_of_an_absent_key, lists_are_of_one_version, visits_are_counted_from_one}
+use Rattle.rart_family.proofs.WorkedRunLemmas.{snapshot_keeps_its_value, changes_stay_apart, clone_keeps_number, replacement_gives_old_value, absent_key_stays_absent, deletion_is_not_seen_in_snapshot, failed_update_keeps_value, discarded_place_is_not_used_again, answer_outweighs_write, room_is_asked, room_two_is_asked, insertion_by_update_takes_one, removal_outweighs_write, removals_raise_number, updates_of_an_absent_key, lists_are_of_one_version, visits_are_counted_from_one, flattening_leaves_its_version, intersection_has_keys_of_both, deleted_key_is_in_no_intersection, empty_version_meets_nothing, beginning_is_no_key_of_both, intersection_needs_both_versions}
 use Rattle.rart_family.proofs.laws.worked_runs.Goals as goal
 
 pub returns-clause-snapshot_keeps_its_value : goal.returns-clause-snapshot_keeps_its_value
@@ -53,3 +53,24 @@ returns-clause-lists_are_of_one_version c = lists_are_of_one_version
 
 pub returns-clause-visits_are_counted_from_one : goal.returns-clause-visits_are_counted_from_one
 returns-clause-visits_are_counted_from_one c = visits_are_counted_from_one
+
+pub returns-clause-flattening_leaves_its_version
+    : goal.returns-clause-flattening_leaves_its_version
+returns-clause-flattening_leaves_its_version c = flattening_leaves_its_version
+
+pub returns-clause-intersection_has_keys_of_both : goal.returns-clause-intersection_has_keys_of_both
+returns-clause-intersection_has_keys_of_both c = intersection_has_keys_of_both
+
+pub returns-clause-deleted_key_is_in_no_intersection
+    : goal.returns-clause-deleted_key_is_in_no_intersection
+returns-clause-deleted_key_is_in_no_intersection c = deleted_key_is_in_no_intersection
+
+pub returns-clause-empty_version_meets_nothing : goal.returns-clause-empty_version_meets_nothing
+returns-clause-empty_version_meets_nothing c = empty_version_meets_nothing
+
+pub returns-clause-beginning_is_no_key_of_both : goal.returns-clause-beginning_is_no_key_of_both
+returns-clause-beginning_is_no_key_of_both c = beginning_is_no_key_of_both
+
+pub returns-clause-intersection_needs_both_versions
+    : goal.returns-clause-intersection_needs_both_versions
+returns-clause-intersection_needs_both_versions c = intersection_needs_both_versions

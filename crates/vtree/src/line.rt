@@ -1,4 +1,5 @@
 //! Lines of commands, as the program reads them.
+use arrayvec::ArrayVec;
 use rart_family::{ArrayKey, Command, KeyTrait, SlotUpdate};
 use std::alloc::{AllocError, Global};
 use std::ops::Bound;
@@ -6,12 +7,15 @@ use std::ops::Bound;
 /// A command as the program has it: keys of at most 16 bytes, and numbers for values.
 pub type LineCommand = Command<ArrayKey<16>, u64>;
 
+// The most words that a good line has: `try-update P K W insert V`.
+const MOST_WORDS: usize = 6;
+
 /// Why a line gives no command.
 #[derive(Drop)]
 pub enum LineError {
     /// It is in no form of the table.
     Bad,
-    /// Memory for its words was refused.
+    /// Memory for one of its keys was refused.
     Memory,
 }
 
@@ -51,8 +55,11 @@ impl From<AllocError> for LineError {
 /// `PrefixValues` |
 /// | `matches P K`, `matches-each P K` | `Matches`, `MatchesEach` |
 /// | `until P K N stop`, `until P K N fail` | `Until`, which answers its error for `fail` |
+/// | `intersect P P`, `intersect-views P P` | `Intersect`, `IntersectViews` |
+/// | `intersect-values P P`, `intersect-count P P` | `IntersectValues`, `IntersectCount` |
+/// | `flatten P` | `Flatten` |
 pub fn parse(alloc: Global, line: &[u8]) -> Result<LineCommand, LineError> {
-    let words = words_of(alloc, line)?;
+    let words = words_of(line)?;
     match words.as_slice() {
         [b"new"] => Ok(Command::New),
         [b"new-at", number] => Ok(Command::NewAt {
@@ -69,6 +76,9 @@ pub fn parse(alloc: Global, line: &[u8]) -> Result<LineCommand, LineError> {
             lo: parse_bound(alloc, lo)?,
             hi: parse_bound(alloc, hi)?,
         }),
+        [name, left, right] if name.starts_with(b"intersect") => {
+            parse_intersection(name, parse_place(left)?, parse_place(right)?)
+        }
         [name, place, key, rest @ ..] => {
             let place = parse_place(place)?;
             let key = parse_key(alloc, key)?;
@@ -78,10 +88,13 @@ pub fn parse(alloc: Global, line: &[u8]) -> Result<LineCommand, LineError> {
     }
 }
 
-fn words_of(alloc: Global, line: &[u8]) -> Result<Vec<&[u8]>, AllocError> {
-    let mut words = Vec::new(alloc);
+// The words of a line, which are too many where there are more than any command has.
+fn words_of(line: &[u8]) -> Result<ArrayVec<&[u8], MOST_WORDS>, LineError> {
+    let mut words = ArrayVec::new();
     for word in line.split(|byte| *byte == b' ') {
-        words.push(word)?;
+        if words.try_push(word).is_err() {
+            return Err(LineError::Bad);
+        }
     }
     Ok(words)
 }
@@ -96,6 +109,17 @@ fn parse_place_command(name: &[u8], place: usize) -> Result<LineCommand, LineErr
         b"iter" => Ok(Command::Iter { place }),
         b"values" => Ok(Command::Values { place }),
         b"views" => Ok(Command::Views { place }),
+        b"flatten" => Ok(Command::Flatten { place }),
+        _ => Err(LineError::Bad),
+    }
+}
+
+fn parse_intersection(name: &[u8], left: usize, right: usize) -> Result<LineCommand, LineError> {
+    match name {
+        b"intersect" => Ok(Command::Intersect { left, right }),
+        b"intersect-views" => Ok(Command::IntersectViews { left, right }),
+        b"intersect-values" => Ok(Command::IntersectValues { left, right }),
+        b"intersect-count" => Ok(Command::IntersectCount { left, right }),
         _ => Err(LineError::Bad),
     }
 }

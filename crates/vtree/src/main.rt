@@ -1,8 +1,8 @@
 //! A program that runs commands on a family of versions.
 //!
 //! It reads command lines from standard input and writes one reply line each to standard
-//! output. Its status is 0, or 1 if some line was a bad one, or 2 as soon as reading, writing or
-//! memory for a line's own text failed.
+//! output. Its status is 0, or 1 if some line was a bad one, or 2 as soon as reading or writing
+//! failed, or memory was refused for the buffer that it reads into or for the text of a list.
 #![tactic(auto)]
 
 mod line;

@@ -1,12 +1,17 @@
 //! The program's engine: a line is read, its command is run, and its reply is written.
 use crate::line::{LineCommand, LineError, parse};
+use arrayvec::{ArrayString, ArrayVec};
 use rart_family::{ArrayKey, Family, KeyTrait, Reply, Work};
 use std::alloc::{AllocError, Global};
+use std::fmt::Write as _;
 use std::io::{Read, Write};
 use thiserror::Error;
 
 // The greatest length of a good line, without its line feed.
 const LONGEST: usize = 200;
+
+// Bytes for a reply of a word and a number, and its line feed.
+const SHORT: usize = 32;
 
 /// How a whole input was served.
 #[derive(Debug, Clone, Copy, PartialEq, Eq)]
@@ -26,7 +31,7 @@ pub enum ServeError {
     /// Writing failed.
     #[error("writing failed")]
     Write,
-    /// Memory for a line's own text, as it is read or written, was refused.
+    /// Memory for what is read, or for the text of a list that is written, was refused.
     #[error("memory for a line was refused")]
     Memory,
 }
@@ -61,7 +66,7 @@ pub fn serve<R: Read + Drop, W: Write>(
     for byte in reader.bytes().take(usize::MAX) {
         match byte {
             Ok(b'\n') => session.end_line(writer)?,
-            Ok(byte) => session.push(byte)?,
+            Ok(byte) => session.push(byte),
             Err(_) => return Err(ServeError::Read),
         }
     }
@@ -77,7 +82,7 @@ pub fn serve<R: Read + Drop, W: Write>(
 struct Session {
     alloc: Global,
     family: LineFamily,
-    line: Vec<u8>,
+    line: ArrayVec<u8, LONGEST>,
     length: usize,
     served: Served,
 }
@@ -87,18 +92,15 @@ impl Session {
         Session {
             alloc,
             family: Family::new(alloc),
-            line: Vec::new(alloc),
+            line: ArrayVec::new(),
             length: 0,
             served: Served::Clean,
         }
     }
 
-    fn push(&mut self, byte: u8) -> Result<(), AllocError> {
+    fn push(&mut self, byte: u8) {
         self.length = self.length.saturating_add(1);
-        if self.length <= LONGEST {
-            self.line.push(byte)?;
-        }
-        Ok(())
+        let _ = self.line.try_push(byte);
     }
 
     fn end_line<W: Write>(&mut self, writer: &mut W) -> Result<(), ServeError> {
@@ -133,25 +135,20 @@ impl Session {
     }
 }
 
-/// Writes the line of a reply: a word or two, and what the reply has, each behind a space.
+/// Writes the line of a reply: a word or two, and what the reply has, each behind a space. Memory
+/// is taken for lists alone.
 pub(crate) fn write_reply<K: KeyTrait, W: Write>(
     alloc: Global,
     reply: &Reply<K, u64>,
     writer: &mut W,
 ) -> Result<(), ServeError> {
     match reply {
-        Reply::Place(place) => write_text(writer, format!(in alloc; "at {place}\n")?.as_str()),
+        Reply::Place(place) => write_number(writer, "at", *place as u64),
         Reply::Discarded => write_text(writer, "discarded\n"),
-        Reply::Number(number) => write_text(
-            writer,
-            format!(in alloc; "version {number}\n")?.as_str(),
-        ),
+        Reply::Number(number) => write_number(writer, "version", *number),
         Reply::Flag(true) => write_text(writer, "true\n"),
         Reply::Flag(false) => write_text(writer, "false\n"),
-        Reply::Value(Some(value)) => write_text(
-            writer,
-            format!(in alloc; "some {value}\n")?.as_str(),
-        ),
+        Reply::Value(Some(value)) => write_number(writer, "some", *value),
         Reply::Value(None) => write_text(writer, "none\n"),
         Reply::Entries(entries) => write_text(writer, entries_text(alloc, entries)?.as_str()),
         Reply::Values(values) => write_values(alloc, "values", values, writer),
@@ -163,6 +160,9 @@ pub(crate) fn write_reply<K: KeyTrait, W: Write>(
             values,
             failed: true,
         } => write_values(alloc, "failed", values, writer),
+        Reply::Pairs(entries) => write_text(writer, pairs_text(alloc, entries)?.as_str()),
+        Reply::ValuePairs(pairs) => write_text(writer, value_pairs_text(alloc, pairs)?.as_str()),
+        Reply::Count(count) => write_number(writer, "count", *count as u64),
         Reply::Failed => write_text(writer, "failed\n"),
         Reply::NoVersion => write_text(writer, "no version\n"),
         Reply::NoRoom => write_text(writer, "no room\n"),
@@ -170,17 +170,50 @@ pub(crate) fn write_reply<K: KeyTrait, W: Write>(
     }
 }
 
+// A word and a number, in a text that takes no memory: no number is too long for it.
+fn write_number<W: Write>(writer: &mut W, word: &str, number: u64) -> Result<(), ServeError> {
+    let mut text: ArrayString<SHORT> = ArrayString::new();
+    match write!(text, "{word} {number}\n") {
+        Ok(()) => write_text(writer, text.as_str()),
+        Err(_) => Err(ServeError::Memory),
+    }
+}
+
 fn entries_text<K: KeyTrait>(alloc: Global, entries: &[(K, u64)]) -> Result<String, AllocError> {
     let mut text = String::from_str(alloc, "entries")?;
     for (key, value) in entries {
-        text.push_str(" '")?;
-        for byte in key.as_ref() {
-            text.push(char::from(*byte))?;
-        }
-        text.push_str(format!(in alloc; " {value}")?.as_str())?;
+        push_key(&mut text, key)?;
+        write!(text, " {value}")?;
     }
     text.push('\n')?;
     Ok(text)
+}
+
+fn pairs_text<K: KeyTrait>(alloc: Global, entries: &[(K, u64, u64)]) -> Result<String, AllocError> {
+    let mut text = String::from_str(alloc, "pairs")?;
+    for (key, left, right) in entries {
+        push_key(&mut text, key)?;
+        write!(text, " {left} {right}")?;
+    }
+    text.push('\n')?;
+    Ok(text)
+}
+
+fn value_pairs_text(alloc: Global, pairs: &[(u64, u64)]) -> Result<String, AllocError> {
+    let mut text = String::from_str(alloc, "value-pairs")?;
+    for (left, right) in pairs {
+        write!(text, " {left} {right}")?;
+    }
+    text.push('\n')?;
+    Ok(text)
+}
+
+fn push_key<K: KeyTrait>(text: &mut String, key: &K) -> Result<(), AllocError> {
+    text.push_str(" '")?;
+    for byte in key.as_ref() {
+        text.push(char::from(*byte))?;
+    }
+    Ok(())
 }
 
 fn write_values<W: Write>(
@@ -195,7 +228,7 @@ fn write_values<W: Write>(
 fn values_text(alloc: Global, name: &str, values: &[u64]) -> Result<String, AllocError> {
     let mut text = String::from_str(alloc, name)?;
     for value in values {
-        text.push_str(format!(in alloc; " {value}")?.as_str())?;
+        write!(text, " {value}")?;
     }
     text.push('\n')?;
     Ok(text)

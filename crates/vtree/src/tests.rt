@@ -3,6 +3,7 @@
 mod changes;
 mod commands;
 mod families;
+mod intersections;
 mod lines;
 mod models;
 mod refusals;

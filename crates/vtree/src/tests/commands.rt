@@ -9,6 +9,12 @@ fn lines_that_read_in_order_name_their_commands(rt: HostRuntime) -> Result<(), F
     assert!(rt; matches!(parse(alloc, b"iter 1"), Ok(Command::Iter { place: 1 })));
     assert!(rt; matches!(parse(alloc, b"values 1"), Ok(Command::Values { place: 1 })));
     assert!(rt; matches!(parse(alloc, b"views 1"), Ok(Command::Views { place: 1 })));
+    assert!(rt;
+        matches!(
+            parse(alloc, b"flatten 1"),
+            Ok(Command::Flatten { place: 1 })
+        )
+    );
     assert!(rt; matches!(parse(alloc, b"range 1 - -"), Ok(Command::Range { .. })));
     assert!(rt;
         matches!(
@@ -46,6 +52,36 @@ fn lines_with_a_prefix_or_a_probe_name_their_commands(rt: HostRuntime) -> Result
         matches!(
             parse(alloc, b"until 1 'a 2 stop"),
             Ok(Command::Until { .. })
+        )
+    );
+    Ok(())
+}
+
+#[test]
+fn lines_of_two_places_name_their_commands(rt: HostRuntime) -> Result<(), Fail> {
+    let alloc = rt.alloc();
+    assert!(rt;
+        matches!(
+            parse(alloc, b"intersect 1 2"),
+            Ok(Command::Intersect { left: 1, right: 2 })
+        )
+    );
+    assert!(rt;
+        matches!(
+            parse(alloc, b"intersect-views 1 2"),
+            Ok(Command::IntersectViews { left: 1, right: 2 })
+        )
+    );
+    assert!(rt;
+        matches!(
+            parse(alloc, b"intersect-values 1 2"),
+            Ok(Command::IntersectValues { left: 1, right: 2 })
+        )
+    );
+    assert!(rt;
+        matches!(
+            parse(alloc, b"intersect-count 1 2"),
+            Ok(Command::IntersectCount { left: 1, right: 2 })
         )
     );
     Ok(())

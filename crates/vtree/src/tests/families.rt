@@ -118,6 +118,23 @@ fn keyed<K: KeyTrait>(
             key: key_of(alloc, *key)?,
         },
         Command::Views { place } => Command::Views { place: *place },
+        Command::Flatten { place } => Command::Flatten { place: *place },
+        Command::Intersect { left, right } => Command::Intersect {
+            left: *left,
+            right: *right,
+        },
+        Command::IntersectViews { left, right } => Command::IntersectViews {
+            left: *left,
+            right: *right,
+        },
+        Command::IntersectValues { left, right } => Command::IntersectValues {
+            left: *left,
+            right: *right,
+        },
+        Command::IntersectCount { left, right } => Command::IntersectCount {
+            left: *left,
+            right: *right,
+        },
         Command::PrefixViews { place, prefix } => Command::PrefixViews {
             place: *place,
             prefix: key_of(alloc, *prefix)?,
@@ -304,9 +321,10 @@ fn assert_walks_list<K: KeyTrait>(rt: &impl Abort, alloc: Global) -> Result<(), 
                 place: 0,
                 key: b'b',
             },
+            Command::Flatten { place: 0 },
         ],
         "at 0\nfalse\nfalse\nentries 'a 10 'b 20\nvalues 10 20\nentries 'b 20\nentries 'a 10\n\
-         entries 'b 20\n",
+         entries 'b 20\nentries 'a 10 'b 20\n",
     )?;
     Ok(())
 }
@@ -366,13 +384,49 @@ fn assert_visits_list<K: KeyTrait>(rt: &impl Abort, alloc: Global) -> Result<(),
     Ok(())
 }
 
+fn assert_intersections_list<K: KeyTrait>(rt: &impl Abort, alloc: Global) -> Result<(), Fail>
+    requires { (length : ℕ) → length ≤ 1 → IsAdmitted K.MAXIMUM_SIZE length }
+{
+    assert_run::<K>(
+        rt,
+        alloc,
+        &[
+            Command::New,
+            Command::Insert {
+                place: 0,
+                key: b'b',
+                value: 20,
+            },
+            Command::Insert {
+                place: 0,
+                key: b'a',
+                value: 10,
+            },
+            Command::Snapshot { place: 0 },
+            Command::Replace {
+                place: 1,
+                key: b'b',
+                value: 21,
+            },
+            Command::Intersect { left: 0, right: 1 },
+            Command::IntersectViews { left: 1, right: 0 },
+            Command::IntersectValues { left: 0, right: 1 },
+            Command::IntersectCount { left: 0, right: 1 },
+        ],
+        "at 0\nfalse\nfalse\nat 1\nsome 20\npairs 'a 10 10 'b 20 21\n\
+         pairs 'a 10 10 'b 21 20\nvalue-pairs 10 10 20 21\ncount 2\n",
+    )?;
+    Ok(())
+}
+
 #[test]
 fn inline_keys_are_commanded(rt: HostRuntime) -> Result<(), Fail> {
     assert_versions_are_made::<ArrayKey<16>>(&rt, rt.alloc())?;
     assert_versions_are_changed::<ArrayKey<16>>(&rt, rt.alloc())?;
     assert_slots_are_updated::<ArrayKey<16>>(&rt, rt.alloc())?;
     assert_walks_list::<ArrayKey<16>>(&rt, rt.alloc())?;
-    assert_visits_list::<ArrayKey<16>>(&rt, rt.alloc())
+    assert_visits_list::<ArrayKey<16>>(&rt, rt.alloc())?;
+    assert_intersections_list::<ArrayKey<16>>(&rt, rt.alloc())
 }
 
 #[test]
@@ -381,7 +435,8 @@ fn heap_keys_are_commanded(rt: HostRuntime) -> Result<(), Fail> {
     assert_versions_are_changed::<VectorKey>(&rt, rt.alloc())?;
     assert_slots_are_updated::<VectorKey>(&rt, rt.alloc())?;
     assert_walks_list::<VectorKey>(&rt, rt.alloc())?;
-    assert_visits_list::<VectorKey>(&rt, rt.alloc())
+    assert_visits_list::<VectorKey>(&rt, rt.alloc())?;
+    assert_intersections_list::<VectorKey>(&rt, rt.alloc())
 }
 
 #[test]

@@ -53,9 +53,9 @@ fn each_walk_has_its_count_of_words(rt: HostRuntime) -> Result<(), Fail> {
         "new / iter / iter 0 0 / values / values 0 'a / views / views 0 - / range 0 / range 0 - / \
          range 0 - - - / range-views 0 - / range-views 0 i'a x'b - / prefix 0 / prefix 0 'a 'b / \
          prefix-views 0 / prefix-values 0 'a 1 / matches 0 / matches 0 'a 1 / matches-each 0 / \
-         until 0 'a / until 0 'a 1 / until 0 'a stop / until 0 'a 1 stop 1",
+         until 0 'a / until 0 'a 1 / until 0 'a stop / until 0 'a 1 stop 1 / flatten / flatten 0 0",
         "at 0 / bad line / bad line / bad line / bad line / bad line / bad line / bad line / \
-         bad line / \
+         bad line / bad line / bad line / \
          bad line / bad line / bad line / bad line / bad line / bad line / bad line / bad line / \
          bad line / bad line / bad line / bad line / bad line / bad line",
         Served::BadLine,

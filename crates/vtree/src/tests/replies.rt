@@ -11,6 +11,10 @@ fn each_reply_has_its_line(rt: HostRuntime) -> Result<(), Fail> {
     entries.push((ArrayKey::<16>::new_from_slice(alloc, b"")?, 1))?;
     entries.push((ArrayKey::<16>::new_from_slice(alloc, b"a'b")?, u64::MAX))?;
     let values = vec![in alloc; 0, u64::MAX]?;
+    let mut pairs = Vec::new(alloc);
+    pairs.push((ArrayKey::<16>::new_from_slice(alloc, b"")?, 1, 2))?;
+    pairs.push((ArrayKey::<16>::new_from_slice(alloc, b"a'b")?, u64::MAX, 0))?;
+    let value_pairs = vec![in alloc; (1, 2), (u64::MAX, 0)]?;
     let stopped = vec![in alloc; 3, 1]?;
     let replies = [
         (Reply::Place(0), "at 0\n"),
@@ -43,6 +47,21 @@ fn each_reply_has_its_line(rt: HostRuntime) -> Result<(), Fail> {
                 failed: true,
             },
             "failed 3 1\n",
+        ),
+        (Reply::Pairs(Vec::new(alloc)), "pairs\n"),
+        (
+            Reply::Pairs(pairs),
+            "pairs ' 1 2 'a'b 18446744073709551615 0\n",
+        ),
+        (Reply::ValuePairs(Vec::new(alloc)), "value-pairs\n"),
+        (
+            Reply::ValuePairs(value_pairs),
+            "value-pairs 1 2 18446744073709551615 0\n",
+        ),
+        (Reply::Count(0), "count 0\n"),
+        (
+            Reply::Count(18446744073709551615),
+            "count 18446744073709551615\n",
         ),
         (Reply::Failed, "failed\n"),
         (Reply::NoVersion, "no version\n"),

@@ -171,3 +171,27 @@ fn walks_leave_the_version(rt: HostRuntime) -> Result<(), Fail> {
         Served::Clean,
     )
 }
+
+#[test]
+fn flattened_version_is_listed_and_stays(rt: HostRuntime) -> Result<(), Fail> {
+    assert_served(
+        &rt,
+        rt.alloc(),
+        "new / insert 0 'key1 42 / insert 0 'key2 84 / flatten 0 / version 0",
+        "at 0 / false / false / entries 'key1 42 'key2 84 / version 2",
+        Served::Clean,
+    )
+}
+
+#[test]
+fn flattened_version_without_a_key_has_no_entry(rt: HostRuntime) -> Result<(), Fail> {
+    assert_served(
+        &rt,
+        rt.alloc(),
+        "new / flatten 0 / insert 0 'a 1 / flatten 0 / snapshot 0 / insert 0 ' 2 / flatten 1 / \
+         flatten 0 / iter 0",
+        "at 0 / entries / false / entries 'a 1 / at 1 / false / entries 'a 1 / \
+         entries ' 2 'a 1 / entries ' 2 'a 1",
+        Served::Clean,
+    )
+}

@@ -6,11 +6,14 @@
 ghost use Rattle.std.specs.Prelude.{◌<◌};
 
 mod keys;
+mod meet_times;
+mod meets;
 mod stores;
 mod walk_times;
 mod walks;
 
 use keys::{Kind, keys_of};
+use meet_times::measure_meets;
 use std::alloc::{AllocError, Global};
 use std::time::Instant;
 use std::{env, fmt};
@@ -200,6 +203,7 @@ fn main(rt: HostRuntime) -> anyhow::Result<()> {
             measure(&rt, kind, count)?;
             measure_walks(&rt, kind, count)?;
         }
+        measure_meets(&rt, kind, 10_000)?;
     }
     Ok(())
 }

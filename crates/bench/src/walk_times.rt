@@ -40,11 +40,11 @@ impl Walk {
 
 /// A time, in tenths of a nanosecond.
 #[derive(Clone, Copy, PartialEq, Eq, PartialOrd, Ord)]
-struct Tenths(u128);
+pub(crate) struct Tenths(pub(crate) u128);
 
 impl Tenths {
     /// What each of so many entries took of these nanoseconds.
-    fn each(nanoseconds: u128, entries: u64) -> Tenths {
+    pub(crate) fn each(nanoseconds: u128, entries: u64) -> Tenths {
         Tenths(nanoseconds.saturating_mul(10) / (entries as u128).max(1))
     }
 }

@@ -16,7 +16,8 @@ invariant-branches g l =
     let t = g.J.Joint.right l.at in
     let left = g.J.Joint.branches_left l.branches in
     record {
-      meeting : IsMeeting g.J.Meeting.calls g.J.Meeting.Shows g.J.Joint.holds s t l.common l.fn.trail
+      meeting :
+          IsMeeting g.J.Meeting.calls g.J.Meeting.Shows g.J.Joint.holds s t l.common l.fn.trail
           l.fn.f left l.trail l.f;
       entered : EntersUpTo (behind_bytes l.common s) (behind_bytes l.common t)
           (common_children (arms (behind_bytes l.common s)) (arms (behind_bytes l.common t))) left

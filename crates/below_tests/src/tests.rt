@@ -108,6 +108,49 @@ fn assert_prefix_shows_its_bytes<P: Partial>(
     Ok(())
 }
 
+// The parts of the prefix `wxyz`, joined in either order, and nothing joined with the whole.
+fn assert_parts_are_joined<P: Partial>(
+    rt: &impl Abort,
+    alloc: Global,
+    prefix: &P,
+) -> Result<(), AllocError>
+    requires { (length : ℕ) → length ≤ 4 → IsAdmitted P.MAXIMUM_SIZE length }
+{
+    assert_eq!(rt; prefix.len(), 4);
+    let first = prefix.partial_before(alloc, 1)?;
+    let rest = prefix.partial_after(alloc, 1)?;
+    let none = prefix.partial_before(alloc, 0)?;
+    assert_eq!(rt; first.len(), 1);
+    assert_eq!(rt; rest.len(), 3);
+    assert_eq!(rt; none.len(), 0);
+    assert_bytes(
+        rt,
+        first.partial_extended_with(alloc, &rest)?.as_ref(),
+        b"wxyz",
+    );
+    assert_bytes(
+        rt,
+        rest.partial_extended_with(alloc, &first)?.as_ref(),
+        b"xyzw",
+    );
+    assert_bytes(
+        rt,
+        first.partial_extended_with(alloc, &first)?.as_ref(),
+        b"ww",
+    );
+    assert_bytes(
+        rt,
+        none.partial_extended_with(alloc, prefix)?.as_ref(),
+        b"wxyz",
+    );
+    assert_bytes(
+        rt,
+        prefix.partial_extended_with(alloc, &none)?.as_ref(),
+        b"wxyz",
+    );
+    Ok(())
+}
+
 // The bytes that the prefix `wxyz` and each of these have in common from the front.
 fn assert_common_lengths<P: Partial>(rt: &impl Abort, prefix: &P) {
     assert_eq!(rt; prefix.prefix_length_slice(b""), 0);

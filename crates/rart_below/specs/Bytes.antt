@@ -20,7 +20,7 @@ common_length [] w = 0
 common_length (b ∷ u) [] = 0
 common_length (b ∷ u) (c ∷ w) = if b == c then suc (common_length u w) else 0
 
--- A key type whose greatest length is this admits that length.
+-- A type of keys or prefixes whose greatest length is this admits that length.
 abbrev pub IsAdmitted : Option ℕ → ℕ → Type 0
 IsAdmitted None length = ⊤
 IsAdmitted (Some most) length = length ≤ most

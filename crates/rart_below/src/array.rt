@@ -12,6 +12,7 @@ use std::alloc::{AllocError, Global};
 #[derive(Drop)]
 pub struct ArrPartial<const N: usize> {
     bytes: ArrayVec<u8, N>,
+    ghost fits: { length bytes.items ≤ N },
 }
 
 // Bytes of the full length are copied whole, by a copy whose length the compiler knows.
@@ -28,6 +29,10 @@ fn inline_bytes<const N: usize>(bytes: &[u8]) -> ArrayVec<u8, N>
 }
 
 impl<const N: usize> Partial for ArrPartial<N> {
+    const MAXIMUM_SIZE: Option<usize> = Some(N);
+
+    ghost MAXIMUM_SIZE = { Some N };
+
     ghost bytes = { λ partial. partial.bytes.items };
 
     fn len(&self) -> usize {
@@ -58,6 +63,16 @@ impl<const N: usize> Partial for ArrPartial<N> {
         })
     }
 
+    fn partial_extended_with(
+        &self,
+        _alloc: Global,
+        other: &ArrPartial<N>,
+    ) -> Result<ArrPartial<N>, AllocError> {
+        let mut bytes = inline_bytes(self.bytes.as_slice());
+        let _ = bytes.try_extend_from_slice(other.bytes.as_slice());
+        Ok(ArrPartial { bytes })
+    }
+
     fn copy(&self, _alloc: Global) -> Result<ArrPartial<N>, AllocError> {
         Ok(ArrPartial {
             bytes: inline_bytes(self.bytes.as_slice()),
@@ -67,6 +82,8 @@ impl<const N: usize> Partial for ArrPartial<N> {
     fn prefix_length_slice(&self, other: &[u8]) -> usize {
         prefix_length(self.bytes.as_slice(), other)
     }
+
+    ghost admitted = { λ partial. partial.fits };
 }
 
 /// A key of at most `N` bytes, held inline. No call takes memory, so none is refused.
@@ -79,7 +96,7 @@ pub struct ArrayKey<const N: usize> {
 impl<const N: usize> KeyTrait for ArrayKey<N> {
     type PartialType = ArrPartial<N>;
 
-    const MAXIMUM_SIZE: Option<usize> = Some(N);
+    const MAXIMUM_SIZE: Option<usize> = Some(N); // that of its prefixes
 
     ghost MAXIMUM_SIZE = { Some N };
 
@@ -119,6 +136,8 @@ impl<const N: usize> KeyTrait for ArrayKey<N> {
     }
 
     ghost admitted = { λ key. key.fits };
+
+    ghost maximum_of_partial = { refl };
 
     ghost equal_by_bytes = { λ a b. bytes_eq-Decides a.bytes.items b.bytes.items };
 

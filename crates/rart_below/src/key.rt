@@ -7,9 +7,9 @@ use std::alloc::{AllocError, Global};
 
 /// A key of the tree.
 ///
-/// Contracts see a key as its bytes. The laws say that every key's length is admitted, and that
-/// equality and order of keys are those of their bytes. A key is copied by
-/// `K::new_from_slice(alloc, key.as_ref())`.
+/// Contracts see a key as its bytes. The laws say that every key's length is admitted, that
+/// prefixes may be as long as keys, and that equality and order of keys are those of their bytes. A
+/// key is copied by `K::new_from_slice(alloc, key.as_ref())`.
 pub trait KeyTrait: Eq + Ord + Drop {
     /// What a node stores of such keys.
     type PartialType: Partial;
@@ -51,6 +51,8 @@ pub trait KeyTrait: Eq + Ord + Drop {
         ensures { result ≡ length (bytes self.now) - depth };
 
     ghost admitted: { (key : Self) → IsAdmitted MAXIMUM_SIZE (length (bytes key)) };
+
+    ghost maximum_of_partial: { Self.PartialType.MAXIMUM_SIZE ≡ MAXIMUM_SIZE };
 
     ghost equal_by_bytes: { (a b : Self) → IsTrue (Self.eq a b) ↔ (bytes a ≡ bytes b) };
 

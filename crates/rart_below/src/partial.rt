@@ -1,14 +1,19 @@
 //! What the tree asks of a prefix, the part of a key that one node stores.
-ghost use Rattle.std.specs.Prelude.{◌≡◌, ◌==◌, ℕ, ◌<◌, ◌≤◌, List, length, take, drop, slice_index, IfOk};
-ghost use Rattle.rart_below.specs.Bytes.{common_length};
+ghost use Rattle.std.specs.Prelude.{◌≡◌, ◌==◌, ℕ, ◌+◌, ◌<◌, ◌≤◌, ◌++◌, List, Option, length, take, drop, slice_index, IfOk};
+ghost use Rattle.rart_below.specs.Bytes.{common_length, IsAdmitted};
 
 use std::alloc::{AllocError, Global};
 
 /// A list of bytes: the part of a key that one node stores.
 ///
 /// Contracts see a value as its bytes. A call that copies bytes may be refused for memory, and then
-/// nothing has changed.
+/// nothing has changed. The law says that every prefix's length is admitted.
 pub trait Partial: Drop {
+    /// The greatest number of bytes, or `None` where each number is admitted.
+    const MAXIMUM_SIZE: Option<usize>;
+
+    ghost MAXIMUM_SIZE: { Option ℕ };
+
     ghost bytes: { Self → List ℕ };
 
     /// The number of bytes.
@@ -36,6 +41,12 @@ pub trait Partial: Drop {
         requires { count ≤ length (bytes self.now) }
         ensures { IfOk result (λ after. bytes after ≡ drop count (bytes self.now)) };
 
+    /// The bytes, and behind them those of `other`.
+    fn partial_extended_with(&self, alloc: Global, other: &Self) -> Result<Self, AllocError>
+        requires { IsAdmitted MAXIMUM_SIZE
+            (length (bytes self.now) + length (bytes other.now)) }
+        ensures { IfOk result (λ joined. bytes joined ≡ bytes self.now ++ bytes other.now) };
+
     /// The same bytes once more. In Rust this is `clone`.
     fn copy(&self, alloc: Global) -> Result<Self, AllocError>
         ensures { IfOk result (λ copy. bytes copy ≡ bytes self.now) };
@@ -43,4 +54,6 @@ pub trait Partial: Drop {
     /// The length of the longest beginning that the bytes and `other` have in common.
     fn prefix_length_slice(&self, other: &[u8]) -> usize
         ensures { result ≡ common_length (bytes self.now) other.now };
+
+    ghost admitted: { (partial : Self) → IsAdmitted MAXIMUM_SIZE (length (bytes partial)) };
 }

@@ -22,6 +22,10 @@ fn copy_of(alloc: Global, bytes: &[u8]) -> Result<VectorPartial, AllocError>
 }
 
 impl Partial for VectorPartial {
+    const MAXIMUM_SIZE: Option<usize> = None;
+
+    ghost MAXIMUM_SIZE = { None };
+
     ghost bytes = { λ partial. partial.bytes.items };
 
     fn len(&self) -> usize {
@@ -48,6 +52,16 @@ impl Partial for VectorPartial {
         copy_of(alloc, &self.bytes[count..])
     }
 
+    fn partial_extended_with(
+        &self,
+        alloc: Global,
+        other: &VectorPartial,
+    ) -> Result<VectorPartial, AllocError> {
+        let mut bytes = self.bytes.as_slice().to_vec(alloc)?;
+        bytes.extend_from_slice(other.bytes.as_slice())?;
+        Ok(VectorPartial { bytes })
+    }
+
     fn copy(&self, alloc: Global) -> Result<VectorPartial, AllocError> {
         copy_of(alloc, self.bytes.as_slice())
     }
@@ -55,6 +69,8 @@ impl Partial for VectorPartial {
     fn prefix_length_slice(&self, other: &[u8]) -> usize {
         prefix_length(self.bytes.as_slice(), other)
     }
+
+    ghost admitted = { λ partial. tt };
 }
 
 /// A key of any length, its bytes on the heap.
@@ -66,7 +82,7 @@ pub struct VectorKey {
 impl KeyTrait for VectorKey {
     type PartialType = VectorPartial;
 
-    const MAXIMUM_SIZE: Option<usize> = None;
+    const MAXIMUM_SIZE: Option<usize> = None; // that of its prefixes
 
     ghost MAXIMUM_SIZE = { None };
 
@@ -99,6 +115,8 @@ impl KeyTrait for VectorKey {
     }
 
     ghost admitted = { λ key. tt };
+
+    ghost maximum_of_partial = { refl };
 
     ghost equal_by_bytes = { λ a b. bytes_eq-Decides a.bytes.items b.bytes.items };
 

@@ -1,9 +1,10 @@
 //! Keys and prefixes on the heap.
 use crate::tests::{
     assert_common_length_at_each_place, assert_common_lengths, assert_key_shows_its_bytes,
-    assert_keys_of_each_length, assert_order_of_bytes, assert_prefix_shows_its_bytes,
+    assert_keys_of_each_length, assert_order_of_bytes, assert_parts_are_joined,
+    assert_prefix_shows_its_bytes,
 };
-use rart_below::{KeyTrait, VectorKey, VectorPartial};
+use rart_below::{KeyTrait, Partial, VectorKey, VectorPartial};
 use std::test::Fail;
 
 #[test]
@@ -24,7 +25,9 @@ fn heap_keys_compare_as_their_bytes(rt: HostRuntime) -> Result<(), Fail> {
 fn heap_prefix_shows_its_bytes(rt: HostRuntime) -> Result<(), Fail> {
     let key = VectorKey::new_from_slice(rt.alloc(), b"wxyz")?;
     let prefix: VectorPartial = key.to_partial(rt.alloc(), 0)?;
+    assert_eq!(rt; VectorPartial::MAXIMUM_SIZE, None);
     assert_prefix_shows_its_bytes(&rt, rt.alloc(), &prefix)?;
+    assert_parts_are_joined(&rt, rt.alloc(), &prefix)?;
     assert_common_lengths(&rt, &prefix);
     Ok(())
 }

@@ -1,9 +1,10 @@
 //! Keys and prefixes held inline: `./test` runs these with memory refused.
 use crate::tests::{
     assert_common_length_at_each_place, assert_common_lengths, assert_key_shows_its_bytes,
-    assert_keys_of_each_length, assert_order_of_bytes, assert_prefix_shows_its_bytes,
+    assert_keys_of_each_length, assert_order_of_bytes, assert_parts_are_joined,
+    assert_prefix_shows_its_bytes,
 };
-use rart_below::{ArrPartial, ArrayKey, KeyTrait, LendingKeyView};
+use rart_below::{ArrPartial, ArrayKey, KeyTrait, LendingKeyView, Partial};
 use std::test::Fail;
 
 #[test]
@@ -24,7 +25,9 @@ fn inline_keys_compare_as_their_bytes(rt: HostRuntime) -> Result<(), Fail> {
 fn inline_prefix_shows_its_bytes(rt: HostRuntime) -> Result<(), Fail> {
     let key: ArrayKey<4> = ArrayKey::new_from_slice(rt.alloc(), b"wxyz")?;
     let prefix: ArrPartial<4> = key.to_partial(rt.alloc(), 0)?;
+    assert_eq!(rt; ArrPartial::<4>::MAXIMUM_SIZE, Some(4));
     assert_prefix_shows_its_bytes(&rt, rt.alloc(), &prefix)?;
+    assert_parts_are_joined(&rt, rt.alloc(), &prefix)?;
     assert_common_lengths(&rt, &prefix);
     Ok(())
 }

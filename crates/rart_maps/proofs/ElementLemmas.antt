@@ -154,7 +154,8 @@ lt-eq Less less equal = false≢true equal
 lt-eq Equal less equal = false≢true less
 lt-eq Greater less equal = false≢true less
 
-tied : {K : Type 0} {R : K → K → Ordering} → finite.IsAntisymmetric R → (q k : K)
+-- Keys that tie are equal.
+pub tied : {K : Type 0} {R : K → K → Ordering} → finite.IsAntisymmetric R → (q k : K)
     → eq_by_cmp R q k ≡ true → q ≡ k
 tied {R = R} same q k is = same q k ((Equal-is (R q k)).0 is)
 
@@ -169,7 +170,8 @@ module _ {K X : Type 0} {R : K → K → Ordering} (o : IsTotalOrder R)
       ⊎_elim (λ is. ap (λ e. is_lt (R key e.0)) (sym is) ∙ parts.0)
       (below-contains key rest parts.1 entry) (Contains-cases first rest entry there)
 
-  contains-find : (entries : List (K × X)) → is_sorted R entries ≡ true → (key : K) (x : X)
+  -- Entries in order contain what is found in them, and no other.
+  pub contains-find : (entries : List (K × X)) → is_sorted R entries ≡ true → (key : K) (x : X)
       → Contains entries (key, x) → find R key entries ≡ Some x
   contains-find [] sorted key x there = absurd (Contains-nil (key, x) there)
   contains-find (first ∷ rest) sorted key x there =
@@ -188,7 +190,7 @@ module _ {K X : Type 0} {R : K → K → Ordering} (o : IsTotalOrder R)
       ] refl)
       (Contains-cases first rest (key, x) there)
 
-  find-contains : (entries : List (K × X)) (key : K) (x : X) → find R key entries ≡ Some x
+  pub find-contains : (entries : List (K × X)) (key : K) (x : X) → find R key entries ≡ Some x
       → Contains entries (key, x)
   find-contains [] key x is = absurd (false≢true (ap is_some is))
   find-contains (first ∷ rest) key x is =

@@ -5,6 +5,7 @@ pub mod IterationLemmas
 pub mod MapLemmas
 pub mod OrderLemmas
 pub mod PairLawLemmas
+pub mod PointLemmas
 pub mod RangeLemmas
 pub mod SetLemmas
 pub mod StartLemmas

@@ -1,10 +1,11 @@
 -- Finite sets: what a test keeps of one, and how many that is.
-use Rattle.std.proofs.Common.{◌≡◌, ◌≤◌, ◌+◌, Bool, true, false, cond, ◌&&◌, ◌||◌, List, [], ◌∷◌, refl, sym, ap, subst, ◌∙◌, ⊎_elim, arith}
+use Rattle.std.proofs.Common.{◌≡◌, ◌≤◌, ◌+◌, ◌-◌, ℕ, length, not, Bool, true, false, cond, ◌&&◌, ◌||◌, List, [], ◌∷◌, refl, sym, ap, subst, ◌∙◌, ⊎_elim, arith}
 use Rattle.std.specs.Prelude.{Contains, count_by}
 use Rattle.std.specs.declared.cmp.Ordering.{Ordering}
 use Rattle.std.specs.Ordering.{eq_by_cmp, is_eq}
 use Rattle.std.specs.Cmp.{IsTotalOrder, Equal-is, tied_itself}
 use Rattle.std.specs.FinSet as set
+use Rattle.std.proofs.lemmas.Bool.{and_parts, false≢true}
 use Rattle.std.proofs.lemmas.List.Sums.{sum_by-cons, sum_by-le-sum_by}
 use Rattle.rart_maps.proofs.ElementLemmas.{Contains-nil, Contains-cases}
 
@@ -158,3 +159,33 @@ module _ {K : Type 0} {R : K → K → Ordering} (o : IsTotalOrder R)
   unfolding elements
   Contains-elements s k there =
       ap (λ t. set.contains t k) (listed s) ∙ each_once-there (set.items s) k there
+
+  -- A set has no more elements than a list that has them all.
+  pub few-listed : (list : List K) (s : set.FinSet R)
+      → ((k : K) → set.contains s k ≡ true → Contains list k) → set.len s ≤ length list
+  few-listed [] s all =
+      let none =
+      ap set.len (set.same_set o same s set.empty (λ q. nothing (set.contains s q) (all q)
+      ∙ sym (set.contains-empty R q))) in
+      let zero = set.len-empty R in
+      omega (arith, none, zero)
+    where
+      nothing : {q : K} (b : Bool) → (b ≡ true → Contains [] q) → b ≡ false
+      nothing true there = absurd (Contains-nil _ (there refl))
+      nothing false there = refl
+  few-listed (k ∷ list) s all =
+      let others = few-listed list (set.remove s k) (λ q there.
+      let parts = and_parts (not (eq_by_cmp R q k)) (set.contains s q)
+      (sym (set.contains-remove o s k q) ∙ there) in
+      ⊎_elim
+      (λ is. absurd (false≢true (sym (ap not (ap (λ x. is_eq (R x k)) (sym is)
+      ∙ ap is_eq (tied_itself o k))) ∙ parts.0)))
+      (λ later. later)
+      (Contains-cases k list q (all q parts.1))) in
+      let one = one-less (set.contains s k) (set.len s) (set.len (set.remove s k))
+      (set.len-remove o s k) in
+      omega (arith, others, one)
+    where
+      one-less : (b : Bool) (n m : ℕ) → m ≡ cond b (n - 1) n → n ≤ m + 1
+      one-less true n m is = omega (arith, is)
+      one-less false n m is = omega (arith, is)

@@ -1,6 +1,6 @@
 -- The worked values of the bounds, by computation.
 use Rattle.std.proofs.Common.{◌*◌, refl, ap, inl, inr}
-use Rattle.rart_maps.specs.WorkedBounds.{LookupOfNoByte, LookupOfThreeBytes, ChangeOfNoByte, ChangeOfThreeBytes, TouchOfNoByte, TouchOfThreeBytes, MeetOfTwo, MeetBelowOne, MeetWithItself, MeetOfEmpty, ReachOfTwo, ReachOfAll, ReachOfNone, MeetOfDistinct, MeetInsideKeys, ReachOfFive, ReachOfOne, ReachPastKeys}
+use Rattle.rart_maps.specs.WorkedBounds.{LookupOfNoByte, LookupOfThreeBytes, ChangeOfNoByte, ChangeOfThreeBytes, TouchOfNoByte, TouchOfThreeBytes, MeetOfTwo, MeetBelowOne, MeetWithItself, MeetOfEmpty, ReachOfTwo, ReachOfAll, ReachOfNone, MeetOfDistinct, MeetInsideKeys, ReachOfFive, ReachOfOne, ReachPastKeys, WalkOfThree, WalkOfOneBelowOther, WalkOfNone, ScanOfTwo}
 use Rattle.rart_maps.proofs.MapLemmas.{maps, sets}
 use Rattle.rart_maps.proofs.PairLawLemmas.{shared_is_empty}
 use Rattle.std.specs.FinMap as finite
@@ -61,3 +61,15 @@ reach_of_one = simp (maps, sets) refl
 
 pub reach_past_keys : ReachPastKeys
 reach_past_keys = simp (maps, sets) refl
+
+pub walk_of_three : WalkOfThree
+walk_of_three = simp (maps, sets) refl
+
+pub walk_of_one_below_other : WalkOfOneBelowOther
+walk_of_one_below_other = simp (maps, sets) refl
+
+pub walk_of_none : WalkOfNone
+walk_of_none = simp (maps, sets) refl
+
+pub scan_of_two : ScanOfTwo
+scan_of_two = simp (maps, sets) refl

@@ -5,7 +5,7 @@ use Rattle.std.specs.Option.{option_map}
 use Rattle.std.specs.FinMap as finite
 use Rattle.rart_below.specs.Bytes.{byte_order}
 use Rattle.rart_maps.specs.Pairs.{pairs}
-use Rattle.rart_maps.specs.WorkedPairs.{WithinIncluded, WithinExcluded, WithinOtherKeys, WithinLowAlone, WithinHighAlone, WithinReversed, WithinOneKey, WithinNoKey, UnderTwo, UnderOne, UnderItself, UnderEmpty, UnderNone, BeginningsShortestFirst, BeginningsOfKey, BeginningsNone, CommonLeftFirst, CommonNone, CommonOfTwo, CommonOfOne, CommonOfEmpty, SharedOfTwo, SharedOfOne, SharedOfEmpty}
+use Rattle.rart_maps.specs.WorkedPairs.{WithinIncluded, WithinExcluded, WithinOtherKeys, WithinLowAlone, WithinHighAlone, WithinReversed, WithinOneKey, WithinNoKey, UnderTwo, UnderOne, UnderItself, UnderEmpty, UnderNone, BeginningsShortestFirst, BeginningsOfKey, BeginningsNone, LongestInside, LongestIsItself, LongestIsEmpty, LongestNone, CommonLeftFirst, CommonNone, CommonOfTwo, CommonOfOne, CommonOfEmpty, SharedOfTwo, SharedOfOne, SharedOfEmpty}
 use Rattle.rart_maps.proofs.MapLemmas.{maps, sets}
 use Rattle.rart_maps.proofs.PairLawLemmas.{pairs-empty, shared_is_empty}
 
@@ -56,6 +56,18 @@ beginnings_of_key = simp maps refl
 
 pub beginnings_none : BeginningsNone
 beginnings_none = simp maps refl
+
+pub longest_inside : LongestInside
+longest_inside = simp maps refl
+
+pub longest_is_itself : LongestIsItself
+longest_is_itself = simp maps refl
+
+pub longest_is_empty : LongestIsEmpty
+longest_is_empty = simp maps refl
+
+pub longest_none : LongestNone
+longest_none = simp maps refl
 
 pub common_left_first : CommonLeftFirst
 common_left_first = simp maps refl

@@ -3,7 +3,8 @@ use Rattle.std.specs.Prelude.{ℕ, ◌+◌, ◌*◌, List, length}
 use Rattle.std.specs.FinSet as set
 use Rattle.rart_below.specs.Bytes.{begins}
 use Rattle.rart_maps.specs.Versions.{Map}
-use Rattle.rart_maps.specs.Pairs.{starts, shared}
+use Rattle.rart_maps.specs.Pairs.{starts, shared, under}
+use Rattle.rart_maps.specs.Points.{points}
 
 -- a lookup of w enters at most so many nodes
 abbrev pub lookup_bound : List ℕ → ℕ
@@ -25,3 +26,11 @@ module _ {V : Type 0} where
   -- a walk under p enters at most so many
   abbrev pub reach_bound : Map V → List ℕ → ℕ
   reach_bound m p = length p + 1 + set.len (set.retain (starts m) (begins p))
+
+  -- and, beside that, at most so many
+  abbrev pub scan_bound : Map V → List ℕ → ℕ
+  scan_bound m p = length p + 1 + 2 * length (under m p)
+
+  -- a walk over all of a map enters so many
+  abbrev pub walk_cost : Map V → ℕ
+  walk_cost m = set.len (points m)

@@ -6,6 +6,8 @@ pub mod Iterations
 pub mod Order
 pub mod PairLaws
 pub mod Pairs
+pub mod PointLaws
+pub mod Points
 pub mod StartLaws
 pub mod Versions
 pub mod VisitLaws

@@ -1,9 +1,9 @@
 -- What can be read off one map, or off two.
-use Rattle.std.specs.Prelude.{ℕ, List, [], ◌∷◌, filter, map}
+use Rattle.std.specs.Prelude.{ℕ, List, [], ◌∷◌, Option, None, filter, map}
 use Rattle.std.specs.declared.ops.Bound.{Bound}
 use Rattle.std.specs.Ordering.{nat_cmp, as_partial_cmp}
 use Rattle.std.specs.Cmp.Lexicographic.{slice_cmp}
-use Rattle.std.specs.List.{filter_map, flat_map}
+use Rattle.std.specs.List.{filter_map, flat_map, last_or}
 use Rattle.std.specs.Option.{option_map}
 use Rattle.std.specs.Range.Bound.{bounds_contain}
 use Rattle.std.specs.FinMap as finite
@@ -28,6 +28,10 @@ module _ {V : Type 0} where
   -- the pairs whose key begins w, the shortest first
   abbrev pub beginnings : Map V → List ℕ → List (List ℕ × V)
   beginnings m w = filter (λ pair. begins pair.0 w) (pairs m)
+
+  -- the last of them, whose key is the longest, where there is one
+  abbrev pub longest_beginning : Map V → List ℕ → Option (List ℕ × V)
+  longest_beginning m w = last_or None (beginnings m w)
 
   -- each key of both with what either has there, strictly ascending by key
   abbrev pub common : Map V → Map V → List (List ℕ × V × V)

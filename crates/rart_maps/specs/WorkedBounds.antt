@@ -2,7 +2,7 @@
 use Rattle.std.specs.Prelude.{◌≡◌, ℕ, List, [], ◌∷◌, map, codes}
 use Rattle.std.specs.FinMap as finite
 use Rattle.rart_maps.specs.Versions.{Map}
-use Rattle.rart_maps.specs.Bounds.{lookup_bound, change_bound, touch_bound, meet_bound, reach_bound}
+use Rattle.rart_maps.specs.Bounds.{lookup_bound, change_bound, touch_bound, meet_bound, reach_bound, scan_bound, walk_cost}
 
 -- a map of these keys: on values no bound depends
 abbrev pub map_of : List (List ℕ) → Map ℕ
@@ -78,3 +78,18 @@ ReachOfOne =
 abbrev pub ReachPastKeys : Type 0
 ReachPastKeys =
     reach_bound (map_of (codes "a" ∷ codes "ab" ∷ codes "abc" ∷ codes "b" ∷ [])) (codes "abcd") ≡ 5
+
+-- The points of ac, ad and b are these and the empty string and a, at which they part.
+abbrev pub WalkOfThree : Type 0
+WalkOfThree = walk_cost (map_of (codes "ac" ∷ codes "ad" ∷ codes "b" ∷ [])) ≡ 5
+
+-- The keys abc and ab part nowhere: the one begins the other.
+abbrev pub WalkOfOneBelowOther : Type 0
+WalkOfOneBelowOther = walk_cost (map_of (codes "ab" ∷ codes "abc" ∷ [])) ≡ 2
+
+abbrev pub WalkOfNone : Type 0
+WalkOfNone = walk_cost (map_of []) ≡ 0
+
+-- Under a are two keys, and the prefix has one byte.
+abbrev pub ScanOfTwo : Type 0
+ScanOfTwo = scan_bound (map_of (codes "ac" ∷ codes "ad" ∷ codes "b" ∷ [])) (codes "a") ≡ 6

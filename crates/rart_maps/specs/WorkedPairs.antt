@@ -1,10 +1,10 @@
 -- Worked values of what is read off maps, found by hand.
-use Rattle.std.specs.Prelude.{◌≡◌, ℕ, [], ◌∷◌, IsTrue, codes}
+use Rattle.std.specs.Prelude.{◌≡◌, ℕ, [], ◌∷◌, Some, None, IsTrue, codes}
 use Rattle.std.specs.declared.ops.Bound.TheVariants.{Included, Excluded, Unbounded}
 use Rattle.std.specs.FinMap as finite
 use Rattle.std.specs.FinSet as set
 use Rattle.rart_maps.specs.Versions.{Map}
-use Rattle.rart_maps.specs.Pairs.{within, under, beginnings, common, shared}
+use Rattle.rart_maps.specs.Pairs.{within, under, beginnings, longest_beginning, common, shared}
 
 abbrev pub letters : Map ℕ
 letters = finite.from_entries
@@ -85,6 +85,19 @@ BeginningsOfKey = beginnings stems (codes "b") ≡ ([], 0) ∷ (codes "b", 4) �
 
 abbrev pub BeginningsNone : Type 0
 BeginningsNone = beginnings words (codes "abc") ≡ []
+
+-- The longest of them, which may be the string itself or the empty one.
+abbrev pub LongestInside : Type 0
+LongestInside = longest_beginning stems (codes "abd") ≡ Some (codes "ab", 2)
+
+abbrev pub LongestIsItself : Type 0
+LongestIsItself = longest_beginning stems (codes "b") ≡ Some (codes "b", 4)
+
+abbrev pub LongestIsEmpty : Type 0
+LongestIsEmpty = longest_beginning stems (codes "cab") ≡ Some ([], 0)
+
+abbrev pub LongestNone : Type 0
+LongestNone = longest_beginning words (codes "abc") ≡ None
 
 -- ---- keys in common
 

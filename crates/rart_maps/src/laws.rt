@@ -3,6 +3,7 @@
 
 pub mod iterations;
 pub mod pairs;
+pub mod points;
 pub mod starts;
 pub mod strings;
 pub mod visits;

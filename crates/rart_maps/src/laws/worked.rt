@@ -1,6 +1,6 @@
 //! Worked values of what is read off maps and of the bounds, found by hand.
-ghost use Rattle.rart_maps.specs.WorkedBounds.{LookupOfNoByte, LookupOfThreeBytes, ChangeOfNoByte, ChangeOfThreeBytes, TouchOfNoByte, TouchOfThreeBytes, MeetOfTwo, MeetBelowOne, MeetWithItself, MeetOfEmpty, ReachOfTwo, ReachOfAll, ReachOfNone, MeetOfDistinct, MeetInsideKeys, ReachOfFive, ReachOfOne, ReachPastKeys};
-ghost use Rattle.rart_maps.specs.WorkedPairs.{WithinIncluded, WithinExcluded, WithinOtherKeys, WithinLowAlone, WithinHighAlone, WithinReversed, WithinOneKey, WithinNoKey, UnderTwo, UnderOne, UnderItself, UnderEmpty, UnderNone, BeginningsShortestFirst, BeginningsOfKey, BeginningsNone, CommonLeftFirst, CommonNone, CommonOfTwo, CommonOfOne, CommonOfEmpty, SharedOfTwo, SharedOfOne, SharedOfEmpty};
+ghost use Rattle.rart_maps.specs.WorkedBounds.{LookupOfNoByte, LookupOfThreeBytes, ChangeOfNoByte, ChangeOfThreeBytes, TouchOfNoByte, TouchOfThreeBytes, MeetOfTwo, MeetBelowOne, MeetWithItself, MeetOfEmpty, ReachOfTwo, ReachOfAll, ReachOfNone, MeetOfDistinct, MeetInsideKeys, ReachOfFive, ReachOfOne, ReachPastKeys, WalkOfThree, WalkOfOneBelowOther, WalkOfNone, ScanOfTwo};
+ghost use Rattle.rart_maps.specs.WorkedPairs.{WithinIncluded, WithinExcluded, WithinOtherKeys, WithinLowAlone, WithinHighAlone, WithinReversed, WithinOneKey, WithinNoKey, UnderTwo, UnderOne, UnderItself, UnderEmpty, UnderNone, BeginningsShortestFirst, BeginningsOfKey, BeginningsNone, LongestInside, LongestIsItself, LongestIsEmpty, LongestNone, CommonLeftFirst, CommonNone, CommonOfTwo, CommonOfOne, CommonOfEmpty, SharedOfTwo, SharedOfOne, SharedOfEmpty};
 
 /// Worked values: the pairs within two bounds, that include or exclude their key, one bound alone,
 /// the other way round, and of one key twice.
@@ -29,6 +29,14 @@ pub fn worked_beginnings()
     ensures shortest_first { BeginningsShortestFirst }
     ensures of_key { BeginningsOfKey }
     ensures none { BeginningsNone }
+{}
+
+/// Worked values: the last of the pairs whose key begins a string.
+pub fn worked_longest()
+    ensures inside { LongestInside }
+    ensures itself { LongestIsItself }
+    ensures empty { LongestIsEmpty }
+    ensures none { LongestNone }
 {}
 
 /// Worked values: the keys in common, the left map's value first.
@@ -69,4 +77,12 @@ pub fn worked_bounds<V>()
     ensures reach_of_five { ReachOfFive }
     ensures reach_of_one { ReachOfOne }
     ensures reach_past_keys { ReachPastKeys }
+{}
+
+/// Worked values: how many nodes a walk over all keys enters, and at most one under a prefix.
+pub fn worked_walks()
+    ensures three { WalkOfThree }
+    ensures one_below_other { WalkOfOneBelowOther }
+    ensures none { WalkOfNone }
+    ensures two_under { ScanOfTwo }
 {}

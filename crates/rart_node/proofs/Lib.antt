@@ -4,5 +4,6 @@ pub mod ChildMapLemmas
 pub mod ChildrenFromLemmas
 pub mod ChildOrderLemmas
 pub mod RoomLemmas
+pub mod MergeLemmas
 pub mod NodeLemmas
 pub mod WidthLemmas

@@ -1,6 +1,6 @@
 -- What a node is, whatever it keeps its children in: a prefix, an optional value, a width, and
 -- children, each under its byte.
-use Rattle.std.specs.Prelude.{◌≡◌, ◌<◌, ◌≤◌, ◌⊎◌, ℕ, suc, max, List, [], ◌∷◌, Option, Bool, length, if◌then◌else◌, ◌==◌, nat_lt, nat_le, ◌&&◌, refl}
+use Rattle.std.specs.Prelude.{◌≡◌, ◌<◌, ◌≤◌, ◌⊎◌, ℕ, suc, max, List, [], ◌∷◌, ◌++◌, Option, Bool, length, if◌then◌else◌, ◌==◌, nat_lt, nat_le, ◌&&◌, refl}
 use Rattle.std.proofs.Common.{ap}
 use Rattle.rart_below.specs.Children as children
 use Rattle.rart_below.specs.Children.{with_child, without_child}
@@ -89,6 +89,14 @@ module _ {V : Type 0} where
   abbrev pub with_children : List (ℕ × Shape V) → Shape V → Shape V
   with_children children (node prefix value width forest) =
       node prefix value width (forest_of children)
+
+  -- The node has this child, under this byte, and no other.
+  abbrev pub HasOnly : ℕ → Shape V → Shape V → Type 0
+  HasOnly byte child shape = children_of shape ≡ (byte, child) ∷ []
+
+  -- the child with the bytes of a node above it before its own
+  abbrev pub merged : List ℕ → Shape V → Shape V
+  merged above child = with_prefix (above ++ prefix_of child) child
 
   -- the same node at another width
   abbrev pub with_width : ℕ → Shape V → Shape V

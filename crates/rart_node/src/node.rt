@@ -1,5 +1,5 @@
 //! The node: a prefix, an optional value, and children under bytes.
-ghost use Rattle.std.specs.Prelude.{◌≡◌, ◌==◌, ◌+◌, ◌↔◌, IsErrOf, IsOk, IsSome, IsTrue, IfOk, OnOk, OnErr, Some, None, [], length, not};
+ghost use Rattle.std.specs.Prelude.{◌≡◌, ◌==◌, ◌+◌, ◌↔◌, ℕ, IsErrOf, IsOk, IsSome, IsTrue, IfOk, OnOk, OnErr, Some, None, [], length, not};
 ghost use Rattle.std.specs.Option.{option_map, option_copied};
 ghost use Rattle.rart_below.specs.Children.{child_at, children_from, first_of};
 ghost use Rattle.rart_below.specs.Clones.{ClonesEqual};
@@ -265,6 +265,8 @@ impl<P: Partial, V: Drop> VersionedNode<P, V> {
 #[tactic(auto, using(crate::proofs::NodeLemmas::seeing))]
 impl<P: Partial, V: Clone + Drop> VersionedNode<P, V> {
     ghost use Rattle.rart_node.specs.NodeShapes.{node_shape, node_of_content, shapes_of_content};
+    ghost use Rattle.rart_node.specs.Shape.{Shape, HasOnly, merged};
+    ghost use Rattle.rart_below.specs.Bytes.{IsAdmitted};
     ghost use Rattle.rart_node.specs.Contents.{content_shape};
 
     /// A node with the same prefix, value, width and children, where clones of values equal them.
@@ -279,8 +281,7 @@ impl<P: Partial, V: Clone + Drop> VersionedNode<P, V> {
         ensures { IfOk result (λ copy. ClonesEqual V.is_clone
             → node_shape P.bytes copy ≡ node_shape P.bytes self.now) }
     {
-        let content = self.content.copy()?;
-        self.copy_with(alloc, new_version, content)
+        self.copy_under(alloc, new_version, self.prefix.copy(alloc)?)
     }
 
     /// A node with the same prefix, value and children at the next width, where clones of values
@@ -305,22 +306,68 @@ impl<P: Partial, V: Clone + Drop> VersionedNode<P, V> {
         }
         let mut content = self.content.copy()?;
         content.widen(alloc)?;
-        Ok(self.copy_with(alloc, new_version, content)?)
+        let prefix = self.prefix.copy(alloc)?;
+        Ok(self.copy_with(alloc, new_version, prefix, content)?)
     }
 
-    /// The same prefix and value over this content.
+    /// A node in place of this one and its only child: the bytes of both prefixes, and the value,
+    /// width and children of the child, where clones of values equal them. rart has no such call:
+    /// there removal merges nothing.
+    ///
+    /// The child is entered, and no node is made: that is `NodeRef::new`. It is refused as
+    /// `cow_clone_inner` of the child is.
+    pub fn merge_child(
+        &self,
+        alloc: Global,
+        new_version: u64,
+        work: &mut Work,
+    ) -> Result<VersionedNode<P, V>, AllocError>
+        requires value { value_of (node_shape P.bytes self.now) ≡ None }
+        requires child { length (children_of (node_shape P.bytes self.now)) ≡ 1 }
+        requires admitted { (byte : ℕ) (child : Shape V)
+            → HasOnly byte child (node_shape P.bytes self.now) → IsAdmitted P.MAXIMUM_SIZE
+            (length (prefix_of (node_shape P.bytes self.now)) + length (prefix_of child)) }
+        ensures merged { IfOk result (λ it. ClonesEqual V.is_clone → (byte : ℕ) (child : Shape V)
+            → HasOnly byte child (node_shape P.bytes self.now)
+            → node_shape P.bytes it ≡ merged (prefix_of (node_shape P.bytes self.now)) child) }
+        ensures work { work.new ≡ record work.old { entered = work.old.entered + 1 } }
+    {
+        let Some((_, child)) = self.next_from(0) else {
+            unreachable!();
+        };
+        let child = child.open(work);
+        let prefix = self.prefix().partial_extended_with(alloc, child.prefix())?;
+        child.copy_under(alloc, new_version, prefix)
+    }
+
+    /// The same value, width and children with this prefix.
+    fn copy_under(
+        &self,
+        alloc: Global,
+        new_version: u64,
+        prefix: P,
+    ) -> Result<VersionedNode<P, V>, AllocError>
+        ensures { IfOk result (λ copy. ClonesEqual V.is_clone
+            → node_shape P.bytes copy
+            ≡ with_prefix (P.bytes prefix) (node_shape P.bytes self.now)) }
+    {
+        let content = self.content.copy()?;
+        self.copy_with(alloc, new_version, prefix, content)
+    }
+
+    /// The same value over this content, with this prefix.
     fn copy_with(
         &self,
         alloc: Global,
         new_version: u64,
+        prefix: P,
         content: Content<P, V>,
     ) -> Result<VersionedNode<P, V>, AllocError>
         ensures { IfOk result (λ copy. ClonesEqual V.is_clone
-            → node_shape P.bytes copy ≡ node_of_content P.bytes
-            (prefix_of (node_shape P.bytes self.now)) (value_of (node_shape P.bytes self.now))
+            → node_shape P.bytes copy ≡ node_of_content P.bytes (P.bytes prefix)
+            (value_of (node_shape P.bytes self.now))
             (shapes_of_content P.bytes (content_shape content))) }
     {
-        let prefix = self.prefix.copy(alloc)?;
         let value = clone_of(&self.value)?;
         Ok(VersionedNode {
             prefix,

@@ -1,10 +1,12 @@
 //! Nodes: their parts, and how they change.
 ghost use Rattle.rart_node.specs.NodeShapes.{node_shape};
 ghost use Rattle.rart_node.specs.Shape.{IsAscending};
+ghost use Rattle.rart_below.specs.Bytes.{IsAdmitted};
+ghost use Rattle.std.specs.Prelude.{ℕ};
 
 use crate::tests::{add_leaf, assert_children, assert_prefix, leaf, prefix, value_at, value_of};
-use rart_below::Partial;
-use rart_node::{NodeRef, VersionedNode};
+use rart_below::{KeyTrait, Partial, VectorKey};
+use rart_node::{NodeRef, VersionedNode, Work};
 use std::alloc::{AllocError, Global};
 use std::process::Abort;
 use std::test::Fail;
@@ -149,5 +151,37 @@ fn child_is_replaced_written_and_deleted(rt: HostRuntime) -> Result<(), Fail> {
     assert_deletes(&rt, &mut node, 9, Some(3));
     assert_deletes(&rt, &mut node, 9, None);
     assert_children(&rt, node.iter(), &[(5, 1)]);
+    Ok(())
+}
+
+// A node with no value and one child is merged with it.
+fn merged<P: Partial>(
+    rt: &impl Abort,
+    alloc: Global,
+    node: &VersionedNode<P, u64>,
+) -> Result<VersionedNode<P, u64>, AllocError>
+    requires order { IsAscending (node_shape P.bytes node.now) }
+    requires any { (length : ℕ) → IsAdmitted P.MAXIMUM_SIZE length }
+{
+    if let Some(_value) = node.value() {
+        panic!(rt; "the node has a value");
+    }
+    assert_eq!(rt; node.num_children(), 1);
+    node.merge_child(alloc, 1, &mut Work::new())
+}
+
+#[test]
+fn node_is_merged_with_its_only_child(rt: HostRuntime) -> Result<(), Fail> {
+    let alloc = rt.alloc();
+    let stem = VectorKey::new_from_slice(alloc, b"stem")?.to_partial(alloc, 0)?;
+    let rest = VectorKey::new_from_slice(alloc, b"-leaf")?.to_partial(alloc, 0)?;
+    let mut node = VersionedNode::new_inner(alloc, stem, 0)?;
+    let child = leaf(alloc, &rest, 7)?;
+    node.add_child(alloc, b'-', child, &mut Work::new())?;
+    let merged = merged(&rt, alloc, &node)?;
+    assert_prefix(&rt, &merged, b"stem-leaf");
+    assert!(rt; merged.is_leaf());
+    assert_eq!(rt; merged.value().copied(), Some(7));
+    assert_eq!(rt; node.num_children(), 1);
     Ok(())
 }

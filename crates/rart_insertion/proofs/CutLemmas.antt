@@ -1,6 +1,6 @@
 -- A node that is cut inside its prefix, and what is put into a node as far as its prefix is
 -- matched.
-use Rattle.std.proofs.Common.{◌≡◌, ℕ, ◌<◌, List, [], ◌∷◌, ◌++◌, Option, Some, None, slice_get, length, take, drop, cond, Bool, true, false, refl, sym, ap, subst, ◌∙◌}
+use Rattle.std.proofs.Common.{◌≡◌, ℕ, ◌<◌, List, [], ◌∷◌, ◌++◌, Option, Some, None, slice_get, length, take, drop, cond, Bool, true, false, refl, arith, sym, ap, subst, ◌∙◌}
 use Rattle.std.specs.Prelude.{◌==◌, slice_index_or}
 use Rattle.std.specs.Option.{option_and_then}
 use Rattle.std.specs.Cmp.{unsigned_tied}
@@ -9,38 +9,19 @@ use Rattle.std.proofs.lemmas.List.{take-append-drop}
 use Rattle.rart_below.specs.Bytes.{common_length}
 use Rattle.rart_below.specs.Children.{child_at}
 use Rattle.rart_node.specs.Shape.{Shape, Forest, node, bare, grown, prefix_of, children_of}
-use Rattle.rart_shape.specs.Trees.{strip_prefix, BeginsWith, found, IsTree, IsPut, cut_at}
+use Rattle.rart_shape.specs.Trees.{strip_prefix, BeginsWith, found, IsTree, IsOrdered, IsPut, cut_at}
 use Rattle.rart_shape.proofs.PrefixLemmas.{behind-append, split-common, differs-strip_prefix, begins-drop, begins-common}
-use Rattle.rart_shape.proofs.PairLemmas.{found-empty, found-other}
+use Rattle.rart_shape.proofs.OnlyChildLemmas.{along}
 use Rattle.rart_shape.proofs.InsertionLemmas.{inside}
 
 module _ {V : Type 0} where
-  pub cut-tree : (s : Shape V) (at : ℕ) → IsTree s → at < length (prefix_of s)
-      → IsTree (cut_at at s)
-  cut-tree (node prefix value width forest) at tree lt =
-      (refl, (begins-drop prefix at lt, tree, tt), refl)
+  pub cut-ordered : (s : Shape V) (at : ℕ) → IsTree s → at < length (prefix_of s)
+      → IsOrdered (cut_at at s)
+  cut-ordered (node prefix value width forest) at tree lt =
+      (refl, (begins-drop prefix at lt, tree, tt))
 
-  only-child : (byte : ℕ) (child : Shape V) (q : List ℕ) → BeginsWith byte (prefix_of child)
-      → inside None (grown byte child bare) q ≡ found child q
-  only-child byte child [] begins = sym (found-empty child byte begins)
-  only-child byte child (c ∷ q) begins =
-      let P : Bool → Type 0 =
-      λ t. (c == byte) ≡ t → cond t (found child (c ∷ q)) None ≡ found child (c ∷ q) in
-      let both : (t : Bool) → P t =
-      elim [
-        | true ↦ (λ same. refl)
-        | false ↦
-            (λ differs. sym (found-other child byte c q begins differs))
-      ] in
-      both (c == byte) refl
-
-  along : (o : Option (List ℕ)) (p : List ℕ) (value : Option V) (width byte : ℕ) (forest : Forest V)
-      → BeginsWith byte p
-      → option_and_then (inside None (grown byte (node p value width forest) bare)) o
-      ≡ option_and_then (inside value forest) (option_and_then (strip_prefix p) o)
-  along None p value width byte forest begins = refl
-  along (Some rest) p value width byte forest begins =
-      only-child byte (node p value width forest) rest begins
+  pub cut-child : (s : Shape V) (at : ℕ) → 0 < length (children_of (cut_at at s))
+  cut-child (node prefix value width forest) at = omega arith
 
   pub cut-found : (s : Shape V) (at : ℕ) (q : List ℕ) → at < length (prefix_of s)
       → found (cut_at at s) q ≡ found s q

@@ -167,7 +167,7 @@ module _ {V : Type 0} {s : Shape V} {w : List ℕ} {depth end : ℕ} (m : IsMatc
       → Puts result (drop depth w) value s shown
   puts-down (Ok old) value byte after {child} tree le next here shows puts = (
     subst (IsPut (drop depth w) value s) (sym shows)
-        (put-below s child after (drop depth w) (drop end w) byte value (ordered s tree)
+        (put-below s child after (drop depth w) (drop end w) byte value tree
         (whole-key le) next here puts.0),
     puts.1 ∙ sym (found-in-child byte le next
         ∙ ap (option_and_then (λ z. found z (drop end w))) here),

@@ -6,9 +6,9 @@ ghost use Rattle.rart_below.specs.Bytes.{common_length};
 ghost use Rattle.rart_below.specs.Children.{child_at};
 ghost use Rattle.rart_below.specs.Clones.{ClonesEqual};
 ghost use Rattle.rart_node.specs.NodeShapes.{node_shape, pointer_shape};
-ghost use Rattle.rart_node.specs.Shape.{node_of, prefix_of, children_of};
+ghost use Rattle.rart_node.specs.Shape.{node_of, prefix_of, value_of, children_of};
 ghost use Rattle.rart_node.specs.Counts.{CountsUpTo};
-ghost use Rattle.rart_shape.specs.Trees.{BeginsWith, IsTree, Puts, cut_at, ending, path_bound};
+ghost use Rattle.rart_shape.specs.Trees.{BeginsWith, IsTree, IsOrdered, Puts, cut_at, ending, path_bound};
 
 mod matching;
 
@@ -91,7 +91,8 @@ fn split<K: KeyTrait, V: Clone + Drop>(
 }
 
 /// Puts a value at the end of a node's prefix, or in a new leaf below it, and gives the value that
-/// was there. Refused for memory, the node is as before.
+/// was there. The node has a value or a child: one that was cut has one child, and gets the value
+/// or the second. Refused for memory, the node is as before.
 fn finish<K: KeyTrait, V: Clone + Drop>(
     alloc: Global,
     node: &mut VersionedNode<K::PartialType, V>,
@@ -102,7 +103,9 @@ fn finish<K: KeyTrait, V: Clone + Drop>(
     work: &mut Work,
 ) -> Result<Option<V>, AllocError>
     requires depth { depth ≤ length (K.bytes key.now) }
-    requires tree { IsTree (node_shape K.PartialType.bytes node.old) }
+    requires order { IsOrdered (node_shape K.PartialType.bytes node.old) }
+    requires some { value_of (node_shape K.PartialType.bytes node.old) ≡ None
+        → 0 < length (children_of (node_shape K.PartialType.bytes node.old)) }
     requires absent { (byte : ℕ) → slice_get (drop depth (K.bytes key.now)) 0 ≡ Some byte
         → child_at byte (children_of (node_shape K.PartialType.bytes node.old)) ≡ None }
     ensures puts { Puts result

@@ -177,7 +177,7 @@ module _ {V : Type 0} where
             let down = is-step s key below goes in
             let known = branch s (first_byte below.1) below.0 (ordered s tree) down.child in
             put-below s below.0 (graft a after below.1 below.0) key below.1
-            (first_byte below.1) value (ordered s tree)
+            (first_byte below.1) value tree
             (split-whole (prefix_of s) key down.whole
             ∙ ap (λ rest. prefix_of s ++ rest) (sym down.rest)) down.next down.child
             (put-along a below.1 below.0 end after value known.tree there puts))
@@ -300,7 +300,7 @@ module _ {V : Type 0} where
   pub put-ended : (s : Shape V) (key : List ℕ) (value : V) → IsTree s
       → strip_prefix (prefix_of s) key ≡ Some [] → IsPut key value s (with_value (Some value) s)
   put-ended s key value tree ended =
-      put-end s key [] value tree (strip_prefix-is (prefix_of s) key [] ended) refl
+      put-end s key [] value (ordered s tree) (strip_prefix-is (prefix_of s) key [] ended) refl
 
   pub there-arrived : (steps : ℕ) (key : List ℕ) (s : Shape V) → Arrives steps key s
       → IsSome (found s key)

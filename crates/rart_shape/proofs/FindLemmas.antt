@@ -3,7 +3,7 @@ use Rattle.std.proofs.Common.{◌≡◌, ℕ, ◌<◌, ◌≤◌, max, List, [],
 use Rattle.std.specs.Prelude.{◌==◌}
 use Rattle.std.specs.Option.{option_and_then}
 use Rattle.std.specs.Cmp.{unsigned_tied}
-use Rattle.std.proofs.lemmas.Bool.{eqb-true}
+use Rattle.std.proofs.lemmas.Bool.{eqb-true, false≢true}
 use Rattle.std.proofs.lemmas.Option.{same_Some, none-some}
 use Rattle.rart_below.specs.Bytes.{common_length}
 use Rattle.rart_below.specs.Children.{child_at}
@@ -82,3 +82,9 @@ module _ {V : Type 0} where
 
   pub ascending : (s : Shape V) → IsOrdered s → IsAscending s
   ascending (node prefix value width forest) ordered = ordered.0
+
+  -- a value or two children at least: so a value or a child
+  pub tree-some : (s : Shape V) → IsTree s → value_of s ≡ None → 0 < length (children_of s)
+  tree-some (node prefix (Some value) width forest) tree none = absurd (none-some value (sym none))
+  tree-some (node prefix None width bare) tree none = absurd (false≢true tree.2)
+  tree-some (node prefix None width (grown byte child forest)) tree none = omega arith

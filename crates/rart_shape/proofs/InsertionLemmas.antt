@@ -1,14 +1,14 @@
 -- A value that is put at the end of a node's prefix, or below the node.
-use Rattle.std.proofs.Common.{◌≡◌, ℕ, List, [], ◌∷◌, ◌++◌, Option, Some, None, slice_get, length, cond, Bool, true, false, ◌&&◌, refl, sym, ap, subst, ◌∙◌}
+use Rattle.std.proofs.Common.{◌≡◌, ℕ, ◌<◌, List, [], ◌∷◌, ◌++◌, Option, Some, None, slice_get, length, cond, Bool, true, false, ◌&&◌, refl, arith, sym, ap, subst, ◌∙◌}
 use Rattle.std.specs.Prelude.{◌==◌, IsTrue, T}
 use Rattle.rart_below.proofs.AscendingLemmas.{ascending-with_child}
 use Rattle.std.specs.Option.{option_and_then}
 use Rattle.std.specs.declared.cmp.Ordering.{Ordering}
 use Rattle.std.specs.declared.cmp.Ordering.TheVariants.{Less, Equal, Greater}
-use Rattle.std.specs.Ordering.{nat_cmp}
+use Rattle.std.specs.Ordering.{nat_cmp, is_eq}
 use Rattle.std.specs.Cmp.{unsigned_tied}
 use Rattle.std.specs.Str.{bytes_eq}
-use Rattle.std.proofs.lemmas.Bool.{eqb-true}
+use Rattle.std.proofs.lemmas.Bool.{eqb-true, false≢true}
 use Rattle.std.proofs.lemmas.Cmp.{nat_cmp_total}
 use Rattle.std.proofs.lemmas.List.{append-nil}
 use Rattle.std.proofs.lemmas.Option.{same_Some, none-some}
@@ -16,8 +16,8 @@ use Rattle.std.specs.FinMap.{nat_cmp-IsAntisymmetric}
 use Rattle.std.specs.FinMap.Entries.{by_order, find-put, same_entries}
 use Rattle.rart_below.specs.Children as children
 use Rattle.rart_below.specs.Children.{child_at, with_child}
-use Rattle.rart_node.specs.Shape.{Shape, Forest, node, bare, grown, prefix_of, children_of, entries_of, forest_of, node_of, widened, with_value, with_added, with_replaced, entries_of-forest_of}
-use Rattle.rart_shape.specs.Trees.{strip_prefix, BeginsWith, at_end, found, found_below, is_used, IsTree, IsOrdered, AreBranches, IsPut}
+use Rattle.rart_node.specs.Shape.{Shape, Forest, node, bare, grown, prefix_of, value_of, children_of, entries_of, forest_of, node_of, widened, with_value, with_added, with_replaced, entries_of-forest_of}
+use Rattle.rart_shape.specs.Trees.{strip_prefix, BeginsWith, at_end, found, found_below, is_key_or_fork, IsTree, IsOrdered, AreBranches, IsPut}
 use Rattle.rart_shape.proofs.PrefixLemmas.{is_left, bytes_eq-strip_prefix}
 use Rattle.rart_shape.proofs.FindLemmas.{found-below, branch}
 
@@ -86,17 +86,59 @@ module _ {V : Type 0} where
       ] in
       each (nat_cmp byte b) refl
 
-  pub used-with : (value : Option V) (forest : Forest V) (byte : ℕ) (child : Shape V)
-      → IsTrue (is_used value (forest_of (with_child byte child (entries_of forest))))
-  used-with (Some value) forest byte child = refl
-  used-with None bare byte child = refl
-  used-with None (grown b other forest) byte child =
+  fork-over : (b : ℕ) (other : Shape V) (forest : Forest V) (byte : ℕ) (child : Shape V)
+      → IsTrue (is_key_or_fork None (grown b other
+      (forest_of (with_child byte child (entries_of forest)))))
+  fork-over b other bare byte child = refl
+  fork-over b other (grown c third forest) byte child =
       let P : Ordering → Type 0 =
-      λ o. IsTrue (is_used None (forest_of
+      λ o. IsTrue (is_key_or_fork None (grown b other (forest_of
+      (by_order o ((byte, child) ∷ (c, third) ∷ entries_of forest)
+      ((c, child) ∷ entries_of forest)
+      ((c, third) ∷ with_child byte child (entries_of forest)))))) in
+      let each : (o : Ordering) → P o = elim [ Less ↦ refl | Equal ↦ refl | Greater ↦ refl ] in
+      each (nat_cmp byte c)
+
+  -- a child more, where there is a value or a child
+  fork-added : (value : Option V) (forest : Forest V) (byte : ℕ) (child : Shape V)
+      → (value ≡ None → 0 < length (entries_of forest))
+      → child_at byte (entries_of forest) ≡ None
+      → IsTrue (is_key_or_fork value (forest_of (with_child byte child (entries_of forest))))
+  fork-added (Some value) forest byte child some absent = refl
+  fork-added None bare byte child some absent =
+      let none = some refl in absurd (omega (arith, none))
+  fork-added None (grown b other forest) byte child some absent =
+      let P : Ordering → Type 0 =
+      λ o. nat_cmp byte b ≡ o → IsTrue (is_key_or_fork None (forest_of
       (by_order o ((byte, child) ∷ (b, other) ∷ entries_of forest)
       ((b, child) ∷ entries_of forest)
       ((b, other) ∷ with_child byte child (entries_of forest))))) in
-      let each : (o : Ordering) → P o = elim [ Less ↦ refl | Equal ↦ refl | Greater ↦ refl ] in
+      let each : (o : Ordering) → P o = elim [
+        | Less ↦ (λ is. refl)
+        | Equal ↦ (λ is. absurd (none-some other (sym absent
+            ∙ ap (λ o. cond (is_eq o) (Some other) (child_at byte (entries_of forest))) is)))
+        | Greater ↦ (λ is. fork-over b other forest byte child)
+      ] in
+      each (nat_cmp byte b) refl
+
+  -- a child added, or put in place of another
+  pub fork-with : (value : Option V) (forest : Forest V) (byte : ℕ) (child : Shape V)
+      → IsTrue (is_key_or_fork value forest)
+      → IsTrue (is_key_or_fork value (forest_of (with_child byte child (entries_of forest))))
+  fork-with (Some value) forest byte child fork = refl
+  fork-with None bare byte child fork = absurd (false≢true fork)
+  fork-with None (grown b other bare) byte child fork = absurd (false≢true fork)
+  fork-with None (grown b other (grown c third forest)) byte child fork =
+      let P : Ordering → Type 0 =
+      λ o. IsTrue (is_key_or_fork None (forest_of
+      (by_order o ((byte, child) ∷ (b, other) ∷ (c, third) ∷ entries_of forest)
+      ((b, child) ∷ (c, third) ∷ entries_of forest)
+      ((b, other) ∷ with_child byte child ((c, third) ∷ entries_of forest))))) in
+      let each : (o : Ordering) → P o = elim [
+        | Less ↦ refl
+        | Equal ↦ refl
+        | Greater ↦ fork-over b other (grown c third forest) byte child
+      ] in
       each (nat_cmp byte b)
 
   -- what the child under a byte has
@@ -151,11 +193,11 @@ module _ {V : Type 0} where
       below-with forest byte child rest new changed c q
 
   -- ---- putting
-  pub put-end : (s : Shape V) (key rest : List ℕ) (value : V) → IsTree s → key ≡ prefix_of s ++ rest
-      → rest ≡ [] → IsPut key value s (with_value (Some value) s)
-  put-end (node prefix old width forest) key rest value tree is end =
+  pub put-end : (s : Shape V) (key rest : List ℕ) (value : V) → IsOrdered s
+      → key ≡ prefix_of s ++ rest → rest ≡ [] → IsPut key value s (with_value (Some value) s)
+  put-end (node prefix old width forest) key rest value order is end =
       rw (is, end) (
-        (tree.0, tree.1, refl),
+        (order.0, order.1, refl),
         (λ q. lift prefix [] q (Some value) (inside old forest) (inside (Some value) forest)
             (inside-value old (Some value) forest)),
         λ byte begins also. begins,
@@ -168,22 +210,24 @@ module _ {V : Type 0} where
       → BeginsWith byte (prefix_of child)
       → ((q : List ℕ) → found child q
       ≡ cond (bytes_eq q (byte ∷ rest)) (Some value) (in-child byte forest q))
+      → IsTrue (is_key_or_fork old (forest_of (with_child byte child (entries_of forest))))
       → IsPut key value (node prefix old width forest)
       (node prefix old width' (forest_of (with_child byte child (entries_of forest))))
-  put-child prefix old width width' forest byte child key rest value order is tree begins puts =
+  put-child prefix old width width' forest byte child key rest value order is tree begins puts
+      fork =
       let after = forest_of (with_child byte child (entries_of forest)) in
       rw is (
         (
           ascending-with forest byte child order.0,
           branches-with forest byte child order.1 tree begins,
-          used-with old forest byte child,
+          fork,
         ),
         (λ q. lift prefix (byte ∷ rest) q (Some value) (inside old forest) (inside old after)
             (inside-with old forest byte child rest (Some value) puts)),
         λ first begins also. begins,
       )
 
-  nothing-left : (o : Option (List ℕ)) → option_and_then (inside None bare) o ≡ None
+  pub nothing-left : (o : Option (List ℕ)) → option_and_then (inside None bare) o ≡ None
   nothing-left None = refl
   nothing-left (Some []) = refl
   nothing-left (Some (b ∷ rest)) = refl
@@ -200,33 +244,35 @@ module _ {V : Type 0} where
       ∙ ap (cond (bytes_eq q key) (Some value)) (nothing-left (strip_prefix key q))
 
   pub put-leaf : (s : Shape V) (key rest : List ℕ) (byte : ℕ) (value : V) → IsOrdered s
-      → key ≡ prefix_of s ++ rest → slice_get rest 0 ≡ Some byte
-      → child_at byte (children_of s) ≡ None
+      → (value_of s ≡ None → 0 < length (children_of s)) → key ≡ prefix_of s ++ rest
+      → slice_get rest 0 ≡ Some byte → child_at byte (children_of s) ≡ None
       → IsPut key value s (with_added byte (node_of rest (Some value) 0 []) s)
-  put-leaf (node prefix old width forest) key [] byte value order is next absent =
+  put-leaf (node prefix old width forest) key [] byte value order some is next absent =
       absurd (none-some byte next)
-  put-leaf (node prefix old width forest) key (b ∷ rest) byte value order is next absent =
+  put-leaf (node prefix old width forest) key (b ∷ rest) byte value order some is next absent =
       let leaf = node_of (b ∷ rest) (Some value) 0 [] in
       let same = same_Some b byte next in
       put-child prefix old width (widened width (length (entries_of forest))) forest byte leaf key
       rest value order (subst (λ z. key ≡ prefix ++ (z ∷ rest)) same is) (refl, tt, refl) same
       (λ q. rw absent (found-leaf (b ∷ rest) value q
       ∙ ap (λ z. cond (bytes_eq q (z ∷ rest)) (Some value) None) same))
+      (fork-added old forest byte leaf some absent)
 
-  pub put-below : (s child after : Shape V) (key rest : List ℕ) (byte : ℕ) (value : V) → IsOrdered s
+  pub put-below : (s child after : Shape V) (key rest : List ℕ) (byte : ℕ) (value : V) → IsTree s
       → key ≡ prefix_of s ++ rest → slice_get rest 0 ≡ Some byte
       → child_at byte (children_of s) ≡ Some child → IsPut rest value child after
       → IsPut key value s (with_replaced byte after s)
-  put-below (node prefix old width forest) child after key [] byte value order is next here puts =
+  put-below (node prefix old width forest) child after key [] byte value tree is next here puts =
       absurd (none-some byte next)
   put-below (node prefix old width forest) child after key
-      (b ∷ rest) byte value order is next here puts =
+      (b ∷ rest) byte value tree is next here puts =
       let same = same_Some b byte next in
+      let order : IsOrdered (node prefix old width forest) = (tree.0, tree.1) in
       let begins = (branch (node prefix old width forest) byte child order here).begins in
       put-child prefix old width width forest byte after key rest value order
       (subst (λ z. key ≡ prefix ++ (z ∷ rest)) same is) puts.0 (puts.2 byte begins same)
       (λ q. rw here (puts.1 q ∙ ap (λ z. cond (bytes_eq q (z ∷ rest)) (Some value) (found child q))
-      same))
+      same)) (fork-with old forest byte after tree.2)
 
   -- ---- a child that is put back as it was
   with_child-same : (entries : List (ℕ × Shape V)) (byte : ℕ) (child : Shape V)

@@ -6,4 +6,5 @@ pub mod InsertionLemmas
 pub mod CountingLemmas
 pub mod MatchLemmas
 pub mod SearchLemmas
+pub mod OnlyChildLemmas
 pub mod PairOrderLemmas

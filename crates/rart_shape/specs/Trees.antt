@@ -40,26 +40,27 @@ module _ {V : Type 0} where
     found_below (grown byte child forest) q =
         if is_first byte q then found child q else found_below forest q
 
-  -- whether there is a value or a child
-  abbrev pub is_used : Option V → Forest V → Bool
-  is_used (Some value) forest = true
-  is_used None bare = false
-  is_used None (grown byte child forest) = true
+  -- whether there is a value, or two children at least
+  abbrev pub is_key_or_fork : Option V → Forest V → Bool
+  is_key_or_fork (Some value) forest = true
+  is_key_or_fork None bare = false
+  is_key_or_fork None (grown byte child bare) = false
+  is_key_or_fork None (grown byte child (grown next other forest)) = true
 
   abbrev mutual
     -- At each node the children ascend, the prefix of each begins with its byte, and there is a
-    -- value or a child.
+    -- value, or two children at least.
     pub IsTree : Shape V → Type 0
     IsTree (node prefix value width forest) =
         children.IsAscending (entries_of forest) × AreBranches forest
-        × IsTrue (is_used value forest)
+        × IsTrue (is_key_or_fork value forest)
 
     pub AreBranches : Forest V → Type 0
     AreBranches bare = ⊤
     AreBranches (grown byte child forest) =
         BeginsWith byte (prefix_of child) × IsTree child × AreBranches forest
 
-  -- The same but for the node itself, which may have been left without value and child.
+  -- The same but for the node itself, which may have no value and fewer children.
   abbrev pub IsOrdered : Shape V → Type 0
   IsOrdered (node prefix value width forest) =
       children.IsAscending (entries_of forest) × AreBranches forest
@@ -80,13 +81,12 @@ module _ {V : Type 0} where
   Puts (Ok old) key value before after = IsPut key value before after × (old ≡ found before key)
   Puts (Err refused) key value before after = after ≡ before
 
-  -- After, nothing is at the key, and else what was there. The node itself may be left without
-  -- value and child.
+  -- After, nothing is at the key, and else what was there. A first byte of the node's prefix stays.
   abbrev pub IsTaken : List ℕ → Shape V → Shape V → Type 0
   IsTaken key before after =
-      IsOrdered after × ((q : List ℕ)
+      IsTree after × ((q : List ℕ)
       → found after q ≡ (if bytes_eq q key then None else found before q))
-      × (prefix_of after ≡ prefix_of before)
+      × ((byte : ℕ) → BeginsWith byte (prefix_of before) → BeginsWith byte (prefix_of after))
 
   -- the node cut inside its prefix: a parent of width 4 with the first bytes, over the node with
   -- the others

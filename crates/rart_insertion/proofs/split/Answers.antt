@@ -1,17 +1,22 @@
-use Rattle.std.proofs.Common.{◌-◌, ◌≤◌, ◌++◌, length, drop, refl, sym, ap, subst, ◌∙◌, arith}
+use Rattle.std.proofs.Common.{◌-◌, ◌<◌, ◌≤◌, ◌++◌, length, drop, refl, sym, ap, subst, ◌∙◌, arith}
 use Rattle.rart_node.specs.NodeShapes.{node_shape}
 use Rattle.rart_node.specs.Shape.{Shape, prefix_of, children_of}
 use Rattle.rart_below.specs.Children.{child_at}
-use Rattle.rart_shape.specs.Trees.{IsTree, IsPut, found, cut_at, ending}
+use Rattle.rart_shape.specs.Trees.{IsOrdered, IsPut, found, cut_at, ending}
 use Rattle.rart_shape.proofs.CountingLemmas.{counts-then, ending-cut}
-use Rattle.rart_insertion.proofs.CutLemmas.{cut-tree}
+use Rattle.rart_insertion.proofs.CutLemmas.{cut-ordered, cut-child}
 use Rattle.rart_insertion.proofs.InsertionStepLemmas.{matched, cut-at-absent, put-at-cut, found-at-cut}
 use Rattle.rart_insertion.proofs.split.Goals as goal
 
-pub finish-requires-clause-tree : goal.finish-requires-clause-tree
-finish-requires-clause-tree g c =
-    subst IsTree (sym c.in_ok-upper.ensures.cut)
-    (cut-tree (node_shape g.K.PartialType.Partial.bytes c.args.node.now) _ c.requires.tree
+pub finish-requires-clause-some : goal.finish-requires-clause-some
+finish-requires-clause-some g c none =
+    subst (λ (z : Shape g.row.V.Denot). 0 < length (children_of z)) (sym c.in_ok-upper.ensures.cut)
+    (cut-child (node_shape g.K.PartialType.Partial.bytes c.args.node.now) _)
+
+pub finish-requires-clause-order : goal.finish-requires-clause-order
+finish-requires-clause-order g c =
+    subst IsOrdered (sym c.in_ok-upper.ensures.cut)
+    (cut-ordered (node_shape g.K.PartialType.Partial.bytes c.args.node.now) _ c.requires.tree
     c.requires.inside)
 
 pub finish-requires-clause-absent : goal.finish-requires-clause-absent

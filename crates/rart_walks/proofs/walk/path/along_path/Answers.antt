@@ -11,7 +11,7 @@ use Rattle.rart_walks.specs.Parts.{goes_on, reaches}
 use Rattle.rart_walks.specs.Walks.{paths_of}
 use Rattle.std.specs.Prelude.{count_by}
 use Rattle.rart_walks.proofs.StepLemmas.{goes-on, goes-some, step-counted, step-fits, step-lower, step-child, step-missing, step-trees, step-short}
-use Rattle.rart_walks.proofs.PathLemmas.{IsOnWay, way-start, way-counted}
+use Rattle.rart_walks.proofs.PathLemmas.{IsOnWay, way-start, way-kept, way-counted}
 use Rattle.rart_walks.proofs.walk.path.along_path.Goals as goal
 
 pub down-init : goal.down-init
@@ -35,6 +35,15 @@ returns-in_err-finish-clause-counted g c =
     let same : o ≡ s = c.open-node.ensures.shown in
     step-counted _ _ _ _ _ _ _ _ _ c.down.invariant.way o c.open-node.new.work
     c.open-node.ensures.work same
+
+pub returns-then-common-rest-clause-pairs : goal.returns-then-common-rest-clause-pairs
+returns-then-common-rest-clause-pairs g c =
+    let bytes = g.P.Partial.bytes in
+    let s = pointer_shape bytes c.down.at.now in
+    let o = node_shape bytes c.open-node.result.now in
+    let same : o ≡ s = c.open-node.ensures.shown in
+    let kept = way-kept _ _ _ _ _ _ _ _ _ c.down.invariant.way in
+    (rw (c.down.invariant.none, same) at c.in_ok-finish.ensures.pairs) ∙ sym kept
 
 pub returns-then-common-rest-clause-nodes : goal.returns-then-common-rest-clause-nodes
 returns-then-common-rest-clause-nodes g c =

@@ -107,17 +107,6 @@ fn stems(alloc: Global, work: &mut Work) -> Result<Root, AllocError>
     NodeRef::new(alloc, root, work)
 }
 
-// The key "abc" with the value 1, as it stands once "abd" was taken out beside it.
-fn pruned(alloc: Global, work: &mut Work) -> Result<Root, AllocError>
-    ensures { IfOk result (λ root. pointer_shape ⟦<ArrPartial<16> as Partial>⟧.bytes root
-        ≡ node (97 ∷ 98 ∷ []) None 4 (grown 99 (node (99 ∷ []) (Some 1) 0 bare) bare)) }
-{
-    let only = leaf(alloc, b"c", 1, work)?;
-    let mut root = inner(alloc, b"ab")?;
-    root.add_child(alloc, b'c', only, work)?;
-    NodeRef::new(alloc, root, work)
-}
-
 // A number that tells which bytes came, and in which order.
 fn mixed(trace: u64, bytes: &[u8]) -> u64 {
     let mut trace = trace;
@@ -187,10 +176,10 @@ fn views_are_of_the_whole_key(rt: HostRuntime) -> Result<(), Fail> {
 }
 
 #[test]
-fn keys_are_made_where_a_branch_was_pruned(rt: HostRuntime) -> Result<(), Fail> {
+fn keys_are_made_where_one_prefix_goes_on(rt: HostRuntime) -> Result<(), Fail> {
     let mut work = Work::new();
-    let left = pruned(rt.alloc(), &mut work)?;
-    let right = leaf(rt.alloc(), b"abc", 10, &mut work)?;
+    let left = leaf(rt.alloc(), b"abc", 1, &mut work)?;
+    let right = stems(rt.alloc(), &mut work)?;
     let mut keys = 0u64;
     let mut values = 0u64;
     visit_common_keys(
@@ -206,6 +195,6 @@ fn keys_are_made_where_a_branch_was_pruned(rt: HostRuntime) -> Result<(), Fail> 
         &mut work,
     )?;
     assert_eq!(rt; keys, mixed(0, b"abc"));
-    assert_eq!(rt; values, 110);
+    assert_eq!(rt; values, 120);
     Ok(())
 }

@@ -1,2 +1,3 @@
+pub mod EditLemmas
+pub mod PlanLemmas
 pub mod RemovalLemmas
-pub mod RemovalStepLemmas

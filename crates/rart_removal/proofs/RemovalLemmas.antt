@@ -1,24 +1,29 @@
 -- A value that is taken from the end of a node's prefix, or from below the node.
-use Rattle.std.proofs.Common.{◌≡◌, ◌≤◌, ℕ, suc, List, [], ◌∷◌, ◌++◌, Option, Some, None, IsSome, slice_get, length, drop, cond, Bool, true, false, not, ◌&&◌, refl, arith, sym, ap, subst, ◌∙◌}
+use Rattle.std.proofs.Common.{◌≡◌, ◌+◌, ◌<◌, ◌≤◌, ℕ, suc, List, [], ◌∷◌, ◌++◌, Option, Some, None, IsSome, is_some, slice_get, length, drop, cond, Bool, true, false, not, ◌&&◌, refl, arith, sym, ap, subst, ◌∙◌}
 use Rattle.std.specs.Prelude.{◌==◌, IsTrue, T}
 use Rattle.std.specs.Option.{option_and_then}
-use Rattle.std.specs.Ordering.{nat_cmp}
+use Rattle.std.specs.Ordering.{nat_cmp, eq_by_cmp}
 use Rattle.std.specs.Cmp.{unsigned_tied}
 use Rattle.std.specs.Str.{bytes_eq}
 use Rattle.std.specs.FinMap.{nat_cmp-IsAntisymmetric}
-use Rattle.std.specs.FinMap.Entries.{is_sorted, find-where_key, find-put, same_entries}
-use Rattle.std.proofs.lemmas.Bool.{eqb-true, false≢true}
+use Rattle.std.specs.FinMap.Entries.{is_sorted, where_key, find-where_key, find-put, same_entries, length_without}
+use Rattle.std.proofs.lemmas.Bool.{eqb-true, eq-eqb, false≢true}
 use Rattle.std.proofs.lemmas.Cmp.{nat_cmp_total}
+use Rattle.std.proofs.lemmas.List.{length-append}
 use Rattle.std.proofs.lemmas.Option.{same_Some, none-some}
+use Rattle.rart_below.specs.Bytes.{IsAdmitted}
 use Rattle.rart_below.specs.Children as children
 use Rattle.rart_below.specs.Children.{child_at, with_child, without_child}
 use Rattle.rart_below.proofs.AscendingLemmas.{ascending-with_child, ascending-where_key}
-use Rattle.rart_node.specs.Shape.{Shape, Forest, node, bare, grown, prefix_of, value_of, children_of, entries_of, forest_of, with_value, with_deleted, with_replaced, IsAscending, entries_of-forest_of}
-use Rattle.rart_removal.specs.Removals.{is_unused, prune}
-use Rattle.rart_shape.specs.Trees.{strip_prefix, BeginsWith, found, found_below, is_used, IsTree, IsOrdered, AreBranches, IsTaken}
-use Rattle.rart_shape.proofs.PrefixLemmas.{strip_prefix-own}
-use Rattle.rart_shape.proofs.FindLemmas.{found-below, branch}
-use Rattle.rart_shape.proofs.InsertionLemmas.{lift, inside, inside-value, inside-with, in-child, ascending-with, branches-with, forest_of-entries_of}
+use Rattle.rart_node.specs.Shape.{Shape, Forest, node, bare, grown, prefix_of, value_of, children_of, entries_of, forest_of, with_value, with_deleted, with_replaced, HasOnly, merged, IsAscending, entries_of-forest_of}
+use Rattle.rart_removal.specs.Removals.{AreAdmitted}
+use Rattle.rart_shape.specs.Trees.{strip_prefix, BeginsWith, found, found_below, is_key_or_fork, IsTree, IsOrdered, AreBranches, IsTaken}
+use Rattle.rart_shape.proofs.PrefixLemmas.{strip_prefix-own, strip_prefix-is, eqb-sym}
+use Rattle.rart_shape.proofs.FindLemmas.{found-below, branch, ordered, IsBranch}
+use Rattle.rart_shape.proofs.KeyLemmas.{tree-has-key}
+use Rattle.rart_shape.proofs.OnlyChildLemmas.{merged-found, merged-tree, merged-first}
+use Rattle.rart_shape.proofs.PairLemmas.{found-empty, found-other}
+use Rattle.rart_shape.proofs.InsertionLemmas.{lift, inside, inside-value, inside-with, in-child, ascending-with, branches-with, fork-with, nothing-left, forest_of-entries_of}
 
 -- ---- a key that is there
 -- Where a string has something behind a prefix, it is the prefix and the rest.
@@ -40,6 +45,14 @@ some-strip_prefix : {V : Type 0} (o : Option (List ℕ)) (values : List ℕ → 
     → IsSome (option_and_then values o) → IsSome o
 some-strip_prefix None values some = some
 some-strip_prefix (Some rest) values some = refl
+
+shorter : (most : Option ℕ) (m n : ℕ) → m ≤ n → IsAdmitted most n → IsAdmitted most m
+shorter None m n le admitted = tt
+shorter (Some most) m n le admitted = omega (arith, le, admitted)
+
+same-test : (byte : ℕ) → ◌≡◌ {A = ℕ → Bool} (λ x. not (eq_by_cmp nat_cmp byte x))
+    (λ x. not (x == byte))
+same-test byte = λ i x. not ((unsigned_tied byte x ∙ eqb-sym byte x) i)
 
 holds : {t : Bool} → IsTrue t → T t
 holds is = subst T (sym is) tt
@@ -139,29 +152,23 @@ module _ {V : Type 0} where
       ∙ sym (child_at-without entries byte q))
 
   -- ---- taking
-  -- in a node without value and child nothing is found
-  unused-inside : (value : Option V) (forest : Forest V) (o : Option (List ℕ))
-      → not (is_used value forest) ≡ true → option_and_then (inside value forest) o ≡ None
-  unused-inside (Some value) forest o unused = absurd (false≢true unused)
-  unused-inside None (grown byte child forest) o unused = absurd (false≢true unused)
-  unused-inside None bare None unused = refl
-  unused-inside None bare (Some []) unused = refl
-  unused-inside None bare (Some (b ∷ rest)) unused = refl
+  -- After, nothing is at the key, and else what was there. The node itself may have no value and
+  -- fewer than two children.
+  abbrev pub IsLeft : List ℕ → Shape V → Shape V → Type 0
+  IsLeft key before after =
+      IsOrdered after × ((q : List ℕ)
+      → found after q ≡ cond (bytes_eq q key) None (found before q))
+      × (prefix_of after ≡ prefix_of before)
 
-  pub found-unused : (s : Shape V) (q : List ℕ) → is_unused s ≡ true → found s q ≡ None
-  found-unused (node prefix value width forest) q unused =
-      unused-inside value forest (strip_prefix prefix q) unused
-
-  pub used-tree : (s : Shape V) → IsOrdered s → is_unused s ≡ false → IsTree s
-  used-tree (node prefix value width forest) order used = (
-    order.0,
-    order.1,
-    elim (is_used value forest) as (λ t. not t ≡ false → t ≡ true)
-        [ true ↦ (λ e. refl) | false ↦ (λ e. sym e) ] used,
-  )
+  -- a leaf without its value
+  pub empty-leaf : (leaf : Shape V) (q : List ℕ) → children_of leaf ≡ []
+      → found (with_value None leaf) q ≡ None
+  empty-leaf (node prefix value width forest) q none =
+      let is : forest ≡ bare = sym (forest_of-entries_of forest) ∙ ap forest_of none in
+      (λ i. found (node prefix None width (is i)) q) ∙ nothing-left (strip_prefix prefix q)
 
   pub take-end : (s : Shape V) (key rest : List ℕ) → IsOrdered s → key ≡ prefix_of s ++ rest
-      → rest ≡ [] → IsTaken key s (with_value None s)
+      → rest ≡ [] → IsLeft key s (with_value None s)
   take-end (node prefix old width forest) key rest order is end =
       rw (is, end) (
         order,
@@ -170,19 +177,19 @@ module _ {V : Type 0} where
         refl,
       )
 
-  -- the child under the next byte was taken from, and stays
-  take-below : (s child after : Shape V) (key rest : List ℕ) (byte : ℕ) → IsOrdered s
+  -- the child under the next byte was taken from
+  pub take-below : (s child after : Shape V) (key rest : List ℕ) (byte : ℕ) → IsTree s
       → key ≡ prefix_of s ++ rest → slice_get rest 0 ≡ Some byte
       → child_at byte (children_of s) ≡ Some child
-      → IsTaken rest child after → IsTree after → IsTaken key s (with_replaced byte after s)
-  take-below (node prefix old width forest) child after key [] byte order is next here taken tree =
+      → IsTaken rest child after → IsTaken key s (with_replaced byte after s)
+  take-below (node prefix old width forest) child after key [] byte tree is next here taken =
       absurd (none-some byte next)
   take-below (node prefix old width forest) child after key
-      (b ∷ rest) byte order is next here taken tree =
+      (b ∷ rest) byte tree is next here taken =
       let same = same_Some b byte next in
+      let order : IsOrdered (node prefix old width forest) = (tree.0, tree.1) in
       let begins =
-      subst (BeginsWith byte) (sym taken.2)
-      (branch (node prefix old width forest) byte child order here).begins in
+      taken.2 byte (branch (node prefix old width forest) byte child order here).begins in
       let forest' = forest_of (with_child byte after (entries_of forest)) in
       let changed : (q : List ℕ) → found after q
       ≡ cond (bytes_eq q (byte ∷ rest)) None (in-child byte forest q) =
@@ -191,28 +198,30 @@ module _ {V : Type 0} where
       rw (is, same) (
         (
           ascending-with forest byte after order.0,
-          branches-with forest byte after order.1 tree begins,
+          branches-with forest byte after order.1 taken.0 begins,
+          fork-with old forest byte after tree.2,
         ),
         (λ q. lift prefix (byte ∷ rest) q None (inside old forest) (inside old forest')
             (inside-with old forest byte after rest None changed)),
-        refl,
+        λ first first_begins. first_begins,
       )
 
   -- it was left without value and child, and goes
   take-whole : (s child after : Shape V) (key rest : List ℕ) (byte : ℕ) → IsOrdered s
       → key ≡ prefix_of s ++ rest → slice_get rest 0 ≡ Some byte
       → child_at byte (children_of s) ≡ Some child
-      → IsTaken rest child after → is_unused after ≡ true → IsTaken key s (with_deleted byte s)
+      → IsLeft rest child after → ((q : List ℕ) → found after q ≡ None)
+      → IsLeft key s (with_deleted byte s)
   take-whole (node prefix old width forest) child after key
-      [] byte order is next here taken unused = absurd (none-some byte next)
+      [] byte order is next here taken empty = absurd (none-some byte next)
   take-whole (node prefix old width forest) child after key
-      (b ∷ rest) byte order is next here taken unused =
+      (b ∷ rest) byte order is next here taken empty =
       let same = same_Some b byte next in
       let entries = entries_of forest in
       let forest' = forest_of (without_child byte entries) in
       let alone : (q : List ℕ) → None
       ≡ cond (bytes_eq q (byte ∷ rest)) None (in-child byte forest q) =
-      λ q. rw here (sym (found-unused after q unused) ∙ taken.1 q
+      λ q. rw here (sym (empty q) ∙ taken.1 q
       ∙ ap (λ z. cond (bytes_eq q (z ∷ rest)) None (found child q)) same) in
       let ascends =
       subst children.IsAscending (sym (entries_of-forest_of (without_child byte entries)))
@@ -228,7 +237,7 @@ module _ {V : Type 0} where
         refl,
       )
 
-  deleted-replaced : (s : Shape V) (byte : ℕ) (child : Shape V) → IsOrdered s
+  pub deleted-replaced : (s : Shape V) (byte : ℕ) (child : Shape V) → IsOrdered s
       → with_deleted byte (with_replaced byte child s) ≡ with_deleted byte s
   deleted-replaced (node prefix value width forest) byte child order =
       ap (λ entries. node prefix value width (forest_of (without_child byte entries)))
@@ -236,20 +245,121 @@ module _ {V : Type 0} where
       ∙ ap (λ entries. node prefix value width (forest_of entries))
       (without-with (entries_of forest) byte child order.0)
 
-  -- The child under the next byte was taken from, and goes where it is left unused.
-  pub take-child : (s child after : Shape V) (key rest : List ℕ) (byte : ℕ) (left_unused : Bool)
-      → IsOrdered s → key ≡ prefix_of s ++ rest → slice_get rest 0 ≡ Some byte
-      → child_at byte (children_of s) ≡ Some child
-      → IsTaken rest child after → left_unused ≡ is_unused after
-      → IsTaken key s (prune byte left_unused (with_replaced byte after s))
-  take-child s child after key rest byte true order is next here taken unused =
-      subst (IsTaken key s) (sym (deleted-replaced s byte after order))
-      (take-whole s child after key rest byte order is next here taken (sym unused))
-  take-child s child after key rest byte false order is next here taken unused =
-      take-below s child after key rest byte order is next here taken
-      (used-tree after taken.0 (sym unused))
-
   pub ascending-replaced : (s : Shape V) (byte : ℕ) (child : Shape V) → IsOrdered s
       → IsAscending (with_replaced byte child s)
   ascending-replaced (node prefix value width forest) byte child order =
       ascending-with forest byte child order.0
+
+  -- a leaf that the key ends at goes
+  pub take-leaf : (s leaf : Shape V) (key rest : List ℕ) (byte : ℕ) → IsTree s
+      → strip_prefix (prefix_of s) key ≡ Some rest → slice_get rest 0 ≡ Some byte
+      → child_at byte (children_of s) ≡ Some leaf → children_of leaf ≡ []
+      → strip_prefix (prefix_of leaf) rest ≡ Some [] → IsLeft key s (with_deleted byte s)
+  take-leaf s leaf key rest byte tree strips next here none ends =
+      let order = ordered s tree in
+      let leaf_tree = (branch s byte leaf order here).tree in
+      take-whole s leaf (with_value None leaf) key rest byte order
+      (strip_prefix-is (prefix_of s) key rest strips) next here
+      (take-end leaf rest [] (ordered leaf leaf_tree) (strip_prefix-is
+      (prefix_of leaf) rest [] ends)
+      refl) (λ q. empty-leaf leaf q none)
+
+  -- ---- what is left, with a value or two children, or merged
+  fork-is : (value : Option V) (forest : Forest V)
+      → (value ≡ None → 1 < length (entries_of forest)) → is_key_or_fork value forest ≡ true
+  fork-is (Some value) forest some = refl
+  fork-is None bare some = let one = some refl in absurd (omega (arith, one))
+  fork-is None (grown byte child bare) some = let one = some refl in absurd (omega (arith, one))
+  fork-is None (grown byte child (grown next other forest)) some = refl
+
+  pub left-kept : (s after : Shape V) (key : List ℕ) → IsLeft key s after
+      → (value_of after ≡ None → 1 < length (children_of after)) → IsTaken key s after
+  left-kept s (node prefix value width forest) key left some = (
+    (left.0.0, left.0.1, fork-is value forest some),
+    left.1,
+    λ byte begins. subst (BeginsWith byte) (sym left.2) begins,
+  )
+
+  pub left-merged : (s after child : Shape V) (key : List ℕ) (byte : ℕ) → IsLeft key s after
+      → value_of after ≡ None → HasOnly byte child after
+      → IsTaken key s (merged (prefix_of after) child)
+  left-merged s after child key byte left none only = (
+    merged-tree after child byte left.0 only,
+    (λ q. merged-found after child byte q left.0 none only ∙ left.1 q),
+    λ b begins. merged-first (prefix_of after) child b
+        (subst (BeginsWith b) (sym left.2) begins),
+  )
+
+  -- ---- how long prefixes may be
+  first-found : (child : Shape V) (byte : ℕ) (key : List ℕ) → BeginsWith byte (prefix_of child)
+      → IsSome (found child key) → slice_get key 0 ≡ Some byte
+  first-found child byte [] begins there =
+      absurd (false≢true (sym (ap is_some (found-empty child byte begins)) ∙ there))
+  first-found child byte (c ∷ key) begins there =
+      let P : Bool → Type 0 = λ t. (c == byte) ≡ t → Some c ≡ Some byte in
+      let both : (t : Bool) → P t = elim [
+        | true ↦ (λ same. ap Some (eqb-true c byte same))
+        | false ↦ (λ differs. absurd (false≢true
+            (sym (ap is_some (found-other child byte c key begins differs)) ∙ there)))
+      ] in
+      both (c == byte) refl
+
+  -- what is found below a child is found behind the node's prefix
+  found-behind : (s child : Shape V) (byte : ℕ) (key : List ℕ) → IsBranch byte child s
+      → child_at byte (children_of s) ≡ Some child → IsSome (found child key)
+      → found s (prefix_of s ++ key) ≡ found child key
+  found-behind s child byte key known here there =
+      found-in-child s (prefix_of s ++ key) key byte refl
+      (first-found child byte key known.begins there)
+      ∙ ap (option_and_then (λ z. found z key)) here
+
+  pub admitted-child : (most : Option ℕ) (s child : Shape V) (byte : ℕ) → IsTree s
+      → child_at byte (children_of s) ≡ Some child → AreAdmitted most s → AreAdmitted most child
+  admitted-child most s child byte tree here admitted key there =
+      let known = branch s byte child (ordered s tree) here in
+      let long = length-append (prefix_of s) key in
+      shorter most (length key) (length (prefix_of s ++ key)) (omega (arith, long))
+      (admitted (prefix_of s ++ key)
+      (subst IsSome (sym (found-behind s child byte key known here there)) there))
+
+  pub admitted-left : (most : Option ℕ) (s after : Shape V) (key : List ℕ) → IsLeft key s after
+      → AreAdmitted most s → AreAdmitted most after
+  admitted-left most s after key left admitted q there =
+      let P : Bool → Type 0 = λ t. IsSome (cond t None (found s q)) → IsAdmitted most (length q) in
+      let both : (t : Bool) → P t =
+      elim [ true ↦ (λ none. absurd (false≢true none)) | false ↦ admitted q ] in
+      both (bytes_eq q key) (subst IsSome (left.1 q) there)
+
+  only-here : (s child : Shape V) (byte : ℕ) → HasOnly byte child s
+      → child_at byte (children_of s) ≡ Some child
+  only-here s child byte only =
+      ap (child_at byte) only
+      ∙ ap (λ t. cond t (Some child) None) (unsigned_tied byte byte ∙ eq-eqb byte byte refl)
+
+  pub admitted-merged : (most : Option ℕ) (s child : Shape V) (byte : ℕ) → IsOrdered s
+      → HasOnly byte child s → AreAdmitted most s
+      → IsAdmitted most (length (prefix_of s) + length (prefix_of child))
+  admitted-merged most s child byte order only admitted =
+      let here = only-here s child byte only in
+      let known = branch s byte child order here in
+      let some = tree-has-key child known.tree in
+      let long = length-append (prefix_of s) some.key in
+      let within = (split-found child some.key some.there).1 in
+      shorter most _ (length (prefix_of s ++ some.key)) (omega (arith, long, within))
+      (admitted (prefix_of s ++ some.key)
+      (subst IsSome (sym (found-behind s child byte some.key known here some.there)) some.there))
+
+  -- ---- one child less
+  pub one-less : (s child : Shape V) (byte : ℕ) → IsAscending s
+      → child_at byte (children_of s) ≡ Some child
+      → 1 + length (children_of (with_deleted byte s)) ≡ length (children_of s)
+  one-less (node prefix value width forest) child byte ascending here =
+      let entries = entries_of forest in
+      let whole =
+      length_without nat_cmp nat_cmp_total byte entries (holds ascending) in
+      let tested =
+      subst (λ (p : ℕ → Bool). cond (is_some (child_at byte entries)) 1 0
+      + length (where_key nat_cmp p entries) ≡ length entries) (same-test byte) whole in
+      ap (λ list. 1 + length list) (entries_of-forest_of (without_child byte entries))
+      ∙ subst (λ o. cond (is_some o) 1 0 + length (without_child byte entries) ≡ length entries)
+      here tested

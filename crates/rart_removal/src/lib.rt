@@ -1,82 +1,73 @@
-//! The way down a tree to a value that is taken out, and with it each node that it leaves without
-//! value and child.
+//! The way down a tree to a value that is taken out, and with it each node that it leaves with no
+//! value and fewer than two children.
+//!
+//! A node left with no value and exactly one child is merged with that child. The merged node takes
+//! memory, so it is made on the way down that finds the key (`plan`). Another way down (`edit`)
+//! puts it in place, and opens the nodes above it alone.
 #![tactic(auto)]
 
-ghost use Rattle.std.specs.Prelude.{◌≡◌, ◌<◌, IsSome, IfOk, OnOk, OnErr};
+ghost use Rattle.std.specs.Prelude.{◌≡◌, ◌<◌, ◌*◌, None, IsSome, OnErr, IfOk};
 ghost use Rattle.rart_below.specs.Clones.{ClonesEqual};
-ghost use Rattle.rart_node.specs.NodeShapes.{node_shape, pointer_shape};
-ghost use Rattle.rart_node.specs.Shape.{IsAscending};
+ghost use Rattle.rart_node.specs.NodeShapes.{pointer_shape};
 ghost use Rattle.rart_node.specs.Counts.{CountsUpTo};
-ghost use Rattle.rart_removal.specs.Removals.{is_unused, prune};
-ghost use Rattle.rart_shape.specs.Trees.{IsTree, IsTaken, found, path_bound};
+ghost use Rattle.rart_removal.specs.Removals.{AreAdmitted, IsTakenOr};
+ghost use Rattle.rart_shape.specs.Trees.{IsTree, found, path_bound};
 
+mod edit;
+mod plan;
+
+use edit::{edit_below, take};
+use plan::{Plan, plan_below};
 use rart_below::Partial;
-use rart_node::{NodeRef, VersionedNode, Work};
-use rart_shape::rest_of;
-use std::alloc::AllocError;
+use rart_node::{NodeRef, Work};
+use std::alloc::{AllocError, Global};
 
-/// What was taken out below a node, and whether the node is left without value and child.
+/// What was taken out below a root, and whether the root is left without value and child.
 #[derive(Drop)]
 pub struct Removed<V> {
     pub value: Option<V>,
-    pub left_unused: bool,
+    pub left_empty: bool,
 }
 
-/// Whether a node has neither value nor child.
-fn is_unused<P: Partial, V: Drop>(node: &VersionedNode<P, V>) -> bool
-    requires { IsAscending (node_shape P.bytes node.now) }
-    ensures { result ≡ is_unused (node_shape P.bytes node.now) }
-{
-    node.value().is_none() && node.num_children() == 0
-}
-
-/// Takes out the child under a byte, where it is left unused.
-fn prune<P: Partial, V: Drop>(node: &mut VersionedNode<P, V>, byte: u8, left_unused: bool)
-    requires { IsAscending (node_shape P.bytes node.old) }
-    ensures { node_shape P.bytes node.new ≡ prune byte left_unused (node_shape P.bytes node.old) }
-{
-    if left_unused {
-        let _ = node.delete_child(byte);
-    }
-}
-
-/// Takes out the value of a key that is there. The node itself may be left without value and child,
-/// no node below it is. Refused for memory, all is as before.
+/// Takes out the value of a key, if the key is there. Where no other key is there, the root is left
+/// without value and child. Refused for memory, and where the key is absent, all is as before.
 pub fn remove_below<P: Partial, V: Clone + Drop>(
-    at: &mut NodeRef<P, V>,
+    alloc: Global,
+    root: &mut NodeRef<P, V>,
     key: &[u8],
+    version: u64,
     work: &mut Work,
 ) -> Result<Removed<V>, AllocError>
     requires clones { ClonesEqual V.is_clone }
-    requires tree { IsTree (pointer_shape P.bytes at.old) }
-    requires present { IsSome (found (pointer_shape P.bytes at.old) key.now) }
-    ensures taken { OnOk result (IsTaken key.now (pointer_shape P.bytes at.old)
-        (pointer_shape P.bytes at.new)) }
-    ensures value { IfOk result (λ taken. taken.value
-        ≡ found (pointer_shape P.bytes at.old) key.now) }
-    ensures unused { IfOk result (λ taken. taken.left_unused
-        ≡ is_unused (pointer_shape P.bytes at.new)) }
-    ensures refused { OnErr result (pointer_shape P.bytes at.new ≡ pointer_shape P.bytes at.old) }
-    ensures counted { CountsUpTo (path_bound (pointer_shape P.bytes at.old) key.now)
-        (path_bound (pointer_shape P.bytes at.old) key.now) work.old work.new }
+    requires tree { IsTree (pointer_shape P.bytes root.old) }
+    requires lengths { AreAdmitted P.MAXIMUM_SIZE (pointer_shape P.bytes root.old) }
+    ensures taken { IfOk result (λ removed. IsTakenOr removed.left_empty key.now
+        (pointer_shape P.bytes root.old) (pointer_shape P.bytes root.new)) }
+    ensures value { IfOk result (λ removed. removed.value
+        ≡ found (pointer_shape P.bytes root.old) key.now) }
+    ensures refused { OnErr result (pointer_shape P.bytes root.new
+        ≡ pointer_shape P.bytes root.old) }
+    ensures present { OnErr result (IsSome (found (pointer_shape P.bytes root.old) key.now)) }
+    ensures counted { CountsUpTo (2 * path_bound (pointer_shape P.bytes root.old) key.now)
+        (path_bound (pointer_shape P.bytes root.old) key.now) work.old work.new }
     ensures entered { work.old.entered < work.new.entered }
+    ensures absent { found (pointer_shape P.bytes root.old) key.now ≡ None
+        → pointer_shape P.bytes root.new ≡ pointer_shape P.bytes root.old }
+    ensures absent_makes_none { found (pointer_shape P.bytes root.old) key.now ≡ None
+        → work.new.made ≡ work.old.made }
 {
-    let node = at.open_mut(work)?;
-    let rest = rest_of(key, node.prefix().len());
-    let Some(byte) = rest.first() else {
-        let value = node.take_value();
-        return Ok(Removed {
-            value,
-            left_unused: is_unused(node),
-        });
-    };
-    let Some(child) = node.seek_child_mut(*byte) else {
-        unreachable!();
-    };
-    let below = remove_below(child, rest, work)?;
-    prune(node, *byte, below.left_unused);
-    Ok(Removed {
-        value: below.value,
-        left_unused: is_unused(node),
-    })
+    match plan_below(alloc, root, key, version, work)? {
+        Plan::Absent => Ok(Removed {
+            value: None,
+            left_empty: false,
+        }),
+        Plan::Leaf => Ok(Removed {
+            value: take(root, work)?,
+            left_empty: true,
+        }),
+        Plan::At(depth, edit) => Ok(Removed {
+            value: edit_below(root, key, depth, edit, work)?,
+            left_empty: false,
+        }),
+    }
 }

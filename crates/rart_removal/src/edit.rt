@@ -1,0 +1,125 @@
+//! What is done at one node, and the way down to it.
+ghost use Rattle.std.specs.Prelude.{◌≡◌, ◌+◌, IsSome, IfOk, OnOk, OnErr, None};
+ghost use Rattle.rart_below.specs.Children.{child_at};
+ghost use Rattle.rart_below.specs.Clones.{ClonesEqual};
+ghost use Rattle.rart_node.specs.NodeShapes.{pointer_shape};
+ghost use Rattle.rart_node.specs.Counts.{CountsUpTo};
+ghost use Rattle.rart_node.specs.Shape.{children_of, value_of, with_deleted, with_value};
+ghost use Rattle.rart_removal.specs.Plans.{Fits, RemovesBelow, edited, edit_cost, gone, value_under};
+ghost use Rattle.rart_shape.specs.Trees.{IsTree, IsTaken, found};
+
+use rart_below::Partial;
+use rart_node::{NodeRef, Work};
+use rart_shape::rest_of;
+use std::alloc::AllocError;
+
+/// What is done at a node.
+#[derive(Drop)]
+pub(crate) enum Edit<P, V> {
+    /// Its value is taken out.
+    Take,
+    /// The child under this byte, a leaf, is taken out.
+    Prune(u8),
+    /// This node takes its place, and the value goes.
+    Replace(NodeRef<P, V>, Option<V>),
+}
+
+/// Does an edit so many nodes down the way of a key, and gives the value that goes. Refused for
+/// memory, all is as before.
+pub(crate) fn edit_below<P: Partial, V: Clone + Drop>(
+    at: &mut NodeRef<P, V>,
+    key: &[u8],
+    depth: usize,
+    edit: Edit<P, V>,
+    work: &mut Work,
+) -> Result<Option<V>, AllocError>
+    requires clones { ClonesEqual V.is_clone }
+    requires tree { IsTree (pointer_shape P.bytes at.old) }
+    requires planned { RemovesBelow P.bytes depth edit key.now (pointer_shape P.bytes at.old) }
+    ensures taken { OnOk result
+        (IsTaken key.now (pointer_shape P.bytes at.old) (pointer_shape P.bytes at.new)) }
+    ensures value { IfOk result (λ value. value ≡ found (pointer_shape P.bytes at.old) key.now) }
+    ensures refused { OnErr result (pointer_shape P.bytes at.new ≡ pointer_shape P.bytes at.old) }
+    ensures counted { CountsUpTo (depth + edit_cost edit) (depth + edit_cost edit) work.old
+        work.new }
+{
+    if depth == 0 {
+        return edit_here(at, edit, work);
+    }
+    let node = at.open_mut(work)?;
+    let rest = rest_of(key, node.prefix().len());
+    let Some(byte) = rest.first() else {
+        unreachable!();
+    };
+    let Some(child) = node.seek_child_mut(*byte) else {
+        unreachable!();
+    };
+    edit_below(child, rest, depth - 1, edit, work)
+}
+
+/// Does an edit at a node, and gives the value that goes. Refused for memory, all is as before.
+fn edit_here<P: Partial, V: Clone + Drop>(
+    at: &mut NodeRef<P, V>,
+    edit: Edit<P, V>,
+    work: &mut Work,
+) -> Result<Option<V>, AllocError>
+    requires clones { ClonesEqual V.is_clone }
+    requires tree { IsTree (pointer_shape P.bytes at.old) }
+    requires fits { Fits P.bytes edit (pointer_shape P.bytes at.old) }
+    ensures edited { OnOk result (pointer_shape P.bytes at.new
+        ≡ edited P.bytes edit (pointer_shape P.bytes at.old)) }
+    ensures value { IfOk result (λ value. value ≡ gone P.bytes edit
+        (pointer_shape P.bytes at.old)) }
+    ensures refused { OnErr result (pointer_shape P.bytes at.new ≡ pointer_shape P.bytes at.old) }
+    ensures counted { CountsUpTo (edit_cost edit) (edit_cost edit) work.old work.new }
+{
+    match edit {
+        Edit::Take => take(at, work),
+        Edit::Prune(byte) => prune(at, byte, work),
+        Edit::Replace(node, value) => {
+            *at = node;
+            Ok(value)
+        }
+    }
+}
+
+/// Takes the value out of a node, and gives it. Refused for memory, all is as before.
+pub(crate) fn take<P: Partial, V: Clone + Drop>(
+    at: &mut NodeRef<P, V>,
+    work: &mut Work,
+) -> Result<Option<V>, AllocError>
+    requires clones { ClonesEqual V.is_clone }
+    ensures taken { OnOk result (pointer_shape P.bytes at.new
+        ≡ with_value None (pointer_shape P.bytes at.old)) }
+    ensures value { IfOk result (λ value. value ≡ value_of (pointer_shape P.bytes at.old)) }
+    ensures refused { OnErr result (pointer_shape P.bytes at.new ≡ pointer_shape P.bytes at.old) }
+    ensures counted { CountsUpTo 1 1 work.old work.new }
+{
+    let node = at.open_mut(work)?;
+    Ok(node.take_value())
+}
+
+/// Takes the child under a byte out of a node, and gives its value. Refused for memory, all is as
+/// before.
+fn prune<P: Partial, V: Clone + Drop>(
+    at: &mut NodeRef<P, V>,
+    byte: u8,
+    work: &mut Work,
+) -> Result<Option<V>, AllocError>
+    requires clones { ClonesEqual V.is_clone }
+    requires tree { IsTree (pointer_shape P.bytes at.old) }
+    requires present { IsSome (child_at byte (children_of (pointer_shape P.bytes at.old))) }
+    ensures pruned { OnOk result (pointer_shape P.bytes at.new
+        ≡ with_deleted byte (pointer_shape P.bytes at.old)) }
+    ensures value { IfOk result (λ value. value ≡ value_under byte (pointer_shape P.bytes at.old)) }
+    ensures refused { OnErr result (pointer_shape P.bytes at.new ≡ pointer_shape P.bytes at.old) }
+    ensures counted { CountsUpTo 2 2 work.old work.new }
+{
+    let node = at.open_mut(work)?;
+    let Some(leaf) = node.seek_child_mut(byte) else {
+        unreachable!();
+    };
+    let value = take(leaf, work)?;
+    let _ = node.delete_child(byte);
+    Ok(value)
+}

@@ -1,0 +1,173 @@
+//! The way down that finds a key, and what is to be done to remove it.
+ghost use Rattle.std.specs.Prelude.{◌≡◌, ◌+◌, ◌*◌, ◌<◌, ◌≤◌, ℕ, List, true, false, None, IsSome, IfOk, OnErr, length};
+ghost use Rattle.rart_below.specs.Bytes.{IsAdmitted};
+ghost use Rattle.rart_below.specs.Clones.{ClonesEqual};
+ghost use Rattle.rart_node.specs.NodeShapes.{node_shape, pointer_shape};
+ghost use Rattle.rart_node.specs.Counts.{CountsUpTo};
+ghost use Rattle.rart_node.specs.Shape.{Shape, HasOnly, merged, prefix_of, value_of, children_of, IsAscending};
+ghost use Rattle.rart_removal.specs.Plans.{IsPlan, LeadsToLeaf, Removes, cost_of, edit_cost_of, value_under};
+ghost use Rattle.rart_removal.specs.Removals.{AreAdmitted, CountsLeaving};
+ghost use Rattle.rart_shape.specs.Trees.{IsTree, found, path_bound};
+
+use crate::edit::Edit;
+use rart_below::Partial;
+use rart_node::{NodeRef, VersionedNode, Work};
+use rart_shape::strip_prefix;
+use std::alloc::{AllocError, Global};
+
+/// What is to be done to remove a key.
+#[derive(Drop)]
+pub(crate) enum Plan<P, V> {
+    /// Nothing: the key is absent.
+    Absent,
+    /// The node goes: the key ends there, and it has no child.
+    Leaf,
+    /// An edit, so many nodes down the way of the key.
+    At(usize, Edit<P, V>),
+}
+
+/// What is to be done to remove a key below a pointer. It calls itself once for each node of the
+/// way.
+pub(crate) fn plan_below<P: Partial, V: Clone + Drop>(
+    alloc: Global,
+    at: &NodeRef<P, V>,
+    key: &[u8],
+    version: u64,
+    work: &mut Work,
+) -> Result<Plan<P, V>, AllocError>
+    requires clones { ClonesEqual V.is_clone }
+    requires tree { IsTree (pointer_shape P.bytes at.now) }
+    requires lengths { AreAdmitted P.MAXIMUM_SIZE (pointer_shape P.bytes at.now) }
+    ensures plan { IfOk result (λ plan. IsPlan P.bytes plan key.now
+        (pointer_shape P.bytes at.now)) }
+    ensures present { OnErr result (IsSome (found (pointer_shape P.bytes at.now) key.now)) }
+    ensures counted { CountsLeaving (cost_of result)
+        (2 * path_bound (pointer_shape P.bytes at.now) key.now)
+        (path_bound (pointer_shape P.bytes at.now) key.now) work.old work.new }
+    ensures entered { work.old.entered < work.new.entered }
+    ensures absent_makes_none { found (pointer_shape P.bytes at.now) key.now ≡ None
+        → work.new.made ≡ work.old.made }
+{
+    let node = at.open(work);
+    let Some(rest) = strip_prefix(key, node.prefix()) else {
+        return Ok(Plan::Absent);
+    };
+    let Some(byte) = rest.first() else {
+        return plan_here(alloc, node, version, work);
+    };
+    let Some(child) = node.seek_child(*byte) else {
+        return Ok(Plan::Absent);
+    };
+    match plan_below(alloc, child, rest, version, work)? {
+        Plan::Absent => Ok(Plan::Absent),
+        Plan::Leaf => Ok(Plan::At(0, plan_without(alloc, node, *byte, version, work)?)),
+        Plan::At(depth, edit) => Ok(Plan::At(depth + 1, edit)),
+    }
+}
+
+/// What is to be done where the key is the prefix of this node.
+fn plan_here<P: Partial, V: Clone + Drop>(
+    alloc: Global,
+    node: &VersionedNode<P, V>,
+    version: u64,
+    work: &mut Work,
+) -> Result<Plan<P, V>, AllocError>
+    requires clones { ClonesEqual V.is_clone }
+    requires tree { IsTree (node_shape P.bytes node.now) }
+    requires lengths { AreAdmitted P.MAXIMUM_SIZE (node_shape P.bytes node.now) }
+    ensures plan { IfOk result (λ plan. IsPlan P.bytes plan
+        (prefix_of (node_shape P.bytes node.now)) (node_shape P.bytes node.now)) }
+    ensures present { OnErr result (IsSome (value_of (node_shape P.bytes node.now))) }
+    ensures counted { CountsLeaving (cost_of result) 1 1 work.old work.new }
+    ensures absent_makes_none { value_of (node_shape P.bytes node.now) ≡ None
+        → work.new.made ≡ work.old.made }
+{
+    if node.value().is_none() {
+        return Ok(Plan::Absent);
+    }
+    match node.num_children() {
+        0 => Ok(Plan::Leaf),
+        1 => {
+            let mut copy = node.cow_clone_inner(alloc, version)?;
+            let value = copy.take_value();
+            let merged = merge(alloc, &copy, version, work)?;
+            Ok(Plan::At(0, Edit::Replace(merged, value)))
+        }
+        _ => Ok(Plan::At(0, Edit::Take)),
+    }
+}
+
+/// What is done at a node to take out the leaf under a byte.
+fn plan_without<P: Partial, V: Clone + Drop>(
+    alloc: Global,
+    node: &VersionedNode<P, V>,
+    byte: u8,
+    version: u64,
+    work: &mut Work,
+) -> Result<Edit<P, V>, AllocError>
+    requires clones { ClonesEqual V.is_clone }
+    requires tree { IsTree (node_shape P.bytes node.now) }
+    requires lengths { AreAdmitted P.MAXIMUM_SIZE (node_shape P.bytes node.now) }
+    requires leaf { (key : List ℕ) × LeadsToLeaf byte key (node_shape P.bytes node.now) }
+    ensures removes { IfOk result (λ edit. (key : List ℕ)
+        → LeadsToLeaf byte key (node_shape P.bytes node.now)
+        → Removes P.bytes edit key (node_shape P.bytes node.now)) }
+    ensures counted { CountsLeaving (edit_cost_of result) 2 2 work.old work.new }
+{
+    if can_lose_a_child(node) {
+        return Ok(Edit::Prune(byte));
+    }
+    let value = value_under(node, byte, work)?;
+    let mut copy = node.cow_clone_inner(alloc, version)?;
+    let _ = copy.delete_child(byte);
+    Ok(Edit::Replace(merge(alloc, &copy, version, work)?, value))
+}
+
+/// Whether a node that loses a child still has a value or two children.
+fn can_lose_a_child<P: Partial, V: Drop>(node: &VersionedNode<P, V>) -> bool
+    requires { IsTree (node_shape P.bytes node.now) }
+    ensures stays { result ≡ true → value_of (node_shape P.bytes node.now) ≡ None
+        → 2 < length (children_of (node_shape P.bytes node.now)) }
+    ensures value { result ≡ false → value_of (node_shape P.bytes node.now) ≡ None }
+    ensures children { result ≡ false → length (children_of (node_shape P.bytes node.now)) ≤ 2 }
+{
+    node.value().is_some() || node.num_children() > 2
+}
+
+/// A copy of the value of the child under a byte: one node entered.
+fn value_under<P: Partial, V: Clone + Drop>(
+    node: &VersionedNode<P, V>,
+    byte: u8,
+    work: &mut Work,
+) -> Result<Option<V>, AllocError>
+    requires clones { ClonesEqual V.is_clone }
+    requires order { IsAscending (node_shape P.bytes node.now) }
+    ensures value { IfOk result (λ value. value ≡ value_under byte (node_shape P.bytes node.now)) }
+    ensures counted { CountsUpTo 1 0 work.old work.new }
+{
+    match node.seek_child(byte) {
+        None => Ok(None),
+        Some(child) => child.open(work).value().cloned(),
+    }
+}
+
+/// A pointer to a node in place of this one and its only child: one node entered and one made.
+fn merge<P: Partial, V: Clone + Drop>(
+    alloc: Global,
+    node: &VersionedNode<P, V>,
+    version: u64,
+    work: &mut Work,
+) -> Result<NodeRef<P, V>, AllocError>
+    requires clones { ClonesEqual V.is_clone }
+    requires value { value_of (node_shape P.bytes node.now) ≡ None }
+    requires child { length (children_of (node_shape P.bytes node.now)) ≡ 1 }
+    requires admitted { (byte : ℕ) (child : Shape V)
+        → HasOnly byte child (node_shape P.bytes node.now) → IsAdmitted P.MAXIMUM_SIZE
+        (length (prefix_of (node_shape P.bytes node.now)) + length (prefix_of child)) }
+    ensures merged { IfOk result (λ it. (byte : ℕ) (child : Shape V)
+        → HasOnly byte child (node_shape P.bytes node.now)
+        → pointer_shape P.bytes it ≡ merged (prefix_of (node_shape P.bytes node.now)) child) }
+    ensures counted { CountsUpTo 1 1 work.old work.new }
+{
+    NodeRef::new(alloc, node.merge_child(alloc, version, work)?, work)
+}

@@ -1,2 +1,4 @@
+pub mod AlongLemmas
 pub mod CountLemmas
+pub mod LongestLemmas
 pub mod ProbeLemmas

@@ -1,5 +1,5 @@
 //! Visits of pairs, their keys lent as views.
-ghost use Rattle.std.specs.Prelude.{◌≡◌, ◌^◌, ◌-◌, not, filter, Some};
+ghost use Rattle.std.specs.Prelude.{◌≡◌, ◌+◌, ◌^◌, ◌-◌, not, filter, Some, OnOk};
 ghost use Rattle.std.specs.List.{concat};
 ghost use Rattle.std.specs.Ordering.{as_partial_cmp};
 ghost use Rattle.std.specs.Range.Bound.{bound_map, is_up_to_end};
@@ -20,7 +20,8 @@ use std::ops::Bound;
 /// Calls the closure on each pair that a walk has left: with a view of the key, which ends with the
 /// call, and a reference to the value.
 ///
-/// Refused for memory, it has called it on a beginning of them.
+/// It enters each node that the walk has left. Refused for memory, it has called the closure on a
+/// beginning of the pairs.
 pub fn visit_views<'a, P: Partial, V: Drop, F: FnMut(LendingKeyView<'_, '_>, &V)>(
     mut walk: Walk<'a, P, V, SegmentTrail<'a>>,
     f: &mut F,
@@ -30,6 +31,8 @@ pub fn visit_views<'a, P: Partial, V: Drop, F: FnMut(LendingKeyView<'_, '_>, &V)
     requires visitable { Visitable F.FnMut ByView f.old (position P.bytes walk).pairs }
     ensures visits { Visits F.FnMut ByView result f.old (position P.bytes walk.entry).pairs f.new }
     ensures counted { CountsUpTo (position P.bytes walk.entry).nodes 0 work.old work.new }
+    ensures entered { OnOk result (work.new.entered
+        ≡ work.old.entered + (position P.bytes walk.entry).nodes) }
 {
     'visiting: while let Some(value) = walk.next_value(work)? {
         f(view_of(walk.trail()), value);

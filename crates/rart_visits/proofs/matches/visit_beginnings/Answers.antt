@@ -55,6 +55,11 @@ returns-in-None-first-clause-counted g c =
     search-counted _ _ _ _ _ _ _ _ c.down.invariant.search c.open-node.ensures.work
     c.open-node.ensures.shown
 
+pub returns-in-None-seek_child-clause-counted : goal.returns-in-None-seek_child-clause-counted
+returns-in-None-seek_child-clause-counted g c =
+    search-counted _ _ _ _ _ _ _ _ c.down.invariant.search c.open-node.ensures.work
+    c.open-node.ensures.shown
+
 pub returns-in-None-seek_child-clause-visits : goal.returns-in-None-seek_child-clause-visits
 returns-in-None-seek_child-clause-visits g c =
     let fits = left-fits g.F.FnMut _ _ _ _ _ _ _ c.down.invariant.match c.open-node.ensures.shown

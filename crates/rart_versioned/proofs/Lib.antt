@@ -9,6 +9,7 @@ pub mod FoundLemmas
 pub mod ProbeLemmas
 pub mod OutcomeLemmas
 pub mod NodeBoundLemmas
+pub mod PointLemmas
 pub mod ProofSteps
 pub mod SoundLemmas
 pub mod RemovalLemmas

@@ -1,20 +1,20 @@
 -- What a removal below the root makes of the map, and that all stays in order.
-use Rattle.std.proofs.Common.{◌≡◌, ℕ, ◌-◌, ◌≤◌, List, Option, Some, None, IsSome, length, cond, Bool, true, false, arith, sym, ap, subst, ◌∙◌}
+use Rattle.std.proofs.Common.{◌≡◌, ℕ, ◌-◌, ◌≤◌, List, Option, Some, None, IsSome, is_some, length, cond, Bool, true, false, arith, sym, ap, subst, ◌∙◌}
 use Rattle.std.specs.Ordering.{eq_by_cmp}
 use Rattle.std.specs.Str.{bytes_eq}
 use Rattle.std.proofs.lemmas.Bool.{false≢true}
 use Rattle.std.proofs.lemmas.Cmp.{nat_list_cmp_total}
 use Rattle.std.proofs.lemmas.Map.Text.{is_eq-slice_cmp}
 use Rattle.std.specs.FinMap as finite
-use Rattle.rart_below.specs.Bytes.{byte_order}
+use Rattle.rart_below.specs.Bytes.{byte_order, IsAdmitted}
 use Rattle.rart_versioned.specs.Keys.{IsKeyLength}
 use Rattle.rart_node.specs.Shape.{Shape}
-use Rattle.rart_removal.specs.Removals.{is_unused}
+use Rattle.rart_removal.specs.Removals.{AreAdmitted, IsTakenOr}
+use Rattle.rart_maps.specs.Versions.{Version, value_at, without_key}
+use Rattle.rart_versioned.specs.SlotChanges.{without_if_there}
 use Rattle.rart_versioned.specs.Roots.{found_in, IsTreeIn, map_of, IsSound}
-use Rattle.rart_shape.specs.Trees.{IsTaken}
 use Rattle.rart_versioned.proofs.MapLemmas.{get-found}
 use Rattle.rart_versioned.proofs.SoundLemmas.{tree-in, few, admitted, same-map}
-use Rattle.rart_removal.proofs.RemovalLemmas.{found-unused, used-tree}
 
 one-less : (t : Bool) (m n : ℕ) → m ≤ n → cond t (m - 1) m ≤ n
 one-less true m n le = omega (arith, le)
@@ -27,21 +27,33 @@ module _ {V : Type 0} where
       IsTreeIn after × ((q : List ℕ)
       → found_in after q ≡ cond (bytes_eq q key) None (found_in before q))
 
-  -- a root that is left unused goes
+  -- a root that is left empty goes
   abbrev pub kept : Bool → Shape V → Option (Shape V)
-  kept left_unused root = cond left_unused None (Some root)
+  kept left_empty root = cond left_empty None (Some root)
 
-  pub root-taken : (key : List ℕ) (root after : Shape V) (left_unused : Bool) (o : Option (Shape V))
-      → IsTaken key root after → left_unused ≡ is_unused after → o ≡ kept left_unused after
+  pub root-taken : (key : List ℕ) (root after : Shape V) (left_empty : Bool) (o : Option (Shape V))
+      → IsTakenOr left_empty key root after → o ≡ kept left_empty after
       → IsTakenIn key (Some root) o
-  root-taken key root after true o taken unused is =
-      subst (IsTakenIn key (Some root)) (sym is) (
-        tt,
-        λ q. sym (found-unused after q (sym unused))
-            ∙ taken.1 q,
-      )
-  root-taken key root after false o taken unused is =
-      subst (IsTakenIn key (Some root)) (sym is) (used-tree after taken.0 (sym unused), taken.1)
+  root-taken key root after true o taken is =
+      subst (IsTakenIn key (Some root)) (sym is) (tt, λ q. sym (taken.2 q))
+  root-taken key root after false o taken is =
+      subst (IsTakenIn key (Some root)) (sym is) (taken.0, taken.1)
+
+  -- a key of a sound root is as long as a prefix may be
+  pub sound-admitted : (most of_prefix : Option ℕ) (count : ℕ) (root : Shape V)
+      → IsSound most count (Some root) → of_prefix ≡ most → AreAdmitted of_prefix root
+  sound-admitted most of_prefix count root sound same key there =
+      subst (λ m. IsAdmitted m (length key)) (sym same) (sound.1 key there).0
+
+  -- an absent key: nothing is answered and nothing changes
+  pub absent-changes : (v : Version V) (w : List ℕ) (more : ℕ) → value_at v w ≡ None
+      → (None ≡ value_at v w) × (v ≡ without_if_there v w more)
+  absent-changes v w more none =
+      (sym none, sym (ap (λ o. cond (is_some o) (without_key v w more) v) none))
+
+  pub present-outcome : (v : Version V) (w : List ℕ) (more : ℕ) → is_some (value_at v w) ≡ true
+      → without_key v w more ≡ without_if_there v w more
+  present-outcome v w more there = sym (ap (λ t. cond t (without_key v w more) v) there)
 
   -- ---- in the words of the map
   pub there-found : (o : Option (Shape V)) (key : List ℕ) → IsTreeIn o

@@ -3,6 +3,7 @@ pub mod Entries
 pub mod IteratorFields
 pub mod Keys
 pub mod Lent
+pub mod Longest
 pub mod Meets
 pub mod ProbeFields
 pub mod Missing

@@ -1,5 +1,5 @@
 -- What becomes of a key that is there, once a callback has answered.
-use Rattle.std.specs.Prelude.{◌≡◌, ℕ, Bool, true, false, List, Result, Ok, Err}
+use Rattle.std.specs.Prelude.{◌≡◌, ℕ, Bool, true, false, List, Result, Ok, Err, if◌then◌else◌}
 use Rattle.rart_below.specs.declared.slot.Refusal.{Refusal}
 use Rattle.rart_below.specs.declared.slot.Refusal.TheVariants.{Callback, Memory}
 use Rattle.rart_below.specs.declared.slot.Slot.{Slot}
@@ -9,7 +9,7 @@ use Rattle.rart_below.specs.declared.slot.SlotUpdate.TheVariants.{Keep, Insert, 
 use Rattle.rart_maps.specs.Changes.{slot_attempt}
 use Rattle.rart_versioned.specs.declared.counted.change.Change.{Change}
 use Rattle.rart_versioned.specs.declared.counted.change.Change.TheVariants.{Stay, Put, Take}
-use Rattle.rart_maps.specs.Versions.{Version, with_rise, with_key, without_key}
+use Rattle.rart_maps.specs.Versions.{Version, has_key, with_rise, with_key, without_key}
 
 module _ {V : Type 0} where
   -- by what was left in the slot, and by the answer
@@ -24,6 +24,10 @@ module _ {V : Type 0} where
   version_after v w Stay more = with_rise v more
   version_after v w (Put x) more = with_key v w x more
   version_after v w Take more = without_key v w more
+
+  -- without the key where it was there, and the number then so much greater
+  abbrev pub without_if_there : Version V → List ℕ → ℕ → Version V
+  without_if_there v w more = if has_key v w then without_key v w more else v
 
   abbrev pub is_occupied : Slot V → Bool
   is_occupied Vacant = false

@@ -4,6 +4,7 @@ mod change;
 mod get_mut;
 mod insert;
 mod intersect;
+mod longest;
 mod lookup;
 mod matches;
 pub(crate) mod missing;

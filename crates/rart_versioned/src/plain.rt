@@ -4,6 +4,7 @@ mod get_mut;
 mod insert;
 mod intersect;
 mod iter;
+mod longest;
 mod lookup;
 mod matches;
 mod prefix_match;

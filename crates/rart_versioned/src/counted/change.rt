@@ -1,5 +1,5 @@
 //! What becomes of a key that is there, once a callback has answered.
-ghost use Rattle.std.specs.Prelude.{◌≡◌, ◌+◌, ◌≤◌, IsTrue, OnOk, OnErr};
+ghost use Rattle.std.specs.Prelude.{◌≡◌, ◌+◌, ◌*◌, ◌≤◌, IsTrue, OnOk, OnErr};
 ghost use Rattle.rart_below.specs.Clones.{ClonesEqual};
 ghost use Rattle.rart_node.specs.Counts.{CountsUpTo};
 ghost use Rattle.rart_maps.specs.Bounds.{lookup_bound, change_bound};
@@ -54,7 +54,7 @@ impl<K: KeyTrait, V: Clone + Drop> VersionedAdaptiveRadixTree<K, V> {
         requires present { IsTrue (has_key self.old (K.bytes key.now)) }
         ensures ok { OnOk result (self.new ≡ version_after self.old (K.bytes key.now) change more) }
         ensures refused { OnErr result (self.new ≡ self.old) }
-        ensures counted { CountsUpTo (lookup_bound (K.bytes key.now))
+        ensures counted { CountsUpTo (2 * lookup_bound (K.bytes key.now))
             (change_bound (K.bytes key.now)) work.old work.new }
     {
         match change {

@@ -1,11 +1,12 @@
 //! Removal of a key.
-ghost use Rattle.std.specs.Prelude.{◌≡◌, ◌*◌, IsTrue, OnErr, None};
+ghost use Rattle.std.specs.Prelude.{◌≡◌, ◌<◌, ◌*◌, IsTrue, OnErr, None, false};
 ghost use Rattle.rart_below.specs.Clones.{ClonesEqual};
 ghost use Rattle.rart_node.specs.Counts.{CountsUpTo};
 ghost use Rattle.rart_maps.specs.Bounds.{lookup_bound};
 ghost use Rattle.rart_maps.specs.Changes.{Changes, removal, deletion};
-ghost use Rattle.rart_maps.specs.Versions.{HasRoom, has_key, value_at, without_key};
+ghost use Rattle.rart_maps.specs.Versions.{HasRoom, has_key, has_no_key, value_at};
 ghost use Rattle.rart_versioned.specs.ChangeCounts.{CountsChange};
+ghost use Rattle.rart_versioned.specs.SlotChanges.{without_if_there};
 
 use crate::counted::tree::VersionedAdaptiveRadixTree;
 use rart_below::{KeyTrait, Partial};
@@ -27,9 +28,6 @@ impl<K: KeyTrait, V: Clone + Drop> VersionedAdaptiveRadixTree<K, V> {
         ensures absent_makes_none { value_at self.old (K.bytes key.now) ≡ None
             → work.new.made ≡ work.old.made }
     {
-        if self.get_k_counted(key, work).is_none() {
-            return Ok(None);
-        }
         self.take_in(key, 1, work)
     }
 
@@ -47,8 +45,8 @@ impl<K: KeyTrait, V: Clone + Drop> VersionedAdaptiveRadixTree<K, V> {
         Ok(self.remove_k_counted(key, work)?.is_some())
     }
 
-    /// Takes out the value of a key that is there, and raises the number by so much. Refused for
-    /// memory, map and number are as before.
+    /// Takes out the value of a key, and raises the number by so much where the key is there.
+    /// Refused for memory, map and number are as before.
     pub(crate) fn take_in(
         &mut self,
         key: &K,
@@ -57,20 +55,27 @@ impl<K: KeyTrait, V: Clone + Drop> VersionedAdaptiveRadixTree<K, V> {
     ) -> Result<Option<V>, AllocError>
         requires clones { ClonesEqual V.is_clone }
         requires room { HasRoom self.old more }
-        requires present { IsTrue (has_key self.old (K.bytes key.now)) }
         ensures changes { Changes result self.old self.new (
           value_at self.old (K.bytes key.now),
-          without_key self.old (K.bytes key.now) more,
+          without_if_there self.old (K.bytes key.now) more,
         ) }
-        ensures counted { CountsUpTo (lookup_bound (K.bytes key.now))
+        ensures present { OnErr result (IsTrue (has_key self.old (K.bytes key.now))) }
+        ensures counted { CountsUpTo (2 * lookup_bound (K.bytes key.now))
             (lookup_bound (K.bytes key.now)) work.old work.new }
+        ensures at_least { has_no_key self.old ≡ false → work.old.entered < work.new.entered }
+        ensures absent_makes_none { value_at self.old (K.bytes key.now) ≡ None
+            → work.new.made ≡ work.old.made }
     {
         let version = self.version + more;
+        let alloc = self.alloc;
         let Some(root) = &mut self.root else {
-            unreachable!();
+            return Ok(None);
         };
-        let removed = remove_below(root, key.as_ref(), work)?;
-        if removed.left_unused {
+        let removed = remove_below(alloc, root, key.as_ref(), version, work)?;
+        if removed.value.is_none() {
+            return Ok(None);
+        }
+        if removed.left_empty {
             self.root = None;
         }
         self.version = version;

@@ -1,5 +1,5 @@
 //! Updates of a key's slot by a callback that may fail.
-ghost use Rattle.std.specs.Prelude.{◌≡◌, IsTrue, false};
+ghost use Rattle.std.specs.Prelude.{◌≡◌, ◌*◌, IsTrue, false};
 ghost use Rattle.std.specs.Fn.{FnOnceTakesAtMut};
 ghost use Rattle.rart_below.specs.Clones.{ClonesEqual};
 ghost use Rattle.rart_node.specs.Counts.{CountsUpTo};
@@ -58,7 +58,7 @@ impl<K: KeyTrait, V: Clone + Drop> VersionedAdaptiveRadixTree<K, V> {
         requires room { HasRoom self.old 2 }
         requires present { IsTrue (has_key self.old (K.bytes key.now)) }
         ensures tries { Tries self.old (K.bytes key.now) left told result self.new }
-        ensures counted { CountsUpTo (lookup_bound (K.bytes key.now))
+        ensures counted { CountsUpTo (2 * lookup_bound (K.bytes key.now))
             (change_bound (K.bytes key.now)) work.old work.new }
     {
         match told {

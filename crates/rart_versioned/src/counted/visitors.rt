@@ -1,7 +1,7 @@
 //! Visitors over a tree, and their counts.
-ghost use Rattle.std.specs.Prelude.{map};
+ghost use Rattle.std.specs.Prelude.{◌≡◌, ◌+◌, map, OnOk};
 ghost use Rattle.std.specs.Range.Bound.{bound_map};
-ghost use Rattle.rart_maps.specs.Bounds.{reach_bound};
+ghost use Rattle.rart_maps.specs.Bounds.{reach_bound, scan_bound, walk_cost};
 ghost use Rattle.rart_maps.specs.Pairs.{pairs, under, within};
 ghost use Rattle.rart_maps.specs.Visits.{ByValue, ByView, Visits, Visitable, VisitsUntil, VisitableUntil};
 ghost use Rattle.rart_node.specs.Counts.{CountsUpTo};
@@ -17,7 +17,7 @@ use std::ops::Bound;
 impl<K: KeyTrait, V: Clone + Drop> VersionedAdaptiveRadixTree<K, V> {
     /// As `prefix_for_each_view_k`, with the nodes entered counted into `work`: at most one more
     /// than the prefix has bytes, and one for each string that the prefix begins and that begins a
-    /// key.
+    /// key; and at most one more than the prefix has bytes, and two for each key that it begins.
     pub fn prefix_for_each_view_k_counted<F: FnMut(LendingKeyView<'_, '_>, &V)>(
         &self,
         prefix: &K,
@@ -29,6 +29,8 @@ impl<K: KeyTrait, V: Clone + Drop> VersionedAdaptiveRadixTree<K, V> {
         ensures visits { Visits F.FnMut ByView result f.old
             (under self.now.content (K.bytes prefix.now)) f.new }
         ensures counted { CountsUpTo (reach_bound self.now.content (K.bytes prefix.now)) 0
+            work.old work.new }
+        ensures counted_by_pairs { CountsUpTo (scan_bound self.now.content (K.bytes prefix.now)) 0
             work.old work.new }
     {
         let walk = self.walk_under(prefix.as_ref(), work)?;
@@ -49,6 +51,8 @@ impl<K: KeyTrait, V: Clone + Drop> VersionedAdaptiveRadixTree<K, V> {
             (map (λ pair. pair.1) (under self.now.content (K.bytes prefix.now))) f.new }
         ensures counted { CountsUpTo (reach_bound self.now.content (K.bytes prefix.now)) 0
             work.old work.new }
+        ensures counted_by_pairs { CountsUpTo (scan_bound self.now.content (K.bytes prefix.now)) 0
+            work.old work.new }
     {
         let walk: Walk<'_, K::PartialType, V, NoTrail> = self.walk_under(prefix.as_ref(), work)?;
         visit_values(walk, f, work)
@@ -68,6 +72,8 @@ impl<K: KeyTrait, V: Clone + Drop> VersionedAdaptiveRadixTree<K, V> {
             (map (λ pair. pair.1) (under self.now.content (K.bytes prefix.now))) f.new }
         ensures counted { CountsUpTo (reach_bound self.now.content (K.bytes prefix.now)) 0
             work.old work.new }
+        ensures counted_by_pairs { CountsUpTo (scan_bound self.now.content (K.bytes prefix.now)) 0
+            work.old work.new }
     {
         let walk: Result<Walk<'_, K::PartialType, V, NoTrail>, AllocError> = self.walk_under(
             prefix.as_ref(),
@@ -79,14 +85,19 @@ impl<K: KeyTrait, V: Clone + Drop> VersionedAdaptiveRadixTree<K, V> {
         }
     }
 
-    /// As `for_each_view`, with the nodes entered counted into `work`.
-    pub(crate) fn visit_all<F: FnMut(LendingKeyView<'_, '_>, &V)>(
+    /// As `for_each_view`, with the nodes entered counted into `work`: one for each key, and one
+    /// for each other string at which keys part. So they are at most twice as many as keys, whatever
+    /// was inserted and removed before. Refused for memory, it has entered no more.
+    pub fn for_each_view_counted<F: FnMut(LendingKeyView<'_, '_>, &V)>(
         &self,
         f: &mut F,
         work: &mut Work,
     ) -> Result<(), AllocError>
         requires visitable { Visitable F.FnMut ByView f.old (pairs self.now.content) }
         ensures visits { Visits F.FnMut ByView result f.old (pairs self.now.content) f.new }
+        ensures counted { CountsUpTo (walk_cost self.now.content) 0 work.old work.new }
+        ensures entered { OnOk result (work.new.entered
+            ≡ work.old.entered + walk_cost self.now.content) }
     {
         let walk = self.whole_walk(work)?;
         visit_views(walk, f, work)

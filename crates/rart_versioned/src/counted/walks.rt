@@ -3,7 +3,7 @@ ghost use Rattle.std.specs.Prelude.{◌≡◌, ◌+◌, ◌≤◌, filter, lengt
 ghost use Rattle.std.specs.Ordering.{as_partial_cmp};
 ghost use Rattle.std.specs.Range.Bound.{is_from_start, bound_map};
 ghost use Rattle.rart_below.specs.Bytes.{byte_order};
-ghost use Rattle.rart_maps.specs.Bounds.{reach_bound};
+ghost use Rattle.rart_maps.specs.Bounds.{reach_bound, scan_bound, walk_cost};
 ghost use Rattle.rart_maps.specs.Pairs.{pairs, under};
 ghost use Rattle.rart_node.specs.Counts.{CountsUpTo};
 ghost use Rattle.rart_versioned.specs.IteratorFields.{AreAdmitted, KeepsKeys};
@@ -28,6 +28,10 @@ impl<K: KeyTrait, V: Clone + Drop> VersionedAdaptiveRadixTree<K, V> {
             ≡ pairs self.now.content) }
         ensures admitted { IfOk result (λ walk. AreAdmitted K.MAXIMUM_SIZE
             (position K.PartialType.bytes walk).pairs) }
+        ensures nodes { IfOk result (λ walk. work.new.entered
+            + (position K.PartialType.bytes walk).nodes
+            ≡ work.old.entered + walk_cost self.now.content) }
+        ensures counted { CountsUpTo (walk_cost self.now.content) 0 work.old work.new }
     {
         match &self.root {
             None => Ok(Walk::new(self.alloc)),
@@ -53,6 +57,9 @@ impl<K: KeyTrait, V: Clone + Drop> VersionedAdaptiveRadixTree<K, V> {
         ensures nodes { IfOk result (λ walk. length prefix.now + 1
             + (position K.PartialType.bytes walk).nodes
             ≤ reach_bound self.now.content prefix.now) }
+        ensures few { IfOk result (λ walk. length prefix.now + 1
+            + (position K.PartialType.bytes walk).nodes
+            ≤ scan_bound self.now.content prefix.now) }
         ensures counted { CountsUpTo (length prefix.now + 1) 0 work.old work.new }
     {
         match &self.root {

@@ -31,7 +31,7 @@ impl<K: KeyTrait, V: Clone + Drop> VersionedAdaptiveRadixTree<K, V> {
         requires visitable { Visitable F.FnMut ByView f.old (pairs self.now.content) }
         ensures visits { Visits F.FnMut ByView result f.old (pairs self.now.content) f.new }
     {
-        self.visit_all(f, &mut Work::new())
+        self.for_each_view_counted(f, &mut Work::new())
     }
 
     /// As `for_each_view`, for the pairs within a lower and an upper bound. Both compare by bytes,

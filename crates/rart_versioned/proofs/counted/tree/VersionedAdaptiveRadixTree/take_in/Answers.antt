@@ -1,41 +1,111 @@
-use Rattle.std.proofs.Common.{arith, ◌≡◌, ◌+◌, ◌≤◌, ℕ, List, length, IsSome, sym, ap, subst, ◌∙◌}
+use Rattle.std.proofs.Common.{arith, is_some, true, Some, None, ◌≡◌, ◌+◌, ◌≤◌, ℕ, List, length, IsSome, sym, ap, subst, ◌∙◌}
 use Rattle.std.specs.Option.{option_map}
 use Rattle.std.specs.FinMap as finite
-use Rattle.std.proofs.lemmas.Bool.{false≢true}
+use Rattle.std.proofs.lemmas.Bool.{false≢true, true≢false}
 use Rattle.rart_node.specs.NodeShapes.{pointer_shape}
-use Rattle.rart_shape.specs.Trees.{IsTaken, path_bound, found}
-use Rattle.rart_versioned.specs.Roots.{found_in}
-use Rattle.rart_maps.specs.Versions.{Version, value_at, without_key}
+use Rattle.rart_shape.specs.Trees.{path_bound, found}
+use Rattle.rart_removal.specs.Removals.{IsTakenOr}
+use Rattle.rart_removal.proofs.EditLemmas.{on-any}
+use Rattle.rart_removal.proofs.PlanLemmas.{none-is}
+use Rattle.rart_versioned.specs.Roots.{found_in, map_of, IsSound}
+use Rattle.rart_maps.specs.Versions.{Version, value_at, without_key, has_no_key}
 use Rattle.rart_shape.proofs.CountingLemmas.{counts-most, path-most}
 use Rattle.rart_versioned.proofs.MapLemmas.{get-found}
-use Rattle.rart_versioned.proofs.SoundLemmas.{tree-in}
-use Rattle.rart_versioned.proofs.RemovalLemmas.{IsTakenIn, kept, root-taken, there-found, map-taken, sound-taken}
+use Rattle.rart_versioned.proofs.SoundLemmas.{tree-in, no-key}
+use Rattle.rart_versioned.proofs.RemovalLemmas.{IsTakenIn, kept, root-taken, map-taken, sound-taken, sound-admitted, absent-changes, present-outcome}
 use Rattle.rart_versioned.proofs.counted.tree.VersionedAdaptiveRadixTree.take_in.Goals as goal
 use Rattle.rart_versioned.proofs.counted.tree.VersionedAdaptiveRadixTree.take_in.Goals.{then-removed+in-Some-1, then-removed+in-None-1, else-removed}
 
-pub unreachable-requires : goal.unreachable-requires
-unreachable-requires g c =
-    let f = pointer_shape g.K.PartialType.Partial.bytes in
+pub returns-in_default-clause-changes : goal.returns-in_default-clause-changes
+returns-in_default-clause-changes g c =
     let w = g.K.KeyTrait.bytes c.args.key.now in
-    let before = option_map f c.self.inside.root in
-    let tree = tree-in g.K.KeyTrait.MAXIMUM_SIZE c.self.inside.version before c.self.invariant in
-    let there : IsSome (found_in before w) =
-    there-found before w tree (subst
-    (λ (v : Version g.row.V.Denot). IsSome (finite.get v.content w))
-    (sym c.self.view_is) c.requires.present) in
-    absurd (false≢true (subst (λ o. IsSome (found_in (option_map f o) w)) c.in_default.is there))
+    let none : value_at c.args.self.now w ≡ None =
+    rw (← c.self.view_is, c.in_default.is) (get-found None w tt) in
+    let absent = absent-changes c.args.self.now w c.args.more none in
+    (absent.0, c.self.view_is ∙ absent.1)
 
-pub remove_below-requires-clause-present : goal.remove_below-requires-clause-present
-remove_below-requires-clause-present g c =
+pub returns-in_default-clause-at_least : goal.returns-in_default-clause-at_least
+returns-in_default-clause-at_least g c keyed =
+    let none : has_no_key c.args.self.now ≡ true =
+    rw (← c.self.view_is, c.in_default.is) (no-key g.row.V.Denot c.self.inside.version) in
+    absurd (true≢false (sym none ∙ keyed))
+
+pub remove_below-requires-clause-lengths : goal.remove_below-requires-clause-lengths
+remove_below-requires-clause-lengths g c =
+    let f = pointer_shape g.K.PartialType.Partial.bytes in
+    sound-admitted g.K.KeyTrait.MAXIMUM_SIZE _ c.self.inside.version (f c.in-Some.root)
+    (subst (λ o. IsSound g.K.KeyTrait.MAXIMUM_SIZE c.self.inside.version (option_map f o))
+    c.in-Some.is c.self.invariant) g.met.K.KeyTrait.maximum_of_partial
+
+pub returns-in_err-removed-clause-present : goal.returns-in_err-removed-clause-present
+returns-in_err-removed-clause-present g c =
     let f = pointer_shape g.K.PartialType.Partial.bytes in
     let w = g.K.KeyTrait.bytes c.args.key.now in
     let before = option_map f c.self.inside.root in
     let tree = tree-in g.K.KeyTrait.MAXIMUM_SIZE c.self.inside.version before c.self.invariant in
-    let there : IsSome (found_in before w) =
-    there-found before w tree (subst
-    (λ (v : Version g.row.V.Denot). IsSome (finite.get v.content w))
-    (sym c.self.view_is) c.requires.present) in
-    rw (c.as_ref.ensures) (subst (λ o. IsSome (found_in (option_map f o) w)) c.in-Some.is there)
+    let value_is : found (f c.in-Some.root) c.as_ref.result.now ≡ value_at c.args.self.now w =
+    ap (found (f c.in-Some.root)) c.as_ref.ensures
+    ∙ ap (λ o. found_in (option_map f o) w) (sym c.in-Some.is) ∙ sym (get-found before w tree)
+    ∙ ap (λ (v : Version g.row.V.Denot). value_at v w) c.self.view_is in
+    on-any c.from_residual.result
+    (sym (ap is_some value_is) ∙ c.in_err-removed.ensures.present)
+
+pub returns-in_err-removed-clause-absent_makes_none :
+    goal.returns-in_err-removed-clause-absent_makes_none
+returns-in_err-removed-clause-absent_makes_none g c none =
+    let f = pointer_shape g.K.PartialType.Partial.bytes in
+    let w = g.K.KeyTrait.bytes c.args.key.now in
+    let before = option_map f c.self.inside.root in
+    let tree = tree-in g.K.KeyTrait.MAXIMUM_SIZE c.self.inside.version before c.self.invariant in
+    let value_is : found (f c.in-Some.root) c.as_ref.result.now ≡ value_at c.args.self.now w =
+    ap (found (f c.in-Some.root)) c.as_ref.ensures
+    ∙ ap (λ o. found_in (option_map f o) w) (sym c.in-Some.is) ∙ sym (get-found before w tree)
+    ∙ ap (λ (v : Version g.row.V.Denot). value_at v w) c.self.view_is in
+    c.remove_below.ensures.absent_makes_none (value_is ∙ none)
+
+pub returns-then-is_none-clause-changes : goal.returns-then-is_none-clause-changes
+returns-then-is_none-clause-changes g c =
+    let f = pointer_shape g.K.PartialType.Partial.bytes in
+    let w = g.K.KeyTrait.bytes c.args.key.now in
+    let before = option_map f c.self.inside.root in
+    let tree = tree-in g.K.KeyTrait.MAXIMUM_SIZE c.self.inside.version before c.self.invariant in
+    let value_is : found (f c.in-Some.root) c.as_ref.result.now ≡ value_at c.args.self.now w =
+    ap (found (f c.in-Some.root)) c.as_ref.ensures
+    ∙ ap (λ o. found_in (option_map f o) w) (sym c.in-Some.is) ∙ sym (get-found before w tree)
+    ∙ ap (λ (v : Version g.row.V.Denot). value_at v w) c.self.view_is in
+    let gone = none-is c.in_ok-removed.removed.value c.if-is_none.ensures in
+    let none = sym c.in_ok-removed.ensures.value ∙ gone in
+    let absent =
+    absent-changes c.args.self.now w c.args.more (sym value_is ∙ none) in (
+      absent.0,
+      ap (λ z. record { content = map_of (Some z); number = c.self.inside.version })
+          (c.in_ok-removed.ensures.absent none)
+          ∙ ap (λ o. record {
+            content = map_of (option_map f o);
+            number = c.self.inside.version;
+          }) (sym c.in-Some.is) ∙ c.self.view_is ∙ absent.1,
+    )
+
+pub returns-then-is_none-clause-counted : goal.returns-then-is_none-clause-counted
+returns-then-is_none-clause-counted g c =
+    let f = pointer_shape g.K.PartialType.Partial.bytes in
+    let w = g.K.KeyTrait.bytes c.args.key.now in
+    let most : path_bound (f c.in-Some.root) c.as_ref.result.now ≤ length w + 1 =
+    subst (λ (k : List ℕ). path_bound (f c.in-Some.root) c.as_ref.result.now ≤ length k + 1)
+    c.as_ref.ensures (path-most (f c.in-Some.root) c.as_ref.result.now) in
+    counts-most c.remove_below.ensures.counted (omega (arith, most)) most
+
+pub returns-clause-absent_makes_none : goal.returns-clause-absent_makes_none
+returns-clause-absent_makes_none g c none =
+    let f = pointer_shape g.K.PartialType.Partial.bytes in
+    let w = g.K.KeyTrait.bytes c.args.key.now in
+    let before = option_map f c.self.inside.root in
+    let tree = tree-in g.K.KeyTrait.MAXIMUM_SIZE c.self.inside.version before c.self.invariant in
+    let value_is : found (f c.in-Some.root) c.as_ref.result.now ≡ value_at c.args.self.now w =
+    ap (found (f c.in-Some.root)) c.as_ref.ensures
+    ∙ ap (λ o. found_in (option_map f o) w) (sym c.in-Some.is) ∙ sym (get-found before w tree)
+    ∙ ap (λ (v : Version g.row.V.Denot). value_at v w) c.self.view_is in
+    c.remove_below.ensures.absent_makes_none (value_is ∙ none)
 
 pub invariant_of-self-2 : goal.invariant_of-self-2
 invariant_of-self-2 g c =
@@ -44,22 +114,22 @@ invariant_of-self-2 g c =
     let before = option_map f c.self.inside.root in
     let tree = tree-in g.K.KeyTrait.MAXIMUM_SIZE c.self.inside.version before c.self.invariant in
     let after = option_map f c.if-removed.self-inside.root in
-    let left = c.in_ok-removed.removed.left_unused in
-    let root_is : after ≡ kept left (f c.remove_below.new.at) = elim c.if-removed.branch [
+    let left = c.in_ok-removed.removed.left_empty in
+    let root_is : after ≡ kept left (f c.remove_below.new.root) = elim c.if-removed.branch [
       | then-removed+in-Some-1 b ↦ ap (λ (i : _). option_map f i.root) b.self-inside-is
-          ∙ ap (λ t. kept t (f c.remove_below.new.at)) (sym b.if-removed.true)
+          ∙ ap (λ t. kept t (f c.remove_below.new.root)) (sym b.if-removed.true)
       | then-removed+in-None-1 b ↦ ap (λ (i : _). option_map f i.root) b.self-inside-is
-          ∙ ap (λ t. kept t (f c.remove_below.new.at)) (sym b.if-removed.true)
+          ∙ ap (λ t. kept t (f c.remove_below.new.root)) (sym b.if-removed.true)
       | else-removed b ↦ ap (λ (i : _). option_map f i.root) b.self-inside-is
-          ∙ ap (λ t. kept t (f c.remove_below.new.at)) (sym b.if-removed.false)
+          ∙ ap (λ t. kept t (f c.remove_below.new.root)) (sym b.if-removed.false)
     ] in
-    let at_root : IsTaken w (f c.in-Some.root) (f c.remove_below.new.at) =
-    subst (λ k. IsTaken k (f c.in-Some.root) (f c.remove_below.new.at)) c.as_ref.ensures
+    let at_root : IsTakenOr left w (f c.in-Some.root) (f c.remove_below.new.root) =
+    subst (λ k. IsTakenOr left k (f c.in-Some.root) (f c.remove_below.new.root)) c.as_ref.ensures
     c.in_ok-removed.ensures.taken in
     let taken : IsTakenIn w before after =
     subst (λ o. IsTakenIn w (option_map f o) after) (sym c.in-Some.is)
     (root-taken w (f c.in-Some.root)
-    (f c.remove_below.new.at) left after at_root c.in_ok-removed.ensures.unused root_is) in
+    (f c.remove_below.new.root) left after at_root root_is) in
     sound-taken g.K.KeyTrait.MAXIMUM_SIZE c.self.inside.version _ before after w c.self.invariant
     (omega arith) taken
 
@@ -70,28 +140,32 @@ returns-clause-changes g c =
     let before = option_map f c.self.inside.root in
     let tree = tree-in g.K.KeyTrait.MAXIMUM_SIZE c.self.inside.version before c.self.invariant in
     let after = option_map f c.if-removed.self-inside.root in
-    let left = c.in_ok-removed.removed.left_unused in
-    let root_is : after ≡ kept left (f c.remove_below.new.at) = elim c.if-removed.branch [
+    let left = c.in_ok-removed.removed.left_empty in
+    let root_is : after ≡ kept left (f c.remove_below.new.root) = elim c.if-removed.branch [
       | then-removed+in-Some-1 b ↦ ap (λ (i : _). option_map f i.root) b.self-inside-is
-          ∙ ap (λ t. kept t (f c.remove_below.new.at)) (sym b.if-removed.true)
+          ∙ ap (λ t. kept t (f c.remove_below.new.root)) (sym b.if-removed.true)
       | then-removed+in-None-1 b ↦ ap (λ (i : _). option_map f i.root) b.self-inside-is
-          ∙ ap (λ t. kept t (f c.remove_below.new.at)) (sym b.if-removed.true)
+          ∙ ap (λ t. kept t (f c.remove_below.new.root)) (sym b.if-removed.true)
       | else-removed b ↦ ap (λ (i : _). option_map f i.root) b.self-inside-is
-          ∙ ap (λ t. kept t (f c.remove_below.new.at)) (sym b.if-removed.false)
+          ∙ ap (λ t. kept t (f c.remove_below.new.root)) (sym b.if-removed.false)
     ] in
-    let at_root : IsTaken w (f c.in-Some.root) (f c.remove_below.new.at) =
-    subst (λ k. IsTaken k (f c.in-Some.root) (f c.remove_below.new.at)) c.as_ref.ensures
+    let at_root : IsTakenOr left w (f c.in-Some.root) (f c.remove_below.new.root) =
+    subst (λ k. IsTakenOr left k (f c.in-Some.root) (f c.remove_below.new.root)) c.as_ref.ensures
     c.in_ok-removed.ensures.taken in
     let taken : IsTakenIn w before after =
     subst (λ o. IsTakenIn w (option_map f o) after) (sym c.in-Some.is)
     (root-taken w (f c.in-Some.root)
-    (f c.remove_below.new.at) left after at_root c.in_ok-removed.ensures.unused root_is) in (
-      c.in_ok-removed.ensures.value ∙ ap (found (f c.in-Some.root)) c.as_ref.ensures
-          ∙ ap (λ o. found_in (option_map f o) w) (sym c.in-Some.is) ∙ sym (get-found before w tree)
-          ∙ ap (λ (v : Version g.row.V.Denot). value_at v w) c.self.view_is,
+    (f c.remove_below.new.root) left after at_root root_is) in
+    let value_is =
+    c.in_ok-removed.ensures.value ∙ ap (found (f c.in-Some.root)) c.as_ref.ensures
+    ∙ ap (λ o. found_in (option_map f o) w) (sym c.in-Some.is) ∙ sym (get-found before w tree)
+    ∙ ap (λ (v : Version g.row.V.Denot). value_at v w) c.self.view_is in (
+      value_is,
       ap (λ m. record { content = m; number = c.self.inside.version + c.args.more })
           (map-taken before after w tree taken)
-          ∙ ap (λ (v : Version g.row.V.Denot). without_key v w c.args.more) c.self.view_is,
+          ∙ ap (λ (v : Version g.row.V.Denot). without_key v w c.args.more) c.self.view_is
+          ∙ present-outcome c.args.self.now w c.args.more
+          (sym (ap is_some value_is) ∙ c.if-is_none.ensures),
     )
 
 pub returns-in_err-removed-clause-counted : goal.returns-in_err-removed-clause-counted
@@ -101,7 +175,7 @@ returns-in_err-removed-clause-counted g c =
     let most : path_bound (f c.in-Some.root) c.as_ref.result.now ≤ length w + 1 =
     subst (λ (k : List ℕ). path_bound (f c.in-Some.root) c.as_ref.result.now ≤ length k + 1)
     c.as_ref.ensures (path-most (f c.in-Some.root) c.as_ref.result.now) in
-    counts-most c.remove_below.ensures.counted most most
+    counts-most c.remove_below.ensures.counted (omega (arith, most)) most
 
 pub returns-clause-counted : goal.returns-clause-counted
 returns-clause-counted g c =
@@ -110,4 +184,4 @@ returns-clause-counted g c =
     let most : path_bound (f c.in-Some.root) c.as_ref.result.now ≤ length w + 1 =
     subst (λ (k : List ℕ). path_bound (f c.in-Some.root) c.as_ref.result.now ≤ length k + 1)
     c.as_ref.ensures (path-most (f c.in-Some.root) c.as_ref.result.now) in
-    counts-most c.remove_below.ensures.counted most most
+    counts-most c.remove_below.ensures.counted (omega (arith, most)) most

@@ -6,7 +6,7 @@ use Rattle.rart_below.specs.Bytes.{IsAdmitted, begins}
 use Rattle.rart_maps.specs.Pairs.{pairs}
 use Rattle.rart_node.specs.NodeShapes.{pointer_shape}
 use Rattle.rart_versioned.specs.IteratorFields.{AreAdmitted}
-use Rattle.rart_versioned.proofs.VisitLemmas.{root-reach}
+use Rattle.rart_versioned.proofs.VisitLemmas.{root-reach, root-scan}
 use Rattle.rart_versioned.proofs.IterationLemmas.{content-admitted, no-pairs, root-sound, root-pairs, root-short}
 use Rattle.rart_versioned.proofs.counted.tree.VersionedAdaptiveRadixTree.walk_under.Goals as goal
 
@@ -57,6 +57,14 @@ returns-in-Some-clause-admitted g c =
 pub returns-in-Some-clause-nodes : goal.returns-in-Some-clause-nodes
 returns-in-Some-clause-nodes g c =
     let within = root-reach (pointer_shape g.K.PartialType.Partial.bytes) g.K.KeyTrait.MAXIMUM_SIZE
+    c.self.inside.version
+    c.self.inside.root c.args.self.now c.self.invariant c.self.view_is
+    c.in-Some.root c.in-Some.is c.args.prefix.now in
+    IfOk-weaker c.under.result _ _ (λ walk most. within _ most) c.under.ensures.nodes
+
+pub returns-in-Some-clause-few : goal.returns-in-Some-clause-few
+returns-in-Some-clause-few g c =
+    let within = root-scan (pointer_shape g.K.PartialType.Partial.bytes) g.K.KeyTrait.MAXIMUM_SIZE
     c.self.inside.version
     c.self.inside.root c.args.self.now c.self.invariant c.self.view_is
     c.in-Some.root c.in-Some.is c.args.prefix.now in

@@ -1,15 +1,12 @@
 use Rattle.std.proofs.Common.{sym, subst}
 use Rattle.rart_maps.specs.Visits.{ByView, Visitable}
 use Rattle.rart_maps.proofs.VisitLemmas.{up_to-start, visits-refused}
-use Rattle.rart_versioned.proofs.counted.tree.VersionedAdaptiveRadixTree.visit_all.Goals as goal
+use Rattle.rart_versioned.proofs.counted.tree.VersionedAdaptiveRadixTree.for_each_view_counted.Goals as goal
 
-pub returns-in_err-walk : goal.returns-in_err-walk
-returns-in_err-walk g c =
+pub returns-in_err-walk-clause-visits : goal.returns-in_err-walk-clause-visits
+returns-in_err-walk-clause-visits g c =
     let start = up_to-start g.F.FnMut ByView tt c.args.f.now _ in
-    record {
-      visits = visits-refused g.F.FnMut ByView c.from_residual.result
-          c.from_residual.ensures.0 (_, start);
-    }
+    visits-refused g.F.FnMut ByView c.from_residual.result c.from_residual.ensures.0 (_, start)
 
 pub visit_views-requires-clause-visitable : goal.visit_views-requires-clause-visitable
 visit_views-requires-clause-visitable g c =

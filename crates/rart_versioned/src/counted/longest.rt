@@ -1,0 +1,40 @@
+//! The longest of the keys that begin a probe.
+ghost use Rattle.std.specs.Prelude.{◌≡◌, ◌<◌, false, IfOk, IsSome, OnErr};
+ghost use Rattle.rart_maps.specs.Bounds.{lookup_bound};
+ghost use Rattle.rart_maps.specs.Pairs.{longest_beginning};
+ghost use Rattle.rart_maps.specs.Versions.{has_no_key};
+ghost use Rattle.rart_node.specs.Counts.{CountsUpTo};
+ghost use Rattle.rart_versioned.specs.Longest.{entry_found};
+
+use crate::counted::tree::VersionedAdaptiveRadixTree;
+use rart_below::{KeyTrait, Partial};
+use rart_node::{NodeRef, Work};
+use rart_visits::longest_beginning;
+use std::alloc::AllocError;
+
+impl<K: KeyTrait, V: Clone + Drop> VersionedAdaptiveRadixTree<K, V> {
+    /// As `longest_prefix_match_k`, with the nodes entered counted into `work`: at most one more
+    /// than the probe has bytes, and at least one where there is a key in the map.
+    pub fn longest_prefix_match_k_counted(
+        &self,
+        probe: &K,
+        work: &mut Work,
+    ) -> Result<Option<(K, &V)>, AllocError>
+        ensures found { IfOk result (λ found. entry_found K.bytes found
+            ≡ longest_beginning self.now.content (K.bytes probe.now)) }
+        ensures present { OnErr result
+            (IsSome (longest_beginning self.now.content (K.bytes probe.now))) }
+        ensures counted { CountsUpTo (lookup_bound (K.bytes probe.now)) 0 work.old work.new }
+        ensures entered { has_no_key self.now ≡ false → work.old.entered < work.new.entered }
+    {
+        let Some(root) = &self.root else {
+            return Ok(None);
+        };
+        let bytes = probe.as_ref();
+        let Some((length, value)) = longest_beginning(root, bytes, work) else {
+            return Ok(None);
+        };
+        let key = K::new_from_slice(self.alloc, &bytes[..length])?;
+        Ok(Some((key, value)))
+    }
+}

@@ -1,0 +1,39 @@
+//! The longest of the keys that begin a probe, with no count.
+ghost use Rattle.std.specs.Prelude.{◌≡◌, IfOk, IsSome, OnErr};
+ghost use Rattle.rart_maps.specs.Pairs.{longest_beginning};
+ghost use Rattle.rart_versioned.specs.Longest.{entry_found};
+
+use crate::counted::VersionedAdaptiveRadixTree;
+use rart_below::KeyTrait;
+use rart_node::Work;
+use std::alloc::AllocError;
+
+impl<K: KeyTrait, V: Clone + Drop> VersionedAdaptiveRadixTree<K, V> {
+    /// The pair with the longest key that begins the probe, if there is one: the last of those that
+    /// `prefix_match_iter_k` gives. The key is a copy, the value a reference.
+    ///
+    /// ```
+    /// let route = routes.longest_prefix_match_k(&address)?;
+    /// ```
+    ///
+    /// Where no key begins the probe it takes no memory, and so isn't refused. In Rust the plain
+    /// tree alone has this call.
+    pub fn longest_prefix_match_k(&self, probe: &K) -> Result<Option<(K, &V)>, AllocError>
+        ensures found { IfOk result (λ found. entry_found K.bytes found
+            ≡ longest_beginning self.now.content (K.bytes probe.now)) }
+        ensures present { OnErr result
+            (IsSome (longest_beginning self.now.content (K.bytes probe.now))) }
+    {
+        self.longest_prefix_match_k_counted(probe, &mut Work::new())
+    }
+
+    /// As `longest_prefix_match_k`, the probe by value.
+    pub fn longest_prefix_match(&self, probe: K) -> Result<Option<(K, &V)>, AllocError>
+        ensures found { IfOk result (λ found. entry_found K.bytes found
+            ≡ longest_beginning self.now.content (K.bytes probe)) }
+        ensures present { OnErr result
+            (IsSome (longest_beginning self.now.content (K.bytes probe))) }
+    {
+        self.longest_prefix_match_k(&probe)
+    }
+}

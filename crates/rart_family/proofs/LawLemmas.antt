@@ -4,7 +4,7 @@ use Rattle.std.proofs.lemmas.List.{length-append}
 use Rattle.std.specs.Prelude.{Option, Some, None, slice_get, slice_set}
 use Rattle.rart_maps.specs.Versions.{Version, with_rise}
 use Rattle.rart_family.specs.declared.family.command.Command.{Command}
-use Rattle.rart_family.specs.declared.family.command.Command.TheVariants.{New, NewAt, Snapshot, Duplicate, Discard, Version as NumberOf, IsEmpty, Get, GetMut, Insert, Replace, Remove, Delete, Update, TryUpdate, Iter, Values as ValuesOf, Range, Prefix, Matches, MatchesEach, Views, PrefixViews, RangeViews, PrefixValues, Until, Intersect, IntersectViews, IntersectValues, IntersectCount, Flatten}
+use Rattle.rart_family.specs.declared.family.command.Command.TheVariants.{New, NewAt, Snapshot, Duplicate, Discard, Version as NumberOf, IsEmpty, Get, GetMut, Insert, Replace, Remove, Delete, Update, TryUpdate, Iter, Values as ValuesOf, Range, Prefix, Matches, MatchesEach, Views, PrefixViews, RangeViews, PrefixValues, Until, Intersect, IntersectViews, IntersectValues, IntersectCount, Flatten, Longest}
 use Rattle.rart_family.specs.Replies.{Reply, NoRoom}
 use Rattle.rart_family.specs.Families.{Family, Outcome, call_outcome, placement, meet_outcome, change_outcome, version_at, after}
 use Rattle.rart_family.specs.Runs.{Step, Run}
@@ -116,6 +116,8 @@ module _ {K V : Type 0} (bytes : K → List ℕ) where
   kept_after f P same push (IntersectValues left right) set = kept_met f P same left right _
   kept_after f P same push (IntersectCount left right) set = kept_met f P same left right _
   kept_after f P same push (Flatten place) set =
+      kept_called f P same _ (λ v. same) (version_at f place)
+  kept_after f P same push (Longest place key) set =
       kept_called f P same _ (λ v. same) (version_at f place)
 
   -- The same after a step.

@@ -8,7 +8,7 @@ use Rattle.rart_maps.specs.Versions.{Map, Version}
 use Rattle.rart_maps.specs.Pairs.{common}
 use Rattle.rart_maps.proofs.PairLawLemmas.{common_swaps}
 use Rattle.rart_family.specs.declared.family.command.Command.{Command}
-use Rattle.rart_family.specs.declared.family.command.Command.TheVariants.{Version as NumberOf, IsEmpty, Get, Iter, Values as ValuesOf, Range, Prefix, Matches, MatchesEach, Views, PrefixViews, RangeViews, PrefixValues, Until, Intersect, IntersectViews, IntersectValues, IntersectCount, Flatten}
+use Rattle.rart_family.specs.declared.family.command.Command.TheVariants.{Version as NumberOf, IsEmpty, Get, Iter, Values as ValuesOf, Range, Prefix, Matches, MatchesEach, Views, PrefixViews, RangeViews, PrefixValues, Until, Intersect, IntersectViews, IntersectValues, IntersectCount, Flatten, Longest}
 use Rattle.rart_family.specs.Replies.{Reply, Pairs, ValuePairs, Count, NoVersion}
 use Rattle.rart_family.specs.Families.{Family, Outcome, call_outcome, value_pairs_of, meet_outcome, version_at, after}
 use Rattle.rart_family.specs.Laws.{swapped_reply, OnlyReads, ReadsLeaveFamily, VisitorsReplyAsIterators, IntersectionsSwap}
@@ -49,6 +49,7 @@ module _ {K V : Type 0} (bytes : K → List ℕ) where
   after_reading f (IntersectCount left right) reads =
       met_leaves f _ (version_at f left) (version_at f right)
   after_reading f (Flatten place) reads = called_leaves f _ (version_at f place)
+  after_reading f (Longest place key) reads = called_leaves f _ (version_at f place)
   after_reading f c reads = absurd reads
 
 -- Where what is replied of two versions in turn is what is replied of them swapped, so it is where

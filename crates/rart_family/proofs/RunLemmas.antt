@@ -5,7 +5,7 @@ use Rattle.std.specs.Prelude.{Option, Some, None, Result, Ok, Err}
 use Rattle.rart_maps.specs.Versions.{Version}
 use Rattle.rart_family.specs.declared.family.command.Failure.{Failure}
 use Rattle.rart_family.specs.declared.family.command.Command.{Command}
-use Rattle.rart_family.specs.declared.family.command.Command.TheVariants.{New, NewAt, Snapshot, Duplicate, Discard, Version as NumberOf, IsEmpty, Get, GetMut, Insert, Replace, Remove, Delete, Update, TryUpdate, Iter, Values as ValuesOf, Range, Prefix, Matches, MatchesEach, Views, PrefixViews, RangeViews, PrefixValues, Until, Intersect, IntersectViews, IntersectValues, IntersectCount, Flatten}
+use Rattle.rart_family.specs.declared.family.command.Command.TheVariants.{New, NewAt, Snapshot, Duplicate, Discard, Version as NumberOf, IsEmpty, Get, GetMut, Insert, Replace, Remove, Delete, Update, TryUpdate, Iter, Values as ValuesOf, Range, Prefix, Matches, MatchesEach, Views, PrefixViews, RangeViews, PrefixValues, Until, Intersect, IntersectViews, IntersectValues, IntersectCount, Flatten, Longest}
 use Rattle.rart_family.specs.Replies.{Reply, Stopped, NoMemory}
 use Rattle.rart_family.specs.Families.{Family, Outcome, call_outcome, meet_outcome, tried_reply, is_reached, stopped, version_at, reply_to, after}
 use Rattle.rart_family.specs.Runs.{Step, Run, next}
@@ -83,6 +83,7 @@ module _ {K V : Type 0} (bytes : K → List ℕ) where
   reply_is_no_want f (IntersectValues left right) = met_tells f _ (λ one other. refl) left right
   reply_is_no_want f (IntersectCount left right) = met_tells f _ (λ one other. refl) left right
   reply_is_no_want f (Flatten place) = called_tells f _ (λ v. refl) (version_at f place)
+  reply_is_no_want f (Longest place key) = called_tells f _ (λ v. refl) (version_at f place)
 
   next_after : (f : Family V) (c : Command K V) (r : Reply V) → is_no_memory r ≡ false
       → next bytes f c r ≡ after bytes f c

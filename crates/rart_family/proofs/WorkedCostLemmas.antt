@@ -10,7 +10,7 @@ use Rattle.rart_maps.proofs.PairLawLemmas.{shared_is_empty}
 use Rattle.rart_family.proofs.WorkedRunLemmas.{abc_alone, abc-left}
 use Rattle.rart_maps.proofs.MapLemmas.{maps, sets}
 use Rattle.rart_family.specs.Families.{Family}
-use Rattle.rart_family.specs.WorkedCosts.{RefusedMemoryIsARun, SnapshotCosts, ChangesApartCost, CloneCosts, ReplacementsCost, AbsentRemovalCosts, DeletionCosts, FailedUpdateCosts, DiscardedPlaceCosts, WrittenAndInsertedCosts, RoomForOneCosts, RoomForTwoCosts, InsertionByUpdateCosts, WrittenAndRemovedCosts, RefusedMemoryCosts, NumbersOfRemovalsCost, UpdatesOfAnAbsentKeyCost, ListsCost, VisitsCost, FlatteningCosts, IntersectionsCost, IntersectionAfterDeletionCosts, EmptyIntersectionsCost, BeginningsCost, LostPlacesCost}
+use Rattle.rart_family.specs.WorkedCosts.{RefusedMemoryIsARun, SnapshotCosts, ChangesApartCost, CloneCosts, ReplacementsCost, AbsentRemovalCosts, DeletionCosts, FailedUpdateCosts, DiscardedPlaceCosts, WrittenAndInsertedCosts, RoomForOneCosts, RoomForTwoCosts, InsertionByUpdateCosts, WrittenAndRemovedCosts, RefusedMemoryCosts, NumbersOfRemovalsCost, UpdatesOfAnAbsentKeyCost, ListsCost, VisitsCost, FlatteningCosts, IntersectionsCost, IntersectionAfterDeletionCosts, EmptyIntersectionsCost, BeginningsCost, LostPlacesCost, LongestMatchesCost}
 
 pub snapshot_costs : SnapshotCosts
 snapshot_costs = simp gets refl
@@ -176,3 +176,6 @@ module _ where
 
 pub lost_places_cost : LostPlacesCost
 lost_places_cost = simp (gets, one-meets_five, five-meets_five) refl
+
+pub longest_matches_cost : LongestMatchesCost
+longest_matches_cost = simp gets refl

@@ -2,7 +2,7 @@
 use Rattle.std.specs.Prelude.{◌≡◌, ◌≢◌, ℕ, ◌<◌, ◌≤◌, false, List, length, map, Option, Some, None, slice_get, IfSome, ◌⊎◌, ⊤}
 use Rattle.std.specs.declared.ops.Bound.{Bound}
 use Rattle.rart_family.specs.declared.family.command.Command.{Command}
-use Rattle.rart_family.specs.declared.family.command.Command.TheVariants.{Discard, Version as NumberOf, IsEmpty, Get, GetMut, Insert, Replace, Remove, Delete, Update, TryUpdate, Iter, Values as ValuesOf, Range, Prefix, Matches, MatchesEach, Views, PrefixViews, RangeViews, PrefixValues, Until, Intersect, IntersectViews, IntersectValues, IntersectCount, Flatten}
+use Rattle.rart_family.specs.declared.family.command.Command.TheVariants.{Discard, Version as NumberOf, IsEmpty, Get, GetMut, Insert, Replace, Remove, Delete, Update, TryUpdate, Iter, Values as ValuesOf, Range, Prefix, Matches, MatchesEach, Views, PrefixViews, RangeViews, PrefixValues, Until, Intersect, IntersectViews, IntersectValues, IntersectCount, Flatten, Longest}
 use Rattle.rart_maps.specs.Versions.{has_key}
 use Rattle.rart_family.specs.Replies.{Reply, Pairs, ValuePairs, NoVersion, NoRoom, NoMemory}
 use Rattle.rart_family.specs.Families.{Family, version_at, reply_to}
@@ -41,6 +41,7 @@ OnlyReads (IntersectViews left right) = ⊤
 OnlyReads (IntersectValues left right) = ⊤
 OnlyReads (IntersectCount left right) = ⊤
 OnlyReads (Flatten place) = ⊤
+OnlyReads (Longest place key) = ⊤
 OnlyReads c = ⊥
 
 -- a reply with the two values of each key swapped

@@ -5,7 +5,7 @@ use Rattle.rart_family.specs.Replies.{Place, Flag, Value, NoVersion, NoMemory}
 use Rattle.rart_family.specs.Families.{Family}
 use Rattle.rart_family.specs.Runs.{Run}
 use Rattle.rart_family.specs.Costs.{read_cost, read_least, change_cost, change_least, touch_least}
-use Rattle.rart_family.specs.WorkedRuns.{WorkedRun, snapshot_of_a_value, changes_apart, clone_and_snapshot, replacements, removal_of_an_absent_key, deletion_beside_a_snapshot, failed_update, discarded_place, written_and_inserted, room_for_one, room_for_two, insertion_by_update, written_and_removed, numbers_of_removals, updates_of_an_absent_key, lists_of_two_versions, visits_of_a_version, flattened_version, keys_of_both, key_of_both_after_deletion, empty_beside_a_key, keys_that_begin_others, intersections_of_lost_places}
+use Rattle.rart_family.specs.WorkedRuns.{WorkedRun, snapshot_of_a_value, changes_apart, clone_and_snapshot, replacements, removal_of_an_absent_key, deletion_beside_a_snapshot, failed_update, discarded_place, written_and_inserted, room_for_one, room_for_two, insertion_by_update, written_and_removed, numbers_of_removals, updates_of_an_absent_key, lists_of_two_versions, visits_of_a_version, flattened_version, keys_of_both, key_of_both_after_deletion, empty_beside_a_key, keys_that_begin_others, intersections_of_lost_places, longest_matches}
 
 -- The sums of a run: how many nodes it enters to read, makes to change and enters to change.
 pub record Sums : Type 0 where
@@ -130,6 +130,10 @@ BeginningsCost = Costs keys_that_begin_others 8 62 6 38 4
 -- Two strings, "" and a, in two intersections. Where a version is lacking none is entered.
 abbrev pub LostPlacesCost : Type 0
 LostPlacesCost = Costs intersections_of_lost_places 4 8 2 6 1
+
+-- A longest match costs nothing; four insertions, the first into a version without a key.
+abbrev pub LongestMatchesCost : Type 0
+LongestMatchesCost = Costs longest_matches 0 0 4 21 3
 
 -- What is refused for memory leaves the family; and then there is no version at place 1.
 abbrev pub refused_memory : WorkedRun

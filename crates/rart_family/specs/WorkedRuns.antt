@@ -3,7 +3,7 @@ use Rattle.std.specs.Prelude.{◌≡◌, ℕ, true, false, List, [], ◌∷◌, 
 use Rattle.std.specs.declared.ops.Bound.TheVariants.{Included, Excluded, Unbounded}
 use Rattle.rart_versioned.specs.SlotUpdate.TheVariants.{Keep, Insert as Put, Remove as TakeOut}
 use Rattle.rart_family.specs.declared.family.command.Command.{Command}
-use Rattle.rart_family.specs.declared.family.command.Command.TheVariants.{New, NewAt, Snapshot, Duplicate, Discard, Version as NumberOf, IsEmpty, Get, GetMut, Insert, Replace, Remove, Delete, Update, TryUpdate, Iter, Values as ValuesOf, Range, Prefix, Matches, MatchesEach, Views, PrefixViews, RangeViews, PrefixValues, Until, Intersect, IntersectViews, IntersectValues, IntersectCount, Flatten}
+use Rattle.rart_family.specs.declared.family.command.Command.TheVariants.{New, NewAt, Snapshot, Duplicate, Discard, Version as NumberOf, IsEmpty, Get, GetMut, Insert, Replace, Remove, Delete, Update, TryUpdate, Iter, Values as ValuesOf, Range, Prefix, Matches, MatchesEach, Views, PrefixViews, RangeViews, PrefixValues, Until, Intersect, IntersectViews, IntersectValues, IntersectCount, Flatten, Longest}
 use Rattle.rart_family.specs.Replies.{Reply, Place, Discarded, Number, Flag, Value, Entries, Values, Stopped, Pairs, ValuePairs, Count, Failed, NoVersion, NoRoom}
 use Rattle.rart_family.specs.Families.{Family, reply_to, after}
 
@@ -321,3 +321,18 @@ intersections_of_lost_places = (
 -- Where either place has no version there is no intersection; and an intersection changes nothing.
 abbrev pub IntersectionNeedsBothVersions : Type 0
 IntersectionNeedsBothVersions = IsReplied intersections_of_lost_places
+
+abbrev pub longest_matches : WorkedRun
+longest_matches = (
+  New ∷ Longest 0 (codes "cat") ∷ Insert 0 (codes "cat") 1 ∷ Insert 0 (codes "catalog") 2 ∷
+      Insert 0 (codes "dog") 3 ∷ Longest 0 (codes "catalogue") ∷ Longest 0 (codes "cat") ∷
+      Longest 0 (codes "zoo") ∷ Insert 0 [] 0 ∷ Longest 0 (codes "zoo") ∷ Longest 1 (codes "cat") ∷
+      Discard 0 ∷ Longest 0 (codes "cat") ∷ [],
+  Place 0 ∷ Entries [] ∷ Flag false ∷ Flag false ∷ Flag false ∷
+      Entries ((codes "catalog", 2) ∷ []) ∷ Entries ((codes "cat", 1) ∷ []) ∷ Entries [] ∷
+      Flag false ∷ Entries (([], 0) ∷ []) ∷ NoVersion ∷ Discarded ∷ NoVersion ∷ [],
+)
+
+-- The longest key that begins the probe is given alone, which is the empty one where no other does.
+abbrev pub LongestMatchIsAlone : Type 0
+LongestMatchIsAlone = IsReplied longest_matches

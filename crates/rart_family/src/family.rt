@@ -212,6 +212,7 @@ impl<K: KeyTrait, V: Clone + Drop> Family<K, V> {
                 Ok(self.intersect_count(*left, *right, reads))
             }
             Command::Flatten { place } => self.flatten(*place),
+            Command::Longest { place, key } => self.longest(*place, key),
         }
     }
 

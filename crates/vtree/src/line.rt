@@ -58,6 +58,7 @@ impl From<AllocError> for LineError {
 /// | `intersect P P`, `intersect-views P P` | `Intersect`, `IntersectViews` |
 /// | `intersect-values P P`, `intersect-count P P` | `IntersectValues`, `IntersectCount` |
 /// | `flatten P` | `Flatten` |
+/// | `longest P K` | `Longest` |
 pub fn parse(alloc: Global, line: &[u8]) -> Result<LineCommand, LineError> {
     let words = words_of(line)?;
     match words.as_slice() {
@@ -169,6 +170,7 @@ fn parse_bare_key_command(
         b"prefix-values" => Ok(Command::PrefixValues { place, prefix: key }),
         b"matches" => Ok(Command::Matches { place, key }),
         b"matches-each" => Ok(Command::MatchesEach { place, key }),
+        b"longest" => Ok(Command::Longest { place, key }),
         _ => Err(LineError::Bad),
     }
 }

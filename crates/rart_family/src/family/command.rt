@@ -175,6 +175,11 @@ pub enum Command<K, V> {
     Flatten {
         place: usize,
     },
+    /// The longest key that begins this one, with its value: `Entries`, of one or none.
+    Longest {
+        place: usize,
+        key: K,
+    },
 }
 
 /// The error of a callback of `Command::TryUpdate` or `Command::Until`.

@@ -1,4 +1,4 @@
-// Commands that list what a version has, by its iterators.
+// Commands that list what a version has, by its iterators, or the longest match alone.
 ghost use Rattle.std.specs.Prelude.{◌≡◌, List, ℕ, IfOk};
 ghost use Rattle.std.specs.Iterator.{IsFinite};
 ghost use Rattle.std.specs.Range.Bound.{bound_map};
@@ -6,7 +6,7 @@ ghost use Rattle.rart_maps.specs.Iterations.{ByKey, ByReference};
 ghost use Rattle.rart_versioned.specs.Clones.{ClonesEqual};
 ghost use Rattle.rart_family.specs.Attempts.{Tries};
 ghost use Rattle.rart_family.specs.Collections.{pairs_of, GivesAll};
-ghost use Rattle.rart_family.specs.declared.family.command.Command.TheVariants.{Iter, Values, Range, Prefix, Matches};
+ghost use Rattle.rart_family.specs.declared.family.command.Command.TheVariants.{Iter, Values, Range, Prefix, Matches, Longest};
 
 use super::{Family, Reply};
 use rart_versioned::KeyTrait;
@@ -73,6 +73,20 @@ impl<K: KeyTrait, V: Clone + Drop> Family<K, V> {
             return Ok(Reply::NoVersion);
         };
         let entries = entries_of(self.alloc, version.prefix_match_iter_k(key)?)?;
+        Ok(Reply::Entries(entries))
+    }
+
+    pub(super) fn longest(&self, place: usize, key: &K) -> Result<Reply<K, V>, AllocError>
+        requires clones { ClonesEqual V.is_clone }
+        ensures { Tries K.bytes self.now (Longest place key.now) result self.now }
+    {
+        let Some(version) = self.version_at(place) else {
+            return Ok(Reply::NoVersion);
+        };
+        let mut entries = Vec::new(self.alloc);
+        if let Some((key, value)) = version.longest_prefix_match_k(key)? {
+            entries.push((key, value.clone()?))?;
+        }
         Ok(Reply::Entries(entries))
     }
 }

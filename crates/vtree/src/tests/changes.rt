@@ -134,3 +134,35 @@ fn empty_key_is_a_key(rt: HostRuntime) -> Result<(), Fail> {
         Served::Clean,
     )
 }
+
+// A node that is left with no value and one child is merged with it: the walk, the snapshot and an
+// insertion of what was removed are as before.
+#[test]
+fn removal_merges_and_the_keys_come_back(rt: HostRuntime) -> Result<(), Fail> {
+    assert_served(
+        &rt,
+        rt.alloc(),
+        "new / insert 0 'ab 1 / insert 0 'abc 2 / insert 0 'abd 3 / snapshot 0 / \
+         delete 0 'ab / delete 0 'abc / iter 0 / iter 1 / prefix 0 'a / intersect 0 1 / \
+         insert 0 'ab 4 / iter 0",
+        "at 0 / false / false / false / at 1 / true / true / entries 'abd 3 / \
+         entries 'ab 1 'abc 2 'abd 3 / entries 'abd 3 / pairs 'abd 3 3 / false / \
+         entries 'ab 4 'abd 3",
+        Served::Clean,
+    )
+}
+
+#[test]
+fn removal_merges_in_the_other_order(rt: HostRuntime) -> Result<(), Fail> {
+    assert_served(
+        &rt,
+        rt.alloc(),
+        "new / insert 0 'ab 1 / insert 0 'abc 2 / insert 0 'abd 3 / snapshot 0 / \
+         delete 0 'abc / delete 0 'ab / iter 0 / iter 1 / prefix 0 'a / intersect 0 1 / \
+         insert 0 'ab 4 / insert 0 'abc 5 / iter 0",
+        "at 0 / false / false / false / at 1 / true / true / entries 'abd 3 / \
+         entries 'ab 1 'abc 2 'abd 3 / entries 'abd 3 / pairs 'abd 3 3 / false / false / \
+         entries 'ab 4 'abc 5 'abd 3",
+        Served::Clean,
+    )
+}

@@ -44,6 +44,12 @@ fn lines_with_a_prefix_or_a_probe_name_their_commands(rt: HostRuntime) -> Result
     assert!(rt; matches!(parse(alloc, b"matches 1 'a"), Ok(Command::Matches { .. })));
     assert!(rt;
         matches!(
+            parse(alloc, b"longest 1 'a"),
+            Ok(Command::Longest { place: 1, .. })
+        )
+    );
+    assert!(rt;
+        matches!(
             parse(alloc, b"matches-each 1 'a"),
             Ok(Command::MatchesEach { .. })
         )

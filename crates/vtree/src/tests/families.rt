@@ -117,6 +117,10 @@ fn keyed<K: KeyTrait>(
             place: *place,
             key: key_of(alloc, *key)?,
         },
+        Command::Longest { place, key } => Command::Longest {
+            place: *place,
+            key: key_of(alloc, *key)?,
+        },
         Command::Views { place } => Command::Views { place: *place },
         Command::Flatten { place } => Command::Flatten { place: *place },
         Command::Intersect { left, right } => Command::Intersect {

@@ -53,9 +53,10 @@ fn each_walk_has_its_count_of_words(rt: HostRuntime) -> Result<(), Fail> {
         "new / iter / iter 0 0 / values / values 0 'a / views / views 0 - / range 0 / range 0 - / \
          range 0 - - - / range-views 0 - / range-views 0 i'a x'b - / prefix 0 / prefix 0 'a 'b / \
          prefix-views 0 / prefix-values 0 'a 1 / matches 0 / matches 0 'a 1 / matches-each 0 / \
-         until 0 'a / until 0 'a 1 / until 0 'a stop / until 0 'a 1 stop 1 / flatten / flatten 0 0",
+         until 0 'a / until 0 'a 1 / until 0 'a stop / until 0 'a 1 stop 1 / flatten / \
+         flatten 0 0 / longest 0 / longest 0 'a 1",
         "at 0 / bad line / bad line / bad line / bad line / bad line / bad line / bad line / \
-         bad line / bad line / bad line / \
+         bad line / bad line / bad line / bad line / bad line / \
          bad line / bad line / bad line / bad line / bad line / bad line / bad line / bad line / \
          bad line / bad line / bad line / bad line / bad line / bad line",
         Served::BadLine,
@@ -179,7 +180,7 @@ fn longest_line_is_a_good_one(rt: HostRuntime) -> Result<(), Fail> {
 #[test]
 fn long_line_is_skipped_to_its_end(rt: HostRuntime) -> Result<(), Fail> {
     let alloc = rt.alloc();
-    for length in [200, 201, 1000] {
+    for length in [199, 200, 201, 1000, 1_000_000] {
         let mut letters = String::new(alloc);
         for _ in 0..length {
             letters.push('n')?;

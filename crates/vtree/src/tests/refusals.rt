@@ -39,9 +39,10 @@ fn walks_of_a_place_past_the_last_one_have_no_version(rt: HostRuntime) -> Result
         rt.alloc(),
         "new / iter 1 / values 1 / range 1 - - / prefix 1 ' / matches 1 ' / matches-each 1 ' / \
          views 1 / prefix-views 1 ' / range-views 1 - - / prefix-values 1 ' / until 1 ' 1 stop / \
-         flatten 1",
+         flatten 1 / longest 1 '",
         "at 0 / no version / no version / no version / no version / no version / no version / \
-         no version / no version / no version / no version / no version / no version",
+         no version / no version / no version / no version / no version / no version / \
+         no version",
         Served::Clean,
     )
 }
@@ -53,10 +54,10 @@ fn walks_of_a_discarded_place_have_no_version(rt: HostRuntime) -> Result<(), Fai
         rt.alloc(),
         "new / insert 0 'a 1 / discard 0 / iter 0 / values 0 / range 0 i'a i'a / prefix 0 'a / \
          matches 0 'a / matches-each 0 'a / views 0 / prefix-views 0 'a / range-views 0 i'a i'a / \
-         prefix-values 0 'a / until 0 'a 1 fail / flatten 0",
+         prefix-values 0 'a / until 0 'a 1 fail / flatten 0 / longest 0 'a",
         "at 0 / false / discarded / no version / no version / no version / no version / \
          no version / no version / no version / no version / no version / no version / \
-         no version / no version",
+         no version / no version / no version",
         Served::Clean,
     )
 }

@@ -1,5 +1,5 @@
 // A reader and a writer that fail.
-use crate::server::{ServeError, serve};
+use crate::server::{ServeError, Served, serve};
 use std::io::{self, Read, Write};
 use std::test::Fail;
 
@@ -72,5 +72,74 @@ fn failed_write_of_a_bad_line_ends_the_serving(rt: HostRuntime) -> Result<(), Fa
     let served = serve(rt.alloc(), b"old\nnew\n".as_slice(), &mut writer);
     assert_eq!(rt; writer.taken.as_slice(), b"bad".as_slice());
     assert!(rt; served == Err(ServeError::Write));
+    Ok(())
+}
+
+// Twenty lines, and their replies.
+const LINES: &str = "new\ninsert 0 'abc 1\ninsert 0 'abd 2\nsnapshot 0\ninsert 0 'abe 3\n\
+                     get 1 'abe\nget 0 'abe\nversion 0\nversion 1\niter 0\nvalues 1\n\
+                     replace 0 'abc 9\nintersect 0 1\nintersect-count 0 1\nprefix 0 'abd\n\
+                     delete 1 'abd\ntry-update 0 'abd 7 fail\nflatten 1\ndiscard 0\nempty 0\n";
+
+const REPLIES: &str = "at 0\nfalse\nfalse\nat 1\nfalse\nnone\nsome 3\nversion 3\nversion 3\n\
+                       entries 'abc 1 'abd 2 'abe 3\nvalues 1 2\nsome 1\n\
+                       pairs 'abc 9 1 'abd 2 2\ncount 2\nentries 'abd 2\ntrue\nfailed\n\
+                       entries 'abc 1\ndiscarded\nno version\n";
+
+// The bytes of the first lines of a text.
+fn first_lines(text: &[u8], count: usize) -> &[u8] {
+    let mut left = count;
+    for (place, byte) in text.iter().enumerate() {
+        if left == 0 {
+            return &text[..place];
+        }
+        if *byte == b'\n' {
+            left -= 1;
+        }
+    }
+    text
+}
+
+// An unfinished line is given up.
+#[test]
+fn read_that_fails_at_any_byte_leaves_the_replies_before_it(rt: HostRuntime) -> Result<(), Fail> {
+    let mut whole = 0_usize;
+    for (place, byte) in LINES.as_bytes().iter().enumerate() {
+        let reader = FailingReader {
+            bytes: &LINES.as_bytes()[..place],
+        };
+        let mut output = Vec::new(rt.alloc());
+        let served = serve(rt.alloc(), reader, &mut output);
+        assert_eq!(rt;
+            output.as_slice(),
+            first_lines(REPLIES.as_bytes(), whole),
+            "at {place}"
+        );
+        assert!(rt; served == Err(ServeError::Read), "at {place}");
+        if *byte == b'\n' {
+            whole = whole.saturating_add(1);
+        }
+    }
+    assert_eq!(rt; whole, 20);
+    Ok(())
+}
+
+#[test]
+fn write_that_fails_at_any_byte_leaves_the_bytes_before_it(rt: HostRuntime) -> Result<(), Fail> {
+    let replies = REPLIES.as_bytes();
+    for most in 0..=replies.len() {
+        let mut writer = FailingWriter {
+            taken: Vec::new(rt.alloc()),
+            most,
+        };
+        let served = serve(rt.alloc(), LINES.as_bytes(), &mut writer);
+        assert_eq!(rt; writer.taken.as_slice(), &replies[..most], "at {most}");
+        let wanted = if most < replies.len() {
+            Err(ServeError::Write)
+        } else {
+            Ok(Served::Clean)
+        };
+        assert!(rt; served == wanted, "at {most}");
+    }
     Ok(())
 }

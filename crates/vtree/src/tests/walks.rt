@@ -195,3 +195,29 @@ fn flattened_version_without_a_key_has_no_entry(rt: HostRuntime) -> Result<(), F
         Served::Clean,
     )
 }
+
+#[test]
+fn longest_match_is_listed_alone(rt: HostRuntime) -> Result<(), Fail> {
+    assert_served(
+        &rt,
+        rt.alloc(),
+        "new / longest 0 'cat / insert 0 'cat 1 / insert 0 'catalog 2 / insert 0 'dog 3 / \
+         longest 0 'catalogue / longest 0 'cat / longest 0 'zoo / insert 0 ' 0 / longest 0 'zoo",
+        "at 0 / entries / false / false / false / entries 'catalog 2 / entries 'cat 1 / \
+         entries / false / entries ' 0",
+        Served::Clean,
+    )
+}
+
+#[test]
+fn longest_match_leaves_its_version(rt: HostRuntime) -> Result<(), Fail> {
+    assert_served(
+        &rt,
+        rt.alloc(),
+        "new-at 7 / insert 0 'a 1 / snapshot 0 / insert 1 'ab 2 / longest 0 'abc / \
+         longest 1 'abc / delete 1 'ab / longest 1 'abc / version 0 / version 1",
+        "at 0 / false / at 1 / false / entries 'a 1 / entries 'ab 2 / true / entries 'a 1 / \
+         version 8 / version 11",
+        Served::Clean,
+    )
+}

@@ -1,4 +1,4 @@
-use Rattle.rart_family.proofs.WorkedCostLemmas.{snapshot_costs, changes_apart_cost, clone_costs, replacements_cost, absent_removal_costs, deletion_costs, failed_update_costs, discarded_place_costs, written_and_inserted_costs, room_for_one_costs, room_for_two_costs, insertion_by_update_costs, written_and_removed_costs, refused_memory_costs, refused_memory_is_a_run, numbers_of_removals_cost, updates_of_an_absent_key_cost, lists_cost, visits_cost, flattening_costs, intersections_cost, intersection_after_deletion_costs, empty_intersections_cost, beginnings_cost, lost_places_cost}
+use Rattle.rart_family.proofs.WorkedCostLemmas.{snapshot_costs, changes_apart_cost, clone_costs, replacements_cost, absent_removal_costs, deletion_costs, failed_update_costs, discarded_place_costs, written_and_inserted_costs, room_for_one_costs, room_for_two_costs, insertion_by_update_costs, written_and_removed_costs, refused_memory_costs, refused_memory_is_a_run, numbers_of_removals_cost, updates_of_an_absent_key_cost, lists_cost, visits_cost, flattening_costs, intersections_cost, intersection_after_deletion_costs, empty_intersections_cost, beginnings_cost, lost_places_cost, longest_matches_cost}
 use Rattle.rart_family.proofs.laws.worked_costs.Goals as goal
 
 pub returns-clause-snapshot_costs : goal.returns-clause-snapshot_costs
@@ -76,3 +76,6 @@ returns-clause-beginnings_cost c = beginnings_cost
 
 pub returns-clause-lost_places_cost : goal.returns-clause-lost_places_cost
 returns-clause-lost_places_cost c = lost_places_cost
+
+pub returns-clause-longest_matches_cost : goal.returns-clause-longest_matches_cost
+returns-clause-longest_matches_cost c = longest_matches_cost

@@ -1,4 +1,4 @@
-use Rattle.rart_family.proofs.WorkedRunLemmas.{snapshot_keeps_its_value, changes_stay_apart, clone_keeps_number, replacement_gives_old_value, absent_key_stays_absent, deletion_is_not_seen_in_snapshot, failed_update_keeps_value, discarded_place_is_not_used_again, answer_outweighs_write, room_is_asked, room_two_is_asked, insertion_by_update_takes_one, removal_outweighs_write, removals_raise_number, updates_of_an_absent_key, lists_are_of_one_version, visits_are_counted_from_one, flattening_leaves_its_version, intersection_has_keys_of_both, deleted_key_is_in_no_intersection, empty_version_meets_nothing, beginning_is_no_key_of_both, intersection_needs_both_versions}
+use Rattle.rart_family.proofs.WorkedRunLemmas.{snapshot_keeps_its_value, changes_stay_apart, clone_keeps_number, replacement_gives_old_value, absent_key_stays_absent, deletion_is_not_seen_in_snapshot, failed_update_keeps_value, discarded_place_is_not_used_again, answer_outweighs_write, room_is_asked, room_two_is_asked, insertion_by_update_takes_one, removal_outweighs_write, removals_raise_number, updates_of_an_absent_key, lists_are_of_one_version, visits_are_counted_from_one, flattening_leaves_its_version, intersection_has_keys_of_both, deleted_key_is_in_no_intersection, empty_version_meets_nothing, beginning_is_no_key_of_both, intersection_needs_both_versions, longest_match_is_alone}
 use Rattle.rart_family.proofs.laws.worked_runs.Goals as goal
 
 pub returns-clause-snapshot_keeps_its_value : goal.returns-clause-snapshot_keeps_its_value
@@ -74,3 +74,6 @@ returns-clause-beginning_is_no_key_of_both c = beginning_is_no_key_of_both
 pub returns-clause-intersection_needs_both_versions
     : goal.returns-clause-intersection_needs_both_versions
 returns-clause-intersection_needs_both_versions c = intersection_needs_both_versions
+
+pub returns-clause-longest_match_is_alone : goal.returns-clause-longest_match_is_alone
+returns-clause-longest_match_is_alone c = longest_match_is_alone

@@ -4,6 +4,7 @@
 mod bucket;
 mod buckets;
 mod dense;
+mod dropped;
 mod heap;
 mod interpreter;
 mod intersections;
@@ -16,3 +17,4 @@ mod unversioned;
 mod updates;
 mod visitors;
 mod walks;
+mod wide;

@@ -68,7 +68,7 @@ impl<K: KeyTrait> Versions<K> {
         };
         let all = keys.all(self.alloc)?;
         let entries = numbered(self.alloc, keys, all.as_slice())?;
-        visits::views(tree, entries.as_slice())
+        visits::views(tree, Form::ByReference, entries.as_slice())
     }
 
     /// Whether `into_unversioned` of the last version, which is taken off the list, has these keys
@@ -246,7 +246,7 @@ fn visited<K: KeyTrait>(
     entries: &[Pair],
 ) -> Result<Answer, AllocError> {
     let bytes = match visit {
-        Visit::Views => return visits::views(tree, entries),
+        Visit::Views => return visits::views(tree, form, entries),
         Visit::RangeViews(low, high) => {
             let (Some(low), Some(high)) = (bound_of(alloc, low)?, bound_of(alloc, high)?) else {
                 return Ok(Answer::KeyTooLong);

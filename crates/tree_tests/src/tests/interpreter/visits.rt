@@ -68,11 +68,18 @@ impl<'a> Wanted<'a> {
     }
 }
 
-/// Calls `for_each_view`.
-pub fn views<K: KeyTrait>(tree: &Tree<K>, entries: &[Pair]) -> Result<Answer, AllocError> {
+/// Calls `for_each_view`, with work or without.
+pub fn views<K: KeyTrait>(
+    tree: &Tree<K>,
+    form: Form,
+    entries: &[Pair],
+) -> Result<Answer, AllocError> {
     let mut wanted = Wanted::new(entries);
     let mut show = |key: LendingKeyView<'_, '_>, value: &u64| wanted.show_view(&key, *value);
-    tree.for_each_view(&mut show)?;
+    match form {
+        Form::ByValue | Form::ByReference => tree.for_each_view(&mut show)?,
+        Form::WithWork => tree.for_each_view_counted(&mut show, &mut Work::new())?,
+    }
     Ok(wanted.answer())
 }
 

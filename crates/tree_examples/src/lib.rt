@@ -4,6 +4,7 @@
 #![tactic(auto)]
 
 pub mod listing;
+pub mod meeting;
 pub mod prices;
 pub mod stock;
 #[cfg(test)]

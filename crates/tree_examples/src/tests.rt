@@ -2,6 +2,7 @@
 use crate::listing::{
     all_prices, follows_a_refusal, listing, listing_along, listing_between, listing_under,
 };
+use crate::meeting::{PricedTwice, prices_both_ways, prices_of_both};
 use crate::prices::{PriceList, before_and_after, set_price, set_price_counted, try_set_price};
 use crate::stock::{Stock, add};
 use crate::values::{Numbers, Readings, Text, Titles, keep, retitle};
@@ -148,5 +149,37 @@ fn part_of_a_list_is_read(rt: HostRuntime) -> Result<(), Fail> {
     let along = listing_along(alloc, &list, &key(alloc, "teapots")?)?;
     let wanted: [(&[u8], u64); 2] = [(b"tea", 300), (b"teapot", 1200)];
     assert_lines(&rt, along.as_slice(), wanted.as_slice());
+    Ok(())
+}
+
+// A list with these prices.
+fn list_of(alloc: Global, prices: &[(&str, u64)]) -> Result<PriceList, AllocError> {
+    let mut list = PriceList::new(alloc);
+    for (name, price) in prices {
+        if list.version() < 1000 {
+            set_price(alloc, &mut list, name, *price)?;
+        }
+    }
+    Ok(list)
+}
+
+// Whether the entries are of these names and prices.
+fn are_these(entries: &[PricedTwice], wanted: &[(&str, u64, u64)]) -> bool {
+    entries.len() == wanted.len()
+        && entries.iter().zip(wanted).all(|(entry, these)| {
+            entry.0.as_ref() == these.0.as_bytes() && (entry.1, entry.2) == (these.1, these.2)
+        })
+}
+
+#[test]
+fn names_of_both_lists_have_two_prices(rt: HostRuntime) -> Result<(), Fail> {
+    let alloc = rt.alloc();
+    let old = list_of(alloc, &[("salt", 90), ("tea", 300), ("teapot", 1500)])?;
+    let new = list_of(alloc, &[("sugar", 150), ("tea", 350), ("teapot", 1400)])?;
+    let both = prices_of_both(alloc, &old, &new)?;
+    assert!(rt; are_these(&both, &[("tea", 300, 350), ("teapot", 1500, 1400)]));
+    let ways = prices_both_ways(alloc, &old, &new)?;
+    assert!(rt; are_these(&ways.0, &[("tea", 300, 350), ("teapot", 1500, 1400)]));
+    assert!(rt; are_these(&ways.1, &[("tea", 350, 300), ("teapot", 1400, 1500)]));
     Ok(())
 }

@@ -1,0 +1,175 @@
+//! The index: one versioned tree, whose keys are those of the tuples.
+ghost use Rattle.std.specs.Prelude.{◌≡◌, ◌+◌, ◌≤◌, ◌++◌, ◌∷◌, [], length, filter, map, IsOk, IfOk, OnOk, OnErr, if◌then◌else◌};
+ghost use Rattle.rart_maps.specs.Pairs.{common, under};
+ghost use Rattle.tuple_index.specs.Decoding.{tuple_at};
+ghost use Rattle.tuple_index.specs.Tuples.{HasRoom, has_columns, has_tuple, key_of, listed, no_tuple, with_tuple, without_tuple};
+
+use crate::tuple::Tuple;
+use rart_versioned::{ArrayKey, KeyTrait, VersionedAdaptiveRadixTree};
+use std::alloc::{AllocError, Global};
+use std::marker::Model;
+
+/// A set of tuples, with a number that every change raises.
+///
+/// Contracts see it as a finite set of tuples and the number. A snapshot changes independently.
+#[derive(Drop)]
+pub struct TupleIndex {
+    alloc: Global,
+    tree: VersionedAdaptiveRadixTree<ArrayKey<16>, ()>,
+}
+
+impl Model for TupleIndex {
+    ghost use Rattle.rart_maps.specs.Pairs.{pairs};
+    ghost use Rattle.tuple_index.specs.Indexes.{AreTupleKeys, index_of};
+    ghost use Rattle.tuple_index.specs.Tuples.{Index, index_code};
+
+    ghost Value = { Index };
+
+    ghost coded = { index_code };
+
+    ghost view = { λ index. index_of index.tree };
+
+    ghost invariant = { λ index. AreTupleKeys (pairs index.tree.content) };
+}
+
+impl TupleIndex {
+    /// The empty set, its number 0.
+    pub fn new(alloc: Global) -> TupleIndex
+        ensures tuples { result.tuples ≡ no_tuple }
+        ensures number { result.number ≡ 0 }
+    {
+        TupleIndex {
+            alloc,
+            tree: VersionedAdaptiveRadixTree::new(alloc),
+        }
+    }
+
+    /// The number: how many tuples were put in and taken out, and snapshots made, on the way here.
+    pub fn version(&self) -> u64
+        ensures { result ≡ self.now.number }
+    {
+        self.tree.version()
+    }
+
+    /// The same set once more, its number one greater. Refused for memory, this one is as before.
+    pub fn snapshot(&self) -> Result<TupleIndex, AllocError>
+        requires room { HasRoom self.now 1 }
+        ensures tuples { IfOk result (λ copy. copy.tuples ≡ self.now.tuples) }
+        ensures number { IfOk result (λ copy. copy.number ≡ self.now.number + 1) }
+    {
+        Ok(TupleIndex {
+            alloc: self.alloc,
+            tree: self.tree.snapshot()?,
+        })
+    }
+
+    /// Puts a tuple in, raises the number by one, and answers whether the tuple was there already.
+    /// Refused for memory, set and number are as before.
+    pub fn add(&mut self, tuple: Tuple) -> Result<bool, AllocError>
+        requires room { HasRoom self.old 1 }
+        ensures answer { IfOk result (λ there. there ≡ has_tuple self.old.tuples tuple) }
+        ensures tuples { OnOk result (self.new.tuples ≡ with_tuple self.old.tuples tuple) }
+        ensures number { OnOk result (self.new.number ≡ self.old.number + 1) }
+        ensures refused { OnErr result (self.new ≡ self.old) }
+    {
+        let key = key_with(self.alloc, &tuple.key())?;
+        self.tree.insert(key, ())
+    }
+
+    /// Takes a tuple out, and answers whether it was there: the number is then one greater. Where
+    /// it wasn't, set and number stay. Refused for memory, they are as before.
+    pub fn take(&mut self, tuple: Tuple) -> Result<bool, AllocError>
+        requires room { HasRoom self.old 1 }
+        ensures answer { IfOk result (λ there. there ≡ has_tuple self.old.tuples tuple) }
+        ensures tuples { OnOk result (self.new.tuples ≡ without_tuple self.old.tuples tuple) }
+        ensures number { IfOk result (λ there. self.new.number
+            ≡ (if there then self.old.number + 1 else self.old.number)) }
+        ensures refused { OnErr result (self.new ≡ self.old) }
+    {
+        let key = key_with(self.alloc, &tuple.key())?;
+        self.tree.delete(key)
+    }
+
+    /// Whether a tuple is in the set.
+    pub fn has(&self, tuple: Tuple) -> Result<bool, AllocError>
+        ensures { IfOk result (λ there. there ≡ has_tuple self.now.tuples tuple) }
+    {
+        let key = key_with(self.alloc, &tuple.key())?;
+        Ok(self.tree.get(key).is_some())
+    }
+
+    /// The tuples whose first columns are these, at most four, in order. Of no column they are all.
+    pub fn query(&self, columns: &[u32]) -> Result<Vec<Tuple>, AllocError>
+        requires columns { length columns.now ≤ 4 }
+        ensures { IfOk result (λ found. found.items
+            ≡ filter (has_columns columns.now) (listed self.now.tuples)) }
+    {
+        let padded = Tuple::with_columns(columns).key();
+        let prefix = key_with(self.alloc, &padded[..4 * columns.len()])?;
+        tuples_under(self.alloc, &self.tree, &prefix)
+    }
+
+    /// The tuples that are in both sets, in order. Both trees are gone down at once, as far as
+    /// tuples of both can lie there.
+    pub fn join(&self, other: &TupleIndex) -> Result<Vec<Tuple>, AllocError>
+        ensures { IfOk result (λ found. found.items
+            ≡ filter (has_tuple other.now.tuples) (listed self.now.tuples)) }
+    {
+        tuples_of_both(self.alloc, &self.tree, &other.tree)
+    }
+}
+
+fn key_with(alloc: Global, bytes: &[u8]) -> Result<ArrayKey<16>, AllocError>
+    requires { length bytes.now ≤ 16 }
+    ensures { IfOk result (λ key. key.bytes.items ≡ bytes.now) }
+{
+    ArrayKey::new_from_slice(alloc, bytes)
+}
+
+// The tuples of the keys that the prefix begins.
+fn tuples_under(
+    alloc: Global,
+    tree: &VersionedAdaptiveRadixTree<ArrayKey<16>, ()>,
+    prefix: &ArrayKey<16>,
+) -> Result<Vec<Tuple>, AllocError>
+    ensures { IfOk result (λ found. found.items
+        ≡ map (λ pair. tuple_at pair.0) (under tree.now.content prefix.now.bytes.items)) }
+{
+    let mut found = Vec::new(alloc);
+    for item in tree.prefix_iter_k(prefix)? {
+        let (key, _unit) = item?;
+        found.push(Tuple::of_key(key.as_ref()))?;
+    }
+    Ok(found)
+}
+
+// The tuples of the keys that both trees have.
+fn tuples_of_both(
+    alloc: Global,
+    one: &VersionedAdaptiveRadixTree<ArrayKey<16>, ()>,
+    other: &VersionedAdaptiveRadixTree<ArrayKey<16>, ()>,
+) -> Result<Vec<Tuple>, AllocError>
+    ensures { IfOk result (λ found. found.items
+        ≡ map (λ entry. tuple_at entry.0) (common one.now.content other.now.content)) }
+{
+    let mut found: Vec<Tuple> = Vec::new(alloc);
+    let mut kept: Result<(), AllocError> = Ok(());
+    let mut keep = |key: ArrayKey<16>, _left: &(), _right: &()|
+        ensures { IsOk kept.exit → IsOk kept.entry
+            × (found.exit.items ≡ found.entry.items ++ tuple_at key.bytes.items ∷ []) }
+    {
+        if kept.is_ok() {
+            kept = put(&mut found, Tuple::of_key(key.as_ref()));
+        }
+    };
+    one.intersect_with(other, &mut keep)?;
+    kept?;
+    Ok(found)
+}
+
+fn put(found: &mut Vec<Tuple>, tuple: Tuple) -> Result<(), AllocError>
+    ensures { OnOk result (found.new.items ≡ found.old.items ++ tuple ∷ []) }
+{
+    found.push(tuple)?;
+    Ok(())
+}

@@ -1,0 +1,23 @@
+//! What tuples and their keys have to do with one another: laws, each the contract of a function.
+ghost use Rattle.std.specs.Prelude.{◌≡◌};
+ghost use Rattle.rart_versioned.specs.Bytes.{byte_order};
+ghost use Rattle.tuple_index.specs.Tuples.{key_of, tuple_order};
+
+use crate::tuple::Tuple;
+use std::cmp::Ordering;
+
+/// Different tuples have different keys.
+pub fn tuples_have_keys_of_their_own(one: Tuple, other: Tuple)
+    ensures { key_of one ≡ key_of other → one ≡ other }
+{
+    let _keys = (one.key(), other.key());
+}
+
+/// How the first tuple stands to the second, which is how their keys stand to one another.
+pub fn tuples_are_ordered_as_their_keys(one: Tuple, other: Tuple) -> Ordering
+    ensures columns { result ≡ tuple_order one other }
+    ensures keys { result ≡ byte_order (key_of one) (key_of other) }
+{
+    let _keys = (one.key(), other.key());
+    one.cmp(&other)
+}

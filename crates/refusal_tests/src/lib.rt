@@ -1,0 +1,6 @@
+//! Tests of families whose requests for memory and clones of values are refused in turn, through
+//! public calls alone.
+#![tactic(auto)]
+
+#[cfg(test)]
+mod tests;

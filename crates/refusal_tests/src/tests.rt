@@ -1,0 +1,14 @@
+// Each clone of a value is refused in turn by the tests themselves. Their requests for memory are
+// refused by whoever runs them, `checks/refusals` for one: each test passes whichever one of its
+// requests is refused.
+
+mod answer;
+mod changes;
+mod fragile;
+mod lists;
+mod memoryless;
+mod order;
+mod places;
+mod readings;
+mod seen;
+mod trial;

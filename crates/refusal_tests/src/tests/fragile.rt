@@ -1,0 +1,87 @@
+//! A value whose clone can be refused.
+use std::alloc::{AllocError, Global};
+use std::cell::Cell;
+use std::marker::Model;
+use std::rc::Rc;
+
+/// Says which clone is refused, of all values that name it.
+#[derive(Drop)]
+pub struct Fuse {
+    left: Cell<u64>,
+}
+
+impl Fuse {
+    /// No clone is refused. Where one request is refused it is made once more.
+    pub fn new(alloc: Global) -> Result<Rc<Fuse>, AllocError> {
+        match Rc::new(alloc, Fuse { left: Cell::new(0) }) {
+            Ok(fuse) => Ok(fuse),
+            Err(_refused) => Ok(Rc::new(alloc, Fuse { left: Cell::new(0) })?),
+        }
+    }
+
+    /// Of the clones from here on the one of this number is refused, counted from 1. With 0 none
+    /// is.
+    pub fn light(&self, number: u64) {
+        self.left.set(number);
+    }
+
+    /// Whether a clone is still to be refused.
+    pub fn is_lit(&self) -> bool {
+        self.left.get() > 0
+    }
+
+    // Whether this clone is the one.
+    fn burns_out(&self) -> bool {
+        let left = self.left.get();
+        self.left.set(left.saturating_sub(1));
+        left == 1
+    }
+}
+
+/// A number as a value. Contracts see the number alone.
+#[derive(Drop)]
+pub struct Fragile {
+    number: u64,
+    fuse: Rc<Fuse>,
+}
+
+impl Model for Fragile {
+    ghost use Rattle.std.specs.Prelude.{ℕ};
+    ghost use Rattle.std.specs.Coded.{coded_ℕ};
+
+    ghost Value = { ℕ };
+
+    ghost coded = { coded_ℕ };
+
+    ghost view = { λ fragile. fragile.number };
+}
+
+impl Clone for Fragile {
+    ghost use Rattle.std.specs.Prelude.{◌≡◌};
+
+    ghost is_clone = { λ fragile copy. copy ≡ fragile };
+
+    fn clone(&self) -> Result<Fragile, AllocError> {
+        if self.fuse.burns_out() {
+            return Err(AllocError);
+        }
+        Ok(Fragile {
+            number: self.number,
+            fuse: self.fuse.clone()?,
+        })
+    }
+}
+
+impl Fragile {
+    /// This number. Refused where too many values name the fuse.
+    pub fn new(number: u64, fuse: &Rc<Fuse>) -> Result<Fragile, AllocError> {
+        Ok(Fragile {
+            number,
+            fuse: fuse.clone()?,
+        })
+    }
+
+    pub fn number(&self) -> u64 {
+        self.number
+    }
+}

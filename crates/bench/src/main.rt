@@ -8,17 +8,19 @@ ghost use Rattle.std.specs.Prelude.{◌<◌};
 mod keys;
 mod meet_times;
 mod meets;
+mod route_times;
 mod stores;
 mod walk_times;
 mod walks;
 
 use keys::{Kind, keys_of};
 use meet_times::measure_meets;
+use route_times::measure_routes;
 use std::alloc::{AllocError, Global};
 use std::time::Instant;
 use std::{env, fmt};
 use stores::{Sorted, Store, Tree};
-use walk_times::measure_walks;
+use walk_times::{measure_thinned, measure_walks};
 
 /// How often each thing is timed. The least time is printed.
 const PASSES: usize = 5;
@@ -198,11 +200,13 @@ fn main(rt: HostRuntime) -> anyhow::Result<()> {
         println!(rt; "rt run -- run: nanoseconds an operation, the tree's and those of BTreeMap")?;
         return Ok(());
     }
+    measure_routes(&rt)?;
     for kind in [Kind::Random, Kind::Shared] {
         for count in [1_000, 10_000, 100_000] {
             measure(&rt, kind, count)?;
             measure_walks(&rt, kind, count)?;
         }
+        measure_thinned(&rt, kind, 10_000)?;
         measure_meets(&rt, kind, 10_000)?;
     }
     Ok(())

@@ -17,6 +17,8 @@ pub trait Store: Drop {
 
     fn put(&mut self, key: &Self::Key, value: u64) -> Result<(), AllocError>;
 
+    fn take(&mut self, key: &Self::Key) -> Result<(), AllocError>;
+
     fn value(&self, key: &Self::Key) -> Option<u64>;
 
     fn copy(&self) -> Result<Self, AllocError>;
@@ -36,6 +38,13 @@ impl Store for VersionedAdaptiveRadixTree<ArrayKey<16>, u64> {
     fn put(&mut self, key: &ArrayKey<16>, value: u64) -> Result<(), AllocError> {
         if self.version() < u64::MAX {
             self.insert_k(key, value)?;
+        }
+        Ok(())
+    }
+
+    fn take(&mut self, key: &ArrayKey<16>) -> Result<(), AllocError> {
+        if self.version() < u64::MAX {
+            self.delete_k(key)?;
         }
         Ok(())
     }
@@ -66,6 +75,11 @@ impl Store for BTreeMap<[u8; 16], u64> {
 
     fn put(&mut self, key: &[u8; 16], value: u64) -> Result<(), AllocError> {
         self.insert(*key, value)?;
+        Ok(())
+    }
+
+    fn take(&mut self, key: &[u8; 16]) -> Result<(), AllocError> {
+        self.remove(key);
         Ok(())
     }
 

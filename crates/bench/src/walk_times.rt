@@ -162,23 +162,17 @@ fn least_time<S: Walks>(
     Ok(least)
 }
 
-/// Prints the times of all walks.
-pub fn measure_walks(rt: &HostRuntime, kind: Kind, count: usize) -> anyhow::Result<()> {
-    println!(rt; "{} keys, {count}, nanoseconds an entry", kind.name())?;
-    let tree = course_of::<Tree>(rt.alloc(), kind, count)?;
-    let sorted = course_of::<Sorted>(rt.alloc(), kind, count)?;
+// Prints the times of these walks over the two stores.
+fn print_times(
+    rt: &HostRuntime,
+    tree: &Course<Tree>,
+    sorted: &Course<Sorted>,
+    walks: &[Walk],
+) -> anyhow::Result<()> {
     let mut sums = Sums::new();
-    for walk in [
-        Walk::Entries,
-        Walk::Values,
-        Walk::Views,
-        Walk::Prefixes,
-        Walk::PrefixValues,
-        Walk::Ranges,
-        Walk::Matches,
-    ] {
-        let tree = least_time(rt, &tree, walk, &mut sums)?;
-        let sorted = least_time(rt, &sorted, walk, &mut sums)?;
+    for walk in walks {
+        let tree = least_time(rt, tree, *walk, &mut sums)?;
+        let sorted = least_time(rt, sorted, *walk, &mut sums)?;
         println!(rt; "  {}: tree {tree}, BTreeMap {sorted}", walk.name())?;
     }
     println!(rt;
@@ -186,4 +180,52 @@ pub fn measure_walks(rt: &HostRuntime, kind: Kind, count: usize) -> anyhow::Resu
         sums.keys, sums.values
     )?;
     Ok(())
+}
+
+/// Prints the times of all walks.
+pub fn measure_walks(rt: &HostRuntime, kind: Kind, count: usize) -> anyhow::Result<()> {
+    println!(rt; "{} keys, {count}, nanoseconds an entry", kind.name())?;
+    let tree = course_of::<Tree>(rt.alloc(), kind, count)?;
+    let sorted = course_of::<Sorted>(rt.alloc(), kind, count)?;
+    let walks = [
+        Walk::Entries,
+        Walk::Values,
+        Walk::Views,
+        Walk::Prefixes,
+        Walk::PrefixValues,
+        Walk::Ranges,
+        Walk::Matches,
+    ];
+    print_times(rt, &tree, &sorted, &walks)
+}
+
+// Of each so many keys one stays in a store that is thinned.
+const STAYS_OF: usize = 100;
+
+// Removes all keys but the first of each hundred.
+fn thin<S: Store>(course: &mut Course<S>) -> Result<(), AllocError> {
+    for some in course.probes.chunks(STAYS_OF) {
+        for key in some.iter().skip(1) {
+            course.store.take(key)?;
+        }
+    }
+    Ok(())
+}
+
+/// Prints the times of walks over all that is left, once most keys are removed again.
+pub fn measure_thinned(rt: &HostRuntime, kind: Kind, count: usize) -> anyhow::Result<()> {
+    println!(rt;
+        "{} keys, {count}, one of {STAYS_OF} left, nanoseconds an entry",
+        kind.name()
+    )?;
+    let mut tree = course_of::<Tree>(rt.alloc(), kind, count)?;
+    thin(&mut tree)?;
+    let mut sorted = course_of::<Sorted>(rt.alloc(), kind, count)?;
+    thin(&mut sorted)?;
+    print_times(
+        rt,
+        &tree,
+        &sorted,
+        &[Walk::Entries, Walk::Values, Walk::Views],
+    )
 }

@@ -151,7 +151,8 @@ fn place_of(command: &LineCommand) -> usize {
         | Command::RangeViews { place, .. }
         | Command::PrefixValues { place, .. }
         | Command::Until { place, .. }
-        | Command::Flatten { place } => *place,
+        | Command::Flatten { place }
+        | Command::Longest { place, .. } => *place,
     }
 }
 
@@ -318,6 +319,13 @@ impl Version {
             }
             Command::Matches { key, .. } | Command::MatchesEach { key, .. } => {
                 Ok(Answer::Entries(self.beginning(alloc, key)?))
+            }
+            Command::Longest { key, .. } => {
+                let mut longest = Vec::new(alloc);
+                if let Some(entry) = self.beginning(alloc, key)?.pop() {
+                    longest.push(entry)?;
+                }
+                Ok(Answer::Entries(longest))
             }
             Command::Until {
                 prefix,

@@ -193,6 +193,7 @@ impl Source {
                 fails: self.is_one_in(2),
             },
             41 => Command::Flatten { place },
+            42 => Command::Longest { place, key },
             _ => Command::Get { place, key },
         })
     }

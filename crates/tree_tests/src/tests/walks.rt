@@ -72,6 +72,27 @@ fn prefix_match_gives_the_shortest_first(rt: HostRuntime) -> Result<(), Fail> {
     assert_runs(&rt, rt.alloc(), BEGINNINGS)
 }
 
+const LONGEST: &[Row] = &[
+    (New, Place(0)),
+    (Gives(0, Longest(b"cat"), &[]), Flag(true)),
+    (At(0, b"cat", Insert(1)), Flag(false)),
+    (At(0, b"catalog", Insert(2)), Flag(false)),
+    (At(0, b"dog", Insert(3)), Flag(false)),
+    (
+        Gives(0, Longest(b"catalogue"), &[(b"catalog", 2)]),
+        Flag(true),
+    ),
+    (Gives(0, Longest(b"cat"), &[(b"cat", 1)]), Flag(true)),
+    (Gives(0, Longest(b"zoo"), &[]), Flag(true)),
+    (At(0, b"", Insert(0)), Flag(false)),
+    (Gives(0, Longest(b"zoo"), &[(b"", 0)]), Flag(true)),
+];
+
+#[test]
+fn longest_match_is_the_last_beginning(rt: HostRuntime) -> Result<(), Fail> {
+    assert_runs(&rt, rt.alloc(), LONGEST)
+}
+
 const INSIDE_A_PREFIX: &[Row] = &[
     (New, Place(0)),
     (At(0, b"abcdef", Insert(1)), Flag(false)),

@@ -84,6 +84,8 @@ pub enum Walk<'a> {
     Under(&'a [u8]),
     /// `prefix_match_iter` of this probe.
     Beginning(&'a [u8]),
+    /// `longest_prefix_match` of this probe: one pair at most.
+    Longest(&'a [u8]),
 }
 
 /// A visitor, with the bytes of its prefix, probe or bounds.

@@ -4,7 +4,7 @@ ghost use Rattle.std.specs.Iterator.{IsFinite};
 use super::call::{Answer, Form, Pair, Walk};
 use super::keys::Keys;
 use super::versions::{Tree, admits};
-use rart_versioned::KeyTrait;
+use rart_versioned::{KeyTrait, Work};
 use std::alloc::{AllocError, Global};
 use std::ops::Bound;
 
@@ -21,6 +21,7 @@ pub fn gives<K: KeyTrait>(
         Walk::Within(low, high) => within(alloc, tree, low, high, wanted),
         Walk::Under(prefix) => under(alloc, tree, form, prefix, wanted),
         Walk::Beginning(probe) => beginning(alloc, tree, form, probe, wanted),
+        Walk::Longest(probe) => longest(alloc, tree, form, probe, wanted),
     }
 }
 
@@ -106,6 +107,27 @@ fn beginning<K: KeyTrait>(
         _ => are_pairs(tree.prefix_match_iter_k(&probe)?, wanted)?,
     };
     Ok(Answer::Flag(are_these))
+}
+
+fn longest<K: KeyTrait>(
+    alloc: Global,
+    tree: &Tree<K>,
+    form: Form,
+    probe: &[u8],
+    wanted: &[Pair],
+) -> Result<Answer, AllocError> {
+    let Some(probe) = key_of(alloc, probe)? else {
+        return Ok(Answer::KeyTooLong);
+    };
+    let found = match form {
+        Form::ByValue => tree.longest_prefix_match(probe)?,
+        Form::ByReference => tree.longest_prefix_match_k(&probe)?,
+        Form::WithWork => tree.longest_prefix_match_k_counted(&probe, &mut Work::new())?,
+    };
+    Ok(Answer::Flag(match (found, wanted.first()) {
+        (Some((key, value)), Some(pair)) => key.as_ref() == pair.0 && *value == pair.1,
+        (found, pair) => found.is_none() && pair.is_none(),
+    }))
 }
 
 // Whether these items come, and no other.

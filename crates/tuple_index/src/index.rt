@@ -44,7 +44,8 @@ impl TupleIndex {
         }
     }
 
-    /// The number: how many tuples were put in and taken out, and snapshots made, on the way here.
+    /// The number: how often a tuple was put in, there before or not, or taken out, and a snapshot
+    /// made, on the way here.
     pub fn version(&self) -> u64
         ensures { result ≡ self.now.number }
     {
@@ -90,7 +91,7 @@ impl TupleIndex {
         self.tree.delete(key)
     }
 
-    /// Whether a tuple is in the set.
+    /// Whether a tuple is in the set, unless memory is refused.
     pub fn has(&self, tuple: Tuple) -> Result<bool, AllocError>
         ensures { IfOk result (λ there. there ≡ has_tuple self.now.tuples tuple) }
     {
@@ -99,6 +100,7 @@ impl TupleIndex {
     }
 
     /// The tuples whose first columns are these, at most four, in order. Of no column they are all.
+    /// Refused for memory, there is no list.
     pub fn query(&self, columns: &[u32]) -> Result<Vec<Tuple>, AllocError>
         requires columns { length columns.now ≤ 4 }
         ensures { IfOk result (λ found. found.items
@@ -109,8 +111,7 @@ impl TupleIndex {
         tuples_under(self.alloc, &self.tree, &prefix)
     }
 
-    /// The tuples that are in both sets, in order. Both trees are gone down at once, as far as
-    /// tuples of both can lie there.
+    /// The tuples that are in both sets, in order. Refused for memory, there is no list.
     pub fn join(&self, other: &TupleIndex) -> Result<Vec<Tuple>, AllocError>
         ensures { IfOk result (λ found. found.items
             ≡ filter (has_tuple other.now.tuples) (listed self.now.tuples)) }

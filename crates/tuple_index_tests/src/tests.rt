@@ -166,3 +166,25 @@ fn snapshot_keeps_what_was_taken_out(rt: HostRuntime) -> Result<(), Fail> {
     assert!(rt; older.has(S)?);
     Ok(())
 }
+
+#[test]
+fn empty_index_has_no_tuple(rt: HostRuntime) -> Result<(), Fail> {
+    let mut empty = TupleIndex::new(rt.alloc());
+    assert!(rt; !empty.has(S)?);
+    assert_found(&rt, &empty, &[], &[])?;
+    assert_found(&rt, &empty, &[1, 7, 2, 50], &[])?;
+    assert!(rt; !take(&mut empty, S)?);
+    assert_eq!(rt; empty.version(), 0);
+    assert_eq!(rt; snapshot(&empty)?.version(), 1);
+    Ok(())
+}
+
+#[test]
+fn empty_index_has_nothing_in_common(rt: HostRuntime) -> Result<(), Fail> {
+    let empty = TupleIndex::new(rt.alloc());
+    let (index, _was_there) = filled(rt.alloc())?;
+    assert_joined(&rt, &empty, &index, &[])?;
+    assert_joined(&rt, &index, &empty, &[])?;
+    assert_joined(&rt, &empty, &empty, &[])?;
+    Ok(())
+}

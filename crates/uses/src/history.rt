@@ -25,7 +25,10 @@ impl Sheet {
             return Ok(false);
         }
         self.undone.push(self.cells.clone()?)?;
-        self.cells.insert(cell, value)?;
+        if let Err(refused) = self.cells.insert(cell, value) {
+            self.undone.pop();
+            return Err(refused);
+        }
         Ok(true)
     }
 

@@ -32,7 +32,7 @@ fn addresses_of(alloc: Global, seed: u64) -> Result<Vec<Address>, AllocError> {
     Ok(addresses)
 }
 
-// How long the route of this number is: one in sixteen has 1 or 2 bytes, most have 3.
+// How long the route of this number is: of sixteen one has 1 byte, four 2, seven 3, four 4.
 fn length_of(number: usize) -> usize {
     match number % 16 {
         0 => 1,
@@ -92,7 +92,7 @@ fn sorted_matches(sorted: &Sorted, probes: &[Address]) -> u64 {
     sum
 }
 
-/// Prints the times of both, and the sum that both must give.
+/// Prints the times of both, and the sum that each gave, which is the same where both are right.
 pub fn measure_routes(rt: &HostRuntime) -> anyhow::Result<()> {
     let alloc = rt.alloc();
     let routes = addresses_of(alloc, 1)?;

@@ -1,7 +1,8 @@
 //! Families of versions of an ordered map: commands on them, and their replies.
 //!
 //! A run of commands answers as separate sorted maps would, each copied when its version was made:
-//! `Family::run` says so, and what it costs. The names of `rart_versioned` are given again.
+//! `Family::run` says so, and what it costs. The names that a user of families needs of
+//! `rart_versioned` are given again.
 #![tactic(auto)]
 
 mod family;

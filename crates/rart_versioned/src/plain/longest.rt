@@ -16,8 +16,7 @@ impl<K: KeyTrait, V: Clone + Drop> VersionedAdaptiveRadixTree<K, V> {
     /// let route = routes.longest_prefix_match_k(&address)?;
     /// ```
     ///
-    /// Where no key begins the probe it takes no memory, and so isn't refused. In Rust the plain
-    /// tree alone has this call.
+    /// Where no key begins the probe it isn't refused. In Rust the plain tree alone has this call.
     pub fn longest_prefix_match_k(&self, probe: &K) -> Result<Option<(K, &V)>, AllocError>
         ensures found { IfOk result (λ found. entry_found K.bytes found
             ≡ longest_beginning self.now.content (K.bytes probe.now)) }

@@ -1,6 +1,6 @@
 -- The worked values of the bounds, by computation.
 use Rattle.std.proofs.Common.{◌*◌, refl, ap, inl, inr}
-use Rattle.rart_maps.specs.WorkedBounds.{LookupOfNoByte, LookupOfThreeBytes, ChangeOfNoByte, ChangeOfThreeBytes, TouchOfNoByte, TouchOfThreeBytes, MeetOfTwo, MeetBelowOne, MeetWithItself, MeetOfEmpty, ReachOfTwo, ReachOfAll, ReachOfNone, MeetOfDistinct, MeetInsideKeys, ReachOfFive, ReachOfOne, ReachPastKeys, WalkOfThree, WalkOfOneBelowOther, WalkOfNone, ScanOfTwo}
+use Rattle.rart_maps.specs.WorkedBounds.{LookupOfNoByte, LookupOfThreeBytes, ChangeOfNoByte, ChangeOfThreeBytes, TouchOfNoByte, TouchOfThreeBytes, MeetOfTwo, MeetBelowOne, MeetWithItself, MeetOfEmpty, ReachOfTwo, ReachOfAll, ReachOfNone, MeetOfDistinct, MeetInsideKeys, ReachOfFive, ReachOfOne, ReachPastKeys, WalkOfThree, WalkOfOneBelowOther, WalkOfNone, ScanOfTwo, RangeOfTwo, RangeOfAll, RangeReversed, RangeOfNone}
 use Rattle.rart_maps.proofs.MapLemmas.{maps, sets}
 use Rattle.rart_maps.proofs.PairLawLemmas.{shared_is_empty}
 use Rattle.std.specs.FinMap as finite
@@ -73,3 +73,15 @@ walk_of_none = simp (maps, sets) refl
 
 pub scan_of_two : ScanOfTwo
 scan_of_two = simp (maps, sets) refl
+
+pub range_of_two : RangeOfTwo
+range_of_two = simp (maps, sets) refl
+
+pub range_of_all : RangeOfAll
+range_of_all = simp (maps, sets) refl
+
+pub range_reversed : RangeReversed
+range_reversed = simp (maps, sets) refl
+
+pub range_of_none : RangeOfNone
+range_of_none = simp (maps, sets) refl

@@ -1,8 +1,9 @@
 -- Worked values of the bounds, found by hand.
 use Rattle.std.specs.Prelude.{◌≡◌, ℕ, List, [], ◌∷◌, map, codes}
+use Rattle.std.specs.declared.ops.Bound.TheVariants.{Included, Excluded, Unbounded}
 use Rattle.std.specs.FinMap as finite
 use Rattle.rart_maps.specs.Versions.{Map}
-use Rattle.rart_maps.specs.Bounds.{lookup_bound, change_bound, touch_bound, meet_bound, reach_bound, scan_bound, walk_cost}
+use Rattle.rart_maps.specs.Bounds.{lookup_bound, change_bound, touch_bound, meet_bound, reach_bound, scan_bound, range_bound, walk_cost}
 
 -- a map of these keys: on values no bound depends
 abbrev pub map_of : List (List ℕ) → Map ℕ
@@ -93,3 +94,22 @@ WalkOfNone = walk_cost (map_of []) ≡ 0
 -- Under a are two keys, and the prefix has one byte.
 abbrev pub ScanOfTwo : Type 0
 ScanOfTwo = scan_bound (map_of (codes "ac" ∷ codes "ad" ∷ codes "b" ∷ [])) (codes "a") ≡ 6
+
+-- From a up to b, b itself not, are a and ab, and either bound has one byte.
+abbrev pub RangeOfTwo : Type 0
+RangeOfTwo = range_bound (map_of (codes "a" ∷ codes "ab" ∷ codes "b" ∷ []))
+    (Included (codes "a")) (Excluded (codes "b")) ≡ 8
+
+-- Without bounds there are all three keys, and no byte of a bound.
+abbrev pub RangeOfAll : Type 0
+RangeOfAll =
+    range_bound (map_of (codes "a" ∷ codes "ab" ∷ codes "b" ∷ [])) Unbounded Unbounded ≡ 8
+
+-- From b up to a is no key.
+abbrev pub RangeReversed : Type 0
+RangeReversed = range_bound (map_of (codes "a" ∷ codes "ab" ∷ codes "b" ∷ []))
+    (Included (codes "b")) (Included (codes "a")) ≡ 4
+
+-- Where there is no key, three bytes of a bound count.
+abbrev pub RangeOfNone : Type 0
+RangeOfNone = range_bound (map_of []) (Excluded (codes "abc")) Unbounded ≡ 5

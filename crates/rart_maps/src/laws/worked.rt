@@ -1,5 +1,5 @@
 //! Worked values of what is read off maps and of the bounds, found by hand.
-ghost use Rattle.rart_maps.specs.WorkedBounds.{LookupOfNoByte, LookupOfThreeBytes, ChangeOfNoByte, ChangeOfThreeBytes, TouchOfNoByte, TouchOfThreeBytes, MeetOfTwo, MeetBelowOne, MeetWithItself, MeetOfEmpty, ReachOfTwo, ReachOfAll, ReachOfNone, MeetOfDistinct, MeetInsideKeys, ReachOfFive, ReachOfOne, ReachPastKeys, WalkOfThree, WalkOfOneBelowOther, WalkOfNone, ScanOfTwo};
+ghost use Rattle.rart_maps.specs.WorkedBounds.{LookupOfNoByte, LookupOfThreeBytes, ChangeOfNoByte, ChangeOfThreeBytes, TouchOfNoByte, TouchOfThreeBytes, MeetOfTwo, MeetBelowOne, MeetWithItself, MeetOfEmpty, ReachOfTwo, ReachOfAll, ReachOfNone, MeetOfDistinct, MeetInsideKeys, ReachOfFive, ReachOfOne, ReachPastKeys, WalkOfThree, WalkOfOneBelowOther, WalkOfNone, ScanOfTwo, RangeOfTwo, RangeOfAll, RangeReversed, RangeOfNone};
 ghost use Rattle.rart_maps.specs.WorkedPairs.{WithinIncluded, WithinExcluded, WithinOtherKeys, WithinLowAlone, WithinHighAlone, WithinReversed, WithinOneKey, WithinNoKey, UnderTwo, UnderOne, UnderItself, UnderEmpty, UnderNone, BeginningsShortestFirst, BeginningsOfKey, BeginningsNone, LongestInside, LongestIsItself, LongestIsEmpty, LongestNone, CommonLeftFirst, CommonNone, CommonOfTwo, CommonOfOne, CommonOfEmpty, SharedOfTwo, SharedOfOne, SharedOfEmpty};
 
 /// Worked values: the pairs within two bounds, that include or exclude their key, one bound alone,
@@ -79,10 +79,15 @@ pub fn worked_bounds<V>()
     ensures reach_past_keys { ReachPastKeys }
 {}
 
-/// Worked values: how many nodes a walk over all keys enters, and at most one under a prefix.
+/// Worked values: how many nodes a walk over all keys enters, and at most one under a prefix or a
+/// visit within two bounds.
 pub fn worked_walks()
     ensures three { WalkOfThree }
     ensures one_below_other { WalkOfOneBelowOther }
     ensures none { WalkOfNone }
     ensures two_under { ScanOfTwo }
+    ensures two_within { RangeOfTwo }
+    ensures all_within { RangeOfAll }
+    ensures reversed { RangeReversed }
+    ensures none_within { RangeOfNone }
 {}

@@ -1,5 +1,5 @@
 use Rattle.rart_maps.proofs.laws.worked.worked_walks.Goals as goal
-use Rattle.rart_maps.proofs.WorkedBoundLemmas.{walk_of_three, walk_of_one_below_other, walk_of_none, scan_of_two}
+use Rattle.rart_maps.proofs.WorkedBoundLemmas.{walk_of_three, walk_of_one_below_other, walk_of_none, scan_of_two, range_of_two, range_of_all, range_reversed, range_of_none}
 
 pub returns-clause-three : goal.returns-clause-three
 returns-clause-three c = walk_of_three
@@ -12,3 +12,15 @@ returns-clause-none c = walk_of_none
 
 pub returns-clause-two_under : goal.returns-clause-two_under
 returns-clause-two_under c = scan_of_two
+
+pub returns-clause-two_within : goal.returns-clause-two_within
+returns-clause-two_within c = range_of_two
+
+pub returns-clause-all_within : goal.returns-clause-all_within
+returns-clause-all_within c = range_of_all
+
+pub returns-clause-reversed : goal.returns-clause-reversed
+returns-clause-reversed c = range_reversed
+
+pub returns-clause-none_within : goal.returns-clause-none_within
+returns-clause-none_within c = range_of_none

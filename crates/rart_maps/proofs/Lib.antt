@@ -7,6 +7,7 @@ pub mod OrderLemmas
 pub mod PairLawLemmas
 pub mod PointLemmas
 pub mod RangeLemmas
+pub mod RangePointLemmas
 pub mod SetLemmas
 pub mod StartLemmas
 pub mod VersionLemmas

@@ -75,13 +75,13 @@ pub scan_of_two : ScanOfTwo
 scan_of_two = simp (maps, sets) refl
 
 pub range_of_two : RangeOfTwo
-range_of_two = simp (maps, sets) refl
+range_of_two = simp maps refl
 
 pub range_of_all : RangeOfAll
-range_of_all = simp (maps, sets) refl
+range_of_all = simp maps refl
 
 pub range_reversed : RangeReversed
-range_reversed = simp (maps, sets) refl
+range_reversed = simp maps refl
 
 pub range_of_none : RangeOfNone
-range_of_none = simp (maps, sets) refl
+range_of_none = simp maps refl

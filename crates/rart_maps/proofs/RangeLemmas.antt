@@ -52,7 +52,7 @@ abbrev pub is_above : Bound (List ℕ) → List ℕ → Bool
 is_above low key = is_from_start (as_partial_cmp byte_order) low key
 
 -- What stands behind a key past an upper bound is past it too.
-past-behind : (high : Bound (List ℕ)) (u w : List ℕ) → IsBefore u w → is_below high u ≡ false →
+pub past-behind : (high : Bound (List ℕ)) (u w : List ℕ) → IsBefore u w → is_below high u ≡ false →
     is_below high w ≡ false
 past-behind high u w before past =
     elim (is_below high w) as (λ b. is_below high w ≡ b → b ≡ false) [
@@ -70,7 +70,7 @@ module _ {A : Type 0} where
       ap (λ b. cond b (x ∷ filter p xs) (filter p xs)) (fails x (Contains-here x xs))
       ∙ filter-none p xs (λ y there. fails y (Contains-later x xs y there))
 
-  filter-both : (p q : A → Bool) (xs : List A) →
+  pub filter-both : (p q : A → Bool) (xs : List A) →
       filter (λ x. p x && q x) xs ≡ filter q (filter p xs)
   filter-both p q [] = refl
   filter-both p q (x ∷ xs) =

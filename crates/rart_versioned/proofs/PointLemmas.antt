@@ -2,7 +2,8 @@
 use Rattle.std.proofs.Common.{◌≡◌, ◌≢◌, ◌⊎◌, ◌+◌, ◌≤◌, ◌&&◌, ℕ, Bool, true, false, cond, List, [], ◌∷◌, ◌++◌, map, length, refl, sym, ap, subst, ◌∙◌, ⊎_elim, inl, inr, arith, Option, Some, None, IsSome, is_some}
 use Rattle.std.specs.Prelude.{◌==◌, ◌↔◌, ◌*◌, IsTrue, Contains, count_by, filter}
 use Rattle.std.specs.Option.{option_and_then, option_map}
-use Rattle.std.proofs.lemmas.Bool.{eqb-true, eq-eqb, ne_eqb, false≢true, cases_eq}
+use Rattle.std.specs.declared.ops.Bound.{Bound}
+use Rattle.std.proofs.lemmas.Bool.{and_parts, eq-eqb, ne_eqb, false≢true, cases_eq}
 use Rattle.std.proofs.lemmas.Option.{same_Some}
 use Rattle.rart_node.specs.Shape.{Shape, Forest, node, bare, grown, prefix_of, entries_of}
 use Rattle.rart_shape.specs.Trees.{strip_prefix, at_end, found, found_below, is_key_or_fork, BeginsWith, IsTree, AreBranches, pairs_of, pairs_below}
@@ -13,11 +14,14 @@ use Rattle.rart_shape.proofs.PairLemmas.{found-empty, found-other, find-pairs}
 use Rattle.rart_shape.proofs.PairOrderLemmas.{sorted-pairs}
 use Rattle.rart_maps.specs.FoundLaws.{KeysAscend}
 use Rattle.rart_maps.specs.Order.{IsBefore}
-use Rattle.rart_maps.specs.Pairs.{pairs, under}
+use Rattle.rart_maps.specs.Bounds.{bound_string, bound_length}
+use Rattle.rart_maps.specs.Pairs.{pairs, under, within}
 use Rattle.rart_maps.specs.Versions.{Map}
 use Rattle.rart_maps.proofs.ElementLemmas.{contains-find, find-contains, Contains-map, Contains-filter}
 use Rattle.rart_maps.proofs.FoundLemmas.{Contains-pairs, KeysAscend-sorted, under_ascends}
 use Rattle.rart_maps.proofs.OrderLemmas.{byte_order-IsAntisymmetric}
+use Rattle.rart_maps.proofs.RangeLemmas.{is_below}
+use Rattle.rart_maps.proofs.RangePointLemmas.{range-points-few}
 use Rattle.rart_maps.proofs.StartLemmas.{sum_by-map}
 use Rattle.std.specs.Cmp.Lexicographic.{nat_list_cmp_total}
 use Rattle.std.specs.FinMap as finite
@@ -462,6 +466,25 @@ module _ {V : Type 0} where
         (λ at there.
         let both = (Contains-filter kept (nodes_at s) at).0 there in
         under-point V m p at.0 both.1 (node-is at both.0)) in
+        let many = length-filter kept (nodes_at s) ∙ ap (count_by kept) (marked-pairs s)
+        ∙ sum_by-map (λ (at : List ℕ × Unit {0}). cond (kept at) 1 0) place (paths_of s) in
+        omega (arith, few, many)
+
+    -- Those behind a lower bound whose path meets an upper one are at most as many as that has
+    -- bytes, and twice as many as the pairs within both.
+    pub nodes-within : (low high : Bound (List ℕ)) →
+        count_by (λ path. is_lt (byte_order (bound_string low) path) && is_below high path)
+        (paths_of s) ≤ bound_length high + 2 * length (within m low high)
+    nodes-within low high =
+        let kept = λ (at : List ℕ × Unit {0}).
+        is_lt (byte_order (bound_string low) at.0) && is_below high at.0 in
+        let few = range-points-few m low high (filter kept (nodes_at s))
+        (AllPairs-filter (λ a b. IsBefore a.0 b.0) kept (nodes_at s) (nodes-ascend s tree))
+        (λ at there.
+        let both = (Contains-filter kept (nodes_at s) at).0 there in
+        let meets = and_parts (is_lt (byte_order (bound_string low) at.0)) (is_below high at.0)
+        both.1 in
+        (node-is at both.0, meets.0, meets.1)) in
         let many = length-filter kept (nodes_at s) ∙ ap (count_by kept) (marked-pairs s)
         ∙ sum_by-map (λ (at : List ℕ × Unit {0}). cond (kept at) 1 0) place (paths_of s) in
         omega (arith, few, many)

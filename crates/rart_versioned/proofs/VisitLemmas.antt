@@ -1,29 +1,53 @@
 -- What a visitor over a tree goes over and enters, in the words of the version that is shown.
-use Rattle.std.proofs.Common.{◌≡◌, ◌+◌, ◌*◌, ◌≤◌, ◌++◌, ℕ, true, false, List, [], Option, None, Some, length, filter, map, arith, sym, ap, subst, ◌∙◌}
+use Rattle.std.proofs.Common.{◌≡◌, ◌+◌, ◌*◌, ◌≤◌, ◌++◌, ◌&&◌, ⊎_elim, ℕ, Bool, true, false, cond, List, [], Option, None, Some, length, filter, map, arith, refl, sym, ap, subst, ◌∙◌}
 use Rattle.std.specs.Prelude.{count_by}
 use Rattle.std.specs.Option.{option_map}
+use Rattle.std.specs.Ordering.{is_lt}
+use Rattle.std.specs.declared.ops.Bound.{Bound}
+use Rattle.std.specs.declared.ops.Bound.TheVariants.{Included, Excluded, Unbounded}
 use Rattle.std.proofs.lemmas.Bool.{true≢false}
+use Rattle.std.proofs.lemmas.List.Sums.{length-filter, sum_by-cons}
 use Rattle.std.specs.FinMap as finite
 use Rattle.std.specs.FinSet as set
 use Rattle.rart_below.specs.Bytes.{begins, byte_order}
-use Rattle.rart_maps.specs.Bounds.{reach_bound, scan_bound, walk_cost}
-use Rattle.rart_maps.specs.Pairs.{beginnings}
+use Rattle.rart_maps.specs.Bounds.{bound_string, bound_length, reach_bound, scan_bound, walk_cost}
+use Rattle.rart_maps.specs.Pairs.{beginnings, within}
 use Rattle.rart_maps.specs.Points.{partings}
 use Rattle.rart_maps.specs.Versions.{Version, has_no_key}
+use Rattle.rart_maps.proofs.RangeLemmas.{is_below, filter-both}
 use Rattle.rart_node.specs.Shape.{Shape, node}
 use Rattle.rart_shape.specs.Trees.{found, pairs_of}
-use Rattle.rart_walks.specs.Walks.{paths_of, nodes_of}
+use Rattle.rart_walks.specs.Parts.{start_of}
+use Rattle.rart_walks.specs.Walks.{IsEndOf, paths_of, nodes_of}
 use Rattle.rart_walks.proofs.PlaceLemmas.{nodes-paths}
 use Rattle.rart_versioned.specs.Roots.{map_of, IsSound}
 use Rattle.rart_versioned.proofs.IterationLemmas.{no-pairs, root-pairs, root-sound}
 use Rattle.rart_versioned.proofs.MapLemmas.{get-found}
 use Rattle.rart_versioned.proofs.NodeBoundLemmas.{reach-walk}
-use Rattle.rart_versioned.proofs.PointLemmas.{nodes-points, nodes-under}
+use Rattle.rart_versioned.proofs.PointLemmas.{nodes-points, nodes-under, nodes-within}
 use Rattle.rart_versioned.proofs.SoundLemmas.{no-key}
 
 -- A tree has a node.
 pub some-node : {V : Type 0} (s : Shape V) → 1 ≤ nodes_of s
 some-node (node prefix value width forest) = omega arith
+
+-- A lower bound starts at its string.
+start-is : (low : Bound (List ℕ)) → start_of low ≡ bound_string low
+start-is (Included low) = refl
+start-is (Excluded low) = refl
+start-is Unbounded = refl
+
+-- What passes a test at the end of a list is no more than what does in the list.
+end-counts : {A : Type 0} (test : A → Bool) {end whole : List A} → IsEndOf end whole →
+    count_by test end ≤ count_by test whole
+end-counts test {end} either =
+    ⊎_elim
+    (λ all. let same = ap (count_by test) all in omega (arith, same))
+    (λ behind.
+    let more = ap (count_by test) behind.1
+    ∙ sum_by-cons (λ x. cond (test x) 1 0) behind.0 end in
+    omega (arith, more))
+    either
 
 -- ---- of a tree with this root, or the lack of one
 module _ {A V : Type 0} (shape : A → Shape V) (most : Option ℕ) (count : ℕ) (inside : Option A)
@@ -92,3 +116,22 @@ module _ {A V : Type 0} (shape : A → Shape V) (most : Option ℕ) (count : ℕ
         let tree = (root-sound shape most count inside v sound shows root is).0 in
         sym (nodes-paths (shape root))
         ∙ sym (nodes-points v.content (shape root) tree content-found)
+
+    -- Of the nodes behind a lower bound no more meet an upper one than it may enter there.
+    pub root-range : (low high : Bound (List ℕ)) (places : List (List ℕ)) →
+        IsEndOf places (filter (λ path. is_lt (byte_order (start_of low) path))
+        (paths_of (shape root))) →
+        count_by (is_below high) places
+        ≤ bound_length high + 2 * length (within v.content low high)
+    root-range low high places end =
+        let tree = (root-sound shape most count inside v sound shows root is).0 in
+        let behind = λ (path : List ℕ). is_lt (byte_order (start_of low) path) in
+        let all = paths_of (shape root) in
+        let few = nodes-within v.content (shape root) tree content-found low high in
+        let fewer = end-counts (is_below high) end in
+        let both = sym (length-filter (is_below high) (filter behind all))
+        ∙ ap length (sym (filter-both behind (is_below high) all))
+        ∙ length-filter (λ path. behind path && is_below high path) all
+        ∙ ap (λ start. count_by (λ path. is_lt (byte_order start path) && is_below high path) all)
+        (start-is low) in
+        omega (arith, few, fewer, both)

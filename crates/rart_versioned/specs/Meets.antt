@@ -1,5 +1,5 @@
 -- What is known of two versions that are intersected, by their roots.
-use Rattle.std.specs.Prelude.{◌≡◌, ◌⊎◌, ◌^◌, ◌-◌, ◌≤◌, ℕ, true, List, [], Option, Some, length}
+use Rattle.std.specs.Prelude.{◌≡◌, ◌⊎◌, ◌^◌, ◌-◌, ◌≤◌, ℕ, true, [], Option, Some, length}
 use Rattle.rart_lockstep.specs.Commons.{commons, shared_of}
 use Rattle.rart_maps.specs.Pairs.{common, shared}
 use Rattle.rart_maps.specs.Versions.{Version, has_no_key}

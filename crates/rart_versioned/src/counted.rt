@@ -13,6 +13,6 @@ mod tree;
 mod try_update;
 mod update;
 pub(crate) mod visitors;
-mod walks;
+pub(crate) mod walks;
 
 pub use tree::VersionedAdaptiveRadixTree;

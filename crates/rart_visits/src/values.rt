@@ -1,5 +1,5 @@
 //! Visits of values alone.
-ghost use Rattle.std.specs.Prelude.{map, Ok, Err};
+ghost use Rattle.std.specs.Prelude.{map, length, Ok, Err};
 ghost use Rattle.rart_below.specs.declared.visit.VisitControl.TheVariants.{Continue, Stop};
 ghost use Rattle.rart_maps.specs.Visits.{ByValue, Visits, Visitable, VisitsUntil, VisitableUntil};
 ghost use Rattle.rart_node.specs.Counts.{CountsUpTo};
@@ -23,7 +23,8 @@ pub fn visit_values<'a, P: Partial, V: Drop, T: Trail<'a>, F: FnMut(&V)>(
         (map (λ pair. pair.1) (position P.bytes walk).pairs) }
     ensures visits { Visits F.FnMut ByValue result f.old
         (map (λ pair. pair.1) (position P.bytes walk.entry).pairs) f.new }
-    ensures counted { CountsUpTo (position P.bytes walk.entry).nodes 0 work.old work.new }
+    ensures counted { CountsUpTo (length (position P.bytes walk.entry).places) 0
+        work.old work.new }
 {
     'visiting: while let Some(value) = walk.next_value(work)? {
         f(value);
@@ -49,7 +50,8 @@ pub fn visit_values_until<
         (map (λ pair. pair.1) (position P.bytes walk).pairs) }
     ensures visits { VisitsUntil F.FnMut ByValue result f.old
         (map (λ pair. pair.1) (position P.bytes walk.entry).pairs) f.new }
-    ensures counted { CountsUpTo (position P.bytes walk.entry).nodes 0 work.old work.new }
+    ensures counted { CountsUpTo (length (position P.bytes walk.entry).places) 0
+        work.old work.new }
 {
     'visiting: loop {
         let value = match walk.next_value(work) {

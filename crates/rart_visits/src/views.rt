@@ -1,5 +1,5 @@
 //! Visits of pairs, their keys lent as views.
-ghost use Rattle.std.specs.Prelude.{◌≡◌, ◌+◌, ◌^◌, ◌-◌, not, filter, Some, OnOk};
+ghost use Rattle.std.specs.Prelude.{◌≡◌, ◌+◌, ◌^◌, ◌-◌, not, length, filter, count_by, Some, OnOk};
 ghost use Rattle.std.specs.List.{concat};
 ghost use Rattle.std.specs.Ordering.{as_partial_cmp};
 ghost use Rattle.std.specs.Range.Bound.{bound_map, is_up_to_end};
@@ -30,9 +30,10 @@ pub fn visit_views<'a, P: Partial, V: Drop, F: FnMut(LendingKeyView<'_, '_>, &V)
     requires walk { IsWalk P.bytes HoldsSegments (Some (2 ^ 64 - 1)) walk }
     requires visitable { Visitable F.FnMut ByView f.old (position P.bytes walk).pairs }
     ensures visits { Visits F.FnMut ByView result f.old (position P.bytes walk.entry).pairs f.new }
-    ensures counted { CountsUpTo (position P.bytes walk.entry).nodes 0 work.old work.new }
+    ensures counted { CountsUpTo (length (position P.bytes walk.entry).places) 0
+        work.old work.new }
     ensures entered { OnOk result (work.new.entered
-        ≡ work.old.entered + (position P.bytes walk.entry).nodes) }
+        ≡ work.old.entered + length (position P.bytes walk.entry).places) }
 {
     'visiting: while let Some(value) = walk.next_value(work)? {
         f(view_of(walk.trail()), value);
@@ -40,7 +41,9 @@ pub fn visit_views<'a, P: Partial, V: Drop, F: FnMut(LendingKeyView<'_, '_>, &V)
     Ok(())
 }
 
-/// As `visit_views`, for the pairs up to an upper bound. It ends at the first key past that.
+/// As `visit_views`, for the pairs up to an upper bound. It ends at the first node past that, with
+/// a value or without: so, of the nodes that the walk has left, it enters no more than those whose
+/// path meets the bound, and one.
 pub fn visit_views_up_to<'a, P: Partial, V: Drop, F: FnMut(LendingKeyView<'_, '_>, &V)>(
     mut walk: Walk<'a, P, V, SegmentTrail<'a>>,
     high: Bound<&[u8]>,
@@ -56,33 +59,39 @@ pub fn visit_views_up_to<'a, P: Partial, V: Drop, F: FnMut(LendingKeyView<'_, '_
         (filter (λ pair. is_up_to_end (as_partial_cmp byte_order)
         (bound_map (λ high. high.now) high.entry) pair.0) (position P.bytes walk.entry).pairs)
         f.new }
-    ensures counted { CountsUpTo (position P.bytes walk.entry).nodes 0 work.old work.new }
+    ensures counted { CountsUpTo (length (position P.bytes walk.entry).places) 0
+        work.old work.new }
+    ensures few { CountsUpTo (count_by (is_up_to_end (as_partial_cmp byte_order)
+        (bound_map (λ high. high.now) high.entry)) (position P.bytes walk.entry).places + 1) 0
+        work.old work.new }
 {
-    'visiting: while let Some(value) = walk.next_value(work)? {
-        let key = view_of(walk.trail());
-        if !is_up_to(&key, high) {
+    'visiting: while let Some(value) = walk.next_node(work)? {
+        let path = view_of(walk.trail());
+        if !is_up_to(&path, high) {
             return Ok(());
         }
-        f(key, value);
+        if let Some(value) = value {
+            f(path, value);
+        }
     }
     Ok(())
 }
 
-// The key at which a walk stands.
+// The path of the node at which a walk stands: where that has a value, its key.
 fn view_of<'a, 'view>(trail: &'view SegmentTrail<'a>) -> LendingKeyView<'a, 'view>
     ensures { result ≡ concat trail.now }
 {
     LendingKeyView::new(trail.segments(), trail.len())
 }
 
-// Whether a key meets an upper bound.
-fn is_up_to(key: &LendingKeyView<'_, '_>, high: Bound<&[u8]>) -> bool
+// Whether a path meets an upper bound.
+fn is_up_to(path: &LendingKeyView<'_, '_>, high: Bound<&[u8]>) -> bool
     ensures { result ≡ is_up_to_end (as_partial_cmp byte_order)
-        (bound_map (λ high. high.now) high.entry) key.now }
+        (bound_map (λ high. high.now) high.entry) path.now }
 {
     match high {
-        Bound::Included(high) => key.cmp_slice(high) != Ordering::Greater,
-        Bound::Excluded(high) => key.cmp_slice(high) == Ordering::Less,
+        Bound::Included(high) => path.cmp_slice(high) != Ordering::Greater,
+        Bound::Excluded(high) => path.cmp_slice(high) == Ordering::Less,
         Bound::Unbounded => true,
     }
 }

@@ -1,20 +1,20 @@
 -- The end of a way: a node inside whose prefix the string ends, or with it, or whose prefix it
 -- leaves.
-use Rattle.std.proofs.Common.{◌≡◌, ◌+◌, ◌<◌, ◌≤◌, ◌⊎◌, ⊎_elim, inl, inr, ◌≢◌, ℕ, suc, Bool, true, false, cond, ◌&&◌, List, [], ◌∷◌, ◌++◌, Option, map, length, take, drop, refl, arith, sym, ap, subst, ◌∙◌}
-use Rattle.std.specs.Prelude.{◌==◌, nat_lt, slice_index_or, count_by}
+use Rattle.std.proofs.Common.{◌≡◌, ◌<◌, ◌≤◌, ◌⊎◌, ⊎_elim, inl, inr, ◌≢◌, ℕ, suc, Bool, true, false, cond, ◌&&◌, List, [], ◌∷◌, ◌++◌, Option, length, refl, arith, sym, ap, subst, ◌∙◌}
+use Rattle.std.specs.Prelude.{◌==◌, slice_index_or, filter}
 use Rattle.std.proofs.lemmas.Bool.{eqb-true, eqb-false, cases_order}
-use Rattle.std.proofs.lemmas.List.{append-nil, length-append, take-append-drop}
+use Rattle.std.proofs.lemmas.List.{append-nil, length-append}
 use Rattle.rart_below.specs.Bytes.{common_length}
 use Rattle.rart_node.specs.Shape.{Shape, prefix_of, children_of}
 use Rattle.rart_shape.specs.Trees.{IsTree, own_pair, pairs_of}
 use Rattle.rart_shape.proofs.PrefixLemmas.{common_fits}
 use Rattle.rart_walks.specs.declared.walk.path.Part.{Part}
-use Rattle.rart_walks.specs.Frames.{behind_path, pairs_of_all, pairs_inside}
+use Rattle.rart_walks.specs.Frames.{behind_path, under_path, pairs_inside}
 use Rattle.rart_walks.specs.Parts.{keeps, reaches, goes_on, is_strict}
-use Rattle.rart_walks.specs.Walks.{nodes_of, paths_of}
-use Rattle.rart_walks.proofs.GatherLemmas.{keeping, gathered, gathered_all, pairs-gathered, all-gathered}
-use Rattle.rart_walks.proofs.PartLemmas.{own_pair-ends, keeps-goes, reaches-goes, keeps-itself, strict-itself, reaches-itself, parted-lower, parted-upper, parted-all, parted-inside}
-use Rattle.rart_walks.proofs.PlaceLemmas.{own_place, own_place-ends, places-counted, paths-counted}
+use Rattle.rart_walks.specs.Walks.{IsEndOf, paths_of}
+use Rattle.rart_walks.proofs.GatherLemmas.{keeping, gathered, gathered_all, gathered-is, pairs-gathered, all-gathered}
+use Rattle.rart_walks.proofs.PartLemmas.{StandsAtEnd, GoesAlong, own_pair-ends, keeps-goes, reaches-goes, keeps-itself, strict-itself, reaches-itself, parted-lower, parted-upper, parted-all, parted-inside}
+use Rattle.rart_walks.proofs.PlaceLemmas.{own_place, own_place-ends, keys_of, paths-places, paths-kept}
 
 -- The first list is the front of the second.
 pub record IsFront (rest prefix : List ℕ) : Type 0 where
@@ -151,54 +151,128 @@ module _ {V : Type 0} (part : Part) (s : Shape V) (rest : List ℕ) where
         ] in
         both (is_strict part) (length rest == length (prefix_of s)) refl refl
 
-    pub end-within-counted : count_by (reaches part rest) (paths_of s) ≡ nodes_of s
-    end-within-counted =
-        paths-counted (reaches part rest) s
-        ∙ ap length (parted-all own_place own_place-ends (reaches part) (goes_on part)
-        (reaches-goes part) s rest front.more front.is
-        (λ key. reaches-itself part (front.more ++ key)))
-        ∙ places-counted s
+    -- its places, or those behind its own
+    pub end-within-places : IsTree s → (filter (reaches part rest) (paths_of s) ≡ paths_of s)
+        ⊎ (paths_of s ≡ prefix_of s ∷ filter (reaches part rest) (paths_of s))
+    end-within-places tree = at-more front.more refl
+      where
+        all-places : ((key : List ℕ) → reaches part [] (front.more ++ key) ≡ true)
+            → filter (reaches part rest) (paths_of s) ≡ paths_of s
+        all-places each =
+            paths-kept (reaches part rest) s
+            ∙ ap keys_of (parted-all own_place own_place-ends (reaches part) (goes_on part)
+            (reaches-goes part) s rest front.more front.is each)
+            ∙ sym (paths-places s)
+
+        own-first : reaches part [] [] ≡ false → front.more ≡ []
+            → paths_of s ≡ prefix_of s ∷ filter (reaches part rest) (paths_of s)
+        own-first strict end =
+            paths-places s ∙ ap keys_of (gathered-is own_place s)
+            ∙ (λ i. append-nil (prefix_of s) i
+            ∷ keys_of (behind_path (prefix_of s) (gathered_all own_place (children_of s))))
+            ∙ ap (λ kept. prefix_of s ∷ keys_of kept)
+            (sym (parted-inside own_place own_place-ends (reaches part) (goes_on part)
+            (reaches-goes part) s rest front.more front.is tree end strict))
+            ∙ ap (λ kept. prefix_of s ∷ kept) (sym (paths-kept (reaches part rest) s))
+
+        at-more : (more : List ℕ) → front.more ≡ more
+            → (filter (reaches part rest) (paths_of s) ≡ paths_of s)
+            ⊎ (paths_of s ≡ prefix_of s ∷ filter (reaches part rest) (paths_of s))
+        at-more [] end =
+            ⊎_elim
+            (λ each. inl (all-places (λ key. each (front.more ++ key))))
+            (λ strict. inr (own-first strict end))
+            (reaches-itself part)
+        at-more (b ∷ more) some =
+            inl (all-places (λ key. ap (λ z. reaches part [] (z ++ key)) some
+            ∙ (reaches-goes part).inside b (more ++ key)))
 
   -- ---- the string leaves the prefix
   module _ (b c : ℕ) (parts : PartsAt (prefix_of s) rest b c) where
-    at-front : (own : Option V → List (List ℕ × V))
-        → keeping (keeps part rest) (gathered own s)
-        ≡ keeping (keeps part (parts.front ++ (c ∷ parts.left))) (gathered own s)
-    at-front own = ap (λ z. keeping (keeps part z) (gathered own s)) parts.also
+    module _ {A : Type 0} (own : Option V → List (List ℕ × A)) (at_end : StandsAtEnd own)
+        (test : List ℕ → List ℕ → Bool) (goes : GoesAlong test (goes_on part)) where
+      at-front : keeping (test rest) (gathered own s)
+          ≡ keeping (test (parts.front ++ (c ∷ parts.left))) (gathered own s)
+      at-front = ap (λ z. keeping (test z) (gathered own s)) parts.also
 
-    beside-lower : b < c → kept ≡ []
-    beside-lower less =
-        kept-gathered ∙ at-front own_pair
-        ∙ parted-lower own_pair own_pair-ends (keeps part) (goes_on part)
-        (keeps-goes part) s parts.front b parts.more c parts.left parts.is less
+      beside-lower : b < c → keeping (test rest) (gathered own s) ≡ []
+      beside-lower less =
+          at-front ∙ parted-lower own at_end test (goes_on part) goes s parts.front b parts.more c
+          parts.left parts.is less
 
-    beside-upper : c < b → kept ≡ cond (goes_on part) (pairs_of s) []
-    beside-upper less =
-        kept-gathered ∙ at-front own_pair
-        ∙ parted-upper own_pair own_pair-ends (keeps part) (goes_on part)
-        (keeps-goes part) s parts.front b parts.more c parts.left parts.is less
-        ∙ ap (λ z. cond (goes_on part) z []) (sym (pairs-gathered s))
+      beside-upper : c < b
+          → keeping (test rest) (gathered own s) ≡ cond (goes_on part) (gathered own s) []
+      beside-upper less =
+          at-front ∙ parted-upper own at_end test (goes_on part) goes s parts.front b parts.more c
+          parts.left parts.is less
 
-    pub end-above : c < b → goes_on part ≡ true → kept ≡ pairs_of s
-    end-above less on = beside-upper less ∙ ap (λ t. cond t (pairs_of s) []) on
+      -- it is passed by the part, which goes on there
+      pub beside-above : c < b → goes_on part ≡ true
+          → keeping (test rest) (gathered own s) ≡ gathered own s
+      beside-above less on = beside-upper less ∙ ap (λ t. cond t (gathered own s) []) on
 
-    pub end-below : b ≤ c → kept ≡ []
-    end-below most = let differs = parts.differs in beside-lower (omega (arith, most, differs))
+      pub beside-below : b ≤ c → keeping (test rest) (gathered own s) ≡ []
+      beside-below most =
+          let differs = parts.differs in beside-lower (omega (arith, most, differs))
 
-    -- a part that ends with the string has nothing here
-    pub end-off : goes_on part ≡ false → kept ≡ []
-    end-off off =
-        ⊎_elim
-        (λ less. beside-lower less)
-        (λ more. beside-upper more ∙ ap (λ t. cond t (pairs_of s) []) off)
-        (let differs = parts.differs in either-less b c differs)
+      -- a part that ends with the string has nothing here
+      pub beside-off : goes_on part ≡ false → keeping (test rest) (gathered own s) ≡ []
+      beside-off off =
+          ⊎_elim
+          (λ less. beside-lower less)
+          (λ more. beside-upper more ∙ ap (λ t. cond t (gathered own s) []) off)
+          (let differs = parts.differs in either-less b c differs)
 
-    pub end-above-counted : c < b → goes_on part ≡ true
-        → count_by (reaches part rest) (paths_of s) ≡ nodes_of s
-    end-above-counted less on =
-        paths-counted (reaches part rest) s
-        ∙ ap (λ z. length (keeping (reaches part z) (gathered own_place s))) parts.also
-        ∙ ap length (parted-upper own_place own_place-ends (reaches part) (goes_on part)
-        (reaches-goes part) s parts.front b parts.more c parts.left parts.is less
-        ∙ ap (λ t. cond t (gathered own_place s) []) on)
-        ∙ places-counted s
+    abbrev placed : List (List ℕ)
+    placed = filter (reaches part rest) (paths_of s)
+
+    pub end-above : c < b → goes_on part ≡ true → (kept ≡ pairs_of s) × (placed ≡ paths_of s)
+    end-above less on = (
+      kept-gathered ∙ beside-above own_pair own_pair-ends (keeps part) (keeps-goes part) less on
+          ∙ sym (pairs-gathered s),
+      paths-kept (reaches part rest) s
+          ∙ ap keys_of (beside-above own_place own_place-ends (reaches part) (reaches-goes part)
+          less on)
+          ∙ sym (paths-places s),
+    )
+
+    pub end-below : b ≤ c → (kept ≡ []) × (placed ≡ [])
+    end-below most = (
+      kept-gathered ∙ beside-below own_pair own_pair-ends (keeps part) (keeps-goes part) most,
+      paths-kept (reaches part rest) s
+          ∙ ap keys_of (beside-below own_place own_place-ends (reaches part) (reaches-goes part)
+          most),
+    )
+
+    pub end-off : goes_on part ≡ false → (kept ≡ []) × (placed ≡ [])
+    end-off off = (
+      kept-gathered ∙ beside-off own_pair own_pair-ends (keeps part) (keeps-goes part) off,
+      paths-kept (reaches part rest) s
+          ∙ ap keys_of (beside-off own_place own_place-ends (reaches part) (reaches-goes part)
+          off),
+    )
+
+-- The node is entered: what the part has of its places is left then, or its own is behind the walk.
+module _ {V : Type 0} (s : Shape V) where
+  pub entered-end : (path first : List ℕ) (left above here : List (List ℕ))
+      → first ∷ left ≡ under_path path (paths_of s) ++ above
+      → (here ≡ paths_of s) ⊎ (paths_of s ≡ prefix_of s ∷ here)
+      → IsEndOf left (under_path path here ++ above)
+  entered-end path first left above here opened either =
+      ⊎_elim
+      (λ all. inr (first, ap (λ z. under_path path z ++ above) all ∙ sym opened))
+      (λ behind. inl (ap tail_of (sym (opened
+      ∙ ap (λ z. under_path path z ++ above) behind))))
+      either
+    where
+      tail_of : List (List ℕ) → List (List ℕ)
+      tail_of [] = []
+      tail_of (_ ∷ rest) = rest
+
+-- The end of a list has no more than the list.
+pub end-fewer : {A : Type 0} {end whole : List A} → IsEndOf end whole → length end ≤ length whole
+end-fewer either =
+    ⊎_elim
+    (λ all. let same = ap length all in omega (arith, same))
+    (λ behind. let more = ap length behind.1 in omega (arith, more))
+    either

@@ -1,5 +1,5 @@
 -- The last element of a list, and one put in its place.
-use Rattle.std.proofs.Common.{◌≡◌, ◌-◌, ◌<◌, ℕ, suc, zero, List, [], ◌∷◌, ◌++◌, map, length, refl, arith, sym, ap, ◌∙◌}
+use Rattle.std.proofs.Common.{◌≡◌, ◌-◌, ◌<◌, ℕ, suc, zero, List, [], ◌∷◌, ◌++◌, map, length, refl, arith, sym, ap}
 use Rattle.std.specs.Prelude.{slice_index_or, slice_set}
 
 module _ {A : Type 0} where

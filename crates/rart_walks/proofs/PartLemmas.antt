@@ -1,5 +1,5 @@
 -- Which keys of a tree are in the part that a string picks, one node at a time.
-use Rattle.std.proofs.Common.{◌≡◌, ◌<◌, ℕ, suc, Bool, true, false, cond, List, [], ◌∷◌, ◌++◌, Option, Some, None, refl, arith, sym, ap, ◌∙◌}
+use Rattle.std.proofs.Common.{◌≡◌, ◌<◌, ◌⊎◌, inl, inr, ℕ, suc, Bool, true, false, cond, List, [], ◌∷◌, ◌++◌, Option, Some, None, refl, arith, sym, ap, ◌∙◌}
 use Rattle.std.specs.declared.cmp.Ordering.{Ordering}
 use Rattle.std.specs.declared.cmp.Ordering.TheVariants.{Less, Equal, Greater}
 use Rattle.std.specs.Ordering.{ordering_then, is_le, is_lt}
@@ -65,8 +65,8 @@ keeps-goes Behind = order-goes is_lt refl refl
 
 pub reaches-goes : (part : Part) → GoesAlong (reaches part) (goes_on part)
 reaches-goes Under = begins-goes
-reaches-goes From = order-goes is_le refl refl
-reaches-goes Behind = order-goes is_le refl refl
+reaches-goes From = order-goes is_lt refl refl
+reaches-goes Behind = order-goes is_lt refl refl
 
 -- the string itself
 pub keeps-itself : (part : Part) → is_strict part ≡ false → (w : List ℕ) → keeps part [] w ≡ true
@@ -80,12 +80,11 @@ strict-itself Under strict = cc
 strict-itself From strict = cc
 strict-itself Behind strict = refl
 
-pub reaches-itself : (part : Part) (w : List ℕ) → reaches part [] w ≡ true
-reaches-itself Under w = refl
-reaches-itself From [] = refl
-reaches-itself From (b ∷ w) = refl
-reaches-itself Behind [] = refl
-reaches-itself Behind (b ∷ w) = refl
+pub reaches-itself : (part : Part) →
+    ((w : List ℕ) → reaches part [] w ≡ true) ⊎ (reaches part [] [] ≡ false)
+reaches-itself Under = inl (λ w. refl)
+reaches-itself From = inr refl
+reaches-itself Behind = inr refl
 
 -- What a node has of its own stands at the empty string.
 abbrev pub StandsAtEnd : {V A : Type 0} → (Option V → List (List ℕ × A)) → Type 0

@@ -1,31 +1,34 @@
 -- A way down to the part of a tree that a string picks: what is known where it has come to.
-use Rattle.std.proofs.Common.{◌≡◌, ◌+◌, ◌<◌, ◌≤◌, ℕ, suc, Bool, true, false, cond, ◌⊎◌, ⊎_elim, List, [], ◌∷◌, ◌++◌, Option, Some, None, map, length, take, drop, slice_get, refl, arith, sym, ap, subst, ◌∙◌}
-use Rattle.std.specs.Prelude.{◌==◌, nat_lt, slice_index_or, count_by}
+use Rattle.std.proofs.Common.{◌≡◌, ℕ, suc, Bool, true, false, cond, List, [], ◌∷◌, ◌++◌, Option, Some, None, filter, refl, sym, ap, subst, ◌∙◌}
 use Rattle.std.specs.List.{concat}
-use Rattle.std.proofs.lemmas.List.{append-nil, append_assoc, length-append}
-use Rattle.rart_below.specs.Bytes.{common_length, IsAdmitted}
+use Rattle.std.proofs.lemmas.List.{append-nil, append_assoc}
 use Rattle.rart_below.specs.Children.{child_at, children_from}
-use Rattle.rart_node.specs.Counts.{Counts, CountsUpTo}
-use Rattle.rart_node.specs.Shape.{Shape, height, prefix_of, value_of, children_of}
-use Rattle.rart_shape.specs.Trees.{strip_prefix, IsTree, own_pair, pairs_of, path_bound}
-use Rattle.rart_shape.proofs.PrefixLemmas.{strip_prefix-whole, split-common, split-whole}
-use Rattle.rart_shape.proofs.SearchLemmas.{IsSearchAt, search-start, search-lower, search-child}
+use Rattle.rart_node.specs.Counts.{Counts}
+use Rattle.rart_node.specs.Shape.{Shape, prefix_of, value_of, children_of}
+use Rattle.rart_shape.specs.Trees.{IsTree, own_pair, pairs_of}
+use Rattle.rart_shape.proofs.SearchLemmas.{IsSearchAt, search-start}
 use Rattle.rart_walks.specs.declared.walk.path.Part.{Part}
-use Rattle.rart_walks.specs.Frames.{OpenNode, behind_path, pairs_of_all, nodes_of_all, AreTrees, segments_of, pairs_ahead, nodes_ahead, TreesAhead, pending_pair, pairs_inside}
-use Rattle.rart_walks.specs.Parts.{keeps, reaches, goes_on, is_strict}
-use Rattle.rart_walks.specs.Walks.{AreShort, nodes_of, paths_of}
-use Rattle.rart_walks.proofs.GatherLemmas.{keeping, gathered, gathered_all, kept_at, pairs-gathered, all-gathered}
-use Rattle.rart_walks.proofs.PartLemmas.{own_pair-ends, keeps-goes, reaches-goes, keeps-itself, strict-itself, reaches-itself, parted-below, parted-lower, parted-upper, parted-all, parted-inside}
-use Rattle.rart_walks.proofs.PlaceLemmas.{own_place, own_place-ends, places-counted, all-counted, paths-counted}
-use Rattle.rart_walks.proofs.WalkLemmas.{behind-none, behind-behind, behind-append, pairs-entered, trees-entered, path-push, ahead-push, nodes-push, trees-push, short-none, short-append, short-pending}
+use Rattle.rart_walks.specs.Frames.{OpenNode, behind_path, under_path, pairs_of_all, segments_of, pairs_ahead, paths_ahead, TreesAhead, pending_pair}
+use Rattle.rart_walks.specs.Parts.{keeps, reaches, goes_on}
+use Rattle.rart_walks.specs.Walks.{AreShort, paths_of}
+use Rattle.rart_walks.proofs.AheadLemmas.{gathered_ahead, gathered-push, pairs-ahead, places-ahead}
+use Rattle.rart_walks.proofs.GatherLemmas.{keeping, gathered, gathered_all, kept_at, pairs-gathered}
+use Rattle.rart_walks.proofs.PartLemmas.{StandsAtEnd, GoesAlong, own_pair-ends, keeps-goes, reaches-goes, parted-below}
+use Rattle.rart_walks.proofs.PlaceLemmas.{own_place, own_place-ends, keys_of, keys-behind, keys-append, paths-kept}
+use Rattle.rart_walks.proofs.WalkLemmas.{behind-none, behind-behind, behind-append, pairs-entered, trees-entered, path-push, ahead-push, trees-push, short-none, short-append, short-pending}
 use Rattle.rart_walks.proofs.SublistLemmas.{later-trees, later-short, child-short}
 
-length-behind : {A : Type 0} (path : List ℕ) (pairs : List (List ℕ × A))
-    → length (behind_path path pairs) ≡ length pairs
-length-behind path [] = refl
-length-behind path (pair ∷ pairs) = ap suc (length-behind path pairs)
-
 module _ {V : Type 0} where
+  -- What a test keeps of what is gathered from the root is what it keeps of the node s, and then
+  -- what is left in the nodes that are open.
+  abbrev pub IsKept : {A : Type 0} → (Option V → List (List ℕ × A))
+      → (List ℕ → List ℕ → Bool) → List ℕ → Shape V → Shape V → List ℕ → List (OpenNode V)
+      → Type 0
+  IsKept own test probe root s rest frames =
+      keeping (test probe) (gathered own root)
+      ≡ behind_path (concat (segments_of frames)) (keeping (test rest) (gathered own s))
+      ++ gathered_ahead own frames
+
   -- The way has come to the node s, with this rest of the string and these nodes open.
   pub record IsOnWay (part : Part) (greatest : Option ℕ) (probe : List ℕ) (root : Shape V)
       (start : Counts) (s : Shape V) (rest : List ℕ) (frames : List (OpenNode V))
@@ -34,11 +37,14 @@ module _ {V : Type 0} where
     pub trees : TreesAhead frames
     pub short : AreShort greatest (behind_path (concat (segments_of frames)) (pairs_of s))
     pub short_ahead : AreShort greatest (pairs_ahead frames)
-    pub kept : keeping (keeps part probe) (pairs_of root)
-        ≡ behind_path (concat (segments_of frames))
-        (keeping (keeps part rest) (gathered own_pair s)) ++ pairs_ahead frames
-    pub counted : length (keeping (reaches part probe) (gathered own_place root))
-        ≡ length (keeping (reaches part rest) (gathered own_place s)) + nodes_ahead frames
+    pub kept : IsKept own_pair (keeps part) probe root s rest frames
+    pub placed : IsKept own_place (reaches part) probe root s rest frames
+
+  start-kept : {A : Type 0} (own : Option V → List (List ℕ × A)) (test : List ℕ → List ℕ → Bool)
+      (probe : List ℕ) (root : Shape V) → IsKept own test probe root root probe []
+  start-kept own test probe root =
+      let all = keeping (test probe) (gathered own root) in
+      sym (append-nil (behind_path [] all) ∙ behind-none all)
 
   pub way-start : (part : Part) (greatest : Option ℕ) (probe : List ℕ) (root : Shape V)
       (start : Counts) → IsTree root → AreShort greatest (pairs_of root)
@@ -48,10 +54,8 @@ module _ {V : Type 0} where
     trees = tt;
     short = subst (AreShort greatest) (sym (behind-none (pairs_of root))) short;
     short_ahead = short-none V greatest;
-    kept = ap (keeping (keeps part probe)) (pairs-gathered root)
-        ∙ sym (behind-none (keeping (keeps part probe) (gathered own_pair root)))
-        ∙ sym (append-nil (behind_path [] (keeping (keeps part probe) (gathered own_pair root))));
-    counted = omega arith;
+    kept = start-kept own_pair (keeps part) probe root;
+    placed = start-kept own_place (reaches part) probe root;
   }
 
   -- ---- a node of which the string has the whole prefix, and goes on
@@ -68,71 +72,51 @@ module _ {V : Type 0} where
       path-passed : concat (segments_of passed) ≡ concat (segments_of frames) ++ prefix_of s
       path-passed = path-push frames (prefix_of s, later)
 
-      later-pairs : pairs_of_all later
-          ≡ cond (goes_on part) (gathered_all own_pair (children_from (suc byte) (children_of s)))
-          []
-      later-pairs =
+      -- What is kept: of the child under the byte, then of the children behind it, then what is
+      -- left above.
+      passed-kept : {A : Type 0} (own : Option V → List (List ℕ × A)) → StandsAtEnd own
+          → (test : List ℕ → List ℕ → Bool) → GoesAlong test (goes_on part)
+          → IsKept own test probe root s rest frames
+          → keeping (test probe) (gathered own root) ≡ behind_path (concat (segments_of passed))
+          (kept_at own (test (byte ∷ left)) (child_at byte (children_of s)))
+          ++ gathered_ahead own passed
+      passed-kept own at_end test goes kept =
+          let path = concat (segments_of frames) in
+          let below = kept_at own (test (byte ∷ left)) (child_at byte (children_of s)) in
           let cs = children_from (suc byte) (children_of s) in
-          elim (goes_on part) as (λ t. pairs_of_all (cond t cs [])
-          ≡ cond t (gathered_all own_pair cs) []) [ true ↦ all-gathered cs | false ↦ refl ]
+          let behind = cond (goes_on part) (gathered_all own cs) [] in
+          let gathers : behind ≡ gathered_all own later =
+          elim (goes_on part) as (λ t. cond t (gathered_all own cs) []
+          ≡ gathered_all own (cond t cs [])) [ true ↦ refl | false ↦ refl ] in
+          kept
+          ∙ ap (λ r. behind_path path (keeping (test r) (gathered own s))
+          ++ gathered_ahead own frames) is
+          ∙ ap (λ z. behind_path path z ++ gathered_ahead own frames)
+          (parted-below own at_end test (goes_on part) goes s byte left way.at.tree)
+          ∙ ap (λ z. z ++ gathered_ahead own frames)
+          (behind-behind path (prefix_of s) (below ++ behind)
+          ∙ behind-append (path ++ prefix_of s) below behind)
+          ∙ append_assoc (behind_path (path ++ prefix_of s) below)
+          (behind_path (path ++ prefix_of s) behind) (gathered_ahead own frames)
+          ∙ ap (λ z. behind_path (path ++ prefix_of s) below
+          ++ (behind_path (path ++ prefix_of s) z ++ gathered_ahead own frames)) gathers
+          ∙ ap (λ z. behind_path (path ++ prefix_of s) below ++ z)
+          (sym (gathered-push own frames (prefix_of s, later)))
+          ∙ ap (λ p. behind_path p below ++ gathered_ahead own passed) (sym path-passed)
 
-      later-nodes : length (cond (goes_on part)
-          (gathered_all own_place (children_from (suc byte) (children_of s))) [])
-          ≡ nodes_of_all later
-      later-nodes =
-          let cs = children_from (suc byte) (children_of s) in
-          elim (goes_on part) as (λ t. length (cond t (gathered_all own_place cs) [])
-          ≡ nodes_of_all (cond t cs [])) [ true ↦ all-counted cs | false ↦ refl ]
-
-      -- what is kept: of the child under the byte, then of the children behind it, then what is
-      -- left above
-      pub passed-kept : keeping (keeps part probe) (pairs_of root)
+      pub passed-pairs : keeping (keeps part probe) (gathered own_pair root)
           ≡ behind_path (concat (segments_of passed))
           (kept_at own_pair (keeps part (byte ∷ left)) (child_at byte (children_of s)))
-          ++ pairs_ahead passed
-      passed-kept =
-          let path = concat (segments_of frames) in
-          let below = kept_at own_pair (keeps part (byte ∷ left)) (child_at byte (children_of s)) in
-          let strip_prefix =
-          cond (goes_on part) (gathered_all own_pair (children_from (suc byte) (children_of s)))
-          [] in
-          way.kept
-          ∙ ap (λ r. behind_path path (keeping (keeps part r) (gathered own_pair s))
-          ++ pairs_ahead frames) is
-          ∙ ap (λ z. behind_path path z ++ pairs_ahead frames)
-          (parted-below own_pair own_pair-ends (keeps part) (goes_on part)
-          (keeps-goes part) s byte left way.at.tree)
-          ∙ ap (λ z. z ++ pairs_ahead frames)
-          (behind-behind path (prefix_of s) (below ++ strip_prefix)
-          ∙ behind-append (path ++ prefix_of s) below strip_prefix)
-          ∙ append_assoc (behind_path (path ++ prefix_of s) below)
-          (behind_path (path ++ prefix_of s) strip_prefix) (pairs_ahead frames)
-          ∙ ap (λ z. behind_path (path ++ prefix_of s) below
-          ++ (behind_path (path ++ prefix_of s) z ++ pairs_ahead frames)) (sym later-pairs)
-          ∙ ap (λ z. behind_path (path ++ prefix_of s) below ++ z)
-          (sym (ahead-push frames (prefix_of s, later)))
-          ∙ ap (λ p. behind_path p below ++ pairs_ahead passed) (sym path-passed)
+          ++ gathered_ahead own_pair passed
+      passed-pairs =
+          passed-kept own_pair own_pair-ends (keeps part) (keeps-goes part) way.kept
 
-      pub passed-counted : length (keeping (reaches part probe) (gathered own_place root))
-          ≡ length (kept_at own_place (reaches part (byte ∷ left)) (child_at byte (children_of s)))
-          + nodes_ahead passed
-      passed-counted =
-          let below =
-          kept_at own_place (reaches part (byte ∷ left)) (child_at byte (children_of s)) in
-          let strip_prefix =
-          cond (goes_on part) (gathered_all own_place
-          (children_from (suc byte) (children_of s))) [] in
-          let whole : length (keeping (reaches part rest) (gathered own_place s))
-          ≡ length below + length strip_prefix =
-          ap (λ r. length (keeping (reaches part r) (gathered own_place s))) is
-          ∙ ap length (parted-below own_place own_place-ends (reaches part) (goes_on part)
-          (reaches-goes part) s byte left way.at.tree)
-          ∙ length-behind (prefix_of s) (below ++ strip_prefix)
-          ∙ length-append below strip_prefix in
-          let before = way.counted in
-          let after = nodes-push frames (prefix_of s, later) in
-          let more = later-nodes in
-          omega (arith, whole, before, after, more)
+      pub passed-places : keeping (reaches part probe) (gathered own_place root)
+          ≡ behind_path (concat (segments_of passed))
+          (kept_at own_place (reaches part (byte ∷ left)) (child_at byte (children_of s)))
+          ++ gathered_ahead own_place passed
+      passed-places =
+          passed-kept own_place own_place-ends (reaches part) (reaches-goes part) way.placed
 
       pub passed-trees : TreesAhead passed
       passed-trees =
@@ -171,37 +155,47 @@ module _ {V : Type 0} where
             (children_of s) child here children-short;
         short_ahead = passed-short;
         kept =
-            passed-kept ∙ ap (λ o. behind_path (concat (segments_of passed))
-            (kept_at own_pair (keeps part (byte ∷ left)) o) ++ pairs_ahead passed) here;
-        counted =
-            passed-counted ∙ ap (λ o. length (kept_at own_place (reaches part (byte ∷ left)) o)
-            + nodes_ahead passed) here;
+            passed-pairs ∙ ap (λ o. behind_path (concat (segments_of passed))
+            (kept_at own_pair (keeps part (byte ∷ left)) o) ++ gathered_ahead own_pair passed) here;
+        placed =
+            passed-places ∙ ap (λ o. behind_path (concat (segments_of passed))
+            (kept_at own_place (reaches part (byte ∷ left)) o) ++ gathered_ahead own_place passed)
+            here;
       }
 
       -- it ends where there is none
       pub way-missing : child_at byte (children_of s) ≡ None
           → (keeping (keeps part probe) (pairs_of root) ≡ pairs_ahead passed)
-          × (nodes_ahead passed ≤ count_by (reaches part probe) (paths_of root))
-      way-missing none =
-          let counted = passed-counted in
-          let paths = paths-counted (reaches part probe) root in (
-            passed-kept ∙ ap (λ o. behind_path (concat (segments_of passed))
-                (kept_at own_pair (keeps part (byte ∷ left)) o) ++ pairs_ahead passed) none,
-            omega (arith, counted, paths),
-          )
+          × (filter (reaches part probe) (paths_of root) ≡ paths_ahead passed)
+      way-missing none = (
+        ap (keeping (keeps part probe)) (pairs-gathered root) ∙ passed-pairs
+            ∙ ap (λ o. behind_path (concat (segments_of passed))
+            (kept_at own_pair (keeps part (byte ∷ left)) o) ++ gathered_ahead own_pair passed) none
+            ∙ sym (pairs-ahead passed),
+        paths-kept (reaches part probe) root ∙ ap keys_of (passed-places
+            ∙ ap (λ o. behind_path (concat (segments_of passed))
+            (kept_at own_place (reaches part (byte ∷ left)) o) ++ gathered_ahead own_place passed)
+            none)
+            ∙ sym (places-ahead passed),
+      )
 
     -- what the whole way keeps, where it ends at this node
     pub way-kept : keeping (keeps part probe) (pairs_of root)
         ≡ behind_path (concat (segments_of frames)) (keeping (keeps part rest) (pairs_of s))
         ++ pairs_ahead frames
     way-kept =
-        way.kept ∙ ap (λ z. behind_path (concat (segments_of frames)) (keeping (keeps part rest) z)
-        ++ pairs_ahead frames) (sym (pairs-gathered s))
+        ap (keeping (keeps part probe)) (pairs-gathered root) ∙ way.kept
+        ∙ (λ i. behind_path (concat (segments_of frames))
+        (keeping (keeps part rest) (sym (pairs-gathered s) i)) ++ sym (pairs-ahead frames) i)
 
-    pub way-counted : count_by (reaches part probe) (paths_of root)
-        ≡ nodes_ahead frames + count_by (reaches part rest) (paths_of s)
-    way-counted =
-        let whole = paths-counted (reaches part probe) root in
-        let here = paths-counted (reaches part rest) s in
-        let counted = way.counted in
-        omega (arith, whole, here, counted)
+    pub way-placed : filter (reaches part probe) (paths_of root)
+        ≡ under_path (concat (segments_of frames)) (filter (reaches part rest) (paths_of s))
+        ++ paths_ahead frames
+    way-placed =
+        let path = concat (segments_of frames) in
+        let here = keeping (reaches part rest) (gathered own_place s) in
+        paths-kept (reaches part probe) root ∙ ap keys_of way.placed
+        ∙ keys-append (behind_path path here) (gathered_ahead own_place frames)
+        ∙ ap (λ z. z ++ keys_of (gathered_ahead own_place frames)) (keys-behind path here)
+        ∙ (λ i. under_path path (sym (paths-kept (reaches part rest) s) i)
+        ++ sym (places-ahead frames) i)

@@ -1,10 +1,8 @@
 -- The nodes of a tree, each at its path.
-use Rattle.std.proofs.Common.{◌≡◌, ◌+◌, ℕ, suc, Bool, true, false, cond, List, [], ◌∷◌, ◌++◌, Option, map, length, refl, arith, sym, ap, ◌∙◌}
-use Rattle.std.specs.Prelude.{count_by}
-use Rattle.std.proofs.lemmas.List.Sums.{sum_by-cons}
+use Rattle.std.proofs.Common.{◌≡◌, ℕ, Bool, true, false, cond, List, [], ◌∷◌, ◌++◌, Option, map, length, filter, refl, arith, sym, ap, ◌∙◌}
 use Rattle.std.proofs.lemmas.List.{length-append, length-map, map-append}
 use Rattle.rart_node.specs.Shape.{Shape, Forest, node, bare, grown}
-use Rattle.rart_walks.specs.Frames.{behind_path, nodes_of_all}
+use Rattle.rart_walks.specs.Frames.{behind_path, under_path, paths_of_all}
 use Rattle.rart_walks.specs.Walks.{nodes_of, nodes_below, paths_of, paths_below}
 use Rattle.rart_walks.proofs.GatherLemmas.{keeping, gathered, gathered_below, gathered_all}
 use Rattle.rart_walks.proofs.PartLemmas.{StandsAtEnd}
@@ -17,81 +15,68 @@ pub own_place-ends : {V : Type 0} → StandsAtEnd {V = V} own_place
 own_place-ends value test true is = rw is refl
 own_place-ends value test false is = rw is refl
 
-length-behind : (path : List ℕ) (pairs : List (List ℕ × Unit {0}))
-    → length (behind_path path pairs) ≡ length pairs
-length-behind path [] = refl
-length-behind path (pair ∷ pairs) = ap suc (length-behind path pairs)
+-- the paths of these places
+abbrev pub keys_of : List (List ℕ × Unit {0}) → List (List ℕ)
+keys_of places = map (λ place. place.0) places
 
-keys-behind : (path : List ℕ) (pairs : List (List ℕ × Unit {0}))
-    → map (λ key. path ++ key) (map (λ pair. pair.0) pairs)
-    ≡ map (λ pair. pair.0) (behind_path path pairs)
+pub keys-behind : (path : List ℕ) (places : List (List ℕ × Unit {0}))
+    → keys_of (behind_path path places) ≡ under_path path (keys_of places)
 keys-behind path [] = refl
-keys-behind path (pair ∷ pairs) = ap (λ rest. (path ++ pair.0) ∷ rest) (keys-behind path pairs)
+keys-behind path (place ∷ places) = ap (λ rest. (path ++ place.0) ∷ rest) (keys-behind path places)
 
-counted-kept : (test : List ℕ → Bool) (pairs : List (List ℕ × Unit {0}))
-    → count_by test (map (λ pair. pair.0) pairs) ≡ length (keeping test pairs)
-counted-kept test [] = refl
-counted-kept test (pair ∷ pairs) =
-    let first : count_by test (map (λ (pair : List ℕ × Unit {0}). pair.0) (pair ∷ pairs))
-    ≡ cond (test pair.0) 1 0 + count_by test
-    (map (λ (pair : List ℕ × Unit {0}). pair.0) pairs) =
-    sum_by-cons (λ (key : List ℕ). cond (test key) 1 0) pair.0
-    (map (λ (pair : List ℕ × Unit {0}). pair.0) pairs) in
-    first ∙ ap (λ n. cond (test pair.0) 1 0 + n) (counted-kept test pairs)
-    ∙ elim (test pair.0) as (λ t. cond t 1 0 + length (keeping test pairs)
-    ≡ length (cond t (pair ∷ keeping test pairs) (keeping test pairs))) [
-      | true ↦ omega arith
-      | false ↦ omega arith
-    ]
+pub keys-append : (front back : List (List ℕ × Unit {0}))
+    → keys_of (front ++ back) ≡ keys_of front ++ keys_of back
+keys-append front back = map-append (λ place. place.0) front back
+
+keys-kept : (test : List ℕ → Bool) (places : List (List ℕ × Unit {0}))
+    → filter test (keys_of places) ≡ keys_of (keeping test places)
+keys-kept test [] = refl
+keys-kept test (place ∷ places) =
+    ap (λ rest. cond (test place.0) (place.0 ∷ rest) rest) (keys-kept test places)
+    ∙ elim (test place.0) as (λ t. cond t (place.0 ∷ keys_of (keeping test places))
+    (keys_of (keeping test places))
+    ≡ keys_of (cond t (place ∷ keeping test places) (keeping test places)))
+    [ true ↦ refl | false ↦ refl ]
 
 module _ {V : Type 0} where
   mutual
-    pub places-counted : (s : Shape V) → length (gathered own_place s) ≡ nodes_of s
-    places-counted (node prefix value width forest) =
-        let behind = length-behind prefix (([], tt) ∷ gathered_below own_place forest) in
-        let below = below-counted forest in
+    -- as many nodes as paths
+    pub nodes-paths : (s : Shape V) → length (paths_of s) ≡ nodes_of s
+    nodes-paths (node prefix value width forest) =
+        let behind = length-map ([] ∷ paths_below forest) (λ path. prefix ++ path) in
+        let below = below-paths forest in
         omega (arith, behind, below)
 
-    below-counted : (forest : Forest V)
-        → length (gathered_below own_place forest) ≡ nodes_below forest
-    below-counted bare = refl
-    below-counted (grown byte child forest) =
-        let first = places-counted child in
-        let rest = below-counted forest in
-        let long = length-append (gathered own_place child) (gathered_below own_place forest) in
+    below-paths : (forest : Forest V) → length (paths_below forest) ≡ nodes_below forest
+    below-paths bare = refl
+    below-paths (grown byte child forest) =
+        let first = nodes-paths child in
+        let rest = below-paths forest in
+        let long = length-append (paths_of child) (paths_below forest) in
         omega (arith, first, rest, long)
 
-  pub all-counted : (children : List (ℕ × Shape V))
-      → length (gathered_all own_place children) ≡ nodes_of_all children
-  all-counted [] = refl
-  all-counted (child ∷ children) =
-      let first = places-counted child.1 in
-      let rest = all-counted children in
-      let long = length-append (gathered own_place child.1) (gathered_all own_place children) in
-      omega (arith, first, rest, long)
-
   mutual
-    paths-places : (s : Shape V) → paths_of s ≡ map (λ pair. pair.0) (gathered own_place s)
+    pub paths-places : (s : Shape V) → paths_of s ≡ keys_of (gathered own_place s)
     paths-places (node prefix value width forest) =
-        ap (λ rest. map (λ key. prefix ++ key) ([] ∷ rest)) (below-places forest)
-        ∙ keys-behind prefix (([], tt) ∷ gathered_below own_place forest)
+        ap (λ rest. under_path prefix ([] ∷ rest)) (below-places forest)
+        ∙ sym (keys-behind prefix (([], tt) ∷ gathered_below own_place forest))
 
     below-places : (forest : Forest V)
-        → paths_below forest ≡ map (λ pair. pair.0) (gathered_below own_place forest)
+        → paths_below forest ≡ keys_of (gathered_below own_place forest)
     below-places bare = refl
     below-places (grown byte child forest) =
         (λ i. paths-places child i ++ below-places forest i)
-        ∙ sym (map-append (λ (pair : List ℕ × Unit {0}). pair.0) (gathered own_place child)
-        (gathered_below own_place forest))
+        ∙ sym (keys-append (gathered own_place child) (gathered_below own_place forest))
 
-  -- how many nodes have such a path
-  pub paths-counted : (test : List ℕ → Bool) (s : Shape V)
-      → count_by test (paths_of s) ≡ length (keeping test (gathered own_place s))
-  paths-counted test s =
-      ap (count_by test) (paths-places s) ∙ counted-kept test (gathered own_place s)
+  pub all-places : (children : List (ℕ × Shape V))
+      → paths_of_all children ≡ keys_of (gathered_all own_place children)
+  all-places [] = refl
+  all-places (child ∷ children) =
+      (λ i. paths-places child.1 i ++ all-places children i)
+      ∙ sym (keys-append (gathered own_place child.1) (gathered_all own_place children))
 
-  -- as many nodes as paths
-  pub nodes-paths : (s : Shape V) → length (paths_of s) ≡ nodes_of s
-  nodes-paths s =
-      ap length (paths-places s) ∙ length-map (gathered own_place s)
-      (λ (pair : List ℕ × Unit {0}). pair.0) ∙ places-counted s
+  -- the paths that pass a test
+  pub paths-kept : (test : List ℕ → Bool) (s : Shape V)
+      → filter test (paths_of s) ≡ keys_of (keeping test (gathered own_place s))
+  paths-kept test s =
+      ap (filter test) (paths-places s) ∙ keys-kept test (gathered own_place s)

@@ -1,6 +1,6 @@
 -- A step of a way down, as its calls know it.
-use Rattle.std.proofs.Common.{◌≡◌, ◌+◌, ◌<◌, ◌≤◌, ℕ, suc, Bool, true, false, cond, List, [], ◌∷◌, ◌++◌, Option, Some, None, length, drop, slice_get, add-one, refl, arith, sym, ap, subst, ◌∙◌}
-use Rattle.std.specs.Prelude.{slice_index_or, count_by}
+use Rattle.std.proofs.Common.{◌≡◌, ◌+◌, ◌<◌, ◌≤◌, ℕ, suc, cond, List, [], ◌∷◌, ◌++◌, Option, Some, None, length, drop, slice_get, add-one, refl, arith, sym, ap, subst, ◌∙◌}
+use Rattle.std.specs.Prelude.{slice_index_or, filter}
 use Rattle.std.specs.List.{concat}
 use Rattle.std.proofs.lemmas.List.{length-drop}
 use Rattle.rart_below.specs.Bytes.{common_length, IsAdmitted}
@@ -11,7 +11,7 @@ use Rattle.rart_shape.specs.Trees.{strip_prefix, pairs_of, path_bound}
 use Rattle.rart_shape.proofs.PrefixLemmas.{strip_prefix-whole, split-whole, common_fits}
 use Rattle.rart_shape.proofs.SearchLemmas.{IsSearchAt, search-counted, search-lower, search-child}
 use Rattle.rart_walks.specs.declared.walk.path.Part.{Part}
-use Rattle.rart_walks.specs.Frames.{OpenNode, behind_path, segments_of, pairs_ahead, nodes_ahead, TreesAhead}
+use Rattle.rart_walks.specs.Frames.{OpenNode, segments_of, pairs_ahead, paths_ahead, TreesAhead}
 use Rattle.rart_walks.specs.Parts.{keeps, reaches, goes_on}
 use Rattle.rart_walks.specs.Walks.{AreShort, paths_of}
 use Rattle.rart_walks.proofs.GatherLemmas.{keeping}
@@ -112,10 +112,10 @@ module _ {V : Type 0} (part : Part) (greatest : Option ℕ) (probe : List ℕ) (
 
         pub step-missing : None ≡ child_at byte (children_of o)
             → (keeping (keeps part probe) (pairs_of root) ≡ pairs_ahead inner)
-            × (nodes_ahead inner ≤ count_by (reaches part probe) (paths_of root))
+            × (filter (reaches part probe) (paths_of root) ≡ paths_ahead inner)
         step-missing missing =
             subst (λ f. (keeping (keeps part probe) (pairs_of root) ≡ pairs_ahead f)
-            × (nodes_ahead f ≤ count_by (reaches part probe) (paths_of root))) (sym passed-is)
+            × (filter (reaches part probe) (paths_of root) ≡ paths_ahead f)) (sym passed-is)
             (way-missing part greatest probe root start s rest frames now way byte goes.more whole
             (sym (missing ∙ ap (λ z. child_at byte (children_of z)) same)))
 

@@ -1,6 +1,5 @@
 -- What a walk has left where a node is entered or left.
-use Rattle.std.proofs.Common.{◌≡◌, ◌+◌, ◌*◌, ◌<◌, ◌≤◌, ℕ, suc, List, [], ◌∷◌, ◌++◌, Option, Some, None, map, length, refl, arith, sym, ap, subst, ◌∙◌}
-use Rattle.std.specs.Prelude.{⊤}
+use Rattle.std.proofs.Common.{◌≡◌, ◌≤◌, ℕ, suc, List, [], ◌∷◌, ◌++◌, Option, Some, None, length, refl, arith, sym, ap, subst, ◌∙◌}
 use Rattle.std.specs.List.{concat}
 use Rattle.std.proofs.lemmas.Bool.{false≢true}
 use Rattle.std.proofs.lemmas.List.Elements.{All-append, All-nil, All-cons}
@@ -8,12 +7,27 @@ use Rattle.std.proofs.lemmas.List.{append_assoc, append-nil, map-append, length-
 use Rattle.rart_below.specs.Bytes.{IsAdmitted}
 use Rattle.rart_node.specs.Shape.{Shape, Forest, node, bare, grown, prefix_of, value_of, children_of, entries_of}
 use Rattle.rart_shape.specs.Trees.{IsTree, AreBranches, own_pair, pairs_of, pairs_below}
-use Rattle.rart_walks.specs.Walks.{AreShort, nodes_of, nodes_below}
-use Rattle.rart_walks.specs.Frames.{OpenNode, behind_path, pairs_of_all, nodes_of_all, AreTrees, segments_of, pairs_ahead, nodes_ahead, TreesAhead, TakesChild, pending_pair}
+use Rattle.rart_walks.specs.Walks.{AreShort, GoesOnFirst, pending_pair, paths_of, paths_below}
+use Rattle.rart_walks.specs.Frames.{OpenNode, behind_path, under_path, pairs_of_all, paths_of_all, AreTrees, segments_of, pairs_ahead, paths_ahead, TreesAhead, AreSpent, TakesAhead}
 
 pub short-none : (V : Type 0) (greatest : Option ℕ) → AreShort {V = V} greatest []
 short-none V None = tt
 short-none V (Some most) = All-nil (λ (pair : List ℕ × V). length pair.0 ≤ most)
+
+-- ---- paths behind a path
+under-none : (paths : List (List ℕ)) → under_path [] paths ≡ paths
+under-none [] = refl
+under-none (path ∷ paths) = ap (λ rest. path ∷ rest) (under-none paths)
+
+pub under-append : (path : List ℕ) (front back : List (List ℕ))
+    → under_path path (front ++ back) ≡ under_path path front ++ under_path path back
+under-append path front back = map-append (λ more. path ++ more) front back
+
+pub under-under : (path more : List ℕ) (paths : List (List ℕ))
+    → under_path path (under_path more paths) ≡ under_path (path ++ more) paths
+under-under path more [] = refl
+under-under path more (last ∷ paths) = let first = sym (append_assoc path more last) in
+    λ i. first i ∷ under-under path more paths i
 
 module _ {V : Type 0} where
   -- ---- pairs behind a path
@@ -36,9 +50,9 @@ module _ {V : Type 0} where
   below-all bare = refl
   below-all (grown byte child forest) = ap (λ rest. pairs_of child ++ rest) (below-all forest)
 
-  pub nodes-all : (forest : Forest V) → nodes_below forest ≡ nodes_of_all (entries_of forest)
-  nodes-all bare = refl
-  nodes-all (grown byte child forest) = ap (λ rest. nodes_of child + rest) (nodes-all forest)
+  paths-all : (forest : Forest V) → paths_below forest ≡ paths_of_all (entries_of forest)
+  paths-all bare = refl
+  paths-all (grown byte child forest) = ap (λ rest. paths_of child ++ rest) (paths-all forest)
 
   strip_prefix-own : (path prefix : List ℕ) (value : Option V)
       → behind_path path (behind_path prefix (own_pair value)) ≡ pending_pair (path ++ prefix) value
@@ -60,9 +74,12 @@ module _ {V : Type 0} where
       (behind-behind path prefix (pairs_below forest)
       ∙ ap (behind_path (path ++ prefix)) (below-all forest))
 
-  pub nodes-entered : (s : Shape V) → nodes_of s ≡ 1 + nodes_of_all (children_of s)
-  nodes-entered (node prefix value width forest) = let below = nodes-all forest in
-      omega (arith, below)
+  -- and the paths of its nodes: its own, and those of its children's
+  pub paths-entered : (path : List ℕ) (s : Shape V) → under_path path (paths_of s)
+      ≡ (path ++ prefix_of s) ∷ under_path (path ++ prefix_of s) (paths_of_all (children_of s))
+  paths-entered path (node prefix value width forest) =
+      (λ i. (path ++ append-nil prefix i) ∷ under-under path prefix (paths_below forest) i)
+      ∙ ap (λ below. (path ++ prefix) ∷ under_path (path ++ prefix) below) (paths-all forest)
 
   branches-trees : (forest : Forest V) → AreBranches forest → AreTrees (entries_of forest)
   branches-trees bare branches = tt
@@ -82,49 +99,61 @@ module _ {V : Type 0} where
   path-push (f ∷ frames) frame = ap (λ rest. f.0 ++ rest) (path-push frames frame)
       ∙ sym (append_assoc f.0 (concat (segments_of frames)) frame.0)
 
+  -- what is left in the outer nodes and the inner ones
+  ahead-append : (outer inner : List (OpenNode V)) → pairs_ahead (outer ++ inner)
+      ≡ behind_path (concat (segments_of outer)) (pairs_ahead inner) ++ pairs_ahead outer
+  ahead-append [] inner =
+      sym (append-nil (behind_path [] (pairs_ahead inner)) ∙ behind-none (pairs_ahead inner))
+  ahead-append (f ∷ outer) inner =
+      let path = concat (segments_of outer) in
+      let own = behind_path path (pairs_ahead inner) in
+      ap (λ rest. behind_path f.0 (rest ++ pairs_of_all f.1)) (ahead-append outer inner)
+      ∙ ap (behind_path f.0) (append_assoc own (pairs_ahead outer) (pairs_of_all f.1))
+      ∙ behind-append f.0 own (pairs_ahead outer ++ pairs_of_all f.1)
+      ∙ ap (λ rest. rest ++ behind_path f.0 (pairs_ahead outer ++ pairs_of_all f.1))
+      (behind-behind f.0 path (pairs_ahead inner))
+
+  paths-append : (outer inner : List (OpenNode V)) → paths_ahead (outer ++ inner)
+      ≡ under_path (concat (segments_of outer)) (paths_ahead inner) ++ paths_ahead outer
+  paths-append [] inner =
+      sym (append-nil (under_path [] (paths_ahead inner)) ∙ under-none (paths_ahead inner))
+  paths-append (f ∷ outer) inner =
+      let path = concat (segments_of outer) in
+      let own = under_path path (paths_ahead inner) in
+      ap (λ rest. under_path f.0 (rest ++ paths_of_all f.1)) (paths-append outer inner)
+      ∙ ap (under_path f.0) (append_assoc own (paths_ahead outer) (paths_of_all f.1))
+      ∙ under-append f.0 own (paths_ahead outer ++ paths_of_all f.1)
+      ∙ ap (λ rest. rest ++ under_path f.0 (paths_ahead outer ++ paths_of_all f.1))
+      (under-under f.0 path (paths_ahead inner))
+
   pub ahead-push : (frames : List (OpenNode V)) (frame : OpenNode V)
       → pairs_ahead (frames ++ frame ∷ [])
       ≡ behind_path (concat (segments_of frames) ++ frame.0) (pairs_of_all frame.1)
       ++ pairs_ahead frames
-  ahead-push [] frame = sym (append-nil (behind_path frame.0 (pairs_of_all frame.1)))
-  ahead-push (f ∷ frames) frame =
-      let path = concat (segments_of frames) ++ frame.0 in
-      let own = behind_path path (pairs_of_all frame.1) in
-      ap (λ rest. behind_path f.0 (rest ++ pairs_of_all f.1)) (ahead-push frames frame)
-      ∙ ap (behind_path f.0) (append_assoc own (pairs_ahead frames) (pairs_of_all f.1))
-      ∙ behind-append f.0 own (pairs_ahead frames ++ pairs_of_all f.1)
-      ∙ ap (λ rest. rest ++ behind_path f.0 (pairs_ahead frames ++ pairs_of_all f.1))
-      (behind-behind f.0 path (pairs_of_all frame.1)
-      ∙ ap (λ p. behind_path p (pairs_of_all frame.1))
-      (sym (append_assoc f.0 (concat (segments_of frames)) frame.0)))
+  ahead-push frames frame =
+      ahead-append frames (frame ∷ [])
+      ∙ ap (λ own. own ++ pairs_ahead frames)
+      (behind-behind (concat (segments_of frames)) frame.0 (pairs_of_all frame.1))
 
-  pub nodes-push : (frames : List (OpenNode V)) (frame : OpenNode V)
-      → nodes_ahead (frames ++ frame ∷ []) ≡ nodes_ahead frames + nodes_of_all frame.1
-  nodes-push [] frame = omega arith
-  nodes-push (f ∷ frames) frame = let rest = nodes-push frames frame in omega (arith, rest)
+  pub paths-push : (frames : List (OpenNode V)) (frame : OpenNode V)
+      → paths_ahead (frames ++ frame ∷ [])
+      ≡ under_path (concat (segments_of frames) ++ frame.0) (paths_of_all frame.1)
+      ++ paths_ahead frames
+  paths-push frames frame =
+      paths-append frames (frame ∷ [])
+      ∙ ap (λ own. own ++ paths_ahead frames)
+      (under-under (concat (segments_of frames)) frame.0 (paths_of_all frame.1))
 
   pub trees-push : (frames : List (OpenNode V)) (frame : OpenNode V) → TreesAhead frames
       → AreTrees frame.1 → TreesAhead (frames ++ frame ∷ [])
   trees-push [] frame trees more = (more, tt)
   trees-push (f ∷ frames) frame trees more = (trees.0, trees-push frames frame trees.1 more)
 
-  pub trees-pop : (frames : List (OpenNode V)) (frame : OpenNode V)
-      → TreesAhead (frames ++ frame ∷ []) → TreesAhead frames × AreTrees frame.1
-  trees-pop [] frame trees = (tt, trees.0)
-  trees-pop (f ∷ frames) frame trees = let rest = trees-pop frames frame trees.1 in
+  trees-append : (outer inner : List (OpenNode V)) → TreesAhead (outer ++ inner)
+      → TreesAhead outer × TreesAhead inner
+  trees-append [] inner trees = (tt, trees)
+  trees-append (f ∷ outer) inner trees = let rest = trees-append outer inner trees.1 in
       ((trees.0, rest.0), rest.1)
-
-  -- ---- one step of a walk
-  -- what is known on the way from the frames and the count where the walk was asked
-  pub record IsGoing (greatest : Option ℕ) (start : List (OpenNode V)) (count : ℕ)
-      (frames : List (OpenNode V)) (entered : ℕ) : Type 0 where
-    pub trees : TreesAhead frames
-    pub short : AreShort greatest (pairs_ahead frames)
-    pub left : pairs_ahead frames ≡ pairs_ahead start
-    pub counted : entered + nodes_ahead frames ≡ count + nodes_ahead start
-
-  pub measure : List (OpenNode V) → ℕ
-  measure frames = 2 * nodes_ahead frames + length frames
 
   -- ---- a node has a key, which begins with its prefix
   pub record HasPair (s : Shape V) : Type 0 where
@@ -210,15 +239,36 @@ module _ {V : Type 0} where
         (segments_of (frames ++ (prefix_of s, children_of s) ∷ []))) (value_of s) ++ later)
         (sym (ahead-push frames (prefix_of s, children_of s)))
 
-    pub whole-nodes : nodes_ahead (frames ++ (prefix_of s, children_of s) ∷ []) + 1
-        ≡ nodes_ahead frames + nodes_of s
-    whole-nodes = let after = nodes-push frames (prefix_of s, children_of s) in
-        let own = nodes-entered s in omega (arith, after, own)
+    -- the paths of its nodes: its own, and those that are left then
+    pub whole-places : under_path (concat (segments_of frames)) (paths_of s) ++ paths_ahead frames
+        ≡ concat (segments_of (frames ++ (prefix_of s, children_of s) ∷ []))
+        ∷ paths_ahead (frames ++ (prefix_of s, children_of s) ∷ [])
+    whole-places =
+        let path = concat (segments_of frames) in
+        ap (λ paths. paths ++ paths_ahead frames) (paths-entered path s)
+        ∙ ap (λ later. (path ++ prefix_of s) ∷ later)
+        (sym (paths-push frames (prefix_of s, children_of s)))
+        ∙ ap (λ own. own ∷ paths_ahead (frames ++ (prefix_of s, children_of s) ∷ []))
+        (sym path-whole)
 
     pub whole-trees : IsTree s → TreesAhead frames
         → TreesAhead (frames ++ (prefix_of s, children_of s) ∷ [])
     whole-trees tree trees =
         trees-push frames (prefix_of s, children_of s) trees (trees-entered s tree)
+
+    -- its first key goes on from where it stands
+    pub whole-first : IsTree s → GoesOnFirst (concat (segments_of frames) ++ prefix_of s)
+        (behind_path (concat (segments_of frames)) (pairs_of s) ++ pairs_ahead frames)
+    whole-first tree =
+        let path = concat (segments_of frames) in
+        let has = tree-has-pair s tree in (
+          has.behind,
+          has.value,
+          behind_path path has.others ++ pairs_ahead frames,
+          ap (λ pairs. behind_path path pairs ++ pairs_ahead frames) has.first
+              ∙ ap (λ key. (key, has.value) ∷ (behind_path path has.others ++ pairs_ahead frames))
+              (sym (append_assoc path (prefix_of s) has.behind)),
+        )
 
     pub path-fits : (greatest : Option ℕ) → IsTree s
         → AreShort greatest (behind_path (concat (segments_of frames)) (pairs_of s))
@@ -248,257 +298,127 @@ module _ {V : Type 0} where
         (short-append greatest (behind_path (concat (segments_of frames)) (pairs_of s))
         (pairs_ahead frames) short later))
 
-  -- ---- the innermost node's next child
-  module _ (greatest : Option ℕ) (start : List (OpenNode V)) (count : ℕ)
-      (frames : List (OpenNode V)) (entered : ℕ)
-      (going : IsGoing greatest start count frames entered) where
-    -- it has none left, and is left
-    module _ (front : List (OpenNode V)) (segment : List ℕ)
-        (is : frames ≡ front ++ (segment, []) ∷ []) where
-      pub left-going : IsGoing greatest start count front entered
-      left-going =
-          let ahead : pairs_ahead frames ≡ pairs_ahead front =
-          ap pairs_ahead is ∙ ahead-push front (segment, []) in
-          let nodes : nodes_ahead frames ≡ nodes_ahead front =
-          ap nodes_ahead is ∙ nodes-push front (segment, []) ∙ omega arith in
-          let counted = going.counted in
-          record {
-            trees = (trees-pop front (segment, []) (subst TreesAhead is going.trees)).0;
-            short = subst (AreShort greatest) ahead going.short;
-            left = sym ahead ∙ going.left;
-            counted = omega (arith, counted, nodes);
-          }
+  -- ---- the next child
+  -- nodes without a child left have nothing left
+  spent-pairs : (frames : List (OpenNode V)) → AreSpent frames → pairs_ahead frames ≡ []
+  spent-pairs [] spent = refl
+  spent-pairs (f ∷ frames) spent =
+      λ i. behind_path f.0 (spent-pairs frames spent.1 i ++ pairs_of_all (spent.0 i))
 
-      pub left-smaller : measure front < measure frames
-      unfolding measure
-      left-smaller =
-          let nodes : nodes_ahead frames ≡ nodes_ahead front =
-          ap nodes_ahead is ∙ nodes-push front (segment, []) ∙ omega arith in
-          let long : length frames ≡ length front + 1 =
-          ap length is ∙ length-append front ((segment, []) ∷ []) in
-          omega (arith, nodes, long)
+  spent-places : (frames : List (OpenNode V)) → AreSpent frames → paths_ahead frames ≡ []
+  spent-places [] spent = refl
+  spent-places (f ∷ frames) spent =
+      λ i. under_path f.0 (spent-places frames spent.1 i ++ paths_of_all (spent.0 i))
 
-    module _ (front : List (OpenNode V)) (segment : List ℕ) (byte : ℕ) (s : Shape V)
-        (rest : List (ℕ × Shape V)) (is : frames ≡ front ++ (segment, (byte, s) ∷ rest) ∷ []) where
-      abbrev taken : List (OpenNode V)
-      taken = front ++ (segment, rest) ∷ []
+  pub took-none : (frames after : List (OpenNode V)) → TakesAhead frames None after
+      → (pairs_ahead frames ≡ []) × (paths_ahead frames ≡ [])
+  took-none frames after takes = (spent-pairs frames takes.0, spent-places frames takes.0)
 
-      abbrev inner : List (OpenNode V)
-      inner = taken ++ (prefix_of s, children_of s) ∷ []
+  module _ (greatest : Option ℕ) (frames : List (OpenNode V)) (s : Shape V)
+      (after : List (OpenNode V)) (takes : TakesAhead frames (Some s) after) where
+    abbrev front : List (OpenNode V)
+    front = takes.0
 
-      abbrev above : List ℕ
-      above = concat (segments_of front) ++ segment
+    abbrev segment : List ℕ
+    segment = takes.2
 
-      child-tree : IsTree s × AreTrees rest × TreesAhead front
-      child-tree =
+    abbrev above : List ℕ
+    above = concat (segments_of front) ++ segment
+
+    path-after : concat (segments_of after) ≡ above
+    path-after =
+        ap (λ z. concat (segments_of z)) takes.7 ∙ path-push front (segment, takes.4)
+
+    -- what was left is what is left of the child, and behind it
+    taken-pairs : pairs_ahead frames
+        ≡ behind_path (concat (segments_of after)) (pairs_of s) ++ pairs_ahead after
+    taken-pairs =
+        ap pairs_ahead takes.6
+        ∙ ahead-append front ((segment, (takes.3, s) ∷ takes.4) ∷ takes.1)
+        ∙ ap (λ z. behind_path (concat (segments_of front))
+        (behind_path segment (z ++ (pairs_of s ++ pairs_of_all takes.4))) ++ pairs_ahead front)
+        (spent-pairs takes.1 takes.5)
+        ∙ ap (λ z. z ++ pairs_ahead front) (behind-behind (concat (segments_of front)) segment
+        (pairs_of s ++ pairs_of_all takes.4) ∙ behind-append above (pairs_of s)
+        (pairs_of_all takes.4))
+        ∙ append_assoc (behind_path above (pairs_of s)) (behind_path above (pairs_of_all takes.4))
+        (pairs_ahead front)
+        ∙ ap (λ z. behind_path above (pairs_of s) ++ z)
+        (sym (ahead-push front (segment, takes.4)) ∙ ap pairs_ahead (sym takes.7))
+        ∙ ap (λ path. behind_path path (pairs_of s) ++ pairs_ahead after) (sym path-after)
+
+    taken-places : paths_ahead frames
+        ≡ under_path (concat (segments_of after)) (paths_of s) ++ paths_ahead after
+    taken-places =
+        ap paths_ahead takes.6
+        ∙ paths-append front ((segment, (takes.3, s) ∷ takes.4) ∷ takes.1)
+        ∙ ap (λ z. under_path (concat (segments_of front))
+        (under_path segment (z ++ (paths_of s ++ paths_of_all takes.4))) ++ paths_ahead front)
+        (spent-places takes.1 takes.5)
+        ∙ ap (λ z. z ++ paths_ahead front) (under-under (concat (segments_of front)) segment
+        (paths_of s ++ paths_of_all takes.4) ∙ under-append above (paths_of s)
+        (paths_of_all takes.4))
+        ∙ append_assoc (under_path above (paths_of s)) (under_path above (paths_of_all takes.4))
+        (paths_ahead front)
+        ∙ ap (λ z. under_path above (paths_of s) ++ z)
+        (sym (paths-push front (segment, takes.4)) ∙ ap paths_ahead (sym takes.7))
+        ∙ ap (λ path. under_path path (paths_of s) ++ paths_ahead after) (sym path-after)
+
+    module _ (trees : TreesAhead frames) (short : AreShort greatest (pairs_ahead frames)) where
+      child-trees : TreesAhead front × IsTree s × AreTrees takes.4
+      child-trees =
           let parts =
-          trees-pop front (segment, (byte, s) ∷ rest) (subst TreesAhead is going.trees) in
-          (parts.1.0, parts.1.1, parts.0)
+          trees-append front ((segment, (takes.3, s) ∷ takes.4) ∷ takes.1)
+          (subst TreesAhead takes.6 trees) in
+          (parts.0, parts.1.0.0, parts.1.0.1)
 
       pub taken-tree : IsTree s
-      taken-tree = child-tree.0
+      taken-tree = child-trees.1
 
-      path-taken : concat (segments_of taken) ≡ above
-      path-taken = path-push front (segment, rest)
-
-      ahead-frames : pairs_ahead frames ≡ behind_path above (pairs_of s) ++ pairs_ahead taken
-      ahead-frames =
-          ap pairs_ahead is ∙ ahead-push front (segment, (byte, s) ∷ rest)
-          ∙ ap (λ own. own ++ pairs_ahead front)
-          (behind-append above (pairs_of s) (pairs_of_all rest))
-          ∙ append_assoc (behind_path above (pairs_of s)) (behind_path above (pairs_of_all rest))
-          (pairs_ahead front)
-          ∙ ap (λ later. behind_path above (pairs_of s) ++ later)
-          (sym (ahead-push front (segment, rest)))
-
-      -- what was left before the child is entered: its own pair, and what is left behind it
-      pub inner-pairs : pairs_ahead frames ≡ pending_pair (concat (segments_of inner)) (value_of s)
-          ++ pairs_ahead inner
-      inner-pairs =
-          ahead-frames ∙ ap (λ path. behind_path path (pairs_of s) ++ pairs_ahead taken)
-          (sym path-taken) ∙ whole-pairs taken s
+      taken-short : AreShort greatest
+          (behind_path (concat (segments_of after)) (pairs_of s) ++ pairs_ahead after)
+      taken-short = subst (AreShort greatest) taken-pairs short
 
       -- the trail has room for its prefix
-      pub taken-fits : IsAdmitted greatest (length (concat (segments_of taken ++ prefix_of s ∷ [])))
+      pub taken-fits : IsAdmitted greatest (length (concat (segments_of after ++ prefix_of s ∷ [])))
       taken-fits =
-          path-fits taken s greatest taken-tree
-          (short-front greatest (behind_path (concat (segments_of taken)) (pairs_of s))
-          (pairs_ahead taken)
-          (subst (AreShort greatest) (ahead-frames
-          ∙ ap (λ path. behind_path path (pairs_of s) ++ pairs_ahead taken) (sym path-taken))
-          going.short))
+          path-fits after s greatest taken-tree
+          (short-front greatest (behind_path (concat (segments_of after)) (pairs_of s))
+          (pairs_ahead after) taken-short)
 
-      inner-nodes : nodes_ahead frames ≡ 1 + nodes_ahead inner
-      inner-nodes =
-          let before = nodes-push front (segment, (byte, s) ∷ rest) in
-          let between = nodes-push front (segment, rest) in
-          let after = nodes-push taken (prefix_of s, children_of s) in
-          let own = nodes-entered s in
-          let same = ap nodes_ahead is in
-          omega (arith, before, between, after, own, same)
+      -- the child is entered
+      module _ (inner : List (OpenNode V))
+          (opened : inner ≡ after ++ (prefix_of s, children_of s) ∷ []) where
+        pub inner-pairs : pairs_ahead frames
+            ≡ pending_pair (concat (segments_of inner)) (value_of s) ++ pairs_ahead inner
+        inner-pairs =
+            taken-pairs ∙ whole-pairs after s
+            ∙ ap (λ z. pending_pair (concat (segments_of z)) (value_of s) ++ pairs_ahead z)
+            (sym opened)
 
-      pub inner-counted : (entered + 1) + nodes_ahead inner ≡ count + nodes_ahead start
-      inner-counted = let counted = going.counted in let nodes = inner-nodes in
-          omega (arith, counted, nodes)
+        pub inner-places : paths_ahead frames ≡ concat (segments_of inner) ∷ paths_ahead inner
+        inner-places =
+            taken-places ∙ whole-places after s
+            ∙ ap (λ z. concat (segments_of z) ∷ paths_ahead z) (sym opened)
 
-      pub inner-trees : TreesAhead inner
-      inner-trees =
-          trees-push taken (prefix_of s, children_of s)
-          (trees-push front (segment, rest) child-tree.2 child-tree.1) (trees-entered s taken-tree)
+        pub inner-first : GoesOnFirst (concat (segments_of inner)) (pairs_ahead frames)
+        inner-first =
+            let path : concat (segments_of after) ++ prefix_of s ≡ concat (segments_of inner) =
+            sym (ap (λ z. concat (segments_of z)) opened
+            ∙ path-push after (prefix_of s, children_of s)) in
+            subst (λ z. GoesOnFirst (concat (segments_of inner)) z) (sym taken-pairs)
+            (subst (λ z. GoesOnFirst z (behind_path (concat (segments_of after)) (pairs_of s)
+            ++ pairs_ahead after)) path (whole-first after s taken-tree))
 
-      pub inner-smaller : measure inner < measure frames
-      unfolding measure
-      inner-smaller =
-          let nodes = inner-nodes in
-          let long : length frames ≡ length front + 1 =
-          ap length is ∙ length-append front ((segment, (byte, s) ∷ rest) ∷ []) in
-          let more : length inner ≡ length front + 1 + 1 =
-          length-append taken ((prefix_of s, children_of s) ∷ [])
-          ∙ ap (λ n. n + 1) (length-append front ((segment, rest) ∷ [])) in
-          omega (arith, nodes, long, more)
-
-      -- a node without a value is passed
-      pub inner-going : value_of s ≡ None → IsGoing greatest start count inner (entered + 1)
-      inner-going none =
-          let ahead : pairs_ahead frames ≡ pairs_ahead inner =
-          inner-pairs ∙ ap (λ value. pending_pair (concat (segments_of inner)) value
-          ++ pairs_ahead inner) none in
-          record {
-            trees = inner-trees;
-            short = subst (AreShort greatest) ahead going.short;
-            left = sym ahead ∙ going.left;
-            counted = inner-counted;
-          }
-
-      -- a value is given
-      module _ (value : V) (some : value_of s ≡ Some value) where
-        pub inner-given : pairs_ahead start ≡ (concat (segments_of inner), value)
-            ∷ pairs_ahead inner
-        inner-given =
-            sym going.left ∙ inner-pairs ∙ ap
-            (λ value. pending_pair (concat (segments_of inner)) value ++ pairs_ahead inner) some
+        pub inner-trees : TreesAhead inner
+        inner-trees =
+            subst TreesAhead (sym opened)
+            (trees-push after (prefix_of s, children_of s)
+            (subst TreesAhead (sym takes.7)
+            (trees-push front (segment, takes.4) child-trees.0 child-trees.2))
+            (trees-entered s taken-tree))
 
         pub inner-short : AreShort greatest (pairs_ahead inner)
         inner-short =
-            short-rest greatest (concat (segments_of inner), value) (pairs_ahead inner)
-            (subst (AreShort greatest) (going.left ∙ inner-given) going.short)
-
-  -- ---- the same, as the calls of a step know it
-  pub record TookChild (before : List (OpenNode V)) (s : Shape V)
-      (after : List (OpenNode V)) : Type 0 where
-    pub front : List (OpenNode V)
-    pub segment : List ℕ
-    pub byte : ℕ
-    pub rest : List (ℕ × Shape V)
-    pub before_is : before ≡ front ++ (segment, (byte, s) ∷ rest) ∷ []
-    pub after_is : after ≡ front ++ (segment, rest) ∷ []
-
-  pub record TookNone (before after : List (OpenNode V)) : Type 0 where
-    pub front : List (OpenNode V)
-    pub segment : List ℕ
-    pub before_is : before ≡ front ++ (segment, []) ∷ []
-    pub same : after ≡ before
-
-  pub took-child : (before after : List (OpenNode V)) (o : Option (Shape V)) (s : Shape V)
-      → o ≡ Some s → TakesChild before (Some o) after → TookChild before s after
-  took-child before after o s is takes =
-      let t = subst (λ z. TakesChild before (Some z) after) is takes in
-      record { front = t.0; segment = t.1; byte = t.2; rest = t.3; before_is = t.4; after_is = t.5 }
-
-  pub took-none : (before after : List (OpenNode V)) (o : Option (Shape V)) → o ≡ None
-      → TakesChild before (Some o) after → TookNone before after
-  took-none before after o is takes =
-      let t = subst (λ z. TakesChild before (Some z) after) is takes in
-      record { front = t.1; segment = t.2; before_is = t.3; same = t.0 }
-
-  pub took-segments : (before : List (OpenNode V)) (s : Shape V) (after : List (OpenNode V))
-      → TookChild before s after → segments_of before ≡ segments_of after
-  took-segments before s after took =
-      ap segments_of took.before_is ∙ segments-push took.front
-      (took.segment, (took.byte, s) ∷ took.rest)
-      ∙ sym (segments-push took.front (took.segment, took.rest))
-      ∙ ap segments_of (sym took.after_is)
-
-  -- what is known where the child that was taken has been entered
-  pub record HasEntered (greatest : Option ℕ) (start : List (OpenNode V)) (count : ℕ)
-      (frames : List (OpenNode V)) (s : Shape V) (inner : List (OpenNode V))
-      (entered : ℕ) : Type 0 where
-    pub trees : TreesAhead inner
-    pub given : (value : V) → value_of s ≡ Some value
-        → pairs_ahead start ≡ (concat (segments_of inner), value) ∷ pairs_ahead inner
-    pub short : (value : V) → value_of s ≡ Some value → AreShort greatest (pairs_ahead inner)
-    pub counted : entered + nodes_ahead inner ≡ count + nodes_ahead start
-    pub smaller : measure inner < measure frames
-    pub passed : value_of s ≡ None → IsGoing greatest start count inner entered
-
-  module _ (greatest : Option ℕ) (start : List (OpenNode V)) (count : ℕ)
-      (frames : List (OpenNode V)) (entered : ℕ)
-      (going : IsGoing greatest start count frames entered) where
-    pub took-left : (after : List (OpenNode V)) → TookNone frames after
-        → (inner : List (OpenNode V)) → ((front : List (OpenNode V)) (last : OpenNode V)
-        → after ≡ front ++ last ∷ [] → inner ≡ front)
-        → IsGoing greatest start count inner entered × (measure inner < measure frames)
-    took-left after took inner leaves =
-        let is : inner ≡ took.front =
-        leaves took.front (took.segment, []) (took.same ∙ took.before_is) in
-        subst (λ z. IsGoing greatest start count z entered × (measure z < measure frames))
-        (sym is) (
-          left-going greatest start count frames entered going took.front took.segment
-              took.before_is,
-          left-smaller greatest start count frames entered going took.front
-              took.segment took.before_is,
-        )
-
-    module _ (s : Shape V) (after : List (OpenNode V)) (took : TookChild frames s after) where
-      pub took-tree : IsTree s
-      took-tree =
-          taken-tree greatest start count frames entered going took.front took.segment took.byte s
-          took.rest took.before_is
-
-      pub took-fits : IsAdmitted greatest (length (concat (segments_of after ++ prefix_of s ∷ [])))
-      took-fits =
-          subst (λ z. IsAdmitted greatest (length (concat (segments_of z ++ prefix_of s ∷ []))))
-          (sym took.after_is)
-          (taken-fits greatest start count frames entered going took.front took.segment took.byte s
-          took.rest took.before_is)
-
-      pub took-counted : (later : ℕ) → later ≡ entered + 1 → later ≤ count + nodes_ahead start
-      took-counted later is =
-          let counted =
-          inner-counted greatest start count frames entered going took.front took.segment
-          took.byte s took.rest took.before_is in
-          omega (arith, counted, is)
-
-      pub took-entered : (inner : List (OpenNode V)) (later : ℕ)
-          → inner ≡ after ++ (prefix_of s, children_of s) ∷ [] → later ≡ entered + 1
-          → HasEntered greatest start count frames s inner later
-      took-entered inner later is one =
-          let opened : inner ≡ (took.front ++ (took.segment, took.rest) ∷ [])
-          ++ (prefix_of s, children_of s) ∷ [] =
-          is ∙ ap (λ z. z ++ (prefix_of s, children_of s) ∷ []) took.after_is in
-          let whole : HasEntered greatest start count frames s
-          ((took.front ++ (took.segment, took.rest) ∷ []) ++ (prefix_of s, children_of s) ∷ [])
-          (entered + 1) = record {
-            trees =
-                inner-trees greatest start count frames entered going took.front took.segment
-                took.byte s took.rest took.before_is;
-            given =
-                inner-given greatest start count frames entered going took.front took.segment
-                took.byte s took.rest took.before_is;
-            short =
-                inner-short greatest start count frames entered going took.front took.segment
-                took.byte s took.rest took.before_is;
-            counted =
-                inner-counted greatest start count frames entered going took.front took.segment
-                took.byte s took.rest took.before_is;
-            smaller =
-                inner-smaller greatest start count frames entered going took.front took.segment
-                took.byte s took.rest took.before_is;
-            passed =
-                inner-going greatest start count frames entered going took.front took.segment
-                took.byte s took.rest took.before_is;
-          } in
-          let at : HasEntered greatest start count frames s inner (entered + 1) =
-          subst (λ z. HasEntered greatest start count frames s z (entered + 1))
-          (sym opened) whole in
-          subst (λ n. HasEntered greatest start count frames s inner n) (sym one) at
+            short-pending greatest (concat (segments_of inner)) (value_of s) (pairs_ahead inner)
+            (subst (AreShort greatest) inner-pairs short)

@@ -1,27 +1,32 @@
 -- The nodes that a walk has open, from the root down: each with its prefix and the children that
 -- are left.
-use Rattle.std.specs.Prelude.{◌≡◌, ℕ, ◌+◌, List, [], ◌∷◌, ◌++◌, Option, Some, None, map, ⊤}
+use Rattle.std.specs.Prelude.{◌≡◌, ℕ, List, [], ◌∷◌, ◌++◌, Option, Some, None, map, ⊤}
 use Rattle.std.specs.List.{concat}
 use Rattle.rart_node.specs.Shape.{Shape, prefix_of, children_of}
 use Rattle.rart_shape.specs.Trees.{IsTree, pairs_of}
-use Rattle.rart_walks.specs.Walks.{Position, nodes_of}
+use Rattle.rart_walks.specs.Walks.{Position, paths_of}
+pub use Rattle.rart_walks.specs.Walks.{pending_pair}
 
 abbrev pub OpenNode : Type 0 → Type 0
 OpenNode V = List ℕ × List (ℕ × Shape V)
+
+-- the paths with this string before each
+abbrev pub under_path : List ℕ → List (List ℕ) → List (List ℕ)
+under_path path paths = map (λ more. path ++ more) paths
 
 module _ {V : Type 0} where
   -- the pairs with this string before each key
   abbrev pub behind_path : List ℕ → List (List ℕ × V) → List (List ℕ × V)
   behind_path path pairs = map (λ pair. (path ++ pair.0, pair.1)) pairs
 
-  -- the pairs of children, one child after the other, and how many nodes they have
+  -- the pairs of children, one child after the other, and the paths of their nodes
   abbrev pub pairs_of_all : List (ℕ × Shape V) → List (List ℕ × V)
   pairs_of_all [] = []
   pairs_of_all (child ∷ children) = pairs_of child.1 ++ pairs_of_all children
 
-  abbrev pub nodes_of_all : List (ℕ × Shape V) → ℕ
-  nodes_of_all [] = 0
-  nodes_of_all (child ∷ children) = nodes_of child.1 + nodes_of_all children
+  abbrev pub paths_of_all : List (ℕ × Shape V) → List (List ℕ)
+  paths_of_all [] = []
+  paths_of_all (child ∷ children) = paths_of child.1 ++ paths_of_all children
 
   -- the pairs of a node but its own
   abbrev pub pairs_inside : Shape V → List (List ℕ × V)
@@ -34,31 +39,32 @@ module _ {V : Type 0} where
   abbrev pub segments_of : List (OpenNode V) → List (List ℕ)
   segments_of frames = map (λ frame. frame.0) frames
 
-  -- the pairs of the children that are left: those of the innermost node first
+  -- the pairs of the children that are left, and the paths of their nodes: those of the innermost
+  -- node first
   abbrev pub pairs_ahead : List (OpenNode V) → List (List ℕ × V)
   pairs_ahead [] = []
   pairs_ahead (frame ∷ frames) = behind_path frame.0 (pairs_ahead frames ++ pairs_of_all frame.1)
 
-  abbrev pub nodes_ahead : List (OpenNode V) → ℕ
-  nodes_ahead [] = 0
-  nodes_ahead (frame ∷ frames) = nodes_of_all frame.1 + nodes_ahead frames
+  abbrev pub paths_ahead : List (OpenNode V) → List (List ℕ)
+  paths_ahead [] = []
+  paths_ahead (frame ∷ frames) = under_path frame.0 (paths_ahead frames ++ paths_of_all frame.1)
 
   abbrev pub TreesAhead : List (OpenNode V) → Type 0
   TreesAhead [] = ⊤
   TreesAhead (frame ∷ frames) = AreTrees frame.1 × TreesAhead frames
-
-  -- the pair of a value that is still to be given
-  abbrev pub pending_pair : List ℕ → Option V → List (List ℕ × V)
-  pending_pair path None = []
-  pending_pair path (Some value) = (path, value) ∷ []
 
   -- where a walk stands that has these nodes open and this value still to give
   abbrev pub position_of : List (OpenNode V) → Option V → Position V
   position_of frames pending = record {
     segments = segments_of frames;
     pairs = pending_pair (concat (segments_of frames)) pending ++ pairs_ahead frames;
-    nodes = nodes_ahead frames;
+    places = paths_ahead frames;
   }
+
+  -- None of these nodes has a child left.
+  abbrev pub AreSpent : List (OpenNode V) → Type 0
+  AreSpent [] = ⊤
+  AreSpent (frame ∷ frames) = (frame.1 ≡ []) × AreSpent frames
 
   -- The next child of the innermost node was taken, or it had none left, or no node was open.
   abbrev pub TakesChild : List (OpenNode V) → Option (Option (Shape V)) → List (OpenNode V) → Type 0
@@ -69,4 +75,14 @@ module _ {V : Type 0} where
   TakesChild before (Some (Some child)) after =
       (front : List (OpenNode V)) × (segment : List ℕ) × (byte : ℕ) × (rest : List (ℕ × Shape V))
       × (before ≡ front ++ (segment, (byte, child) ∷ rest) ∷ [])
+      × (after ≡ front ++ (segment, rest) ∷ [])
+
+  -- The innermost nodes were left that had no child left; then the next child was taken, or no node
+  -- was open any more.
+  abbrev pub TakesAhead : List (OpenNode V) → Option (Shape V) → List (OpenNode V) → Type 0
+  TakesAhead before None after = AreSpent before × (after ≡ [])
+  TakesAhead before (Some child) after =
+      (front : List (OpenNode V)) × (spent : List (OpenNode V)) × (segment : List ℕ) × (byte : ℕ)
+      × (rest : List (ℕ × Shape V)) × AreSpent spent
+      × (before ≡ front ++ (segment, (byte, child) ∷ rest) ∷ spent)
       × (after ≡ front ++ (segment, rest) ∷ [])

@@ -13,11 +13,11 @@ keeps Under u key = begins u key
 keeps From u key = is_le (byte_order u key)
 keeps Behind u key = is_lt (byte_order u key)
 
--- whether a node is, by its path
+-- whether a node may be left to enter, by its path: the one at the end of the way is entered
 abbrev pub reaches : Part → List ℕ → List ℕ → Bool
 reaches Under u path = begins u path
-reaches From u path = is_le (byte_order u path)
-reaches Behind u path = is_le (byte_order u path)
+reaches From u path = is_lt (byte_order u path)
+reaches Behind u path = is_lt (byte_order u path)
 
 -- whether the part goes on behind the keys that begin as the string does
 abbrev pub goes_on : Part → Bool

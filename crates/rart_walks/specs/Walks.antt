@@ -1,5 +1,6 @@
 -- What a walk over a tree has left, and how long the keys of what it goes over may be.
-use Rattle.std.specs.Prelude.{◌≡◌, ◌≤◌, ℕ, List, [], ◌∷◌, ◌++◌, map, Option, Some, None, All, length, ⊤}
+use Rattle.std.specs.Prelude.{◌≡◌, ◌≤◌, ◌⊎◌, ℕ, List, [], ◌∷◌, ◌++◌, map, Option, Some, None, IsSome, All, length, ⊤}
+use Rattle.std.specs.Option.{option_copied}
 use Rattle.std.specs.List.{concat}
 use Rattle.std.specs.Borrow.{Bor}
 use Rattle.rart_node.specs.Shape.{Shape, Forest, node, bare, grown}
@@ -27,16 +28,46 @@ pub record Position (V : Type 0) : Type 0 where
   pub segments : List (List ℕ)
   -- the pairs that are to be given
   pub pairs : List (List ℕ × V)
-  -- how many nodes are to be entered
-  pub nodes : ℕ
+  -- the paths of the nodes that are to be entered
+  pub places : List (List ℕ)
 
 module _ {V : Type 0} where
   -- a walk behind its end
   abbrev pub walk_end : Position V
-  walk_end = record { segments = []; pairs = []; nodes = 0 }
+  walk_end = record { segments = []; pairs = []; places = [] }
 
   -- The walk gave the first pair of what was left, and stands at its node, or there was none, and
   -- it has ended.
   abbrev pub Gives : Position V → Option (Bor V) → Position V → Type 0
   Gives before None after = (before.pairs ≡ []) × (after ≡ walk_end)
   Gives before (Some value) after = before.pairs ≡ (concat after.segments, value.now) ∷ after.pairs
+
+  -- the pair of a value that is still to be given
+  abbrev pub pending_pair : List ℕ → Option V → List (List ℕ × V)
+  pending_pair path None = []
+  pending_pair path (Some value) = (path, value) ∷ []
+
+  -- The first of these pairs has a key that the string begins.
+  abbrev pub GoesOnFirst : List ℕ → List (List ℕ × V) → Type 0
+  GoesOnFirst path pairs =
+      (more : List ℕ) × (value : V) × (others : List (List ℕ × V))
+      × (pairs ≡ (path ++ more, value) ∷ others)
+
+  -- The walk has come to a node, with this value, if it has one: it has entered it, or stood there
+  -- with the value still to give. The keys below it are the first that were left.
+  pub record ComesTo (before : Position V) (value : Option (Bor V))
+      (after : Position V) : Type 0 where
+    pub pairs : before.pairs ≡ pending_pair (concat after.segments) (option_copied value)
+        ++ after.pairs
+    pub first : GoesOnFirst (concat after.segments) before.pairs
+    pub place : (before.places ≡ concat after.segments ∷ after.places)
+        ⊎ ((before.places ≡ after.places) × IsSome value)
+
+  -- The walk has come to the next node, or there was none, and it has ended.
+  abbrev pub Steps : Position V → Option (Option (Bor V)) → Position V → Type 0
+  Steps before None after = (before.pairs ≡ []) × (before.places ≡ []) × (after ≡ walk_end)
+  Steps before (Some value) after = ComesTo before value after
+
+-- The list is the other one, or what that has behind its first.
+abbrev pub IsEndOf : {A : Type 0} → List A → List A → Type 0
+IsEndOf {A} end whole = (whole ≡ end) ⊎ ((first : A) × (whole ≡ first ∷ end))

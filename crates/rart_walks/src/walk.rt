@@ -1,5 +1,5 @@
 //! The walk itself.
-ghost use Rattle.std.specs.Prelude.{◌≡◌, ◌+◌, ◌≤◌, ◌++◌, ◌∷◌, [], List, length, is_ok, if◌then◌else◌, None, IfOk, OnOk, OnErr};
+ghost use Rattle.std.specs.Prelude.{◌≡◌, ◌+◌, ◌++◌, ◌∷◌, [], List, length, is_ok, if◌then◌else◌, None, IfOk, OnOk, OnErr};
 ghost use Rattle.std.specs.List.{concat};
 ghost use Rattle.std.specs.Option.{option_map, option_copied};
 ghost use Rattle.rart_below.specs.Bytes.{IsAdmitted};
@@ -8,8 +8,8 @@ ghost use Rattle.rart_node.specs.NodeShapes.{node_shape, pointer_shape};
 ghost use Rattle.rart_node.specs.VersionedNodeIter.{children_left};
 ghost use Rattle.rart_node.specs.Shape.{IsAscending, prefix_of, value_of, children_of};
 ghost use Rattle.rart_shape.specs.Trees.{IsTree, pairs_of};
-ghost use Rattle.rart_walks.specs.Walks.{Gives, AreShort, walk_end, nodes_of};
-ghost use Rattle.rart_walks.specs.Frames.{OpenNode, TakesChild, segments_of, behind_path};
+ghost use Rattle.rart_walks.specs.Walks.{Gives, Steps, AreShort, walk_end, nodes_of, paths_of};
+ghost use Rattle.rart_walks.specs.Frames.{OpenNode, TakesChild, TakesAhead, segments_of, behind_path, under_path};
 ghost use Rattle.rart_walks.specs.WalkFields.{open_nodes, position, path_to, IsWalk};
 
 mod path;
@@ -29,7 +29,7 @@ struct Frame<'a, P: Partial, V> {
 /// A walk over a tree, from node to node.
 ///
 /// Contracts see a walk as the prefixes of the nodes down to the one that it stands at, the pairs
-/// that it has left, and how many nodes it has left to enter.
+/// that it has left, and the paths of the nodes that it has left to enter.
 #[derive(Drop)]
 pub struct Walk<'a, P: Partial, V, T> {
     trail: T,
@@ -64,8 +64,9 @@ impl<'a, P: Partial, V: Drop, T: Trail<'a>> Walk<'a, P, V, T> {
             ≡ behind_path (path_to P.bytes self.old)
             (pairs_of (node_shape P.bytes node.now))
             ++ (position P.bytes self.old).pairs) }
-        ensures nodes { OnOk result ((position P.bytes self.new).nodes + 1
-            ≡ (position P.bytes self.old).nodes + nodes_of (node_shape P.bytes node.now)) }
+        ensures places { OnOk result (path_to P.bytes self.new ∷ (position P.bytes self.new).places
+            ≡ under_path (path_to P.bytes self.old) (paths_of (node_shape P.bytes node.now))
+            ++ (position P.bytes self.old).places) }
         ensures frames { OnOk result (open_nodes P.bytes self.new.frames.items
             ≡ open_nodes P.bytes self.old.frames.items
             ++ (prefix_of (node_shape P.bytes node.now), children_of (node_shape P.bytes node.now))
@@ -111,7 +112,7 @@ impl<'a, P: Partial, V: Drop, T: Trail<'a>> Walk<'a, P, V, T> {
         ensures walk { IfOk result (IsWalk P.bytes T.holds T.greatest) }
         ensures pairs { IfOk result (λ walk. (position P.bytes walk).pairs
             ≡ pairs_of (pointer_shape P.bytes root.now)) }
-        ensures nodes { IfOk result (λ walk. (position P.bytes walk).nodes + 1
+        ensures nodes { IfOk result (λ walk. length (position P.bytes walk).places + 1
             ≡ nodes_of (pointer_shape P.bytes root.now)) }
         ensures work { work.new ≡ record work.old { entered = work.old.entered + 1 } }
     {
@@ -138,7 +139,42 @@ impl<'a, P: Partial, V: Drop, T: Trail<'a>> Walk<'a, P, V, T> {
         leave_all(&mut self.frames, &mut self.trail);
     }
 
+    /// Goes on to the next node, and gives its value: `Some(None)` where it has none. Where the walk
+    /// stands at a node whose value is still to give, it gives that, and enters none. `None` where
+    /// no node is left.
+    ///
+    /// Refused for memory, the walk has ended.
+    #[inline]
+    pub fn next_node(&mut self, work: &mut Work) -> Result<Option<Option<&'a V>>, AllocError>
+        requires walk { IsWalk P.bytes T.holds T.greatest self.old }
+        ensures walk { IsWalk P.bytes T.holds T.greatest self.new }
+        ensures steps { IfOk result (λ value. Steps (position P.bytes self.old) value
+            (position P.bytes self.new)) }
+        ensures refused { OnErr result (position P.bytes self.new ≡ walk_end) }
+        ensures entered { OnOk result (work.new.entered + length (position P.bytes self.new).places
+            ≡ work.old.entered + length (position P.bytes self.old).places) }
+        ensures counted { CountsUpTo (length (position P.bytes self.old).places) 0
+            work.old work.new }
+        ensures one { CountsUpTo 1 0 work.old work.new }
+    {
+        if let Some(value) = self.pending {
+            self.pending = None;
+            return Ok(Some(Some(value)));
+        }
+        let Some(child) = next_ahead(&mut self.frames, &mut self.trail) else {
+            return Ok(None);
+        };
+        let node = child.open(work);
+        if let Err(refused) = enter(&mut self.frames, &mut self.trail, node) {
+            leave_all(&mut self.frames, &mut self.trail);
+            return Err(refused);
+        }
+        Ok(Some(node.value()))
+    }
+
     /// Gives the next value, or `None` where there is none left.
+    ///
+    /// Refused for memory, the walk has ended.
     #[inline]
     pub fn next_value(&mut self, work: &mut Work) -> Result<Option<&'a V>, AllocError>
         requires walk { IsWalk P.bytes T.holds T.greatest self.old }
@@ -146,30 +182,40 @@ impl<'a, P: Partial, V: Drop, T: Trail<'a>> Walk<'a, P, V, T> {
         ensures gives { IfOk result (λ value. Gives (position P.bytes self.old) value
             (position P.bytes self.new)) }
         ensures refused { OnErr result (position P.bytes self.new ≡ walk_end) }
-        ensures entered { OnOk result (work.new.entered + (position P.bytes self.new).nodes
-            ≡ work.old.entered + (position P.bytes self.old).nodes) }
-        ensures counted { CountsUpTo (position P.bytes self.old).nodes 0 work.old work.new }
+        ensures entered { OnOk result (work.new.entered + length (position P.bytes self.new).places
+            ≡ work.old.entered + length (position P.bytes self.old).places) }
+        ensures counted { CountsUpTo (length (position P.bytes self.old).places) 0
+            work.old work.new }
     {
-        if let Some(value) = self.pending {
-            self.pending = None;
-            return Ok(Some(value));
-        }
-        'step: while let Some(next) = next_child(&mut self.frames) {
-            let Some(child) = next else {
-                leave(&mut self.frames, &mut self.trail);
-                continue;
-            };
-            let node = child.open(work);
-            if let Err(refused) = enter(&mut self.frames, &mut self.trail, node) {
-                leave_all(&mut self.frames, &mut self.trail);
-                return Err(refused);
-            }
-            if let Some(value) = node.value() {
+        'node: while let Some(value) = self.next_node(work)? {
+            if let Some(value) = value {
                 return Ok(Some(value));
             }
         }
         Ok(None)
     }
+}
+
+/// The next child of the innermost node that has one left; the nodes that have none are left.
+/// `None` where no open node has one: then none is open.
+#[inline]
+fn next_ahead<'a, P: Partial, V: Drop, T: Trail<'a>>(
+    frames: &mut Vec<Frame<'a, P, V>>,
+    trail: &mut T,
+) -> Option<&'a NodeRef<P, V>>
+    requires holds { T.holds trail.old (segments_of (open_nodes P.bytes frames.old.items)) }
+    ensures holds { T.holds trail.new (segments_of (open_nodes P.bytes frames.new.items)) }
+    ensures takes { TakesAhead (open_nodes P.bytes frames.old.items)
+        (option_map (λ child. pointer_shape P.bytes child.now) result)
+        (open_nodes P.bytes frames.new.items) }
+{
+    'leaving: while let Some(next) = next_child(frames) {
+        match next {
+            Some(child) => return Some(child),
+            None => leave(frames, trail),
+        }
+    }
+    None
 }
 
 /// Takes the next child of the innermost node: `Some(None)` where it has none left, `None` where no

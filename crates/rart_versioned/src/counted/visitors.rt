@@ -1,12 +1,13 @@
 //! Visitors over a tree, and their counts.
 ghost use Rattle.std.specs.Prelude.{◌≡◌, ◌+◌, map, OnOk};
 ghost use Rattle.std.specs.Range.Bound.{bound_map};
-ghost use Rattle.rart_maps.specs.Bounds.{reach_bound, scan_bound, walk_cost};
+ghost use Rattle.rart_maps.specs.Bounds.{range_bound, reach_bound, scan_bound, walk_cost};
 ghost use Rattle.rart_maps.specs.Pairs.{pairs, under, within};
 ghost use Rattle.rart_maps.specs.Visits.{ByValue, ByView, Visits, Visitable, VisitsUntil, VisitableUntil};
 ghost use Rattle.rart_node.specs.Counts.{CountsUpTo};
 
 use crate::counted::tree::VersionedAdaptiveRadixTree;
+use crate::counted::walks::bytes_of;
 use rart_below::{KeyTrait, LendingKeyView, Partial, Refusal, VisitControl};
 use rart_node::Work;
 use rart_visits::{visit_values, visit_values_until, visit_views, visit_views_up_to};
@@ -86,8 +87,8 @@ impl<K: KeyTrait, V: Clone + Drop> VersionedAdaptiveRadixTree<K, V> {
     }
 
     /// As `for_each_view`, with the nodes entered counted into `work`: one for each key, and one
-    /// for each other string at which keys part. So they are at most twice as many as keys, whatever
-    /// was inserted and removed before. Refused for memory, it has entered no more.
+    /// for each other string at which keys part. So they are at most twice as many as keys,
+    /// whatever was inserted and removed before. Refused for memory, it has entered no more.
     pub fn for_each_view_counted<F: FnMut(LendingKeyView<'_, '_>, &V)>(
         &self,
         f: &mut F,
@@ -103,9 +104,28 @@ impl<K: KeyTrait, V: Clone + Drop> VersionedAdaptiveRadixTree<K, V> {
         visit_views(walk, f, work)
     }
 
-    /// As `for_each_range_view`, the bounds by their bytes, with the nodes entered counted into
-    /// `work`.
-    pub(crate) fn visit_range<F: FnMut(LendingKeyView<'_, '_>, &V)>(
+    /// As `for_each_range_view`, with the nodes entered counted into `work`: at most one for each
+    /// byte of either bound, two for each pair within them, and two. A side without a bound has no
+    /// byte. Refused for memory, it has entered no more.
+    pub fn for_each_range_view_counted<F: FnMut(LendingKeyView<'_, '_>, &V)>(
+        &self,
+        range: (Bound<K>, Bound<K>),
+        f: &mut F,
+        work: &mut Work,
+    ) -> Result<(), AllocError>
+        requires visitable { Visitable F.FnMut ByView f.old (within self.now.content
+            (bound_map K.bytes range.0) (bound_map K.bytes range.1)) }
+        ensures visits { Visits F.FnMut ByView result f.old (within self.now.content
+            (bound_map K.bytes range.0) (bound_map K.bytes range.1)) f.new }
+        ensures counted { CountsUpTo (range_bound self.now.content
+            (bound_map K.bytes range.0) (bound_map K.bytes range.1)) 0 work.old work.new }
+    {
+        let (low, high) = range;
+        self.visit_range(bytes_of(&low), bytes_of(&high), f, work)
+    }
+
+    /// As `for_each_range_view_counted`, the bounds by their bytes.
+    fn visit_range<F: FnMut(LendingKeyView<'_, '_>, &V)>(
         &self,
         low: Bound<&[u8]>,
         high: Bound<&[u8]>,
@@ -117,6 +137,9 @@ impl<K: KeyTrait, V: Clone + Drop> VersionedAdaptiveRadixTree<K, V> {
         ensures visits { Visits F.FnMut ByView result f.old (within self.now.content
             (bound_map (λ low. low.now) low.entry) (bound_map (λ high. high.now) high.entry))
             f.new }
+        ensures counted { CountsUpTo (range_bound self.now.content
+            (bound_map (λ low. low.now) low.entry) (bound_map (λ high. high.now) high.entry)) 0
+            work.old work.new }
     {
         let walk = self.walk_from(low, work)?;
         visit_views_up_to(walk, high, f, work)

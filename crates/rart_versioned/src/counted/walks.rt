@@ -1,10 +1,11 @@
 //! Walks over a tree, for its iterators and visitors.
-ghost use Rattle.std.specs.Prelude.{◌≡◌, ◌+◌, ◌≤◌, filter, length, IfOk};
+ghost use Rattle.std.specs.Prelude.{◌≡◌, ◌+◌, ◌*◌, ◌≤◌, ℕ, List, filter, count_by, length, IfOk};
 ghost use Rattle.std.specs.Ordering.{as_partial_cmp};
-ghost use Rattle.std.specs.Range.Bound.{is_from_start, bound_map};
+ghost use Rattle.std.specs.Range.Bound.{is_from_start, is_up_to_end, bound_map};
+ghost use Rattle.std.specs.declared.ops.Bound.{Bound};
 ghost use Rattle.rart_below.specs.Bytes.{byte_order};
-ghost use Rattle.rart_maps.specs.Bounds.{reach_bound, scan_bound, walk_cost};
-ghost use Rattle.rart_maps.specs.Pairs.{pairs, under};
+ghost use Rattle.rart_maps.specs.Bounds.{bound_length, reach_bound, scan_bound, walk_cost};
+ghost use Rattle.rart_maps.specs.Pairs.{pairs, under, within};
 ghost use Rattle.rart_node.specs.Counts.{CountsUpTo};
 ghost use Rattle.rart_versioned.specs.IteratorFields.{AreAdmitted, KeepsKeys};
 ghost use Rattle.rart_walks.specs.WalkFields.{IsWalk, position};
@@ -29,7 +30,7 @@ impl<K: KeyTrait, V: Clone + Drop> VersionedAdaptiveRadixTree<K, V> {
         ensures admitted { IfOk result (λ walk. AreAdmitted K.MAXIMUM_SIZE
             (position K.PartialType.bytes walk).pairs) }
         ensures nodes { IfOk result (λ walk. work.new.entered
-            + (position K.PartialType.bytes walk).nodes
+            + length (position K.PartialType.bytes walk).places
             ≡ work.old.entered + walk_cost self.now.content) }
         ensures counted { CountsUpTo (walk_cost self.now.content) 0 work.old work.new }
     {
@@ -55,10 +56,10 @@ impl<K: KeyTrait, V: Clone + Drop> VersionedAdaptiveRadixTree<K, V> {
         ensures admitted { IfOk result (λ walk. AreAdmitted K.MAXIMUM_SIZE
             (position K.PartialType.bytes walk).pairs) }
         ensures nodes { IfOk result (λ walk. length prefix.now + 1
-            + (position K.PartialType.bytes walk).nodes
+            + length (position K.PartialType.bytes walk).places
             ≤ reach_bound self.now.content prefix.now) }
         ensures few { IfOk result (λ walk. length prefix.now + 1
-            + (position K.PartialType.bytes walk).nodes
+            + length (position K.PartialType.bytes walk).places
             ≤ scan_bound self.now.content prefix.now) }
         ensures counted { CountsUpTo (length prefix.now + 1) 0 work.old work.new }
     {
@@ -69,6 +70,10 @@ impl<K: KeyTrait, V: Clone + Drop> VersionedAdaptiveRadixTree<K, V> {
     }
 
     /// A walk over the pairs whose key meets a lower bound.
+    ///
+    /// It enters at most one node for each byte of the bound, and one. Of the nodes that it has
+    /// left to enter then, those whose path meets an upper bound are at most one for each byte of
+    /// that, and two for each pair within both.
     pub(crate) fn walk_from<'a, T: Trail<'a>>(
         &'a self,
         low: Bound<&[u8]>,
@@ -81,10 +86,28 @@ impl<K: KeyTrait, V: Clone + Drop> VersionedAdaptiveRadixTree<K, V> {
             (bound_map (λ low. low.now) low.entry) pair.0) (pairs self.now.content)) }
         ensures admitted { IfOk result (λ walk. AreAdmitted K.MAXIMUM_SIZE
             (position K.PartialType.bytes walk).pairs) }
+        ensures few { IfOk result (λ walk. (high : Bound (List ℕ))
+            → count_by (is_up_to_end (as_partial_cmp byte_order) high)
+            (position K.PartialType.bytes walk).places
+            ≤ bound_length high + 2 * length (within self.now.content
+            (bound_map (λ low. low.now) low.entry) high)) }
+        ensures counted { CountsUpTo (bound_length (bound_map (λ low. low.now) low.entry) + 1) 0
+            work.old work.new }
     {
         match &self.root {
             None => Ok(Walk::new(self.alloc)),
             Some(root) => Walk::from(self.alloc, root, low, work),
         }
+    }
+}
+
+/// A bound by its bytes.
+pub(crate) fn bytes_of<K: KeyTrait>(bound: &Bound<K>) -> Bound<&[u8]>
+    ensures { bound_map (λ bytes. bytes.now) result ≡ bound_map K.bytes bound.now }
+{
+    match bound {
+        Bound::Included(key) => Bound::Included(key.as_ref()),
+        Bound::Excluded(key) => Bound::Excluded(key.as_ref()),
+        Bound::Unbounded => Bound::Unbounded,
     }
 }

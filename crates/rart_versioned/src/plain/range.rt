@@ -8,6 +8,7 @@ ghost use Rattle.rart_versioned.specs.IteratorFields.{EntryGives, IsRangeWalk, u
 ghost use Rattle.rart_walks.specs.WalkFields.{position};
 
 use crate::counted::VersionedAdaptiveRadixTree;
+use crate::counted::walks::bytes_of;
 use rart_below::{KeyTrait, Partial};
 use rart_node::Work;
 use rart_walks::{KeyTrail, Walk};
@@ -107,17 +108,6 @@ fn meets<K: KeyTrait>(high: &Bound<K>, bytes: &[u8]) -> bool
         Bound::Included(high) => bytes <= high.as_ref(),
         Bound::Excluded(high) => bytes < high.as_ref(),
         Bound::Unbounded => true,
-    }
-}
-
-/// A bound by its bytes.
-pub(super) fn bytes_of<K: KeyTrait>(bound: &Bound<K>) -> Bound<&[u8]>
-    ensures { bound_map (λ bytes. bytes.now) result ≡ bound_map K.bytes bound.now }
-{
-    match bound {
-        Bound::Included(key) => Bound::Included(key.as_ref()),
-        Bound::Excluded(key) => Bound::Excluded(key.as_ref()),
-        Bound::Unbounded => Bound::Unbounded,
     }
 }
 

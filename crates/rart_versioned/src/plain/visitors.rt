@@ -5,7 +5,6 @@ ghost use Rattle.rart_maps.specs.Pairs.{pairs, under, within};
 ghost use Rattle.rart_maps.specs.Visits.{ByValue, ByView, Visits, Visitable, VisitsUntil, VisitableUntil};
 
 use crate::counted::VersionedAdaptiveRadixTree;
-use crate::plain::range::bytes_of;
 use rart_below::{KeyTrait, LendingKeyView, Refusal, VisitControl};
 use rart_node::Work;
 use std::alloc::AllocError;
@@ -54,8 +53,7 @@ impl<K: KeyTrait, V: Clone + Drop> VersionedAdaptiveRadixTree<K, V> {
         ensures visits { Visits F.FnMut ByView result f.old (within self.now.content
             (bound_map K.bytes range.0) (bound_map K.bytes range.1)) f.new }
     {
-        let (low, high) = range;
-        self.visit_range(bytes_of(&low), bytes_of(&high), f, &mut Work::new())
+        self.for_each_range_view_counted(range, f, &mut Work::new())
     }
 
     /// As `for_each_view`, for the pairs whose key the prefix begins. The prefix may end inside the

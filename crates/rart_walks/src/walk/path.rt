@@ -1,7 +1,7 @@
 //! The ways down to where a walk starts.
 ghost use Rattle.std.specs.Prelude.{◌≡◌, ◌+◌, ◌<◌, ◌≤◌, ◌⊎◌, ◌&&◌, [], ◌∷◌, ◌++◌, List, length, filter, count_by, if◌then◌else◌, IfOk, OnOk, None};
 ghost use Rattle.std.specs.Option.{option_copied};
-ghost use Rattle.std.specs.Ordering.{as_partial_cmp, is_le};
+ghost use Rattle.std.specs.Ordering.{as_partial_cmp, is_lt};
 ghost use Rattle.std.specs.Range.Bound.{is_from_start, bound_map};
 ghost use Rattle.rart_below.specs.Bytes.{begins, byte_order, common_length};
 ghost use Rattle.rart_below.specs.Children.{children_from};
@@ -11,10 +11,10 @@ ghost use Rattle.rart_node.specs.Shape.{IsAscending, prefix_of, children_of};
 ghost use Rattle.rart_node.specs.VersionedNodeIter.{children_left};
 ghost use Rattle.rart_shape.specs.Trees.{IsTree, pairs_of, path_bound};
 ghost use Rattle.std.specs.List.{concat};
-ghost use Rattle.rart_walks.specs.Frames.{behind_path, pairs_inside};
-ghost use Rattle.rart_walks.specs.WalkFields.{open_nodes, position, IsWalk};
+ghost use Rattle.rart_walks.specs.Frames.{behind_path, under_path, pairs_inside};
+ghost use Rattle.rart_walks.specs.WalkFields.{open_nodes, position, path_to, IsWalk};
 ghost use Rattle.rart_walks.specs.Parts.{keeps, reaches, goes_on, is_strict, start_of};
-ghost use Rattle.rart_walks.specs.Walks.{AreShort, nodes_of, paths_of};
+ghost use Rattle.rart_walks.specs.Walks.{AreShort, IsEndOf, paths_of};
 
 use super::Walk;
 use crate::trail::Trail;
@@ -73,7 +73,7 @@ impl<'a, P: Partial, V: Drop, T: Trail<'a>> Walk<'a, P, V, T> {
         ensures walk { IfOk result (IsWalk P.bytes T.holds T.greatest) }
         ensures pairs { IfOk result (λ walk. (position P.bytes walk).pairs
             ≡ filter (λ p. begins prefix.now p.0) (pairs_of (pointer_shape P.bytes root.now))) }
-        ensures nodes { IfOk result (λ walk. (position P.bytes walk).nodes
+        ensures nodes { IfOk result (λ walk. length (position P.bytes walk).places
             ≤ count_by (begins prefix.now) (paths_of (pointer_shape P.bytes root.now))) }
         ensures counted { CountsUpTo (length prefix.now + 1) 0 work.old work.new }
     {
@@ -97,10 +97,10 @@ impl<'a, P: Partial, V: Drop, T: Trail<'a>> Walk<'a, P, V, T> {
             ≡ filter (λ pair. is_from_start (as_partial_cmp byte_order)
             (bound_map (λ low. low.now) low.entry) pair.0)
             (pairs_of (pointer_shape P.bytes root.now))) }
-        ensures nodes { IfOk result (λ walk. (position P.bytes walk).nodes
-            ≤ count_by (λ path. is_le (byte_order
+        ensures places { IfOk result (λ walk. IsEndOf (position P.bytes walk).places
+            (filter (λ path. is_lt (byte_order
             (start_of (bound_map (λ low. low.now) low.entry)) path))
-            (paths_of (pointer_shape P.bytes root.now))) }
+            (paths_of (pointer_shape P.bytes root.now)))) }
         ensures counted { CountsUpTo
             (length (start_of (bound_map (λ low. low.now) low.entry)) + 1) 0 work.old work.new }
     {
@@ -125,8 +125,8 @@ fn along_path<'a, P: Partial, V: Drop, T: Trail<'a>>(
     ensures walk { IfOk result (IsWalk P.bytes T.holds T.greatest) }
     ensures pairs { IfOk result (λ walk. (position P.bytes walk).pairs
         ≡ filter (λ p. keeps part probe.now p.0) (pairs_of (pointer_shape P.bytes root.now))) }
-    ensures nodes { IfOk result (λ walk. (position P.bytes walk).nodes
-        ≤ count_by (reaches part probe.now) (paths_of (pointer_shape P.bytes root.now))) }
+    ensures places { IfOk result (λ walk. IsEndOf (position P.bytes walk).places
+        (filter (reaches part probe.now) (paths_of (pointer_shape P.bytes root.now)))) }
     ensures counted { CountsUpTo (path_bound (pointer_shape P.bytes root.now) probe.now) 0
         work.old work.new }
 {
@@ -173,9 +173,10 @@ fn finish<'a, P: Partial, V: Drop, T: Trail<'a>>(
         ≡ behind_path (concat (position P.bytes walk.old).segments)
         (filter (λ pair. keeps part rest.now pair.0) (pairs_of (node_shape P.bytes node.now)))
         ++ (position P.bytes walk.old).pairs) }
-    ensures nodes { OnOk result ((position P.bytes walk.new).nodes
-        ≤ (position P.bytes walk.old).nodes
-        + count_by (reaches part rest.now) (paths_of (node_shape P.bytes node.now))) }
+    ensures places { OnOk result (IsEndOf (position P.bytes walk.new).places
+        (under_path (concat (position P.bytes walk.old).segments)
+        (filter (reaches part rest.now) (paths_of (node_shape P.bytes node.now)))
+        ++ (position P.bytes walk.old).places)) }
 {
     if common == rest.len() {
         let is_passed = passes_own(part, common == node.prefix().len());
@@ -215,8 +216,9 @@ fn enter_end<'a, P: Partial, V: Drop, T: Trail<'a>>(
         (if is_passed then pairs_inside (node_shape P.bytes node.now)
         else pairs_of (node_shape P.bytes node.now))
         ++ (position P.bytes walk.old).pairs) }
-    ensures nodes { OnOk result ((position P.bytes walk.new).nodes + 1
-        ≡ (position P.bytes walk.old).nodes + nodes_of (node_shape P.bytes node.now)) }
+    ensures places { OnOk result (path_to P.bytes walk.new ∷ (position P.bytes walk.new).places
+        ≡ under_path (concat (position P.bytes walk.old).segments)
+        (paths_of (node_shape P.bytes node.now)) ++ (position P.bytes walk.old).places) }
 {
     walk.enter_whole(node)?;
     if is_passed {

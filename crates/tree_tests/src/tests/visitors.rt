@@ -220,6 +220,11 @@ const RANGES: &[Row] = &[
         Visits(1, RangeViews(Included(b"by"), Unbounded), &[(b"by", 3)]),
         Flag(true),
     ),
+    // Past this end comes a node without a value.
+    (
+        Visits(1, RangeViews(Unbounded, Excluded(b"b")), &[(b"ax", 1)]),
+        Flag(true),
+    ),
     (New, Place(2)),
     (At(2, b"a", Insert(1)), Flag(false)),
     (At(2, b"ab", Insert(2)), Flag(false)),

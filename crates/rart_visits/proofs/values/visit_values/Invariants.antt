@@ -13,7 +13,7 @@ invariant-visiting g l =
       walk : IsWalk bytes g.T.Trail.holds g.T.Trail.greatest l.walk;
       calls : AnswersUpTo g.F.FnMut ByValue tt l.fn.f (map (λ pair. pair.1) start.pairs)
           (map (λ pair. pair.1) left.pairs) l.f;
-      counted : IsCounted start.nodes l.fn.work left.nodes l.work;
+      counted : IsCounted (length start.places) l.fn.work (length left.places) l.work;
     }
 
 abbrev pub decreases-visiting : goal.decreases-visiting

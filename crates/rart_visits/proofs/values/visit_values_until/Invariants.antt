@@ -14,7 +14,7 @@ invariant-visiting g l =
       walk : IsWalk bytes g.T.Trail.holds g.T.Trail.greatest l.walk;
       calls : AnswersUpTo g.F.FnMut ByValue (Ok Continue) l.fn.f
           (map (λ pair. pair.1) start.pairs) (map (λ pair. pair.1) left.pairs) l.f;
-      counted : IsCounted start.nodes l.fn.work left.nodes l.work;
+      counted : IsCounted (length start.places) l.fn.work (length left.places) l.work;
     }
 
 abbrev pub decreases-visiting : goal.decreases-visiting

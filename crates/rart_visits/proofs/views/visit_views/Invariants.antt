@@ -13,7 +13,7 @@ invariant-visiting g l =
     record {
       walk : IsWalk bytes HoldsSegments (Some (2 ^ 64 - 1)) l.walk;
       calls : AnswersUpTo g.F.FnMut ByView tt l.fn.f start.pairs left.pairs l.f;
-      counted : IsCounted start.nodes l.fn.work left.nodes l.work;
+      counted : IsCounted (length start.places) l.fn.work (length left.places) l.work;
     }
 
 abbrev pub decreases-visiting : goal.decreases-visiting

@@ -1,4 +1,4 @@
-use Rattle.std.proofs.Common.{◌^◌, ◌-◌, length, Some}
+use Rattle.std.proofs.Common.{◌+◌, ◌^◌, ◌-◌, length, Some}
 use Rattle.std.specs.Range.Bound.{bound_map}
 use Rattle.rart_maps.specs.FoundLaws.{KeysAscend}
 use Rattle.rart_maps.specs.Visits.{ByView, AnswersUpTo}
@@ -6,6 +6,7 @@ use Rattle.rart_maps.proofs.RangeLemmas.{up_to}
 use Rattle.rart_walks.specs.WalkFields.{position, IsWalk}
 use Rattle.rart_walks.specs.Trails.{HoldsSegments}
 use Rattle.rart_visits.proofs.CountLemmas.{IsCounted}
+use Rattle.rart_visits.proofs.UpToLemmas.{IsFew}
 use Rattle.rart_visits.proofs.views.visit_views_up_to.Given as goal
 
 abbrev pub invariant-visiting : goal.invariant-visiting
@@ -19,8 +20,10 @@ invariant-visiting g l =
       ascend : KeysAscend (λ pair. pair.0) left.pairs;
       calls : AnswersUpTo g.F.FnMut ByView tt l.fn.f (up_to high start.pairs)
           (up_to high left.pairs) l.f;
-      counted : IsCounted start.nodes l.fn.work left.nodes l.work;
+      counted : IsCounted (length start.places) l.fn.work (length left.places) l.work;
+      few : IsFew high start.places l.fn.work left.places l.work;
     }
 
 abbrev pub decreases-visiting : goal.decreases-visiting
-decreases-visiting g l = length (position g.P.Partial.bytes l.walk).pairs
+decreases-visiting g l =
+    let left = position g.P.Partial.bytes l.walk in length left.pairs + length left.places

@@ -1,6 +1,5 @@
-use Rattle.std.proofs.Common.{◌≡◌, ◌-◌, refl, ◌++◌, ◌∷◌, [], sym, ap, ◌∙◌}
+use Rattle.std.proofs.Common.{◌≡◌, refl, ◌++◌, ◌∷◌, [], sym, ap, ◌∙◌}
 use Rattle.std.specs.Vec.{vec_len}
-use Rattle.rart_node.specs.NodeShapes.{pointer_shape}
 use Rattle.rart_node.specs.VersionedNodeIter.{children_left}
 use Rattle.rart_walks.specs.WalkFields.{open_nodes}
 use Rattle.rart_walks.proofs.LastLemmas.{ends-with, map-push}

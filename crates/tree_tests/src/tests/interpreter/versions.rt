@@ -251,7 +251,7 @@ fn visited<K: KeyTrait>(
             let (Some(low), Some(high)) = (bound_of(alloc, low)?, bound_of(alloc, high)?) else {
                 return Ok(Answer::KeyTooLong);
             };
-            return visits::range_views(tree, low, high, entries);
+            return visits::range_views(tree, form, low, high, entries);
         }
         Visit::PrefixViews(bytes) => bytes,
         Visit::PrefixValues(bytes) => bytes,

@@ -83,16 +83,22 @@ pub fn views<K: KeyTrait>(
     Ok(wanted.answer())
 }
 
-/// Calls `for_each_range_view`.
+/// Calls `for_each_range_view`, with work or without.
 pub fn range_views<K: KeyTrait>(
     tree: &Tree<K>,
+    form: Form,
     low: Bound<K>,
     high: Bound<K>,
     entries: &[Pair],
 ) -> Result<Answer, AllocError> {
     let mut wanted = Wanted::new(entries);
     let mut show = |key: LendingKeyView<'_, '_>, value: &u64| wanted.show_view(&key, *value);
-    tree.for_each_range_view((low, high), &mut show)?;
+    match form {
+        Form::ByValue | Form::ByReference => tree.for_each_range_view((low, high), &mut show)?,
+        Form::WithWork => {
+            tree.for_each_range_view_counted((low, high), &mut show, &mut Work::new())?
+        }
+    }
     Ok(wanted.answer())
 }
 

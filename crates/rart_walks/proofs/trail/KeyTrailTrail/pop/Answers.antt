@@ -1,4 +1,4 @@
-use Rattle.std.proofs.Common.{◌≡◌, ◌-◌, length, arith, ap, ◌∙◌}
+use Rattle.std.proofs.Common.{◌-◌, length, arith, ap, ◌∙◌}
 use Rattle.rart_walks.proofs.TrailLemmas.{bytes-fit, bytes-pop}
 use Rattle.rart_walks.proofs.trail.KeyTrailTrail.pop.Goals as goal
 

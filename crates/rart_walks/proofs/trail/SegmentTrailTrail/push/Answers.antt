@@ -1,4 +1,4 @@
-use Rattle.std.proofs.Common.{◌≡◌, ◌+◌, ◌++◌, ◌∷◌, [], length, map, arith, sym, ap, ◌∙◌}
+use Rattle.std.proofs.Common.{◌≡◌, ◌+◌, length, map, arith, sym, ap, ◌∙◌}
 use Rattle.std.specs.List.{concat}
 use Rattle.rart_walks.proofs.TrailLemmas.{length-push, shown-push}
 use Rattle.rart_walks.proofs.trail.SegmentTrailTrail.push.Goals as goal

@@ -1,13 +1,8 @@
-use Rattle.std.proofs.Common.{◌≡◌, ◌++◌, ◌∷◌, [], None, refl, sym, ap, ◌∙◌}
-use Rattle.std.specs.List.{concat}
+use Rattle.std.proofs.Common.{refl, sym}
 use Rattle.rart_node.specs.NodeShapes.{node_shape}
-use Rattle.rart_node.specs.Shape.{prefix_of, value_of, children_of}
-use Rattle.rart_shape.specs.Trees.{pairs_of}
 use Rattle.rart_shape.proofs.FindLemmas.{ascending, ordered}
-use Rattle.rart_walks.specs.Frames.{segments_of, behind_path, pending_pair, pairs_ahead, nodes_ahead, TreesAhead}
-use Rattle.rart_walks.specs.Walks.{AreShort, nodes_of}
 use Rattle.rart_walks.specs.WalkFields.{open_nodes}
-use Rattle.rart_walks.proofs.WalkLemmas.{whole-pairs, whole-nodes, whole-trees, whole-short, path-fits}
+use Rattle.rart_walks.proofs.WalkLemmas.{whole-pairs, whole-places, whole-trees, whole-short, path-fits}
 use Rattle.rart_walks.proofs.walk.Walk.enter_whole.Goals as goal
 
 pub enter-requires : goal.enter-requires
@@ -45,8 +40,8 @@ returns-clause-pairs g c =
     rw (c.in_ok-enter.ensures.opened, c.value-self.ensures, c.requires.pending)
     (sym (whole-pairs frames s))
 
-pub returns-clause-nodes : goal.returns-clause-nodes
-returns-clause-nodes g c =
+pub returns-clause-places : goal.returns-clause-places
+returns-clause-places g c =
     let frames = open_nodes g.P.Partial.bytes c.args.self.now.frames.items in
     let s = node_shape g.P.Partial.bytes c.args.node.now in
-    rw c.in_ok-enter.ensures.opened (whole-nodes frames s)
+    rw c.in_ok-enter.ensures.opened (sym (whole-places frames s))

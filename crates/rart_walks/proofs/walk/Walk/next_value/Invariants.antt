@@ -1,20 +1,18 @@
-use Rattle.std.proofs.Common.{◌≡◌, ◌≤◌, None}
-use Rattle.rart_walks.specs.Frames.{segments_of}
-use Rattle.rart_walks.specs.WalkFields.{open_nodes}
-use Rattle.rart_walks.proofs.WalkLemmas.{IsGoing, measure}
+use Rattle.std.proofs.Common.{◌≡◌, ◌+◌, ◌≤◌, length}
+use Rattle.rart_walks.specs.WalkFields.{IsWalk, position}
 use Rattle.rart_walks.proofs.walk.Walk.next_value.Given as goal
 
-abbrev pub invariant-step : goal.invariant-step
-invariant-step g l = record {
-  holds_way : g.T.Trail.holds l.self.trail
-      (segments_of (open_nodes g.P.Partial.bytes l.self.frames.items));
-  going : IsGoing g.T.Trail.greatest
-      (open_nodes g.P.Partial.bytes l.initial.self.frames.items) l.initial.work.entered
-      (open_nodes g.P.Partial.bytes l.self.frames.items) l.work.entered;
-  none : l.self.pending ≡ None;
-  grows : l.initial.work.entered ≤ l.work.entered;
-  made : l.work.made ≡ l.initial.work.made;
-}
+abbrev pub invariant-node : goal.invariant-node
+invariant-node g l =
+    let bytes = g.P.Partial.bytes in
+    record {
+      walk : IsWalk bytes g.T.Trail.holds g.T.Trail.greatest l.self;
+      pairs : (position bytes l.self).pairs ≡ (position bytes l.initial.self).pairs;
+      counted : l.work.entered + length (position bytes l.self).places
+          ≡ l.initial.work.entered + length (position bytes l.initial.self).places;
+      grows : l.initial.work.entered ≤ l.work.entered;
+      made : l.work.made ≡ l.initial.work.made;
+    }
 
-abbrev pub decreases-step : goal.decreases-step
-decreases-step g l = measure (open_nodes g.P.Partial.bytes l.self.frames.items)
+abbrev pub decreases-node : goal.decreases-node
+decreases-node g l = length (position g.P.Partial.bytes l.self).places

@@ -1,11 +1,11 @@
-use Rattle.std.proofs.Common.{◌≡◌, ◌++◌, ◌∷◌, [], None, refl, sym, ap, ◌∙◌}
-use Rattle.std.proofs.lemmas.List.{append-nil}
+use Rattle.std.proofs.Common.{◌++◌, [], length, arith, refl, ap, ◌∙◌}
+use Rattle.std.proofs.lemmas.List.{append-nil, length-map}
 use Rattle.std.specs.List.{concat}
 use Rattle.rart_node.specs.NodeShapes.{node_shape, pointer_shape}
-use Rattle.rart_shape.specs.Trees.{pairs_of, IsTree}
-use Rattle.rart_walks.specs.Frames.{segments_of, behind_path}
-use Rattle.rart_walks.specs.Walks.{Position, AreShort, nodes_of}
-use Rattle.rart_walks.specs.WalkFields.{open_nodes}
+use Rattle.rart_shape.specs.Trees.{pairs_of}
+use Rattle.rart_walks.specs.Frames.{behind_path, under_path}
+use Rattle.rart_walks.specs.Walks.{Position, paths_of}
+use Rattle.rart_walks.proofs.PlaceLemmas.{nodes-paths}
 use Rattle.rart_walks.proofs.WalkLemmas.{behind-none}
 use Rattle.rart_walks.proofs.walk.Walk.whole.Goals as goal
 
@@ -39,3 +39,16 @@ returns-clause-pairs g c =
     (pairs_of (node_shape g.P.Partial.bytes c.open.result.now)) ++ at.pairs) start
     ∙ append-nil _ ∙ ap (λ z. behind_path [] (pairs_of z)) c.open.ensures.shown
     ∙ behind-none (pairs_of s)
+
+pub returns-clause-nodes : goal.returns-clause-nodes
+returns-clause-nodes g c =
+    let s = pointer_shape g.P.Partial.bytes c.args.root.now in
+    let start = c.new-walk.ensures.ended in
+    let places = c.in_ok-enter_whole.ensures.places
+    ∙ ap (λ (at : Position g.row.V.Denot). under_path (concat at.segments)
+    (paths_of (node_shape g.P.Partial.bytes c.open.result.now)) ++ at.places) start
+    ∙ append-nil _ ∙ ap (λ z. under_path [] (paths_of z)) c.open.ensures.shown in
+    let long = ap length places in
+    let paths = length-map (paths_of s) (λ path. [] ++ path) in
+    let nodes = nodes-paths s in
+    omega (arith, long, paths, nodes)

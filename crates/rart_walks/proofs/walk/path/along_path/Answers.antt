@@ -1,4 +1,4 @@
-use Rattle.std.proofs.Common.{◌≡◌, ◌+◌, ◌<◌, ◌≤◌, Bool, cond, ◌++◌, ◌∷◌, [], length, refl, arith, sym, ap, subst, ◌∙◌}
+use Rattle.std.proofs.Common.{inl, ◌≡◌, ◌+◌, cond, [], length, refl, arith, sym, ap, subst, ◌∙◌}
 use Rattle.std.specs.Prelude.{slice_index_or}
 use Rattle.rart_below.specs.Bytes.{common_length}
 use Rattle.rart_below.specs.Children.{children_from}
@@ -7,11 +7,10 @@ use Rattle.rart_node.specs.Shape.{prefix_of, children_of}
 use Rattle.rart_node.specs.VersionedNodeIter.{children_left}
 use Rattle.rart_shape.proofs.PrefixLemmas.{common_fits}
 use Rattle.rart_walks.specs.WalkFields.{open_nodes}
-use Rattle.rart_walks.specs.Parts.{goes_on, reaches}
-use Rattle.rart_walks.specs.Walks.{paths_of}
-use Rattle.std.specs.Prelude.{count_by}
+use Rattle.rart_walks.specs.Parts.{goes_on}
+use Rattle.rart_walks.specs.Walks.{IsEndOf}
 use Rattle.rart_walks.proofs.StepLemmas.{goes-on, goes-some, step-counted, step-fits, step-lower, step-child, step-missing, step-trees, step-short}
-use Rattle.rart_walks.proofs.PathLemmas.{IsOnWay, way-start, way-kept, way-counted}
+use Rattle.rart_walks.proofs.PathLemmas.{IsOnWay, way-start, way-kept, way-placed}
 use Rattle.rart_walks.proofs.walk.path.along_path.Goals as goal
 
 pub down-init : goal.down-init
@@ -45,16 +44,13 @@ returns-then-common-rest-clause-pairs g c =
     let kept = way-kept _ _ _ _ _ _ _ _ _ c.down.invariant.way in
     (rw (c.down.invariant.none, same) at c.in_ok-finish.ensures.pairs) ∙ sym kept
 
-pub returns-then-common-rest-clause-nodes : goal.returns-then-common-rest-clause-nodes
-returns-then-common-rest-clause-nodes g c =
+pub returns-then-common-rest-clause-places : goal.returns-then-common-rest-clause-places
+returns-then-common-rest-clause-places g c =
     let bytes = g.P.Partial.bytes in
-    let s = pointer_shape bytes c.down.at.now in
     let o = node_shape bytes c.open-node.result.now in
-    let same : o ≡ s = c.open-node.ensures.shown in
-    let whole = way-counted _ _ _ _ _ _ _ _ _ c.down.invariant.way in
-    let here = ap (λ z. count_by (reaches c.args.part c.down.rest.now) (paths_of z)) same in
-    let nodes = c.in_ok-finish.ensures.nodes in
-    omega (arith, whole, here, nodes)
+    let same : o ≡ pointer_shape bytes c.down.at.now = c.open-node.ensures.shown in
+    let whole = way-placed _ _ _ _ _ _ _ _ _ c.down.invariant.way in
+    subst (IsEndOf _) (sym whole) (rw same at c.in_ok-finish.ensures.places)
 
 pub returns-then-common-rest-clause-counted : goal.returns-then-common-rest-clause-counted
 returns-then-common-rest-clause-counted g c =
@@ -177,8 +173,8 @@ returns-in-None-clause-pairs g c =
     leaves c.in-None.ensures in
     rw (c.in_ok-enter_part.ensures.pending, c.down.invariant.none) (sym missing.0)
 
-pub returns-in-None-clause-nodes : goal.returns-in-None-clause-nodes
-returns-in-None-clause-nodes g c =
+pub returns-in-None-clause-places : goal.returns-in-None-clause-places
+returns-in-None-clause-places g c =
     let bytes = g.P.Partial.bytes in
     let s = pointer_shape bytes c.down.at.now in
     let o = node_shape bytes c.open-node.result.now in
@@ -200,7 +196,7 @@ returns-in-None-clause-nodes g c =
     (children_of o)) []) c.goes_on.ensures in
     let inner = open_nodes bytes c.enter_part.new.self.frames.items in
     let segment = c.as_ref.ensures ∙ c.prefix-in-down.ensures in
-    (step-missing _ _ _ _ _ _ _ _ _ c.down.invariant.way o c.open-node.new.work
+    inl (step-missing _ _ _ _ _ _ _ _ _ c.down.invariant.way o c.open-node.new.work
     c.open-node.ensures.work same _ _ goes inner _ _ c.in_ok-enter_part.ensures.frames segment
     leaves c.in-None.ensures).1
 

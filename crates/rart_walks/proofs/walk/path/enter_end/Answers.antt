@@ -1,8 +1,8 @@
-use Rattle.std.proofs.Common.{◌≡◌, ◌++◌, ◌∷◌, [], sym, ap, ◌∙◌}
+use Rattle.std.proofs.Common.{◌++◌, sym, ap, ◌∙◌}
 use Rattle.std.specs.List.{concat}
 use Rattle.rart_node.specs.NodeShapes.{node_shape}
 use Rattle.rart_node.specs.Shape.{prefix_of, children_of}
-use Rattle.rart_walks.specs.Frames.{segments_of, behind_path, pairs_of_all, pairs_ahead, pairs_inside}
+use Rattle.rart_walks.specs.Frames.{segments_of, pairs_of_all, pairs_ahead}
 use Rattle.rart_walks.specs.WalkFields.{open_nodes}
 use Rattle.rart_walks.proofs.WalkLemmas.{ahead-push, behind-behind}
 use Rattle.rart_walks.proofs.walk.path.enter_end.Goals as goal

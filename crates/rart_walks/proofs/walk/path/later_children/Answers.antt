@@ -1,4 +1,4 @@
-use Rattle.std.proofs.Common.{◌≡◌, sym, ap, ◌∙◌}
+use Rattle.std.proofs.Common.{sym}
 use Rattle.rart_node.specs.NodeShapes.{node_shape, pointer_shape, entry_shape}
 use Rattle.rart_node.specs.Shape.{children_of}
 use Rattle.rart_walks.proofs.SkipLemmas.{skipped, unskipped}

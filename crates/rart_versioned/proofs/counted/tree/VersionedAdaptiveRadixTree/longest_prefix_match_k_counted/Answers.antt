@@ -1,4 +1,4 @@
-use Rattle.std.proofs.Common.{◌≡◌, ◌+◌, ◌≤◌, ℕ, List, Option, None, Some, IsSome, is_some, length, sym, ap, subst, ◌∙◌, arith, rules}
+use Rattle.std.proofs.Common.{◌+◌, ◌≤◌, ℕ, List, None, Some, IsSome, is_some, length, sym, ap, subst, ◌∙◌, arith, rules}
 use Rattle.std.specs.List.{last_or}
 use Rattle.rart_maps.specs.Pairs.{longest_beginning}
 use Rattle.rart_node.specs.NodeShapes.{pointer_shape}

@@ -1,7 +1,6 @@
-use Rattle.std.proofs.Common.{arith, is_some, true, Some, None, ◌≡◌, ◌+◌, ◌≤◌, ℕ, List, length, IsSome, sym, ap, subst, ◌∙◌}
+use Rattle.std.proofs.Common.{arith, is_some, true, Some, None, ◌≡◌, ◌+◌, ◌≤◌, ℕ, List, length, sym, ap, subst, ◌∙◌}
 use Rattle.std.specs.Option.{option_map}
-use Rattle.std.specs.FinMap as finite
-use Rattle.std.proofs.lemmas.Bool.{false≢true, true≢false}
+use Rattle.std.proofs.lemmas.Bool.{true≢false}
 use Rattle.rart_node.specs.NodeShapes.{pointer_shape}
 use Rattle.rart_shape.specs.Trees.{path_bound, found}
 use Rattle.rart_removal.specs.Removals.{IsTakenOr}

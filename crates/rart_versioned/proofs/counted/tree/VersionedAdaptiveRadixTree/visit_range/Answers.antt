@@ -1,9 +1,11 @@
-use Rattle.std.proofs.Common.{ℕ, List, sym, ap, subst, ◌∙◌}
+use Rattle.std.proofs.Common.{ℕ, List, arith, sym, ap, subst, ◌∙◌}
+use Rattle.std.proofs.Math.Nat.{le_refl}
 use Rattle.std.specs.Range.Bound.{bound_map}
 use Rattle.rart_maps.specs.FoundLaws.{KeysAscend}
 use Rattle.rart_maps.specs.Visits.{ByView, Visits, Visitable}
 use Rattle.rart_maps.proofs.RangeLemmas.{up_to, from-ascends, within-from}
 use Rattle.rart_maps.proofs.VisitLemmas.{up_to-start, visits-refused}
+use Rattle.rart_shape.proofs.CountingLemmas.{counts-most}
 use Rattle.rart_versioned.proofs.counted.tree.VersionedAdaptiveRadixTree.visit_range.Goals as goal
 
 pub returns-in_err-walk : goal.returns-in_err-walk
@@ -12,6 +14,7 @@ returns-in_err-walk g c =
     record {
       visits = visits-refused g.F.FnMut ByView c.from_residual.result
           c.from_residual.ensures.0 (_, start);
+      counted = counts-most c.walk_from.ensures.counted (omega arith) (le_refl 0);
     }
 
 pub visit_views_up_to-requires-clause-ascend : goal.visit_views_up_to-requires-clause-ascend
@@ -36,4 +39,23 @@ returns g c =
     let Done = λ (list : List (List ℕ × g.row.V.Denot)).
     Visits g.F.FnMut ByView c.visit_views_up_to.result c.args.f.now list
     c.visit_views_up_to.new.f in
-    record { visits = subst Done (sym same) c.visit_views_up_to.ensures.visits }
+    let way = c.in_ok-walk.ensures.counted in
+    let visit = c.visit_views_up_to.ensures.few in
+    let few = c.in_ok-walk.ensures.few high in
+    let way_grows = way.entered_grows in
+    let way_most = way.entered_at_most in
+    let way_kept = way.made_grows in
+    let way_made = way.made_at_most in
+    let visit_grows = visit.entered_grows in
+    let visit_most = visit.entered_at_most in
+    let visit_kept = visit.made_grows in
+    let visit_made = visit.made_at_most in
+    record {
+      visits = subst Done (sym same) c.visit_views_up_to.ensures.visits;
+      counted = record {
+        entered_grows = omega (arith, way_grows, visit_grows);
+        entered_at_most = omega (arith, way_most, visit_most, few);
+        made_grows = omega (arith, way_kept, visit_kept);
+        made_at_most = omega (arith, way_made, visit_made);
+      };
+    }

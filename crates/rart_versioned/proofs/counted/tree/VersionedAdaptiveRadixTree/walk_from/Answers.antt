@@ -9,6 +9,7 @@ use Rattle.rart_maps.specs.Pairs.{pairs}
 use Rattle.rart_node.specs.NodeShapes.{pointer_shape}
 use Rattle.rart_versioned.specs.IteratorFields.{AreAdmitted}
 use Rattle.rart_versioned.proofs.IterationLemmas.{content-admitted, no-pairs, root-sound, root-pairs, root-short}
+use Rattle.rart_versioned.proofs.VisitLemmas.{root-range}
 use Rattle.rart_versioned.proofs.counted.tree.VersionedAdaptiveRadixTree.walk_from.Goals as goal
 
 pub returns-in-None-clause-pairs : goal.returns-in-None-clause-pairs
@@ -56,3 +57,12 @@ returns-in-Some-clause-admitted g c =
     IfOk-weaker c.from.result _ _
     (λ walk is. subst (AreAdmitted most) (sym (is ∙ sym (ap (filter test) all))) kept)
     c.from.ensures.pairs
+
+pub returns-in-Some-clause-few : goal.returns-in-Some-clause-few
+returns-in-Some-clause-few g c =
+    let shape = pointer_shape g.K.PartialType.Partial.bytes in
+    let most = g.K.KeyTrait.MAXIMUM_SIZE in
+    let low = bound_map (λ low. low.now) c.args.low in
+    let within = root-range shape most c.self.inside.version c.self.inside.root c.args.self.now
+    c.self.invariant c.self.view_is c.in-Some.root c.in-Some.is low in
+    IfOk-weaker c.from.result _ _ (λ walk end high. within high _ end) c.from.ensures.places

@@ -1,4 +1,4 @@
-use Rattle.std.proofs.Common.{◌+◌, ◌≤◌, arith, refl, sym, ap, subst, ◌∙◌}
+use Rattle.std.proofs.Common.{length, arith, refl, sym, ap, subst, ◌∙◌}
 use Rattle.std.proofs.lemmas.Result.{IfOk-weaker}
 use Rattle.rart_node.specs.NodeShapes.{pointer_shape}
 use Rattle.rart_versioned.specs.IteratorFields.{AreAdmitted}
@@ -50,7 +50,7 @@ returns-in-None-clause-nodes g c =
     let none = none-walk (pointer_shape g.K.PartialType.Partial.bytes) g.K.KeyTrait.MAXIMUM_SIZE
     c.self.inside.version c.self.inside.root c.args.self.now
     c.self.invariant c.self.view_is c.in-None.is in
-    let left = ap (λ stand. stand.nodes) c.new.ensures.ended in
+    let left = ap (λ stand. length stand.places) c.new.ensures.ended in
     omega (arith, none, left)
 
 pub returns-in-Some-clause-nodes : goal.returns-in-Some-clause-nodes

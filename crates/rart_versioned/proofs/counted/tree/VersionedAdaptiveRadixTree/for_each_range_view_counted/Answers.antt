@@ -3,7 +3,7 @@ use Rattle.std.specs.declared.ops.Bound.{Bound}
 use Rattle.std.specs.Range.Bound.{bound_map}
 use Rattle.rart_maps.specs.Pairs.{within}
 use Rattle.rart_maps.specs.Visits.{ByView, Visitable}
-use Rattle.rart_versioned.proofs.counted.tree.VersionedAdaptiveRadixTree.for_each_range_view.Goals as goal
+use Rattle.rart_versioned.proofs.counted.tree.VersionedAdaptiveRadixTree.for_each_range_view_counted.Goals as goal
 
 pub visit_range-requires : goal.visit_range-requires
 visit_range-requires g c =

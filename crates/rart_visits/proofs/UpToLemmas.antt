@@ -1,0 +1,122 @@
+-- A visit up to an upper bound, node by node: it ends at the first node past that, and has entered
+-- no more nodes than meet the bound, and one.
+use Rattle.std.proofs.Common.{◌≡◌, ◌+◌, ◌<◌, ◌≤◌, ⊎_elim, inr, ℕ, true, false, cond, List, [], ◌∷◌, ◌++◌, Option, Some, None, length, arith, refl, ap, subst, ◌∙◌}
+use Rattle.std.specs.Prelude.{count_by, IsSome}
+use Rattle.std.specs.List.{concat}
+use Rattle.std.specs.Borrow.{Bor}
+use Rattle.std.specs.Option.{option_copied}
+use Rattle.std.specs.declared.ops.Bound.{Bound}
+use Rattle.std.proofs.lemmas.Bool.{false≢true}
+use Rattle.std.proofs.lemmas.List.{append-nil, length-append}
+use Rattle.std.proofs.lemmas.List.Sums.{sum_by-cons}
+use Rattle.rart_maps.specs.FoundLaws.{KeysAscend}
+use Rattle.rart_maps.specs.Order.{IsBefore}
+use Rattle.rart_maps.proofs.RangeLemmas.{up_to, is_below, up_to-past, past-behind}
+use Rattle.rart_node.specs.Counts.{Counts, CountsUpTo}
+use Rattle.rart_walks.specs.Walks.{Position, ComesTo, GoesOnFirst, pending_pair}
+
+-- ---- paths past the bound
+longer-behind : (u : List ℕ) (c : ℕ) (more : List ℕ) → IsBefore u (u ++ (c ∷ more))
+longer-behind [] c more = tt
+longer-behind (b ∷ u) c more = inr (refl, longer-behind u c more)
+
+-- What goes on from a string past an upper bound is past it too.
+past-further : (high : Bound (List ℕ)) (u more : List ℕ) → is_below high u ≡ false
+    → is_below high (u ++ more) ≡ false
+past-further high u [] past = ap (is_below high) (append-nil u) ∙ past
+past-further high u (c ∷ more) past =
+    past-behind high u (u ++ (c ∷ more)) (longer-behind u c more) past
+
+-- Each step of a walk leaves less.
+pub comes-smaller : {V : Type 0} {before after : Position V} {value : Option (Bor V)}
+    → ComesTo before value after
+    → length after.pairs + length after.places < length before.pairs + length before.places
+comes-smaller {V} {before} {after} {value} comes =
+    let pairs = ap length comes.pairs
+    ∙ length-append (pending_pair (concat after.segments) (option_copied value)) after.pairs in
+    ⊎_elim
+    (λ next. let long = ap length next in omega (arith, pairs, long))
+    (λ stays.
+    let long = ap length stays.0 in
+    let one = one-pending value stays.1 in
+    omega (arith, pairs, long, one))
+    comes.place
+  where
+    one-pending : (value : Option (Bor V)) → IsSome value
+        → length (pending_pair (concat after.segments) (option_copied value)) ≡ 1
+    one-pending None some = absurd (false≢true some)
+    one-pending (Some value) some = refl
+
+module _ (high : Bound (List ℕ)) where
+  -- Behind a node past the bound no key meets it.
+  pub none-past : {V : Type 0} (path : List ℕ) (pairs : List (List ℕ × V)) → GoesOnFirst path pairs
+      → KeysAscend (λ pair. pair.0) pairs → is_below high path ≡ false → up_to high pairs ≡ []
+  none-past path pairs first ascend past =
+      ap (up_to high) first.3
+      ∙ up_to-past high (path ++ first.0, first.1) first.2
+      (subst (KeysAscend (λ pair. pair.0)) first.3 ascend) (past-further high path first.0 past)
+
+  -- ---- counts
+  -- Of the places at the start no more that meet the bound were entered than are no longer left.
+  pub record IsFew (places : List (List ℕ)) (start : Counts) (left : List (List ℕ))
+      (now : Counts) : Type 0 where
+    pub within : now.entered + count_by (is_below high) left
+        ≤ start.entered + count_by (is_below high) places
+    pub grows : start.entered ≤ now.entered
+    pub made : now.made ≡ start.made
+
+  pub few-start : (places : List (List ℕ)) (start : Counts) → IsFew places start places start
+  few-start places start =
+      record { within = omega arith; grows = omega arith; made = omega arith }
+
+  -- The walk goes on to a node that meets the bound.
+  pub few-next : {V : Type 0} {before after : Position V} {value : Option (Bor V)}
+      {places : List (List ℕ)} {start now later : Counts}
+      → ComesTo before value after → is_below high (concat after.segments) ≡ true
+      → IsFew places start before.places now
+      → later.entered + length after.places ≡ now.entered + length before.places
+      → CountsUpTo 1 0 now later → IsFew places start after.places later
+  few-next {V} {before} {after} comes meets few entered counted =
+      let within = few.within in
+      let grows = few.grows in
+      let made = few.made in
+      let more = counted.entered_grows in
+      let kept = counted.made_grows in
+      let none = counted.made_at_most in
+      record {
+        within =
+            ⊎_elim
+            (λ next.
+            let one = ap (count_by (is_below high)) next
+            ∙ sum_by-cons (λ path. cond (is_below high path) 1 0) (concat after.segments)
+            after.places
+            ∙ ap (λ t. cond t 1 0 + count_by (is_below high) after.places) meets in
+            let long = ap length next in
+            omega (arith, within, entered, one, long))
+            (λ stays.
+            let same = ap (count_by (is_below high)) stays.0 in
+            let long = ap length stays.0 in
+            omega (arith, within, entered, same, long))
+            comes.place;
+        grows = omega (arith, grows, more);
+        made = omega (arith, made, kept, none);
+      }
+
+  -- The last step may have been refused, or have come to a node past the bound.
+  pub few-end : {places left : List (List ℕ)} {start now after : Counts}
+      → IsFew places start left now → CountsUpTo 1 0 now after
+      → CountsUpTo (count_by (is_below high) places + 1) 0 start after
+  few-end few counted =
+      let within = few.within in
+      let grows = few.grows in
+      let made = few.made in
+      let more = counted.entered_grows in
+      let most = counted.entered_at_most in
+      let kept = counted.made_grows in
+      let none = counted.made_at_most in
+      record {
+        entered_grows = omega (arith, grows, more);
+        entered_at_most = omega (arith, within, most);
+        made_grows = omega (arith, made, kept);
+        made_at_most = omega (arith, made, none);
+      }

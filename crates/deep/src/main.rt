@@ -1,8 +1,8 @@
-//! How long a chain of nodes the machine's stack takes. An argument is a number of levels, and after
-//! a colon how many children each node of the chain has, as `1000` or `1000:49`; none says one. For
-//! each argument a tree gets that many keys, each one byte longer than the one before, and further
-//! keys beside them. The keys of the chain are looked up, the deepest one is changed and removed,
-//! the tree is dropped, and a line is written.
+//! How long a chain of nodes the machine's stack takes. An argument is a number of levels, and
+//! after a colon how many children each node of the chain has, as `1000` or `1000:49`; none says
+//! one. For each argument a tree gets that many keys, each one byte longer than the one before, and
+//! further keys beside them. The keys of the chain are looked up, the deepest one is changed and
+//! removed, the tree is dropped, and a line is written.
 #![tactic(auto)]
 
 use anyhow::{Context, bail};

@@ -139,9 +139,9 @@ impl<'a, P: Partial, V: Drop, T: Trail<'a>> Walk<'a, P, V, T> {
         leave_all(&mut self.frames, &mut self.trail);
     }
 
-    /// Goes on to the next node, and gives its value: `Some(None)` where it has none. Where the walk
-    /// stands at a node whose value is still to give, it gives that, and enters none. `None` where
-    /// no node is left.
+    /// Goes on to the next node, and gives its value: `Some(None)` where it has none. Where the
+    /// walk stands at a node whose value is still to give, it gives that, and enters none. `None`
+    /// where no node is left.
     ///
     /// Refused for memory, the walk has ended.
     #[inline]

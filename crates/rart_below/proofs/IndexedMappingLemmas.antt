@@ -10,6 +10,7 @@ use Rattle.rart_below.specs.Counting.{length-named_slots}
 use Rattle.rart_below.proofs.AscendingLemmas.{without_child-absent}
 use Rattle.rart_below.proofs.DirectMappingLemmas.{child_at-place, with_child-place, without_child-place}
 use Rattle.rart_below.proofs.MarkLemmas.{count_ones-marks, marks-added, marks-removed, marks-replaced, free_slot}
+use Rattle.rart_below.proofs.SlotLemmas.{no_named_slots}
 use Rattle.rart_below.proofs.NameLemmas.{names-other, names_positive, names-set_neither, names-set_new, names-set_old, named_at, named_from, named-set_unnamed, named-set_named, named-entry, get_or-named, length-named, set_again}
 
 no_names : (place count : ℕ) → 48 ≢ place → names_of place (replicate count 48) ≡ 0
@@ -277,11 +278,6 @@ module _ {C : Type 0} where
       (absent_past byte index slots used kept lt le))
 
   -- ---- the lists of a new mapping
-  no_named : (byte count : ℕ) (slots : List (Option C)) → get_or slots 48 None ≡ None
-      → slot_children byte (named_slots slots (replicate count 48)) ≡ []
-  no_named byte zero slots past = refl
-  no_named byte (suc count) slots past = rw past (no_named (suc byte) count slots past)
-
   no_marks : (slots : List (Option C))
       → ((place : ℕ) → place < length slots → get_or slots place None ≡ None) → marks_of slots ≡ 0
   no_marks [] empty = refl
@@ -308,5 +304,5 @@ module _ {C : Type 0} where
               marked = sym (no_marks slots empty);
               named = named;
             }),
-        no_named 0 count slots (get_or_past slots 48 None (omega (arith, enough))),
+        no_named_slots 0 slots (replicate count 48) empty,
       )

@@ -1,7 +1,7 @@
 -- Children in slots, one for each byte from a first one on.
 use Rattle.std.proofs.Common.{◌≡◌, ◌<◌, ◌≢◌, ℕ, zero, suc, length, ◌+◌, List, [], ◌∷◌, refl, ap, sym, ◌∙◌, arith, get_or, set, Option, None, Some}
 use Rattle.rart_below.specs.Children.{child_at, with_child, without_child}
-use Rattle.rart_below.specs.Layouts.{slot_children}
+use Rattle.rart_below.specs.Layouts.{slot_children, named_slots}
 use Rattle.rart_below.specs.Laws.{slots-below}
 use Rattle.rart_below.proofs.AscendingLemmas.{child_at-later, child_at-here, child_at-below, with_child-later, with_child-here, with_child-below, without_child-other, without_child-here, without_child-below}
 
@@ -108,3 +108,20 @@ module _ {C : Type 0} where
   no_slots first (None ∷ slots) h =
       no_slots (suc first) slots (λ place lt. h (suc place) (omega arith))
   no_slots first (Some child ∷ slots) h = let e = h 0 (omega arith) in cc
+
+  none_at : (place : ℕ) (slots : List (Option C))
+      → ((place : ℕ) → place < length slots → get_or slots place None ≡ None)
+      → get_or slots place None ≡ None
+  none_at place [] h = refl
+  none_at zero (slot ∷ slots) h = h 0 (omega arith)
+  none_at (suc place) (slot ∷ slots) h =
+      none_at place slots (λ later lt. h (suc later) (omega arith))
+
+  -- an index over empty slots names no child
+  pub no_named_slots : (first : ℕ) (slots : List (Option C)) (index : List ℕ)
+      → ((place : ℕ) → place < length slots → get_or slots place None ≡ None)
+      → slot_children first (named_slots slots index) ≡ []
+  no_named_slots first slots [] h = refl
+  no_named_slots first slots (place ∷ index) h =
+      let empty = none_at place slots h in
+      rw empty (no_named_slots (suc first) slots index h)

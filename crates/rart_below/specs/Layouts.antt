@@ -1,5 +1,5 @@
 -- How the lists inside a mapping show its children.
-use Rattle.std.specs.Prelude.{◌≡◌, ◌≢◌, ◌<◌, length, slice_index, ℕ, suc, ◌+◌, ◌*◌, ◌==◌, ◌&&◌, Bool, true, false, List, [], ◌∷◌, Option, Some, None, map, nat_lt, slice_index_or}
+use Rattle.std.specs.Prelude.{◌≡◌, ◌≢◌, ◌<◌, length, slice_index, ℕ, suc, ◌+◌, ◌*◌, ◌==◌, ◌&&◌, Bool, true, false, List, [], ◌∷◌, Option, Some, None, map, nat_lt, slice_index_or, EachIndex}
 use Rattle.std.specs.List.{count_by, AllZip}
 use Rattle.std.specs.Borrow.{Bor}
 
@@ -44,6 +44,10 @@ is_filled [] slots = true
 is_filled (key ∷ keys) [] = false
 is_filled (key ∷ keys) (None ∷ slots) = false
 is_filled (key ∷ keys) (Some child ∷ slots) = is_filled keys slots
+
+-- no slot has a child
+abbrev pub AreEmpty : {C : Type 0} → List (Option C) → Type 0
+AreEmpty slots = EachIndex slots (λ place. slice_index_or slots place None ≡ None)
 
 -- the children in slots, of which the first stands under this byte
 abbrev pub slot_children : {C : Type 0} → ℕ → List (Option C) → List (ℕ × C)

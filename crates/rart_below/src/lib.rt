@@ -15,7 +15,7 @@ mod visit;
 
 pub use array::{ArrPartial, ArrayKey};
 pub use key::KeyTrait;
-pub use mapping::{DirectMapping, IndexedMapping, NodeMapping, SortedKeyedMapping};
+pub use mapping::{Clear, DirectMapping, IndexedMapping, NodeMapping, SortedKeyedMapping};
 pub use partial::Partial;
 pub use plain::{AdaptiveRadixTree, PlainIter};
 pub use slot::{Refusal, Slot, SlotUpdate};

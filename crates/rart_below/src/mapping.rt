@@ -1,9 +1,9 @@
 //! What a node asks of a mapping from a byte to a child.
-ghost use Rattle.std.specs.Prelude.{◌≡◌, ℕ, ◌<◌, ◌≤◌, Bool, List, Some, None, length, IsSome, IsTrue, option_copied};
+ghost use Rattle.std.specs.Prelude.{◌≡◌, ℕ, ◌<◌, ◌≤◌, Bool, List, [], Option, Some, None, length, IsSome, IsTrue, option_copied};
 ghost use Rattle.std.specs.Borrow.{sem};
 ghost use Rattle.std.specs.Option.{option_copied_mut};
 ghost use Rattle.rart_below.specs.Children.{child_at, with_child, without_child, children_from, first_of, IsAscending};
-ghost use Rattle.rart_below.specs.Layouts.{entry_copied};
+ghost use Rattle.rart_below.specs.Layouts.{AreEmpty, entry_copied};
 ghost use Rattle.rart_below.specs.Lent.{LendsChild};
 
 mod direct;
@@ -15,6 +15,30 @@ mod sorted;
 pub use direct::DirectMapping;
 pub use indexed::IndexedMapping;
 pub use sorted::SortedKeyedMapping;
+
+/// What drops its children where it stands. rart has no such call: there a mapping is dropped in
+/// its box.
+///
+/// It asks nothing of the child's type, and only its call asks that a child may be dropped: so a
+/// box can ask it of its mapping wherever a node's type is named.
+pub trait Clear<C> {
+    /// The slots, each with a child or none.
+    ghost slots: { Self → List (Option C) };
+
+    /// The bytes with their children, ascending.
+    ghost children: { Self → List (ℕ × C) };
+
+    /// Whether the lists inside are in step, and the bytes strictly ascend.
+    ghost in_order: { Self → Bool };
+
+    /// Drops the children. Lists that were in step are in step.
+    fn clear(&mut self)
+    where
+        C: Drop,
+        ensures order { IsTrue (in_order self.old) → IsTrue (in_order self.new) }
+        ensures dropped { AreEmpty (slots self.new) }
+        ensures empty { children self.new ≡ [] };
+}
 
 /// A finite map from bytes to children, visited ascending.
 ///

@@ -1,11 +1,10 @@
 -- A node with one child.
-use Rattle.std.proofs.Common.{◌≡◌, ℕ, ◌+◌, List, [], ◌∷◌, ◌++◌, length, Some, None, Result, Ok, Err, refl, sym, ap, ◌∙◌, arith}
+use Rattle.std.proofs.Common.{◌≡◌, ℕ, List, [], ◌∷◌, length, Some, None, Result, Ok, Err, refl, sym, ap, ◌∙◌, arith}
 use Rattle.std.specs.Result.{IfOk}
 use Rattle.std.proofs.lemmas.Option.{none-some, same_Some}
-use Rattle.rart_below.specs.Bytes.{IsAdmitted}
 use Rattle.rart_below.specs.Children.{children_from, first_of, IsAscending}
 use Rattle.rart_below.proofs.MoveLemmas.{children_from-zero}
-use Rattle.rart_node.specs.Shape.{Shape, node, prefix_of, with_prefix, children_of, HasOnly}
+use Rattle.rart_node.specs.Shape.{Shape, node, prefix_of, with_prefix, HasOnly}
 
 module _ {X : Type 0} where
   only-entry : (es : List (ℕ × X)) → length es ≡ 1 → (e : ℕ × X) × (es ≡ e ∷ [])

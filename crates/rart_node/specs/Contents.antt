@@ -19,8 +19,8 @@ pub record ContentShape (C : Type 0) : Type 0 where
 
 abbrev pub Content : Type 0 → Type 0
 Content C =
-    Layout (Box (SortedKeyedMapping C 4)) (WideBox (SortedKeyedMapping C 16))
-    (WideBox (IndexedMapping C)) (WideBox (DirectMapping C))
+    Layout (Box (SortedKeyedMapping C 4)) (WideBox (SortedKeyedMapping C 16) C)
+    (WideBox (IndexedMapping C) C) (WideBox (DirectMapping C) C)
 
 module _ {C : Type 0} where
   abbrev pub content_shape : Content C → ContentShape C

@@ -24,9 +24,9 @@ use Rattle.rart_node.specs.Shape.{with_replaced, with_value}
 abbrev content_row : RattleType → RattleType
 content_row C = layout.the_row
     (boxed.the_row (sorted.the_row C (number 4)) global.the_row GlobalAllocator.ghosts)
-    (wide_box.the_row (sorted.the_row C (number 16)))
-    (wide_box.the_row (indexed.the_row C))
-    (wide_box.the_row (direct.the_row C))
+    (wide_box.the_row (sorted.the_row C (number 16)) C)
+    (wide_box.the_row (indexed.the_row C) C)
+    (wide_box.the_row (direct.the_row C) C)
 
 module _ (P V : RattleType) where
   abbrev Pointer : Type 0

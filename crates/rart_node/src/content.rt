@@ -29,9 +29,9 @@ pub(crate) enum Layout<M4, M16, M48, M256> {
 /// What a node keeps its children in.
 pub(crate) type Content<P, V> = Layout<
     Box<SortedKeyedMapping<NodeRef<P, V>, 4>>,
-    WideBox<SortedKeyedMapping<NodeRef<P, V>, 16>>,
-    WideBox<IndexedMapping<NodeRef<P, V>>>,
-    WideBox<DirectMapping<NodeRef<P, V>>>,
+    WideBox<SortedKeyedMapping<NodeRef<P, V>, 16>, NodeRef<P, V>>,
+    WideBox<IndexedMapping<NodeRef<P, V>>, NodeRef<P, V>>,
+    WideBox<DirectMapping<NodeRef<P, V>>, NodeRef<P, V>>,
 >;
 
 impl<P: Partial, V: Drop> Content<P, V> {
@@ -214,17 +214,17 @@ impl<P: Partial, V: Drop> Content<P, V> {
             Layout::Node4(mapping) => {
                 let mut wider = Box::new(alloc, SortedKeyedMapping::new())?;
                 mapping.move_into(&mut *wider);
-                *self = Layout::Node16(WideBox { boxed: wider });
+                *self = Layout::Node16(WideBox::new(wider));
             }
             Layout::Node16(mapping) => {
                 let mut wider = Box::new(alloc, IndexedMapping::new())?;
                 mapping.boxed.move_into(&mut *wider);
-                *self = Layout::Node48(WideBox { boxed: wider });
+                *self = Layout::Node48(WideBox::new(wider));
             }
             Layout::Node48(mapping) => {
                 let mut wider = Box::new(alloc, DirectMapping::new())?;
                 mapping.boxed.move_into(&mut *wider);
-                *self = Layout::Node256(WideBox { boxed: wider });
+                *self = Layout::Node256(WideBox::new(wider));
             }
             Layout::Node256(_) => unreachable!(),
         }
@@ -243,15 +243,9 @@ impl<P: Partial, V: Drop> Content<P, V> {
         match self {
             Layout::Leaf => Ok(Layout::Leaf),
             Layout::Node4(mapping) => Ok(Layout::Node4(mapping.clone()?)),
-            Layout::Node16(mapping) => Ok(Layout::Node16(WideBox {
-                boxed: mapping.boxed.clone()?,
-            })),
-            Layout::Node48(mapping) => Ok(Layout::Node48(WideBox {
-                boxed: mapping.boxed.clone()?,
-            })),
-            Layout::Node256(mapping) => Ok(Layout::Node256(WideBox {
-                boxed: mapping.boxed.clone()?,
-            })),
+            Layout::Node16(mapping) => Ok(Layout::Node16(WideBox::new(mapping.boxed.clone()?))),
+            Layout::Node48(mapping) => Ok(Layout::Node48(WideBox::new(mapping.boxed.clone()?))),
+            Layout::Node256(mapping) => Ok(Layout::Node256(WideBox::new(mapping.boxed.clone()?))),
         }
     }
 }

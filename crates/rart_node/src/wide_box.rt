@@ -1,19 +1,38 @@
 //! The box of a wide mapping.
-/// A box that is let go by a call of its own.
+ghost use Rattle.std.specs.Prelude.{◌≡◌};
+
+use rart_below::Clear;
+use std::marker::PhantomData;
+use std::mem;
+
+/// A box whose mapping drops its children where it stands.
 ///
-/// What is dropped in place is moved out of its box first, into the frame of whoever drops it. A
-/// call that is never inlined keeps a wide mapping out of the frames of a chain of nodes, which is
-/// dropped level by level.
-pub(crate) struct WideBox<M> {
+/// What is dropped in place is moved out of its box first, into the frame of whoever drops it,
+/// which would hold it while the children are dropped, at each level of a chain of nodes. So the
+/// mapping is cleared, and what is left of it, which has nothing to drop, goes with its box.
+pub(crate) struct WideBox<M: Clear<C>, C> {
     pub(crate) boxed: Box<M>,
+    child: PhantomData<C>,
 }
 
-impl<M: Drop> Drop for WideBox<M> {
-    fn drop(self) {
-        let WideBox { boxed } = self;
-        let_go(boxed);
+impl<M: Clear<C>, C> WideBox<M, C> {
+    pub(crate) fn new(boxed: Box<M>) -> WideBox<M, C>
+        ensures { result.boxed ≡ boxed }
+    {
+        WideBox {
+            boxed,
+            child: PhantomData,
+        }
     }
 }
 
-#[inline(never)]
-fn let_go<M: Drop>(_boxed: Box<M>) {}
+impl<M: Clear<C> + Drop, C: Drop> Drop for WideBox<M, C> {
+    fn drop(self) {
+        let WideBox {
+            mut boxed,
+            child: _,
+        } = self;
+        boxed.clear();
+        mem::forget(Box::into_inner(boxed));
+    }
+}

@@ -1,6 +1,6 @@
 //! The mapping of width 48.
 use crate::tests::mappings::{assert_children_change, assert_four_children};
-use rart_below::IndexedMapping;
+use rart_below::{Clear, IndexedMapping, NodeMapping};
 use std::test::Fail;
 
 #[test]
@@ -18,5 +18,17 @@ fn copy_of_an_indexed_mapping_changes_alone(rt: HostRuntime) -> Result<(), Fail>
     let mut copy = mapping.clone()?;
     assert_children_change(&rt, &mut mapping);
     assert_children_change(&rt, &mut copy);
+    Ok(())
+}
+
+// What is cleared is empty, and is used again as a new mapping is.
+#[test]
+fn an_indexed_mapping_is_cleared(rt: HostRuntime) -> Result<(), Fail> {
+    let mut mapping: IndexedMapping<u32> = IndexedMapping::new();
+    assert_four_children(&rt, &mut mapping);
+    mapping.clear();
+    assert_eq!(rt; mapping.seek_child(9), None);
+    assert_four_children(&rt, &mut mapping);
+    assert_children_change(&rt, &mut mapping);
     Ok(())
 }

@@ -3,9 +3,9 @@ ghost use Rattle.std.specs.Prelude.{◌≡◌, [], None, IsTrue};
 ghost use Rattle.rart_below.specs.Layouts.{SameBytes};
 ghost use Rattle.rart_below.specs.DirectMapping.{direct_children, direct_in_order};
 
-use super::NodeMapping;
 use super::slot_array::SlotArray;
-use super::slots::{replace_slot, take_slot};
+use super::slots::{clear_slots, replace_slot, take_slot};
+use super::{Clear, NodeMapping};
 use std::alloc::AllocError;
 use std::array;
 
@@ -86,6 +86,22 @@ impl<C: Drop> NodeMapping<C> for DirectMapping<C> {
     ghost ascending = { direct-ascending };
 
     ghost fits = { direct-fits };
+}
+
+impl<C> Clear<C> for DirectMapping<C> {
+    ghost slots = { λ mapping. mapping.children.slots };
+
+    ghost children = { direct_children };
+
+    ghost in_order = { direct_in_order };
+
+    fn clear(&mut self)
+    where
+        C: Drop,
+    {
+        clear_slots(&mut self.children.slots);
+        self.count = 0;
+    }
 }
 
 impl<C: Clone + Drop> Clone for DirectMapping<C> {

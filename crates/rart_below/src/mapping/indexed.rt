@@ -3,9 +3,9 @@ ghost use Rattle.std.specs.Prelude.{◌≡◌, ◌≤◌, [], length, IsTrue};
 ghost use Rattle.rart_below.specs.Layouts.{SameBytes};
 ghost use Rattle.rart_below.specs.IndexedMapping.{indexed_children, indexed_in_order};
 
-use super::NodeMapping;
 use super::slot_array::SlotArray;
-use super::slots::{child_in, replace_slot, take_slot};
+use super::slots::{child_in, clear_slots, replace_slot, take_slot};
+use super::{Clear, NodeMapping};
 use std::alloc::AllocError;
 use std::array;
 
@@ -127,6 +127,23 @@ impl<C: Drop> NodeMapping<C> for IndexedMapping<C> {
     ghost ascending = { indexed-ascending };
 
     ghost fits = { indexed-fits };
+}
+
+impl<C> Clear<C> for IndexedMapping<C> {
+    ghost slots = { λ mapping. mapping.children.slots };
+
+    ghost children = { indexed_children };
+
+    ghost in_order = { indexed_in_order };
+
+    fn clear(&mut self)
+    where
+        C: Drop,
+    {
+        clear_slots(&mut self.children.slots);
+        self.index = [NO_SLOT; 256];
+        self.used = 0;
+    }
 }
 
 impl<C: Clone + Drop> Clone for IndexedMapping<C> {

@@ -1,5 +1,6 @@
 //! Changes to slots, each of which holds a child or none.
 ghost use Rattle.std.specs.Prelude.{◌≡◌, ◌+◌, ◌<◌, ◌≤◌, ◌∷◌, ◌++◌, Some, None, length, take, drop, insert, remove, slice_set, slice_index_or, option_copied};
+ghost use Rattle.rart_below.specs.Layouts.{AreEmpty};
 
 use std::mem;
 
@@ -42,6 +43,15 @@ pub(crate) fn take_slot<C>(slots: &mut [Option<C>], place: usize) -> Option<C>
     ensures after { slots.new ≡ slice_set slots.old place None }
 {
     slots[place].take()
+}
+
+/// Empties the slots, where they stand.
+pub(crate) fn clear_slots<C: Drop>(slots: &mut [Option<C>])
+    ensures { AreEmpty slots.new }
+{
+    for slot in slots.iter_mut() {
+        *slot = None;
+    }
 }
 
 /// The child in the slot. There is none past the slots.

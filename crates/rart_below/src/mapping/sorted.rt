@@ -3,9 +3,9 @@ ghost use Rattle.std.specs.Prelude.{◌≡◌, ◌≤◌, ℕ, [], Some, None, l
 ghost use Rattle.rart_below.specs.Layouts.{SameBytes, IsAbsent, IsPlaceOf, rank};
 ghost use Rattle.rart_below.specs.SortedKeyedMapping.{sorted_children, sorted_in_order};
 
-use super::NodeMapping;
 use super::slot_array::SlotArray;
-use super::slots::{insert_slot, remove_slot, replace_slot, take_slot};
+use super::slots::{clear_slots, insert_slot, remove_slot, replace_slot, take_slot};
+use super::{Clear, NodeMapping};
 use arrayvec::ArrayVec;
 use std::alloc::AllocError;
 use std::array;
@@ -160,6 +160,22 @@ impl<C: Drop, const WIDTH: usize> NodeMapping<C> for SortedKeyedMapping<C, WIDTH
     ghost ascending = { sorted-ascending };
 
     ghost fits = { sorted-fits };
+}
+
+impl<C, const WIDTH: usize> Clear<C> for SortedKeyedMapping<C, WIDTH> {
+    ghost slots = { λ mapping. mapping.children.slots };
+
+    ghost children = { sorted_children };
+
+    ghost in_order = { sorted_in_order };
+
+    fn clear(&mut self)
+    where
+        C: Drop,
+    {
+        clear_slots(&mut self.children.slots);
+        self.keys.clear();
+    }
 }
 
 impl<C: Clone + Drop, const WIDTH: usize> Clone for SortedKeyedMapping<C, WIDTH> {

@@ -1,0 +1,13 @@
+use Rattle.std.proofs.Common.{length, sym, ap, ◌∙◌}
+use Rattle.rart_below.proofs.DirectMappingLemmas.{kept_from_order, order_from}
+use Rattle.rart_below.proofs.SlotLemmas.{no_slots}
+use Rattle.rart_below.proofs.mapping.direct.DirectMappingClear.clear.Goals as goal
+
+pub returns-clause-empty : goal.returns-clause-empty
+returns-clause-empty g c = no_slots 0 _ c.clear_slots.ensures
+
+pub returns-clause-order : goal.returns-clause-order
+returns-clause-order g c order =
+    let kept = kept_from_order _ _ order in
+    order_from _ 0 (c.clear_slots.auto.slots ∙ kept.wide)
+    (sym (ap length (no_slots 0 _ c.clear_slots.ensures)))

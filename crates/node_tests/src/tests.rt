@@ -3,6 +3,7 @@
 //
 // The children are leaves whose values tell them apart.
 
+mod drops;
 mod ends;
 mod growth;
 mod node;
@@ -26,7 +27,11 @@ fn prefix(alloc: Global, bytes: &[u8; 4]) -> Result<ArrPartial<16>, AllocError> 
 }
 
 // A pointer to a leaf with this value.
-fn leaf<P: Partial>(alloc: Global, prefix: &P, value: u64) -> Result<NodeRef<P, u64>, AllocError> {
+fn leaf<P: Partial, V: Drop>(
+    alloc: Global,
+    prefix: &P,
+    value: V,
+) -> Result<NodeRef<P, V>, AllocError> {
     let node = VersionedNode::new_leaf(alloc, prefix.copy(alloc)?, value, 0);
     NodeRef::new(alloc, node, &mut Work::new())
 }
@@ -45,12 +50,12 @@ fn value_at<P: Partial>(node: &VersionedNode<P, u64>, byte: u8) -> Option<u64>
 
 // Adds a leaf with this value under a byte that has no child.
 #[tactic(auto, using(rart_node::proofs::ChildOrderLemmas::keeps_order))]
-fn add_leaf<P: Partial>(
+fn add_leaf<P: Partial, V: Drop>(
     rt: &impl Abort,
     alloc: Global,
-    node: &mut VersionedNode<P, u64>,
+    node: &mut VersionedNode<P, V>,
     byte: u8,
-    value: u64,
+    value: V,
 ) -> Result<(), AllocError>
     requires { IsAscending (node_shape P.bytes node.old) }
     ensures { IsAscending (node_shape P.bytes node.new) }

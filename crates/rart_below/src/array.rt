@@ -1,3 +1,4 @@
+// Ported from rart 0.11.0 (Apache-2.0), and rewritten.
 //! Keys and prefixes held inline, of a greatest length.
 ghost use Rattle.std.specs.Prelude.{◌≡◌, ◌≤◌, Some, length, refl};
 ghost use Rattle.std.proofs.lemmas.Slice.Eq.{bytes_eq-Decides};

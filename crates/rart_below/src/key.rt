@@ -1,3 +1,4 @@
+// Ported from rart 0.11.0 (Apache-2.0), and rewritten.
 //! What the tree asks of a key.
 ghost use Rattle.std.specs.Prelude.{◌≡◌, ◌↔◌, ℕ, ◌-◌, ◌<◌, ◌≤◌, List, Option, length, drop, slice_index, IfOk, IsTrue};
 ghost use Rattle.rart_below.specs.Bytes.{byte_order, IsAdmitted};

@@ -1,3 +1,4 @@
+// Ported from rart 0.11.0 (Apache-2.0), and rewritten.
 //! What the tree stands on: keys and their prefixes, seen as the bytes they hold, the mappings from
 //! a byte to a child, the slot that an update is lent, and the keys that visitors are lent.
 #![tactic(auto)]

@@ -1,3 +1,4 @@
+// Ported from rart 0.11.0 (Apache-2.0), and rewritten.
 //! What a node asks of a mapping from a byte to a child.
 ghost use Rattle.std.specs.Prelude.{◌≡◌, ℕ, ◌<◌, ◌≤◌, Bool, List, [], Option, Some, None, length, IsSome, IsTrue, option_copied};
 ghost use Rattle.std.specs.Borrow.{sem};

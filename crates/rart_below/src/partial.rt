@@ -1,3 +1,4 @@
+// Ported from rart 0.11.0 (Apache-2.0), and rewritten.
 //! What the tree asks of a prefix, the part of a key that one node stores.
 ghost use Rattle.std.specs.Prelude.{◌≡◌, ◌==◌, ℕ, ◌+◌, ◌<◌, ◌≤◌, ◌++◌, List, Option, length, take, drop, slice_index, IfOk};
 ghost use Rattle.rart_below.specs.Bytes.{common_length, IsAdmitted};

@@ -1,3 +1,4 @@
+// Ported from rart 0.11.0 (Apache-2.0), and rewritten.
 //! What an update by a callback is lent, what it answers, and why it is refused.
 use std::alloc::AllocError;
 use std::fmt::Display;

@@ -1,3 +1,4 @@
+// Ported from rart 0.11.0 (Apache-2.0), and rewritten.
 //! Keys and prefixes on the heap, of any length.
 ghost use Rattle.std.specs.Prelude.{◌≡◌, None, IfOk, refl};
 ghost use Rattle.std.proofs.lemmas.Slice.Eq.{bytes_eq-Decides};

@@ -1,3 +1,4 @@
+// Ported from rart 0.11.0 (Apache-2.0), and rewritten.
 ghost use Rattle.std.specs.Prelude.{◌≡◌, ◌==◌, ◌≤◌, ℕ, List, length, vec_capacity, IsOk, IfOk, OnOk, OnErr};
 ghost use Rattle.rart_below.specs.Bytes.{byte_order, IsAdmitted};
 ghost use Rattle.rart_below.specs.LendingKeyView.{joined_bytes};

@@ -1,3 +1,4 @@
+// Ported from rart 0.11.0 (Apache-2.0), and rewritten.
 //! Where the way down two trees goes on: from byte to byte that leads on in both.
 ghost use Rattle.std.specs.Prelude.{◌≡◌, ◌⊎◌, [], IfSome, is_some, if◌then◌else◌};
 ghost use Rattle.std.specs.Option.{option_map};

@@ -1,3 +1,4 @@
+// Ported from rart 0.11.0 (Apache-2.0), and rewritten.
 //! A place in two trees at once.
 ghost use Rattle.std.specs.Prelude.{◌≡◌, ◌⊎◌, ◌+◌, ◌≤◌, ℕ, [], ◌∷◌, ◌++◌, List, Bool, Option, Some, None, length, take, if◌then◌else◌, is_ok, is_some, IsTrue, OnErr, IfSome};
 ghost use Rattle.std.specs.Option.{option_map};

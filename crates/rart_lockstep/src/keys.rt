@@ -1,3 +1,4 @@
+// Ported from rart 0.11.0 (Apache-2.0), and rewritten.
 //! Visits of the keys of two trees, each made anew.
 ghost use Rattle.std.specs.Prelude.{◌+◌, ◌*◌, ◌≤◌, true};
 ghost use Rattle.std.specs.FinSet as set;

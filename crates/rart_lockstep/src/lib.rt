@@ -1,3 +1,4 @@
+// Ported from rart 0.11.0 (Apache-2.0), and rewritten.
 //! What two trees of nodes have in common: a walk over both at once.
 //!
 //! One recursion goes down both trees, node beside node, as far as keys of both can lie there, and

@@ -1,3 +1,4 @@
+// Ported from rart 0.11.0 (Apache-2.0), and rewritten.
 //! The way down two trees at once.
 ghost use Rattle.std.specs.Prelude.{IsTrue, OnErr};
 ghost use Rattle.rart_shape.specs.Trees.{IsTree};

@@ -1,3 +1,4 @@
+// Ported from rart 0.11.0 (Apache-2.0), and rewritten.
 //! What is done at a key of two trees.
 ghost use Rattle.std.specs.Prelude.{ℕ, List, length, IsTrue, OnErr};
 ghost use Rattle.std.specs.Fn.{Mut};

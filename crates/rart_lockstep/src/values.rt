@@ -1,3 +1,4 @@
+// Ported from rart 0.11.0 (Apache-2.0), and rewritten.
 //! Visits of the values of the keys of two trees.
 ghost use Rattle.std.specs.Prelude.{◌+◌, ◌*◌, ◌≤◌, map};
 ghost use Rattle.std.specs.FinSet as set;

@@ -1,3 +1,4 @@
+// Ported from rart 0.11.0 (Apache-2.0), and rewritten.
 //! The way down a tree to the value of a key.
 #![tactic(auto)]
 

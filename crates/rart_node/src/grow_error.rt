@@ -1,3 +1,4 @@
+// Ported from rart 0.11.0 (Apache-2.0), and rewritten.
 //! Why a node was not widened.
 ghost use Rattle.std.specs.Prelude.{◌≡◌};
 

@@ -1,3 +1,4 @@
+// Ported from rart 0.11.0 (Apache-2.0), and rewritten.
 //! What follows from the width of a node: laws, each the contract of a function that does nothing.
 ghost use Rattle.rart_node.specs.Laws.{InnerNodesHaveRoom, FewChildrenLeaveRoom};
 

@@ -1,3 +1,4 @@
+// Ported from rart 0.11.0 (Apache-2.0), and rewritten.
 //! Nodes of the tree, the counted pointers that lead to them, and the counts of work.
 //!
 //! To the crates above a node is a prefix, an optional value, a width and a finite map from bytes

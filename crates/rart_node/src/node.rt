@@ -1,3 +1,4 @@
+// Ported from rart 0.11.0 (Apache-2.0), and rewritten.
 //! The node: a prefix, an optional value, and children under bytes.
 ghost use Rattle.std.specs.Prelude.{◌≡◌, ◌==◌, ◌+◌, ◌↔◌, ℕ, IsErrOf, IsOk, IsSome, IsTrue, IfOk, OnOk, OnErr, Some, None, [], length, not};
 ghost use Rattle.std.specs.Option.{option_map, option_copied};

@@ -1,3 +1,4 @@
+// Ported from rart 0.11.0 (Apache-2.0), and rewritten.
 //! The counted pointer to a node, through which each reading and each change is counted.
 ghost use Rattle.std.specs.Prelude.{◌≡◌, ◌+◌, IfOk};
 ghost use Rattle.rart_below.specs.Clones.{ClonesEqual};

@@ -1,3 +1,4 @@
+// Ported from rart 0.11.0 (Apache-2.0), and rewritten.
 //! The box of a wide mapping.
 ghost use Rattle.std.specs.Prelude.{◌≡◌};
 

@@ -1,3 +1,4 @@
+// Ported from rart 0.11.0 (Apache-2.0), and rewritten.
 //! What is done at one node, and the way down to it.
 ghost use Rattle.std.specs.Prelude.{◌≡◌, ◌+◌, IsSome, IfOk, OnOk, OnErr, None};
 ghost use Rattle.rart_below.specs.Children.{child_at};

@@ -1,3 +1,4 @@
+// Ported from rart 0.11.0 (Apache-2.0), and rewritten.
 //! The way down a tree to a value that is taken out, and with it each node that it leaves with no
 //! value and fewer than two children.
 //!

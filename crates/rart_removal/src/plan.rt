@@ -1,3 +1,4 @@
+// Ported from rart 0.11.0 (Apache-2.0), and rewritten.
 //! The way down that finds a key, and what is to be done to remove it.
 ghost use Rattle.std.specs.Prelude.{◌≡◌, ◌+◌, ◌*◌, ◌<◌, ◌≤◌, ℕ, List, true, false, None, IsSome, IfOk, OnErr, length};
 ghost use Rattle.rart_below.specs.Bytes.{IsAdmitted};

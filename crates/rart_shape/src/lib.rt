@@ -1,3 +1,4 @@
+// Ported from rart 0.11.0 (Apache-2.0), and rewritten.
 //! What a tree of nodes means, and how a key goes along the prefix of a node.
 //!
 //! Contracts see what stands below a pointer by its shape. The shape of a tree has a value for each

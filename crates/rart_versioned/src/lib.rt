@@ -1,3 +1,4 @@
+// Ported from rart 0.11.0 (Apache-2.0), and rewritten.
 //! The versioned adaptive radix tree: an ordered map from byte strings to values with a number, and
 //! snapshots of it that change independently.
 //!

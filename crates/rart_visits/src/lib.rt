@@ -1,3 +1,4 @@
+// Ported from rart 0.11.0 (Apache-2.0), and rewritten.
 //! Visits of the values of a tree of nodes: calls of a closure on each, in the order of their keys.
 //!
 //! A visitor calls its closure on what a walk has left, or along a probe. It knows prefixes and

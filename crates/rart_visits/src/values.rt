@@ -1,3 +1,4 @@
+// Ported from rart 0.11.0 (Apache-2.0), and rewritten.
 //! Visits of values alone.
 ghost use Rattle.std.specs.Prelude.{map, length, Ok, Err};
 ghost use Rattle.rart_below.specs.declared.visit.VisitControl.TheVariants.{Continue, Stop};

@@ -1,3 +1,4 @@
+// Ported from rart 0.11.0 (Apache-2.0), and rewritten.
 //! Visits of pairs, their keys lent as views.
 ghost use Rattle.std.specs.Prelude.{◌≡◌, ◌+◌, ◌^◌, ◌-◌, not, length, filter, count_by, Some, OnOk};
 ghost use Rattle.std.specs.List.{concat};

@@ -1,3 +1,4 @@
+// Ported from rart 0.11.0 (Apache-2.0), and rewritten.
 //! The ordered walk over a tree of nodes.
 //!
 //! A walk goes from node to node with a stack on the heap, gives the values in the order of their

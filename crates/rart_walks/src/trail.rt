@@ -1,3 +1,4 @@
+// Ported from rart 0.11.0 (Apache-2.0), and rewritten.
 //! Where a walk keeps the way to the node that it stands at.
 ghost use Rattle.std.specs.Prelude.{◌≡◌, ◌-◌, ℕ, ◌^◌, Bool, true, false, List, [], ◌∷◌, ◌++◌, Option, Some, None, IsTrue, OnErr, length, map, is_ok, if◌then◌else◌};
 ghost use Rattle.std.specs.List.{concat};

@@ -1,3 +1,4 @@
+// Ported from rart 0.11.0 (Apache-2.0), and rewritten.
 //! The walk itself.
 ghost use Rattle.std.specs.Prelude.{◌≡◌, ◌+◌, ◌++◌, ◌∷◌, [], List, length, is_ok, if◌then◌else◌, None, IfOk, OnOk, OnErr};
 ghost use Rattle.std.specs.List.{concat};

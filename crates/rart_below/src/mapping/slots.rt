@@ -1,3 +1,4 @@
+// Ported from rart 0.11.0 (Apache-2.0), and rewritten.
 //! Changes to slots, each of which holds a child or none.
 ghost use Rattle.std.specs.Prelude.{◌≡◌, ◌+◌, ◌<◌, ◌≤◌, ◌∷◌, ◌++◌, Some, None, length, take, drop, insert, remove, slice_set, slice_index_or, option_copied};
 ghost use Rattle.rart_below.specs.Layouts.{AreEmpty};

@@ -1,3 +1,4 @@
+// Ported from rart 0.11.0 (Apache-2.0), and rewritten.
 //! The mapping of width 4 and 16: bytes in ascending order, with a child beside each.
 ghost use Rattle.std.specs.Prelude.{◌≡◌, ◌≤◌, ℕ, [], Some, None, length, MatchOption, IsTrue};
 ghost use Rattle.rart_below.specs.Layouts.{SameBytes, IsAbsent, IsPlaceOf, rank};

@@ -1,3 +1,4 @@
+// Ported from rart 0.11.0 (Apache-2.0), and rewritten.
 //! What becomes of a key that is there, once a callback has answered.
 ghost use Rattle.std.specs.Prelude.{◌≡◌, ◌+◌, ◌*◌, ◌≤◌, IsTrue, OnOk, OnErr};
 ghost use Rattle.rart_below.specs.Clones.{ClonesEqual};

@@ -1,3 +1,4 @@
+// Ported from rart 0.11.0 (Apache-2.0), and rewritten.
 //! Intersections of two trees, and their counts.
 ghost use Rattle.std.specs.Prelude.{◌≡◌, ◌+◌, ◌≤◌, false, length, map, IfNone, IfSome};
 ghost use Rattle.rart_maps.specs.Bounds.{meet_bound};

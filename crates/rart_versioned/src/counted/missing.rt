@@ -1,3 +1,4 @@
+// Ported from rart 0.11.0 (Apache-2.0), and rewritten.
 //! Why a value is not lent.
 ghost use Rattle.std.specs.Prelude.{◌≡◌};
 ghost use Rattle.rart_versioned.specs.Missing.{found_value};

@@ -1,3 +1,4 @@
+// Ported from rart 0.11.0 (Apache-2.0), and rewritten.
 //! Removal of a key.
 ghost use Rattle.std.specs.Prelude.{◌≡◌, ◌<◌, ◌*◌, IsTrue, OnErr, None, false};
 ghost use Rattle.rart_below.specs.Clones.{ClonesEqual};

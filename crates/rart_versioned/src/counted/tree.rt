@@ -1,3 +1,4 @@
+// Ported from rart 0.11.0 (Apache-2.0), and rewritten.
 //! The tree itself, what contracts see of it, and the calls that make one or read its number.
 ghost use Rattle.std.specs.Prelude.{◌≡◌, ◌≤◌, ℕ, List, length, IfOk, IsTrue};
 ghost use Rattle.std.specs.FinMap as finite;

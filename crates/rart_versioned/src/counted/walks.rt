@@ -1,3 +1,4 @@
+// Ported from rart 0.11.0 (Apache-2.0), and rewritten.
 //! Walks over a tree, for its iterators and visitors.
 ghost use Rattle.std.specs.Prelude.{◌≡◌, ◌+◌, ◌*◌, ◌≤◌, ℕ, List, filter, count_by, length, IfOk};
 ghost use Rattle.std.specs.Ordering.{as_partial_cmp};

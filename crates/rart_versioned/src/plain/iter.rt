@@ -1,3 +1,4 @@
+// Ported from rart 0.11.0 (Apache-2.0), and rewritten.
 //! The pairs of a tree, in the order of their keys: all of them, or those under a prefix.
 ghost use Rattle.std.specs.Prelude.{◌≡◌, [], ◌∷◌, Some, IfSome, IfOk, OnOk};
 ghost use Rattle.rart_maps.specs.Pairs.{pairs, under};

@@ -1,3 +1,4 @@
+// Ported from rart 0.11.0 (Apache-2.0), and rewritten.
 //! The visit of the keys that begin a probe, with no count.
 ghost use Rattle.rart_maps.specs.Pairs.{beginnings};
 ghost use Rattle.rart_maps.specs.Visits.{BySlice, Visit, Visitable};

@@ -1,3 +1,4 @@
+// Ported from rart 0.11.0 (Apache-2.0), and rewritten.
 //! The pairs of a tree whose key begins a probe, the shortest first.
 ghost use Rattle.std.specs.Prelude.{◌≡◌, ◌≤◌, ◌<◌, ◌++◌, length, take, Some, IfOk, OnOk};
 ghost use Rattle.std.specs.Option.{option_map, option_copied};

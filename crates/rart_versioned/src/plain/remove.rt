@@ -1,3 +1,4 @@
+// Ported from rart 0.11.0 (Apache-2.0), and rewritten.
 //! Removal with no count.
 ghost use Rattle.std.specs.Prelude.{IsTrue, OnErr};
 ghost use Rattle.rart_below.specs.Clones.{ClonesEqual};

@@ -1,3 +1,4 @@
+// Ported from rart 0.11.0 (Apache-2.0), and rewritten.
 //! Visitors over a tree, with no count.
 ghost use Rattle.std.specs.Prelude.{map};
 ghost use Rattle.std.specs.Range.Bound.{bound_map};

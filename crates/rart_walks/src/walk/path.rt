@@ -1,3 +1,4 @@
+// Ported from rart 0.11.0 (Apache-2.0), and rewritten.
 //! The ways down to where a walk starts.
 ghost use Rattle.std.specs.Prelude.{◌≡◌, ◌+◌, ◌<◌, ◌≤◌, ◌⊎◌, ◌&&◌, [], ◌∷◌, ◌++◌, List, length, filter, count_by, if◌then◌else◌, IfOk, OnOk, None};
 ghost use Rattle.std.specs.Option.{option_copied};

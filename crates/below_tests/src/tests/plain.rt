@@ -1,8 +1,7 @@
 //! Plain trees.
-ghost use Rattle.std.specs.Prelude.{ℕ, ◌≤◌, length};
 ghost use Rattle.std.specs.Iterator.{IsFinite};
-ghost use Rattle.rart_below.specs.Bytes.{IsAdmitted};
 
+use crate::tests::key_of;
 use rart_below::{AdaptiveRadixTree, ArrayKey, KeyTrait, VectorKey};
 use std::alloc::{AllocError, Global};
 use std::process::Abort;
@@ -30,41 +29,71 @@ fn are_pairs<'a, K: KeyTrait + 'a, I: Iterator<Item = (&'a K, &'a u64)>>(
     wanted.next().is_none()
 }
 
-fn assert_empty<K: KeyTrait>(rt: &impl Abort, alloc: Global) -> Result<(), AllocError>
-    requires { (length : ℕ) → length ≤ 4 → IsAdmitted K.MAXIMUM_SIZE length }
-{
+fn assert_empty<K: KeyTrait>(rt: &impl Abort, alloc: Global) -> Result<(), AllocError> {
     let plain: AdaptiveRadixTree<K, u64> = AdaptiveRadixTree::new(alloc);
     assert!(rt; plain.is_empty());
     assert_eq!(rt; plain.len(), 0);
-    assert_eq!(rt; plain.get_k(&K::new_from_slice(alloc, b"a")?), None);
-    assert_eq!(rt; plain.get(K::new_from_slice(alloc, b"")?), None);
+    for bytes in [b"a".as_slice(), b""] {
+        assert_found(rt, alloc, &plain, bytes, None)?;
+    }
     let mut pairs = plain.iter();
     assert!(rt; pairs.next().is_none());
     assert!(rt; pairs.next().is_none());
     Ok(())
 }
 
+// Puts a value in, and finds whether the key was there.
+fn assert_put<K: KeyTrait>(
+    rt: &impl Abort,
+    alloc: Global,
+    plain: &mut AdaptiveRadixTree<K, u64>,
+    bytes: &[u8],
+    value: u64,
+    there: bool,
+) -> Result<(), AllocError> {
+    let key: K = key_of(rt, alloc, bytes)?;
+    assert_eq!(rt; plain.insert_k(&key, value)?, there);
+    Ok(())
+}
+
+// Looks a key up by reference and by value.
+fn assert_found<K: KeyTrait>(
+    rt: &impl Abort,
+    alloc: Global,
+    plain: &AdaptiveRadixTree<K, u64>,
+    bytes: &[u8],
+    wanted: Option<u64>,
+) -> Result<(), AllocError> {
+    let key: K = key_of(rt, alloc, bytes)?;
+    assert_eq!(rt; plain.get_k(&key).copied(), wanted);
+    assert_eq!(rt; plain.get(key).copied(), wanted);
+    Ok(())
+}
+
+// The values put in, in this order, with whether the key is there before.
+const PUT: &[(&[u8], u64, bool)] = &[
+    (b"b", 2, false),
+    (b"abc", 3, false),
+    (&[200], 5, false),
+    (b"", 0, false),
+    (b"b", 4, true),
+    (b"ab", 1, false),
+];
+
+const PAIRS: &[(&[u8], u64)] = &[(b"", 0), (b"ab", 1), (b"abc", 3), (b"b", 4), (&[200], 5)];
+
 // Keys put in out of order, one of them twice, come in the order of their bytes.
-fn assert_pairs_in_order<K: KeyTrait>(rt: &impl Abort, alloc: Global) -> Result<(), AllocError>
-    requires { (length : ℕ) → length ≤ 4 → IsAdmitted K.MAXIMUM_SIZE length }
-{
+fn assert_pairs_in_order<K: KeyTrait>(rt: &impl Abort, alloc: Global) -> Result<(), AllocError> {
     let mut plain: AdaptiveRadixTree<K, u64> = AdaptiveRadixTree::new(alloc);
-    assert!(rt; !plain.insert_k(&K::new_from_slice(alloc, b"b")?, 2)?);
-    assert!(rt; !plain.insert_k(&K::new_from_slice(alloc, b"abc")?, 3)?);
-    assert!(rt; !plain.insert_k(&K::new_from_slice(alloc, &[200])?, 5)?);
-    assert!(rt; !plain.insert_k(&K::new_from_slice(alloc, b"")?, 0)?);
-    assert!(rt; plain.insert_k(&K::new_from_slice(alloc, b"b")?, 4)?);
-    assert!(rt; !plain.insert_k(&K::new_from_slice(alloc, b"ab")?, 1)?);
+    for (bytes, value, there) in PUT {
+        assert_put(rt, alloc, &mut plain, bytes, *value, *there)?;
+    }
     assert_eq!(rt; plain.len(), 5);
     assert!(rt; !plain.is_empty());
-    assert_eq!(rt;
-        plain.get_k(&K::new_from_slice(alloc, b"b")?).copied(),
-        Some(4)
-    );
-    assert_eq!(rt; plain.get(K::new_from_slice(alloc, b"")?).copied(), Some(0));
-    assert_eq!(rt; plain.get(K::new_from_slice(alloc, b"a")?).copied(), None);
-    let wanted: &[(&[u8], u64)] = &[(b"", 0), (b"ab", 1), (b"abc", 3), (b"b", 4), (&[200], 5)];
-    assert!(rt; are_pairs(plain.iter(), wanted));
+    for (bytes, wanted) in [(b"b".as_slice(), Some(4)), (b"", Some(0)), (b"a", None)] {
+        assert_found(rt, alloc, &plain, bytes, wanted)?;
+    }
+    assert!(rt; are_pairs(plain.iter(), PAIRS));
     Ok(())
 }
 

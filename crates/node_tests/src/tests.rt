@@ -10,6 +10,7 @@ mod node;
 mod pointer;
 mod rooms;
 mod sizes;
+mod test_node;
 mod widths;
 
 ghost use Rattle.rart_node.specs.NodeShapes.{node_shape};
@@ -41,13 +42,6 @@ fn value_of<P: Partial>(pointer: &NodeRef<P, u64>) -> Option<u64> {
     pointer.open(&mut Work::new()).value().copied()
 }
 
-// The value of the child under the byte.
-fn value_at<P: Partial>(node: &VersionedNode<P, u64>, byte: u8) -> Option<u64>
-    requires { IsAscending (node_shape P.bytes node.now) }
-{
-    value_of(node.seek_child(byte)?)
-}
-
 // Adds a leaf with this value under a byte that has no child.
 #[tactic(auto, using(rart_node::proofs::ChildOrderLemmas::keeps_order))]
 fn add_leaf<P: Partial, V: Drop>(
@@ -66,22 +60,6 @@ fn add_leaf<P: Partial, V: Drop>(
     Ok(())
 }
 
-// Adds a leaf under each of the first bytes, whose value is ten times the byte.
-fn add_leaves<P: Partial>(
-    rt: &impl Abort,
-    alloc: Global,
-    node: &mut VersionedNode<P, u64>,
-    count: u8,
-) -> Result<(), AllocError>
-    requires { IsAscending (node_shape P.bytes node.old) }
-    ensures { IsAscending (node_shape P.bytes node.new) }
-{
-    for byte in 0..count {
-        add_leaf(rt, alloc, node, byte, u64::from(byte) * 10)?;
-    }
-    Ok(())
-}
-
 // The children that are left: these bytes, ascending, over leaves with these values.
 fn assert_children<P: Partial>(
     rt: &impl Abort,
@@ -97,8 +75,4 @@ fn assert_children<P: Partial>(
         count += 1;
     }
     assert_eq!(rt; count, wanted.len());
-}
-
-fn assert_prefix<P: Partial>(rt: &impl Abort, node: &VersionedNode<P, u64>, wanted: &[u8]) {
-    assert_eq!(rt; node.prefix().as_ref(), wanted);
 }

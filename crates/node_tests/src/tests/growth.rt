@@ -1,41 +1,55 @@
 //! Growth to the next width, and the nodes that do not grow.
-use crate::tests::{add_leaves, assert_children, assert_prefix, prefix};
-use rart_node::{GrowError, VersionedNode};
-use std::alloc::AllocError;
+use crate::tests::prefix;
+use crate::tests::test_node::TestNode;
+use rart_below::Partial;
+use rart_node::GrowError;
+use std::alloc::{AllocError, Global};
+use std::process::Abort;
 use std::test::Fail;
+
+fn assert_grows<P: Partial>(rt: &impl Abort, alloc: Global, prefix: P) -> Result<(), Fail> {
+    let mut node = TestNode::inner(alloc, prefix)?;
+    node.add_leaves(rt, alloc, 4)?;
+    node.set_value(7);
+    assert!(rt; node.is_full());
+    let grown = node.grow(alloc)?;
+    assert!(rt; grown.is_inner());
+    assert!(rt; !grown.is_full());
+    grown.assert_prefix(rt, b"grow");
+    assert_eq!(rt; grown.value(), Some(7));
+    grown.assert_children(rt, &[(0, 0), (1, 10), (2, 20), (3, 30)]);
+    assert!(rt; node.is_full());
+    Ok(())
+}
 
 #[test]
 fn growth_keeps_prefix_value_and_children(rt: HostRuntime) -> Result<(), Fail> {
-    let alloc = rt.alloc();
-    let mut node = VersionedNode::new_inner(alloc, prefix(alloc, b"grow")?, 0)?;
-    add_leaves(&rt, alloc, &mut node, 4)?;
-    node.set_value(7);
-    assert!(rt; node.is_full());
-    let grown = node.grow(alloc, 1)?;
-    assert!(rt; grown.is_inner());
-    assert!(rt; !grown.is_full());
-    assert_prefix(&rt, &grown, b"grow");
-    assert_eq!(rt; grown.value().copied(), Some(7));
-    assert_children(&rt, grown.iter(), &[(0, 0), (1, 10), (2, 20), (3, 30)]);
-    assert!(rt; node.is_full());
+    assert_grows(&rt, rt.alloc(), prefix(rt.alloc(), b"grow")?)
+}
+
+fn assert_leaf_stays<P: Partial>(rt: &impl Abort, alloc: Global, prefix: P) -> Result<(), Fail> {
+    let leaf = TestNode::leaf(alloc, prefix, 1);
+    assert!(rt; matches!(leaf.grow(alloc), Err(GrowError::Leaf)));
     Ok(())
 }
 
 #[test]
 fn leaf_does_not_grow(rt: HostRuntime) -> Result<(), Fail> {
     let alloc = rt.alloc();
-    let leaf = VersionedNode::new_leaf(alloc, prefix(alloc, b"leaf")?, 1, 0);
-    assert!(rt; matches!(leaf.grow(alloc, 1), Err(GrowError::Leaf)));
+    assert_leaf_stays(&rt, alloc, prefix(alloc, b"leaf")?)
+}
+
+fn assert_widest_stays<P: Partial>(rt: &impl Abort, alloc: Global, prefix: P) -> Result<(), Fail> {
+    let mut node = TestNode::inner(alloc, prefix)?;
+    node.add_leaves(rt, alloc, 49)?;
+    assert!(rt; matches!(node.grow(alloc), Err(GrowError::Widest)));
     Ok(())
 }
 
 #[test]
 fn widest_node_does_not_grow(rt: HostRuntime) -> Result<(), Fail> {
     let alloc = rt.alloc();
-    let mut node = VersionedNode::new_inner(alloc, prefix(alloc, b"wide")?, 0)?;
-    add_leaves(&rt, alloc, &mut node, 49)?;
-    assert!(rt; matches!(node.grow(alloc, 1), Err(GrowError::Widest)));
-    Ok(())
+    assert_widest_stays(&rt, alloc, prefix(alloc, b"wide")?)
 }
 
 #[test]

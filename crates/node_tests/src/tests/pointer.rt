@@ -1,6 +1,10 @@
 //! Pointers: what is written through one shows in no other.
-use crate::tests::{add_leaf, assert_children, assert_prefix, leaf, prefix, value_of};
-use rart_node::{VersionedNode, Work};
+use crate::tests::test_node::TestNode;
+use crate::tests::{leaf, prefix, value_of};
+use rart_below::Partial;
+use rart_node::Work;
+use std::alloc::Global;
+use std::process::Abort;
 use std::test::Fail;
 
 #[test]
@@ -25,23 +29,26 @@ fn pointer_of_its_own_shows_what_is_written(rt: HostRuntime) -> Result<(), Fail>
     Ok(())
 }
 
+fn assert_copies<P: Partial>(rt: &impl Abort, alloc: Global, prefix: P) -> Result<(), Fail> {
+    let mut node = TestNode::inner(alloc, prefix)?;
+    node.add_leaf(rt, alloc, 9, 1)?;
+    node.set_value(7);
+    let copy = node.cow_clone_inner(alloc)?;
+    let clone = node.cloned()?;
+    node.add_leaf(rt, alloc, 5, 2)?;
+    node.set_value(8);
+    copy.assert_prefix(rt, b"stem");
+    assert_eq!(rt; copy.value(), Some(7));
+    copy.assert_children(rt, &[(9, 1)]);
+    clone.assert_prefix(rt, b"stem");
+    assert_eq!(rt; clone.value(), Some(7));
+    clone.assert_children(rt, &[(9, 1)]);
+    node.assert_children(rt, &[(5, 2), (9, 1)]);
+    Ok(())
+}
+
 #[test]
-#[tactic(auto, using(rart_node::proofs::ChildOrderLemmas::keeps_order))]
 fn copy_of_a_node_has_its_parts(rt: HostRuntime) -> Result<(), Fail> {
     let alloc = rt.alloc();
-    let mut node = VersionedNode::new_inner(alloc, prefix(alloc, b"stem")?, 0)?;
-    add_leaf(&rt, alloc, &mut node, 9, 1)?;
-    node.set_value(7);
-    let copy = node.cow_clone_inner(alloc, 1)?;
-    let clone = node.clone()?;
-    add_leaf(&rt, alloc, &mut node, 5, 2)?;
-    node.set_value(8);
-    assert_prefix(&rt, &copy, b"stem");
-    assert_eq!(rt; copy.value().copied(), Some(7));
-    assert_children(&rt, copy.iter(), &[(9, 1)]);
-    assert_prefix(&rt, &clone, b"stem");
-    assert_eq!(rt; clone.value().copied(), Some(7));
-    assert_children(&rt, clone.iter(), &[(9, 1)]);
-    assert_children(&rt, node.iter(), &[(5, 2), (9, 1)]);
-    Ok(())
+    assert_copies(&rt, alloc, prefix(alloc, b"stem")?)
 }

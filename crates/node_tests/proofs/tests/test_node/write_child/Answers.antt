@@ -1,5 +1,5 @@
 use Rattle.rart_node.proofs.ChildOrderLemmas.{ascending-with_replaced}
-use Rattle.node_tests.proofs.tests.node.write_child.Goals as goal
+use Rattle.node_tests.proofs.tests.test_node.write_child.Goals as goal
 
 pub returns-in-Some : goal.returns-in-Some
 returns-in-Some g c =

@@ -1,7 +1,0 @@
-use Rattle.rart_node.specs.NodeShapes.{node_shape}
-use Rattle.rart_node.specs.Shape.{IsAscending}
-use Rattle.node_tests.proofs.tests.widths.delete_from_16_down_to_4.Given as goal
-
--- the children stay in order
-abbrev pub invariant-loop-byte : goal.invariant-loop-byte
-invariant-loop-byte g l = IsAscending (node_shape g.P.Partial.bytes l.node)

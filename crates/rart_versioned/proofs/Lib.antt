@@ -15,4 +15,5 @@ pub mod SoundLemmas
 pub mod RemovalLemmas
 pub mod SlotChangeLemmas
 pub mod UnversionedLemmas
+pub mod UpdateLookupLemmas
 pub mod VisitLemmas

@@ -9,6 +9,7 @@ pub mod ProbeFields
 pub mod Missing
 pub mod Roots
 pub mod SlotChanges
+pub mod UpdateLookups
 pub mod Updates
 pub use Rattle.rart_below.specs.Bytes
 pub use Rattle.rart_below.specs.Clones

@@ -41,19 +41,22 @@ impl<K: KeyTrait, V: Clone> Model for VersionedAdaptiveRadixTree<K, V> {
 }
 
 impl<K: KeyTrait, V: Clone + Drop> VersionedAdaptiveRadixTree<K, V> {
+    ghost use Rattle.rart_maps.specs.Lookups.{LacksAll};
     ghost use Rattle.rart_maps.specs.Versions.{empty_at, with_rise, has_no_key, has_key, HasRoom};
     ghost use Rattle.rart_versioned.specs.Keys.{IsKeyLength};
 
     /// A map without a key, its number 0.
     pub fn new(alloc: Global) -> VersionedAdaptiveRadixTree<K, V>
-        ensures { result ≡ empty_at 0 }
+        ensures empty { result ≡ empty_at 0 }
+        ensures lacks_all { LacksAll result }
     {
         VersionedAdaptiveRadixTree::new_at(alloc, 0)
     }
 
     /// As `new`. In Rust this is the trait `Default`.
     pub fn default(alloc: Global) -> VersionedAdaptiveRadixTree<K, V>
-        ensures { result ≡ empty_at 0 }
+        ensures empty { result ≡ empty_at 0 }
+        ensures lacks_all { LacksAll result }
     {
         VersionedAdaptiveRadixTree::new(alloc)
     }
@@ -61,7 +64,8 @@ impl<K: KeyTrait, V: Clone + Drop> VersionedAdaptiveRadixTree<K, V> {
     /// A map without a key, with this number. The Rust has no such call: there a new tree has
     /// number 0.
     pub fn new_at(alloc: Global, number: u64) -> VersionedAdaptiveRadixTree<K, V>
-        ensures { result ≡ empty_at number }
+        ensures empty { result ≡ empty_at number }
+        ensures lacks_all { LacksAll result }
     {
         VersionedAdaptiveRadixTree {
             alloc,

@@ -1,7 +1,9 @@
 // Ported from rart 0.11.0 (Apache-2.0), and rewritten.
 //! Insertion with no count.
+ghost use Rattle.std.specs.Prelude.{OnOk, Some};
 ghost use Rattle.rart_below.specs.Clones.{ClonesEqual};
 ghost use Rattle.rart_maps.specs.Changes.{Changes, insertion, replacement};
+ghost use Rattle.rart_maps.specs.Lookups.{Sets};
 ghost use Rattle.rart_maps.specs.Versions.{HasRoom};
 
 use crate::counted::VersionedAdaptiveRadixTree;
@@ -15,7 +17,8 @@ impl<K: KeyTrait, V: Clone + Drop> VersionedAdaptiveRadixTree<K, V> {
     pub fn insert_k(&mut self, key: &K, value: V) -> Result<bool, AllocError>
         requires clones { ClonesEqual V.is_clone }
         requires room { HasRoom self.old 1 }
-        ensures { Changes result self.old self.new (insertion self.old (K.bytes key.now) value) }
+        ensures changes { Changes result self.old self.new (insertion self.old (K.bytes key.now) value) }
+        ensures sets { OnOk result (Sets self.old self.new (K.bytes key.now) (Some value)) }
     {
         self.insert_k_counted(key, value, &mut Work::new())
     }
@@ -24,7 +27,8 @@ impl<K: KeyTrait, V: Clone + Drop> VersionedAdaptiveRadixTree<K, V> {
     pub fn insert(&mut self, key: K, value: V) -> Result<bool, AllocError>
         requires clones { ClonesEqual V.is_clone }
         requires room { HasRoom self.old 1 }
-        ensures { Changes result self.old self.new (insertion self.old (K.bytes key) value) }
+        ensures changes { Changes result self.old self.new (insertion self.old (K.bytes key) value) }
+        ensures sets { OnOk result (Sets self.old self.new (K.bytes key) (Some value)) }
     {
         self.insert_k(&key, value)
     }
@@ -33,7 +37,8 @@ impl<K: KeyTrait, V: Clone + Drop> VersionedAdaptiveRadixTree<K, V> {
     pub fn insert_and_replace_k(&mut self, key: &K, value: V) -> Result<Option<V>, AllocError>
         requires clones { ClonesEqual V.is_clone }
         requires room { HasRoom self.old 1 }
-        ensures { Changes result self.old self.new (replacement self.old (K.bytes key.now) value) }
+        ensures changes { Changes result self.old self.new (replacement self.old (K.bytes key.now) value) }
+        ensures sets { OnOk result (Sets self.old self.new (K.bytes key.now) (Some value)) }
     {
         self.insert_and_replace_k_counted(key, value, &mut Work::new())
     }
@@ -42,7 +47,8 @@ impl<K: KeyTrait, V: Clone + Drop> VersionedAdaptiveRadixTree<K, V> {
     pub fn insert_and_replace(&mut self, key: K, value: V) -> Result<Option<V>, AllocError>
         requires clones { ClonesEqual V.is_clone }
         requires room { HasRoom self.old 1 }
-        ensures { Changes result self.old self.new (replacement self.old (K.bytes key) value) }
+        ensures changes { Changes result self.old self.new (replacement self.old (K.bytes key) value) }
+        ensures sets { OnOk result (Sets self.old self.new (K.bytes key) (Some value)) }
     {
         self.insert_and_replace_k(&key, value)
     }

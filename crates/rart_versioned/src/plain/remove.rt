@@ -1,8 +1,9 @@
 // Ported from rart 0.11.0 (Apache-2.0), and rewritten.
 //! Removal with no count.
-ghost use Rattle.std.specs.Prelude.{IsTrue, OnErr};
+ghost use Rattle.std.specs.Prelude.{IsTrue, None, OnOk, OnErr};
 ghost use Rattle.rart_below.specs.Clones.{ClonesEqual};
 ghost use Rattle.rart_maps.specs.Changes.{Changes, removal, deletion};
+ghost use Rattle.rart_maps.specs.Lookups.{Sets};
 ghost use Rattle.rart_maps.specs.Versions.{HasRoom, has_key};
 
 use crate::counted::VersionedAdaptiveRadixTree;
@@ -16,6 +17,7 @@ impl<K: KeyTrait, V: Clone + Drop> VersionedAdaptiveRadixTree<K, V> {
         requires clones { ClonesEqual V.is_clone }
         requires room { HasRoom self.old 1 }
         ensures changes { Changes result self.old self.new (removal self.old (K.bytes key)) }
+        ensures sets { OnOk result (Sets self.old self.new (K.bytes key) None) }
         ensures present { OnErr result (IsTrue (has_key self.old (K.bytes key))) }
     {
         self.remove_k(&key)
@@ -28,6 +30,7 @@ impl<K: KeyTrait, V: Clone + Drop> VersionedAdaptiveRadixTree<K, V> {
         requires clones { ClonesEqual V.is_clone }
         requires room { HasRoom self.old 1 }
         ensures changes { Changes result self.old self.new (removal self.old (K.bytes key.now)) }
+        ensures sets { OnOk result (Sets self.old self.new (K.bytes key.now) None) }
         ensures present { OnErr result (IsTrue (has_key self.old (K.bytes key.now))) }
     {
         self.remove_k_counted(key, &mut Work::new())
@@ -38,6 +41,7 @@ impl<K: KeyTrait, V: Clone + Drop> VersionedAdaptiveRadixTree<K, V> {
         requires clones { ClonesEqual V.is_clone }
         requires room { HasRoom self.old 1 }
         ensures changes { Changes result self.old self.new (deletion self.old (K.bytes key)) }
+        ensures sets { OnOk result (Sets self.old self.new (K.bytes key) None) }
         ensures present { OnErr result (IsTrue (has_key self.old (K.bytes key))) }
     {
         self.delete_k(&key)
@@ -48,6 +52,7 @@ impl<K: KeyTrait, V: Clone + Drop> VersionedAdaptiveRadixTree<K, V> {
         requires clones { ClonesEqual V.is_clone }
         requires room { HasRoom self.old 1 }
         ensures changes { Changes result self.old self.new (deletion self.old (K.bytes key.now)) }
+        ensures sets { OnOk result (Sets self.old self.new (K.bytes key.now) None) }
         ensures present { OnErr result (IsTrue (has_key self.old (K.bytes key.now))) }
     {
         self.delete_k_counted(key, &mut Work::new())

@@ -1,10 +1,12 @@
 // Ported from rart 0.11.0 (Apache-2.0), and rewritten.
 //! Updates by a callback, with no count.
+ghost use Rattle.std.specs.Prelude.{◌≡◌, OnOk, OnErr};
 ghost use Rattle.std.specs.Fn.{FnOnceTakesAtMut};
 ghost use Rattle.rart_below.specs.Clones.{ClonesEqual};
 ghost use Rattle.rart_maps.specs.Changes.{slot_of};
-ghost use Rattle.rart_versioned.specs.Updates.{Updates, TriesUpdate};
 ghost use Rattle.rart_maps.specs.Versions.{HasRoom, value_at};
+ghost use Rattle.rart_versioned.specs.UpdateLookups.{UpdateSets, TriedUpdateSets};
+ghost use Rattle.rart_versioned.specs.Updates.{Updates, TriesUpdate};
 
 use crate::counted::VersionedAdaptiveRadixTree;
 use rart_below::{KeyTrait, Refusal, Slot, SlotUpdate};
@@ -22,7 +24,8 @@ impl<K: KeyTrait, V: Clone + Drop> VersionedAdaptiveRadixTree<K, V> {
         requires room { HasRoom self.old 1 }
         requires callable { FnOnceTakesAtMut F.FnOnce f
             (slot_of (value_at self.old (K.bytes key))) }
-        ensures { Updates F.FnOnce f self.old (K.bytes key) result self.new }
+        ensures updates { Updates F.FnOnce f self.old (K.bytes key) result self.new }
+        ensures sets { OnOk result (UpdateSets F.FnOnce f self.old (K.bytes key) self.new) }
     {
         self.update_k(&key, f)
     }
@@ -43,7 +46,8 @@ impl<K: KeyTrait, V: Clone + Drop> VersionedAdaptiveRadixTree<K, V> {
         requires room { HasRoom self.old 1 }
         requires callable { FnOnceTakesAtMut F.FnOnce f
             (slot_of (value_at self.old (K.bytes key.now))) }
-        ensures { Updates F.FnOnce f self.old (K.bytes key.now) result self.new }
+        ensures updates { Updates F.FnOnce f self.old (K.bytes key.now) result self.new }
+        ensures sets { OnOk result (UpdateSets F.FnOnce f self.old (K.bytes key.now) self.new) }
     {
         self.update_k_counted(key, f, &mut Work::new())
     }
@@ -58,7 +62,9 @@ impl<K: KeyTrait, V: Clone + Drop> VersionedAdaptiveRadixTree<K, V> {
         requires room { HasRoom self.old 2 }
         requires callable { FnOnceTakesAtMut F.FnOnce f
             (slot_of (value_at self.old (K.bytes key))) }
-        ensures { TriesUpdate F.FnOnce f self.old (K.bytes key) result self.new }
+        ensures updates { TriesUpdate F.FnOnce f self.old (K.bytes key) result self.new }
+        ensures sets { OnOk result (TriedUpdateSets F.FnOnce f self.old (K.bytes key) self.new) }
+        ensures refused { OnErr result (self.new.content ≡ self.old.content) }
     {
         self.try_update_k(&key, f)
     }
@@ -78,7 +84,9 @@ impl<K: KeyTrait, V: Clone + Drop> VersionedAdaptiveRadixTree<K, V> {
         requires room { HasRoom self.old 2 }
         requires callable { FnOnceTakesAtMut F.FnOnce f
             (slot_of (value_at self.old (K.bytes key.now))) }
-        ensures { TriesUpdate F.FnOnce f self.old (K.bytes key.now) result self.new }
+        ensures updates { TriesUpdate F.FnOnce f self.old (K.bytes key.now) result self.new }
+        ensures sets { OnOk result (TriedUpdateSets F.FnOnce f self.old (K.bytes key.now) self.new) }
+        ensures refused { OnErr result (self.new.content ≡ self.old.content) }
     {
         self.try_update_k_counted(key, f, &mut Work::new())
     }

@@ -1,0 +1,7 @@
+use Rattle.rart_maps.proofs.LookupLemmas.{replacement-sets}
+use Rattle.rart_versioned.proofs.counted.tree.VersionedAdaptiveRadixTree.insert_and_replace_k.Goals as goal
+
+pub returns-clause-sets : goal.returns-clause-sets
+returns-clause-sets g c =
+    replacement-sets c.args.self.now c.insert_and_replace_k_counted.new.self (g.K.KeyTrait.bytes c.args.key.now) c.args.value
+    c.insert_and_replace_k_counted.result c.insert_and_replace_k_counted.ensures.changes

@@ -1,0 +1,7 @@
+use Rattle.rart_maps.proofs.LookupLemmas.{removal-sets}
+use Rattle.rart_versioned.proofs.counted.tree.VersionedAdaptiveRadixTree.remove_k.Goals as goal
+
+pub returns-clause-sets : goal.returns-clause-sets
+returns-clause-sets g c =
+    removal-sets c.args.self.now c.remove_k_counted.new.self (g.K.KeyTrait.bytes c.args.key.now)
+    c.remove_k_counted.result c.remove_k_counted.ensures.changes

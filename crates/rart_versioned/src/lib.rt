@@ -9,7 +9,9 @@ mod counted;
 mod plain;
 
 pub use counted::VersionedAdaptiveRadixTree;
-pub use plain::{VersionedIter, VersionedPrefixMatchIter, VersionedRange, VersionedValuesIter};
+pub use plain::{
+    InsertError, VersionedIter, VersionedPrefixMatchIter, VersionedRange, VersionedValuesIter,
+};
 pub use rart_below::{
     AdaptiveRadixTree, ArrPartial, ArrayKey, DirectMapping, IndexedMapping, KeyTrait,
     LendingKeyView, NodeMapping, Partial, PlainIter, Refusal, Slot, SlotUpdate, SortedKeyedMapping,

@@ -6,16 +6,16 @@ pub invariant_of-self : goal.invariant_of-self
 invariant_of-self c =
     put-keys c.self.inside.tree c.self.invariant c.args.self.now c.self.view_is _ c.args.tuple
     c.key.ensures.narrow (c.in_ok-key.ensures ∙ c.key.ensures.bytes)
-    c.insert.new.self c.insert.result c.insert.ensures
+    c.insert.new.self c.insert.result c.insert.ensures.changes
 
 pub returns-clause-answer : goal.returns-clause-answer
 returns-clause-answer c =
     put-answer c.self.inside.tree c.self.invariant c.args.self.now c.self.view_is _ c.args.tuple
     c.key.ensures.narrow (c.in_ok-key.ensures ∙ c.key.ensures.bytes)
-    c.insert.new.self c.insert.result c.insert.ensures
+    c.insert.new.self c.insert.result c.insert.ensures.changes
 
 pub returns-clause-tuples : goal.returns-clause-tuples
 returns-clause-tuples c =
     put-tuples c.self.inside.tree c.self.invariant c.args.self.now c.self.view_is _ c.args.tuple
     c.key.ensures.narrow (c.in_ok-key.ensures ∙ c.key.ensures.bytes)
-    c.insert.new.self c.insert.result c.insert.ensures
+    c.insert.new.self c.insert.result c.insert.ensures.changes

@@ -7,9 +7,9 @@ use Rattle.tuple_index.proofs.index.TupleIndex.new.Goals as goal
 
 pub invariant_of-result : goal.invariant_of-result
 invariant_of-result c =
-    subst (λ (v : Version (Unit {0})). AreTupleKeys (pairs v.content)) (sym c.new.ensures)
+    subst (λ (v : Version (Unit {0})). AreTupleKeys (pairs v.content)) (sym c.new.ensures.empty)
     keys-empty
 
 pub returns-clause-tuples : goal.returns-clause-tuples
 returns-clause-tuples c =
-    ap (λ (v : Version (Unit {0})). tuples_in (pairs v.content)) c.new.ensures ∙ tuples-empty
+    ap (λ (v : Version (Unit {0})). tuples_in (pairs v.content)) c.new.ensures.empty ∙ tuples-empty

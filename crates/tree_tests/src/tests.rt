@@ -13,6 +13,7 @@ mod removal;
 mod replacing;
 mod sharing;
 mod snapshots;
+mod trying;
 mod unversioned;
 mod updates;
 mod visitors;

@@ -3,6 +3,7 @@
 //! `docs/USING.md` shows these functions.
 #![tactic(auto)]
 
+pub mod clients;
 pub mod listing;
 pub mod meeting;
 pub mod prices;

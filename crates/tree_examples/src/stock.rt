@@ -1,6 +1,6 @@
 //! A stock: how many pieces there are of each name.
-ghost use Rattle.std.specs.Prelude.{◌≡◌, ◌+◌, ◌<◌, ◌^◌, ℕ, Some, OnOk, OnErr, unwrap_or};
-ghost use Rattle.rart_maps.specs.Changes.{slot_of};
+ghost use Rattle.std.specs.Prelude.{◌≡◌, ◌≢◌, ◌+◌, ◌<◌, ◌^◌, ℕ, List, Some, OnOk, OnErr, unwrap_or};
+ghost use Rattle.rart_maps.specs.Lookups.{value_in, value_left};
 ghost use Rattle.rart_maps.specs.Versions.{HasRoom, value_at};
 
 use rart_versioned::{KeyTrait, Slot, SlotUpdate, VectorKey, VersionedAdaptiveRadixTree};
@@ -14,6 +14,8 @@ pub fn add(alloc: Global, stock: &mut Stock, name: &str, more: u64) -> Result<()
     requires fits { unwrap_or (value_at stock.old name.now) 0 + more < 2 ^ 64 }
     ensures added { OnOk result (value_at stock.new name.now
         ≡ Some (unwrap_or (value_at stock.old name.now) 0 + more)) }
+    ensures others { OnOk result ((other : List ℕ) → other ≢ name.now
+        → value_at stock.new other ≡ value_at stock.old other) }
     ensures refused { OnErr result (stock.new ≡ stock.old) }
 {
     let key = VectorKey::new_from_slice(alloc, name.as_bytes())?;
@@ -23,11 +25,9 @@ pub fn add(alloc: Global, stock: &mut Stock, name: &str, more: u64) -> Result<()
 
 // What an update is to do with the slot that it is lent.
 fn add_to(slot: &mut Slot<u64>, more: u64) -> SlotUpdate<u64>
-    requires fits { (count : ℕ) → slot.old ≡ Slot.Occupied count → count + more < 2 ^ 64 }
-    ensures vacant { slot.old ≡ Slot.Vacant → result ≡ SlotUpdate.Insert more }
-    ensures occupied { (count : ℕ) → slot.old ≡ Slot.Occupied count
-        → slot.new ≡ Slot.Occupied (count + more) }
-    ensures kept { (count : ℕ) → slot.old ≡ Slot.Occupied count → result ≡ SlotUpdate.Keep }
+    requires fits { unwrap_or (value_in slot.old) 0 + more < 2 ^ 64 }
+    ensures added { value_left slot.old slot.new result
+        ≡ Some (unwrap_or (value_in slot.old) 0 + more) }
 {
     match slot {
         Slot::Vacant => SlotUpdate::Insert(more),

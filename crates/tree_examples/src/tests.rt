@@ -1,4 +1,6 @@
 //! With ample memory the calls succeed, which no contract can say.
+mod clients;
+
 use crate::listing::{
     all_prices, follows_a_refusal, listing, listing_along, listing_between, listing_under,
 };

@@ -1,4 +1,5 @@
 // Ported from rart 0.11.0 (Apache-2.0), and rewritten.
+//! A key that a visitor is lent for one call, in segments.
 ghost use Rattle.std.specs.Prelude.{◌≡◌, ◌==◌, ◌≤◌, ℕ, List, length, vec_capacity, IsOk, IfOk, OnOk, OnErr};
 ghost use Rattle.rart_below.specs.Bytes.{byte_order, IsAdmitted};
 ghost use Rattle.rart_below.specs.LendingKeyView.{joined_bytes};
@@ -76,7 +77,7 @@ impl<'a, 'view> LendingKeyView<'a, 'view> {
     ///
     /// ```
     /// for segment in key.segments() {
-    ///     hasher.write(segment);
+    ///     buffer.extend_from_slice(segment)?;
     /// }
     /// ```
     pub fn segments(&self) -> &'view [&'a [u8]]

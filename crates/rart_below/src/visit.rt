@@ -1,4 +1,5 @@
 // Ported from rart 0.11.0 (Apache-2.0), and rewritten.
+
 /// What a visitor's closure answers of each value.
 #[derive(Clone, Copy, PartialEq, Eq)]
 pub enum VisitControl {

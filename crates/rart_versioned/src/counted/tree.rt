@@ -95,7 +95,14 @@ impl<K: KeyTrait, V: Clone + Drop> VersionedAdaptiveRadixTree<K, V> {
         self.version
     }
 
-    /// The same map once more, its number one greater. Refused for memory, this one is as before.
+    /// The same map once more, its number one greater. This one stays as it is, its number too,
+    /// also where the copy is refused for memory.
+    ///
+    /// ```
+    /// let yesterday = list.snapshot()?;
+    /// list.insert_k(&tea, 350)?;
+    /// let before = yesterday.get_k(&tea);
+    /// ```
     pub fn snapshot(&self) -> Result<VersionedAdaptiveRadixTree<K, V>, AllocError>
         requires room { HasRoom self.now 1 }
         ensures { IfOk result (λ copy. copy ≡ with_rise self.now 1) }

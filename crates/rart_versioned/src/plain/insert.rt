@@ -14,6 +14,10 @@ use std::alloc::AllocError;
 impl<K: KeyTrait, V: Clone + Drop> VersionedAdaptiveRadixTree<K, V> {
     /// Sets a key to a value, raises the number by one, and answers whether a value was replaced.
     /// Refused for memory, map and number are as before.
+    ///
+    /// ```
+    /// let replaced = list.insert_k(&tea, 300)?;
+    /// ```
     pub fn insert_k(&mut self, key: &K, value: V) -> Result<bool, AllocError>
         requires clones { ClonesEqual V.is_clone }
         requires room { HasRoom self.old 1 }
@@ -24,6 +28,10 @@ impl<K: KeyTrait, V: Clone + Drop> VersionedAdaptiveRadixTree<K, V> {
     }
 
     /// As `insert_k`, the key by value.
+    ///
+    /// ```
+    /// list.insert(VectorKey::new_from_slice(alloc, b"tea")?, 300)?;
+    /// ```
     pub fn insert(&mut self, key: K, value: V) -> Result<bool, AllocError>
         requires clones { ClonesEqual V.is_clone }
         requires room { HasRoom self.old 1 }

@@ -62,7 +62,7 @@ impl<K: KeyTrait, V: Clone + Drop> VersionedAdaptiveRadixTree<K, V> {
     ///
     /// ```
     /// let mut product = 0u64;
-    /// prices.intersect_values_with(&amounts, &mut |price: &u64, amount: &u64| {
+    /// list.intersect_values_with(&amounts, &mut |price: &u64, amount: &u64| {
     ///     product = product.saturating_add(price.saturating_mul(*amount));
     /// });
     /// ```

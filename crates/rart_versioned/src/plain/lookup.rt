@@ -10,6 +10,10 @@ use rart_node::Work;
 
 impl<K: KeyTrait, V: Clone + Drop> VersionedAdaptiveRadixTree<K, V> {
     /// The value of a key, if the key is there. It takes no memory.
+    ///
+    /// ```
+    /// let price = list.get_k(&tea).copied().unwrap_or(0);
+    /// ```
     pub fn get_k(&self, key: &K) -> Option<&V>
         ensures { option_copied result ≡ value_at self.now (K.bytes key.now) }
     {

@@ -26,6 +26,12 @@ impl<K: KeyTrait, V: Clone + Drop> VersionedAdaptiveRadixTree<K, V> {
     /// Takes the key out and gives its value: the number is then one greater. Where the key is
     /// absent the answer is None, map and number stay, and no memory is taken. Refused for memory,
     /// map and number are as before.
+    ///
+    /// ```
+    /// if let Some(price) = list.remove_k(&tea)? {
+    ///     prices.push(price)?;
+    /// }
+    /// ```
     pub fn remove_k(&mut self, key: &K) -> Result<Option<V>, AllocError>
         requires clones { ClonesEqual V.is_clone }
         requires room { HasRoom self.old 1 }

@@ -12,10 +12,10 @@ impl<K: KeyTrait, V: Clone + Drop> VersionedAdaptiveRadixTree<K, V> {
     /// version back, with map and number as they were: in Rust it never tells of memory.
     ///
     /// ```
-    /// let prices = match list.into_unversioned() {
-    ///     Ok(prices) => prices,
-    ///     Err(kept) => return Ok(Some(kept)),
-    /// };
+    /// match list.into_unversioned() {
+    ///     Ok(plain) => names = plain.len(),
+    ///     Err(version) => kept.push(version)?,
+    /// }
     /// ```
     ///
     /// The values are copied. In Rust those of nodes that nobody shares are moved.

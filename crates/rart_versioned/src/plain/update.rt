@@ -34,6 +34,16 @@ impl<K: KeyTrait, V: Clone + Drop> VersionedAdaptiveRadixTree<K, V> {
     /// in an occupied slot, `Insert` stores its value, `Remove` takes the key out. Each of them
     /// makes the number one greater and answers whether the key was there or is now.
     ///
+    /// ```
+    /// list.update_k(&tea, |slot: &mut Slot<u64>| match slot {
+    ///     Slot::Vacant => SlotUpdate::Insert(1),
+    ///     Slot::Occupied(count) => {
+    ///         *count = count.saturating_add(1);
+    ///         SlotUpdate::Keep
+    ///     }
+    /// })?;
+    /// ```
+    ///
     /// Of an absent key `Keep` and `Remove` leave map and number and take no memory. Where the
     /// callback leaves an occupied slot vacant and answers `Keep`, the value stays. Refused for
     /// memory, map and number are as before, and the callback may have run.

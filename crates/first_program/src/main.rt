@@ -6,7 +6,6 @@ use rart_versioned::{KeyTrait, VectorKey, VersionedAdaptiveRadixTree};
 fn main(rt: HostRuntime) -> anyhow::Result<()> {
     let alloc = rt.alloc();
     let tea = VectorKey::new_from_slice(alloc, "tea".as_bytes())?;
-    let salt = VectorKey::new_from_slice(alloc, "salt".as_bytes())?;
 
     let mut prices = VersionedAdaptiveRadixTree::new(alloc);
     prices.insert_k(&tea, 300_u64)?;
@@ -15,6 +14,5 @@ fn main(rt: HostRuntime) -> anyhow::Result<()> {
 
     println!(rt; "tea was {:?}", yesterday.get_k(&tea))?;
     println!(rt; "tea is {:?}", prices.get_k(&tea))?;
-    println!(rt; "salt is {:?}", prices.get_k(&salt))?;
     Ok(())
 }

@@ -1,13 +1,15 @@
-//! Four uses of versions, each a module of one page that prints what it sees: records with drafts,
-//! a routing table, facts joined with an older snapshot, and an undo history.
+//! Uses of versions, each a module that prints what it sees: price lists, records with drafts, a
+//! routing table, facts joined with an older snapshot, and an undo history.
 #![tactic(auto)]
 
 mod facts;
 mod history;
+mod prices;
 mod records;
 mod routes;
 
 fn main(rt: HostRuntime) -> anyhow::Result<()> {
+    prices::show(&rt)?;
     records::show(&rt)?;
     routes::show(&rt)?;
     facts::show(&rt)?;

@@ -1,0 +1,166 @@
+"""Checks of a crate with edits by the prover, and what is read off its words."""
+import dataclasses
+import functools
+import os
+import re
+import shutil
+import signal
+import subprocess
+import tempfile
+import threading
+
+from .repository import PARTS, library
+
+# The longest that a check of edits may take, in seconds, before it counts for nothing.
+LONGEST = 3600
+# A function that is not proved, and why; or one that is, but for holes that stand elsewhere.
+VERDICT = re.compile(
+    r"fn (\S+): (not proved|no proof|could not tell|no holes|proved|depends on a hole)(.*)"
+)
+CHECKED = re.compile(r"checked (\S+), \d+ of \d+")
+# How the prover tells of a goal of a function's own that it did not prove.
+OWN_GOAL = re.compile(r"`search` did not prove|does not cover|has an `ensures\*`")
+# What stands in for proofs.
+ASSUMED = "pub assumed : {A : Type 2} → A\nassumed = ?\n"
+# What a function's proof stands on, where that is not proved.
+STANDS_ON = re.compile(r"`Rattle\.(\w+)\.proofs\.([^`]+)`")
+
+
+@functools.lru_cache(maxsize=None)
+def toolchain():
+    """The folder of the toolchain, and the line that names it."""
+    page = subprocess.run(["rt", "doc"], capture_output=True, text=True, check=True).stdout
+    line = subprocess.run(["rt", "version"], capture_output=True, text=True, check=True).stdout
+    return os.path.dirname(page.strip()), line.strip()
+
+
+def words(repository, built, crate):
+    """The words by which the prover checks a crate over the libraries below it."""
+    kit = toolchain()[0]
+    found = ["--crate-name", crate.name, f"src/{'main' if crate.is_program else 'lib'}.rt"]
+    for it in ("std", *crate.of_toolchain):
+        found += ["--extern", f"{it}={kit}/rlibs/{it}.rlib"]
+    found += ["-L", f"dependency={kit}/rlibs"]
+    for it in crate.of_repository:
+        found += ["--extern", f"{it}={library(built, it)}"]
+    for it in repository.below(crate):
+        found += ["-L", f"dependency={os.path.dirname(library(built, it.name))}"]
+    found += ["--antt-project", f"{kit}/rattle/logic/antt-project.json"]
+    return [*found, "--logic-built", f"{kit}/logic_built", "--jobs", "1"]
+
+
+@dataclasses.dataclass
+class Said:
+    """What a check said: its status and its lines; the seconds of a processor that it was at each
+    function, as far as its lines tell, and that it took."""
+
+    status: int
+    lines: list
+    seconds: dict
+    taken: float
+
+    @property
+    def came_to_its_end(self):
+        return self.lines[-1].startswith(("only=", "logic=", "holes="))
+
+    def verdicts(self, crate):
+        """For each function of the crate that was checked, whether it is proved or waits for others
+        alone, and why it is not proved."""
+        found = {}
+        for line in self.lines:
+            it = VERDICT.match(line)
+            if it and it[1].startswith(f"{crate.name}::"):
+                found[it[1].removeprefix(f"{crate.name}::")] = it[2], it[3]
+        return found
+
+
+class Room:
+    """A copy of a crate, in which it is checked with other texts."""
+
+    def __init__(self, crate):
+        self.crate = crate
+
+    def __enter__(self):
+        self.folder = tempfile.mkdtemp(prefix="edits-")
+        for part in PARTS:
+            if os.path.isdir(f"{self.crate.folder}/{part}"):
+                shutil.copytree(f"{self.crate.folder}/{part}", f"{self.folder}/{part}")
+        return self
+
+    def __exit__(self, *_):
+        shutil.rmtree(self.folder, ignore_errors=True)
+
+    def write(self, file, text):
+        path = f"{self.folder}/{file}"
+        os.makedirs(os.path.dirname(path), exist_ok=True)
+        with open(path, "w", encoding="utf-8") as it:
+            it.write(text)
+
+    def dig(self, functions):
+        """Leaves one hole in place of the proofs of all these functions. What calls them is then
+        checked by their contracts alone, and they are not proved once more."""
+        self.write("proofs/Assumed.antt", ASSUMED)
+        lemmas = f"{self.folder}/proofs/Lib.antt"
+        with open(lemmas, "a", encoding="utf-8") as it:
+            it.write("mod Assumed\n")
+        for name in functions:
+            path, _, short = name.rpartition("::")
+            path = "/".join([*path.split("::"), short] if path else [short])
+            for file in ("Answers.antt", "Invariants.antt"):
+                if os.path.isfile(f"{self.folder}/proofs/{path}/{file}"):
+                    os.remove(f"{self.folder}/proofs/{path}/{file}")
+            proofs = f"Rattle.{self.crate.name}.proofs"
+            text = f"use {proofs}.Assumed.{{assumed}}\n"
+            text += f"use {proofs}.{path.replace('/', '.')}.Statement.{{statement}}\n\n"
+            text += f"pub {short}_spec : {{M : Type 1}} → statement M\n{short}_spec = assumed\n"
+            self.write(f"proofs/{path}/Proof.antt", text)
+
+    def check(self, command, *flags, log=None):
+        """Checks what stands in the room. What the check says goes into a file, if one is given."""
+        last = taken = 0.0
+        seconds, lines = {}, []
+        how = {"cwd": self.folder, "stdin": subprocess.DEVNULL, "stdout": subprocess.PIPE}
+        how |= {"stderr": subprocess.STDOUT, "encoding": "utf-8", "errors": "replace"}
+        said = [f"{toolchain()[0]}/bin/rattle", "check", *command, "--progress", *flags]
+        with subprocess.Popen(said, **how) as ran:
+            ends = threading.Timer(LONGEST, ran.kill)
+            ends.start()
+            for line in ran.stdout:
+                lines.append(line.rstrip("\n"))
+                now = _taken(ran.pid) or last
+                print(f"{now:.1f} {line}", end="", file=log, flush=True) if log else None
+                it = CHECKED.match(line)
+                if it:
+                    # (what comes before the first one is reading and loading)
+                    seconds[it[1].removeprefix(f"{self.crate.name}::")] = now - last if last else 0
+                    last = now
+                taken = now
+            ends.cancel()
+        return Said(ran.returncode, lines or [""], seconds, taken)
+
+
+def _taken(process):
+    """The seconds of a processor that a process took, and its children that ended."""
+    try:
+        with open(f"/proc/{process}/stat", encoding="utf-8", errors="replace") as it:
+            rest = it.read().rpartition(")")[2].split()
+    except OSError:
+        return None
+    return sum(map(int, rest[11:15])) / os.sysconf("SC_CLK_TCK")
+
+
+def own_reason(crate, name, why):
+    """Why a function is not proved, where that is a goal of its own and not only that what it calls
+    is not proved; else None. `why` is what the prover said of it."""
+    path = name.replace("::", ".")
+    for part in why.strip(" :;").split("; "):
+        places = [it[2] for it in STANDS_ON.finditer(part) if it[1] == crate.name]
+        is_own = any(it.startswith(f"{path}.") for it in places)
+        if OWN_GOAL.search(part) or is_own and "which antt refuses" in part:
+            return part
+    return None
+
+
+def was_killed(said):
+    """Whether a check was ended from outside, for memory or time."""
+    return said.status == -signal.SIGKILL

@@ -1,0 +1,183 @@
+"""A run of the toolchain over all crates, and the trial of the edits beside it."""
+import os
+import re
+import shutil
+import subprocess
+
+from . import edit as edits_of
+from .record import Digests, Record, is_drawn
+from .repository import Repository, library
+from .trial import CrateTrial, Outcome, Result, batches_of
+
+RECORD = "checks/refused_edits"
+
+
+def copy_without_edits(root, to, names=()):
+    """Copies the crates, or those named and what stands below them, without their edits."""
+    repository = Repository(root)
+    wanted = {*names} or {*repository.crates}
+    wanted |= {it.name for name in wanted for it in repository.below(repository.crates[name])}
+    for name in wanted:
+        leave = shutil.ignore_patterns("out", *edits_of.FOLDERS)
+        shutil.copytree(f"{root}/crates/{name}", f"{to}/crates/{name}", ignore=leave)
+    rows = [it.line for name, it in repository.crates.items() if name in wanted]
+    with open(f"{to}/crates.txt", "w", encoding="utf-8") as file:
+        file.writelines(f"{row}\n" for row in rows)
+    shutil.copyfile(f"{root}/HANDLES", f"{to}/HANDLES")
+
+
+class Build:
+    """A run of `rt ci` in a copy of the repository, whose log tells which crates are proved."""
+
+    def __init__(self, folder):
+        self.folder, self.log = folder, f"{folder}.log"
+        with open(self.log, "wb") as log:
+            how = {"cwd": folder, "stdin": subprocess.DEVNULL, "stdout": log, "stderr": log}
+            self.process = subprocess.Popen(["rt", "ci"], **how)
+
+    def text(self):
+        with open(self.log, encoding="utf-8", errors="replace") as it:
+            return it.read()
+
+    def proved(self):
+        return {*re.findall(r"(?m)^rt: (\w+) (?:proved$|is kept: )", self.text())}
+
+    @property
+    def has_ended(self):
+        return self.process.poll() is not None
+
+    def told(self):
+        """What the run said: all of it where something failed, else a line for each crate."""
+        text = self.text()
+        own = "\n".join(it for it in text.splitlines() if it.startswith("rt: "))
+        return text if self.process.returncode else own
+
+    def counts(self):
+        """How many proofs, tests and programs passed, and how many failed."""
+        last = re.findall(r"(?m)^(\d+) passed, (\d+) failed", self.text())
+        return tuple(map(int, last[-1])) if last else (0, 1)
+
+
+class Built:
+    """A repository whose libraries stand in `out/` already, as `rt lib` leaves them."""
+
+    process, has_ended = None, True
+
+    def __init__(self, folder):
+        self.folder = folder
+
+    def proved(self):
+        names = Repository(self.folder).crates
+        return {it for it in names if self._stands(names[it])}
+
+    def _stands(self, crate):
+        return crate.is_program or os.path.isdir(library(self.folder, crate.name))
+
+
+class Edits:
+    """The trial of the edits of some crates, or of all."""
+
+    def __init__(self, root, build, lanes, names=(), tries_all=False, log=None):
+        self.root, self.build, self.lanes = root, build, lanes
+        self.tries_all, self.log = tries_all, log
+        self.repository = Repository(root)
+        self.record, self.digests = Record(f"{root}/{RECORD}"), Digests(self.repository)
+        self.names = names or [*self.repository.crates]
+        self.left = [self.repository.crates[it] for it in self.names]
+        self.results, self.known, self.labels = [], [], set()
+
+    def begin_those_proved(self):
+        """Begins the crates that were proved meanwhile, and says whether others are to come."""
+        has_ended, proved = self.build.has_ended, self.build.proved()
+        for crate in [it for it in self.left if has_ended or it.name in proved]:
+            self.left.remove(crate)
+            edits = [it for it in self._edits(crate) if self._is_due(it)]
+            if crate.name in proved:
+                self._try(crate, edits)
+            else:
+                for it in edits:
+                    self._end(Result(it, Outcome.UNTRIED, "its crate is not proved without it"))
+        return bool(self.left)
+
+    def _edits(self, crate):
+        files, strange = edits_of.files_of(crate)
+        found = []
+        for file in files + strange:
+            try:
+                if file in strange:
+                    raise edits_of.BadEdit("its name is none of an edit")
+                found.append(edits_of.read(crate, file))
+            except edits_of.BadEdit as why:
+                self._end(Result(edits_of.Edit(crate, file, b"", {}), Outcome.BAD, str(why)))
+        self.labels |= {it.label for it in found}
+        return found
+
+    def _is_due(self, edit):
+        known = self.record.knows(edit, self.digests.of_edit(edit))
+        if not known or self.tries_all or is_drawn(self.root, edit):
+            return True
+        self.known.append(edit)
+        return False
+
+    def _try(self, crate, edits):
+        if not edits:
+            return
+        trial = CrateTrial(self.repository, self.build.folder, crate, self.log)
+        edits_of.find_bodies(edits, trial.before, self.build.folder)
+        for edit in edits:
+            if edit.bodies == {}:
+                self._end(Result(edit, Outcome.KEPT, "it changes no word of the code"))
+            elif not edit.bodies or not edit.names:
+                self._put_alone(trial, edit)
+        several = [it for it in edits if it.bodies and it.names]
+        for batch in batches_of(several, trial.controls):
+            self._put_batch(trial, batch, is_last=False)
+
+    def _put_batch(self, trial, batch, is_last):
+        def then(ended):
+            results, unclear = ended
+            for it in results:
+                self._end(it)
+            for it in unclear:
+                if is_last:
+                    self._put_alone(trial, it)
+                else:
+                    # (it may be clear without the others, as where it calls one of them)
+                    (alone,) = batches_of([it], trial.controls)
+                    self._put_batch(trial, alone, is_last=True)
+
+        self.lanes.put(len(batch.edits), lambda: trial.try_batch(batch), then)
+
+    def _put_alone(self, trial, edit):
+        self.lanes.put(10, lambda: trial.try_alone(edit), self._end)
+
+    def _end(self, result):
+        self.results.append(result)
+        how = "alone: " if result.is_alone else ""
+        took = f" ({how}{result.seconds:.0f} s)" if result.seconds else ""
+        print(f"{result.edit.label}: {result.outcome.value}{took}: {result.why}", flush=True)
+
+    def write_record(self):
+        digests = {it.edit.label: self.digests.of_edit(it.edit) for it in self.refused()}
+        tried = {it.edit.label: digests.get(it.edit.label) for it in self.results}
+        of_others = {it for it in self.record.rows if it.split("/")[0] in self._not_asked()}
+        self.record.write(tried, self.labels | of_others)
+
+    def _not_asked(self):
+        return {*self.repository.crates} - {*self.names}
+
+    def refused(self):
+        return [it for it in self.results if it.outcome is Outcome.REFUSED]
+
+    def sum_up(self):
+        """Says what came of the edits, and gives how many passed and how many failed."""
+        refused = len(self.refused())
+        failed = [it for it in self.results if it.outcome is not Outcome.REFUSED]
+        for it in failed:
+            print(f"FAILED: {it.edit.label}: {it.outcome.value}: {it.why}")
+        alone = sum(it.is_alone for it in self.results)
+        print(
+            f"edits: {refused} of {len(self.results)} tried were refused, {alone} of them tried"
+            f" alone; {len(self.known)} stand on the record as refused"
+        )
+        return refused + len(self.known), len(failed)

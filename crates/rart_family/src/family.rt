@@ -163,9 +163,7 @@ impl<K: KeyTrait, V: Clone + Drop> Family<K, V> {
     {
         match command {
             Command::New => self.place(VersionedAdaptiveRadixTree::new(self.alloc)),
-            Command::NewAt { number } => self.place(VersionedAdaptiveRadixTree::new_at(
-                self.alloc, *number,
-            )),
+            Command::NewAt { number } => self.new_at(*number),
             Command::Snapshot { place } => self.snapshot(*place),
             Command::Duplicate { place } => self.duplicate(*place),
             Command::Discard { place } => Ok(self.discard(*place)),

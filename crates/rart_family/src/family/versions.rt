@@ -2,13 +2,19 @@
 ghost use Rattle.std.specs.Prelude.{◌≡◌};
 ghost use Rattle.rart_family.specs.Attempts.{Tries, Gives};
 ghost use Rattle.rart_family.specs.Families.{outcome};
-ghost use Rattle.rart_family.specs.declared.family.command.Command.TheVariants.{Snapshot, Duplicate, Discard};
+ghost use Rattle.rart_family.specs.declared.family.command.Command.TheVariants.{NewAt, Snapshot, Duplicate, Discard};
 
 use super::{Family, Reply};
-use rart_versioned::KeyTrait;
+use rart_versioned::{KeyTrait, VersionedAdaptiveRadixTree};
 use std::alloc::AllocError;
 
 impl<K: KeyTrait, V: Clone + Drop> Family<K, V> {
+    pub(super) fn new_at(&mut self, number: u64) -> Result<Reply<K, V>, AllocError>
+        ensures { Tries K.bytes self.old (NewAt number) result self.new }
+    {
+        self.place(VersionedAdaptiveRadixTree::new_at(self.alloc, number))
+    }
+
     pub(super) fn snapshot(&mut self, place: usize) -> Result<Reply<K, V>, AllocError>
         ensures { Tries K.bytes self.old (Snapshot place) result self.new }
     {

@@ -238,6 +238,9 @@ fn assert_parts_are_joined<P: Partial>(
     let first = part_before(rt, alloc, prefix, 1)?;
     let rest = part_after(rt, alloc, prefix, 1)?;
     let none = part_before(rt, alloc, prefix, 0)?;
+    assert_eq!(rt; first.len(), 1);
+    assert_eq!(rt; rest.len(), 3);
+    assert_eq!(rt; none.len(), 0);
     assert_joined(rt, alloc, &first, &rest, b"wxyz")?;
     assert_joined(rt, alloc, &rest, &first, b"xyzw")?;
     assert_joined(rt, alloc, &first, &first, b"ww")?;

@@ -153,7 +153,8 @@ def own_reason(crate, name, why):
     """Why a function is not proved, where that is a goal of its own and not only that what it calls
     is not proved; else None. `why` is what the prover said of it."""
     path = name.replace("::", ".")
-    for part in why.strip(" :;").split("; "):
+    parts = why.strip(" :;").split("; ")
+    for part in (it for it in parts if not it.startswith("it calls `")):
         places = [it[2] for it in STANDS_ON.finditer(part) if it[1] == crate.name]
         is_own = any(it.startswith(f"{path}.") for it in places)
         if OWN_GOAL.search(part) or is_own and "which antt refuses" in part:

@@ -59,7 +59,8 @@ class Digests:
 
 def _judges():
     here = os.path.dirname(os.path.realpath(__file__))
-    return [f"{here}/{it}.py" for it in ("edit", "prover", "repository", "source", "trial")]
+    names = ("edit", "prover", "record", "repository", "run", "source", "trial")
+    return [f"{here}/{it}.py" for it in names]
 
 
 def _read(file):

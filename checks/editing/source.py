@@ -7,6 +7,8 @@ import re
 import subprocess
 import tempfile
 
+from .prover import toolchain
+
 # A token: where it begins and ends in the file, in bytes, and its kind and text.
 Token = collections.namedtuple("Token", "start end kind text")
 # Items that are seen outside of the body that they stand in.
@@ -51,7 +53,8 @@ def tokens_of(texts):
 def _told_tokens(files):
     if not files:
         return []
-    ran = subprocess.run(["rattle", "fmt", "--tokens", *files], capture_output=True)
+    words = [f"{toolchain()[0]}/bin/rattle", "fmt", "--tokens", *files]
+    ran = subprocess.run(words, capture_output=True)
     if ran.returncode:
         return None
     found = []

@@ -89,25 +89,35 @@ class CrateTrial:
         self.repository, self.built, self.crate, self.log = repository, built, crate, log
         self.known = functions_of(built, crate.name)
         self.before = sources_of(crate)
+        self.recursive = self._recursive()
         self.controls = self._controls()
         self.command = words(repository, built, crate)
         self.checks, self.lock = 0, threading.Lock()
 
-    def _controls(self):
-        """The functions of the crate that have a body and no proof by hand, those with the shortest
-        bodies first."""
+    def _named(self):
+        """The functions of the crate that have a body and a name, outside of its tests."""
         known = None if self.crate.is_program else self.known
-        found = []
         for file, source in self.before.items():
             if source is None or "tests" in module_of(file):
                 continue
             for place, function in source.functions.items():
                 name = name_of(file, place, function, known)
-                if not name or not function.body or function.is_shared:
-                    continue
-                proof = f"{self.crate.folder}/proofs/{name.replace('::', '/')}/Proof.antt"
-                if not os.path.isfile(proof):
-                    found.append((len(function.body), name))
+                if name and function.body:
+                    yield name, function
+
+    def _recursive(self):
+        """The functions that call themselves: the prover keeps a proof of theirs elsewhere, so that
+        none can stand in for it."""
+        return {name for name, function in self._named() if _calls_itself(function)}
+
+    def _controls(self):
+        """The functions that may go with a batch as they stand, those with the shortest bodies
+        first: of those that have no proof by hand."""
+        found = []
+        for name, function in self._named():
+            proof = f"{self.crate.folder}/proofs/{name.replace('::', '/')}/Proof.antt"
+            if not function.is_shared and name not in self.recursive and not os.path.isfile(proof):
+                found.append((len(function.body), name))
         return [name for _, name in sorted(found)]
 
     def check(self, room, *flags):
@@ -170,7 +180,7 @@ class CrateTrial:
 
     def judge(self, batch, said, places, texts):
         verdicts = said.verdicts(self.crate)
-        if batch.control and not _is_well(verdicts.get(batch.control)):
+        if not _is_well(verdicts.get(batch.control)):
             return [], batch.edits
         lines = [it for it in said.lines if _is_unread(it, texts)]
         unread = [it for line in lines for it in _edits_at(line, places) or batch.edits]
@@ -208,7 +218,7 @@ class CrateTrial:
     def _has_proof(self, name):
         """Whether a file can stand in for the proof of a function: not of a closure, which is proved
         with the function that it stands in, nor of what drops a value of the repository's types."""
-        if "::fn::" in name or not name.rpartition("::")[2].islower():
+        if "::fn::" in name or not name.rpartition("::")[2].islower() or name in self.recursive:
             return False
         owner = name.split("++")[0]
         return "++" not in name or owner not in {"Destruct", *self.repository.crates}
@@ -228,20 +238,37 @@ class CrateTrial:
 
     def _refused_at(self, edit, hints):
         """Why the edit is refused, as a check of these functions tells, if it does."""
+        control = next((it for it in self.controls if it not in hints), None)
+        asked = [*hints, *filter(None, [control])]
         with Room(self.crate) as room:
             for path, text in edit.texts.items():
                 room.write(path, text)
-            room.dig(it for it in self.known if it not in hints and self._has_proof(it))
-            only = [word for it in hints for word in ("--only", it)]
+            room.dig(it for it in self.known if it not in asked and self._has_proof(it))
+            only = [word for it in asked for word in ("--only", it)]
             said = self.check(room, *only, "--allow-holes")
-        if not said.came_to_its_end or any(_is_unread(it, edit.texts) for it in said.lines):
+        verdicts = said.verdicts(self.crate)
+        if not said.came_to_its_end or not _is_well(verdicts.get(control)):
+            return None, said.taken
+        if any(_is_unread(it, edit.texts) for it in said.lines):
             return None, said.taken
         # (what an impl or a spec states of itself is proved where it stands)
         stated = (it.removeprefix("./") for it in said.lines if ": error: `" in it)
-        stated = next((it for it in stated if it.startswith(("src/", "specs/"))), None)
+        stated = next((it for it in stated if it.startswith(tuple(edit.texts))), None)
         edit = dataclasses.replace(edit, names=hints)
-        why = self._refusal(edit, said.verdicts(self.crate), said)
-        return why or stated and stated[:160], said.taken
+        return self._refusal(edit, verdicts, said) or stated and stated[:160], said.taken
+
+    def _unproved(self, said):
+        """What a check of the whole crate tells of a goal that is not proved: the first error that
+        says more than that a name is gone, or what is said of a function."""
+        told = [it for it in said.lines if ": error" in it]
+        first = next((it for it in told if not NAMES.search(it)), None)
+        if first:
+            return first[:160]
+        for name, (_, why) in said.verdicts(self.crate).items():
+            reason = own_reason(self.crate, name, why)
+            if reason:
+                return f"{name}: {reason[:160]}"
+        return told[0][:160] if told else None
 
     def _alone(self, edit, said):
         def result(outcome, why):
@@ -252,15 +279,22 @@ class CrateTrial:
             return result(Outcome.BAD, f"the prover cannot read the edited text: {unread[:160]}")
         if said.status == 0:
             return result(Outcome.KEPT, "the crate is still proved with this edit")
-        told = [it for it in said.lines if ": error" in it or it.startswith("note: ")]
         if said.status == 1 and said.lines[-1].startswith("logic=not-proved"):
-            first = next((it for it in told if not NAMES.search(it)), told[0] if told else "")
-            return result(Outcome.REFUSED, first[:160])
+            why = self._unproved(said)
+            return result(Outcome.REFUSED if why else Outcome.UNTRIED, why or "it says no reason")
         if said.status == 1 and any("error[" in it for it in said.lines):
             first = next(it for it in said.lines if "error[" in it)
             return result(Outcome.BAD, f"it did not reach the prover: {first[:160]}")
         how = "was killed" if was_killed(said) else f"ended with status {said.status}"
         return result(Outcome.UNTRIED, f"its check {how}: {said.lines[-1][:160]}")
+
+
+def _calls_itself(function):
+    body = [text for kind, text in function.body if kind == "Code"]
+    before = ("self.", "Self::") if function.owner else ("",)
+    found = (at for at, it in enumerate(body[:-1]) if it == function.name and body[at + 1] == "(")
+    called = ("".join(body[max(at - 2, 0) : at]) for at in found)
+    return any(it in before if function.owner else not it.endswith((".", ":")) for it in called)
 
 
 def _is_well(verdict):

@@ -268,6 +268,7 @@ class CrateTrial:
             reason = own_reason(self.crate, name, why)
             if reason:
                 return f"{name}: {reason[:160]}"
+        told += [it for it in said.lines if it.startswith("note: ")]
         return told[0][:160] if told else None
 
     def _alone(self, edit, said):

@@ -2,6 +2,7 @@
 import collections
 import os
 import re
+import tempfile
 import threading
 import time
 
@@ -91,7 +92,7 @@ def _what(process):
     if "--crate-name" not in words or not re.search(r"(^|/)rattle$", words[0]):
         return None
     crate = words[words.index("--crate-name") + 1]
-    if re.match(r"/tmp/edits-\w+$", folder):
+    if re.fullmatch(rf"{re.escape(tempfile.gettempdir())}/edits-\w+", folder):
         return crate, "edits"
     if "/edits-built-" not in folder:
         return None

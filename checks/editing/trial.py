@@ -26,6 +26,10 @@ NAMES = re.compile(r"has no field|is not in scope|has no `|was not admitted")
 UNREAD = re.compile(
     r"is not in scope|has no field|is no name|operand is missing|expected the end|cannot continue"
 )
+# How it notes, at a line of a function's body, what it did not prove there.
+NOTED = re.compile(r"note: (?:\./)?src/\S+: it is not proved that ")
+# The place in a file that the prover speaks of.
+PLACE = re.compile(r"(?:note: )?(?:\./)?(\S+?\.(?:rt|antt)):(\d+):\d+: ")
 HINT = re.compile(r"(?m)^# refused at: (\S+)$")
 
 
@@ -115,9 +119,9 @@ class CrateTrial:
         first: of those that have no proof by hand."""
         found = []
         for name, function in self._named():
-            proof = f"{self.crate.folder}/proofs/{name.replace('::', '/')}/Proof.antt"
-            if not function.is_shared and name not in self.recursive and not os.path.isfile(proof):
-                found.append((len(function.body), name))
+            if function.is_shared or name in self.recursive or self._has_proof_by_hand(name):
+                continue
+            found.append((len(function.body), name))
         return [name for _, name in sorted(found)]
 
     def check(self, room, *flags):
@@ -186,7 +190,8 @@ class CrateTrial:
         unread = [it for line in lines for it in _edits_at(line, places) or batch.edits]
         results, unclear = [], []
         for edit in batch.edits:
-            why = None if edit in unread else self._refusal(edit, verdicts, said)
+            noted = [it for it in said.lines if NOTED.match(it) and edit in _edits_at(it, places)]
+            why = None if edit in unread else self._refusal(edit, verdicts, said, noted)
             if why is None:
                 unclear.append(edit)
             else:
@@ -195,15 +200,25 @@ class CrateTrial:
                 results.append(Result(edit, Outcome.REFUSED, why, seconds))
         return results, unclear
 
-    def _refusal(self, edit, verdicts, said):
-        """Why a function that the edit changes is not proved, by a goal of its own; else None."""
+    def _refusal(self, edit, verdicts, said, noted=()):
+        """Why a function that the edit changes is not proved, by a goal of its own; else None.
+        `noted` are the prover's notes on what is not proved at the lines of the edit."""
         for name in _with_closures(edit.names, verdicts):
             kind, why = verdicts[name]
-            is_refused = kind in ("not proved", "no proof")
-            reason = own_reason(self.crate, name, why) if is_refused else None
+            if kind not in ("not proved", "no proof"):
+                continue
+            told, reason = self._told(name, said), own_reason(self.crate, name, why)
             if reason:
-                return self._told(name, said) or f"{name}: {reason[:160]}"
+                return told or f"{name}: {reason[:160]}"
+            if told and not told.startswith("(") and not why.strip(" :;"):
+                # (nothing that it calls is to blame)
+                return told
+            if noted and not self._has_proof_by_hand(name):
+                return noted[0].removeprefix("note: ")[:160]
         return None
+
+    def _has_proof_by_hand(self, name):
+        return os.path.isfile(f"{self.crate.folder}/proofs/{name.replace('::', '/')}/Proof.antt")
 
     def _told(self, name, said):
         """The first error of the function's proof that says more than that a name is gone."""
@@ -249,7 +264,7 @@ class CrateTrial:
         verdicts = said.verdicts(self.crate)
         if not said.came_to_its_end or not _is_well(verdicts.get(control)):
             return None, said.taken
-        if any(_is_unread(it, edit.texts) for it in said.lines):
+        if any(self._is_bad(it, edit) for it in said.lines):
             return None, said.taken
         # (what an impl or a spec states of itself is proved where it stands)
         stated = (it.removeprefix("./") for it in said.lines if ": error: `" in it)
@@ -271,11 +286,21 @@ class CrateTrial:
         told += [it for it in said.lines if it.startswith("note: ")]
         return told[0][:160] if told else None
 
+    def _is_bad(self, line, edit):
+        """Whether the prover tells that it cannot read what the edit writes, or that a definition in
+        it has no meaning."""
+        it = PLACE.match(line)
+        if it and it[1].startswith("specs/") and it[1] in edit.texts and ": error" in line:
+            old, new = self.crate.text(it[1]).decode().splitlines(), edit.texts[it[1]].splitlines()
+            if new[int(it[2]) - 1] not in old:
+                return True
+        return _is_unread(line, edit.texts)
+
     def _alone(self, edit, said):
         def result(outcome, why):
             return Result(edit, outcome, why, said.taken, True)
 
-        unread = next((it for it in said.lines if _is_unread(it, edit.texts)), None)
+        unread = next((it for it in said.lines if self._is_bad(it, edit)), None)
         if unread and said.status == 1:
             return result(Outcome.BAD, f"the prover cannot read the edited text: {unread[:160]}")
         if said.status == 0:
@@ -316,7 +341,7 @@ def _with_closures(names, told):
 
 def _edits_at(line, places):
     """The edits where a line of the check is about."""
-    it = re.match(r"(?:note: )?(?:\./)?(\S+?\.(?:rt|antt)):(\d+):\d+: ", line)
+    it = PLACE.match(line)
     if not it:
         return []
     line = int(it[2])
@@ -330,4 +355,6 @@ def _is_unread(line, texts):
     if not it or it[1] not in texts and not it[1].startswith(("src/", "specs/")):
         return False
     said = re.sub(r"`[^`]*`", "", it[3])
-    return not it[2] or bool(UNREAD.search(said))
+    # (a clause is a statement, and is proved elsewhere)
+    is_clause = it[2] and it[2].startswith(("`ensures", "`requires"))
+    return not it[2] or bool(is_clause or UNREAD.search(said))

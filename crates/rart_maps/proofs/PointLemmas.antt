@@ -1,5 +1,5 @@
 -- Where strings part, what the points of a map are, and how many there are.
-use Rattle.std.proofs.Common.{◌≡◌, ◌≢◌, ◌↔◌, ◌⊎◌, ◌<◌, ◌≤◌, ◌+◌, ◌*◌, ◌&&◌, ℕ, Bool, true, false, cond, List, [], ◌∷◌, ◌++◌, map, length, length-append, refl, sym, ap, subst, ◌∙◌, ⊎_elim, inl, inr, arith, Option, Some, None}
+use Rattle.std.proofs.Common.{◌≡◌, ◌≢◌, ◌↔◌, ◌⊎◌, ◌≤◌, ◌+◌, ◌*◌, ◌&&◌, ℕ, Bool, true, false, cond, List, [], ◌∷◌, ◌++◌, map, length, length-append, refl, sym, ap, subst, ◌∙◌, ⊎_elim, inl, inr, arith, Option, Some, None}
 use Rattle.std.specs.Prelude.{◌==◌, Contains}
 use Rattle.std.specs.List.{filter_map, flat_map, cons_option}
 use Rattle.std.specs.Option.{option_map, is_some, unwrap_or}
@@ -15,13 +15,13 @@ use Rattle.rart_below.specs.Bytes.{byte_order, begins}
 use Rattle.rart_maps.specs.FoundLaws.{KeysAscend}
 use Rattle.rart_maps.specs.Order.{IsBefore, IsAtMost}
 use Rattle.rart_maps.specs.Pairs.{Strings, pairs, under, starts}
-use Rattle.rart_maps.specs.PointLaws.{IsParting, PointsAreKeysAndPartings, KeysArePoints, PointsAreFew, PointsUnderAreFew}
+use Rattle.rart_maps.specs.PointLaws.{PointsAreKeysAndPartings, KeysArePoints, PointsAreFew, PointsUnderAreFew}
 use Rattle.rart_maps.specs.Points.{parting, partings, points}
-use Rattle.rart_maps.specs.StartLaws.{how_many_under, with_byte}
+use Rattle.rart_maps.specs.StartLaws.{with_byte}
 use Rattle.rart_maps.specs.Versions.{Map}
 use Rattle.rart_maps.proofs.ElementLemmas.{Contains-nil, Contains-here, Contains-later, Contains-cases, Contains-map, AllPairs-first, AllPairs-rest, Contains-filter, Contains-filter_map, list_any-is, tied}
 use Rattle.rart_maps.proofs.FoundLemmas.{Contains-pairs, pairs_ascend_by_key, under_ascends}
-use Rattle.rart_maps.proofs.OrderLemmas.{IsBefore-itself, byte_order-IsAntisymmetric, begins-append, begins-rest}
+use Rattle.rart_maps.proofs.OrderLemmas.{IsBefore-itself, byte_order-IsAntisymmetric, begins-rest}
 use Rattle.rart_maps.proofs.PairLawLemmas.{begins-shorter}
 use Rattle.rart_maps.proofs.SetLemmas.{few-listed}
 use Rattle.rart_maps.proofs.StartLemmas.{starts_begin_keys, contains-strings_under}

@@ -9,7 +9,7 @@ use Rattle.std.proofs.lemmas.Map.Views.{tells_apart}
 use Rattle.rart_below.specs.Bytes.{byte_order}
 use Rattle.rart_maps.specs.Versions.{Version, value_at, with_key, without_key}
 
-same_key : (q w : List ℕ) → eq_by_cmp byte_order q w ≡ true → q ≡ w
+pub same_key : (q w : List ℕ) → eq_by_cmp byte_order q w ≡ true → q ≡ w
 same_key = tells_apart (finite.slice_cmp-IsAntisymmetric finite.nat_cmp-IsAntisymmetric)
 
 -- what a choice by equal keys is where they are not

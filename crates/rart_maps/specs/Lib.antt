@@ -3,6 +3,7 @@ pub mod Changes
 pub mod FoundLaws
 pub mod IterationLaws
 pub mod Iterations
+pub mod LookupLaws
 pub mod Lookups
 pub mod Order
 pub mod PairLaws

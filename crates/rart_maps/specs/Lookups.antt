@@ -1,16 +1,22 @@
--- What look-ups answer after a change at one key.
+-- A map with one key set, and what look-ups answer after a change at one key.
 use Rattle.std.specs.Prelude.{◌≡◌, ◌≢◌, List, ℕ, Option, Some, None}
+use Rattle.std.specs.FinMap as finite
 use Rattle.rart_below.specs.declared.slot.Slot.{Slot}
 use Rattle.rart_below.specs.declared.slot.Slot.TheVariants.{Vacant, Occupied}
 use Rattle.rart_below.specs.declared.slot.SlotUpdate.{SlotUpdate}
 use Rattle.rart_below.specs.declared.slot.SlotUpdate.TheVariants.{Keep, Insert, Remove}
 use Rattle.rart_maps.specs.Changes.{left_behind}
-use Rattle.rart_maps.specs.Versions.{Version, value_at}
+use Rattle.rart_maps.specs.Versions.{Map, Version, value_at}
 
 module _ {V : Type 0} where
   -- no key has a value
   abbrev pub LacksAll : Version V → Type 0
   LacksAll v = (q : List ℕ) → value_at v q ≡ None
+
+  -- the map with this value at the key, or without the key
+  abbrev pub with_value : Map V → List ℕ → Option V → Map V
+  with_value m w (Some x) = finite.insert m w x
+  with_value m w None = finite.remove m w
 
   -- Afterwards the key has this value, or none, and every other key has what it had.
   abbrev pub Sets : Version V → Version V → List ℕ → Option V → Type 0

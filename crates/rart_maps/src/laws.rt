@@ -2,6 +2,7 @@
 //! function that does nothing.
 
 pub mod iterations;
+pub mod lookups;
 pub mod pairs;
 pub mod points;
 pub mod starts;

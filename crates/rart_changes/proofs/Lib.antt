@@ -1,0 +1,4 @@
+pub mod ChangeLemmas
+pub mod ChangeLawLemmas
+pub mod MergeLemmas
+pub mod WorkedChangeLemmas

@@ -1,0 +1,25 @@
+-- The worked values of changes and conflicts, by computation.
+use Rattle.std.proofs.Common.{refl, ap, ◌∙◌}
+use Rattle.std.specs.Prelude.{codes}
+use Rattle.std.specs.FinMap as finite
+use Rattle.rart_maps.proofs.MapLemmas.{maps}
+use Rattle.rart_changes.specs.ChangeLists.{patched}
+use Rattle.rart_changes.specs.WorkedChanges.{other, ChangesOfFour, PatchOfAnother, ConflictOfOne}
+
+pub changes_of_four : ChangesOfFour
+changes_of_four = simp maps refl
+
+pub patch_of_another : PatchOfAnother
+patch_of_another = (
+  ap (λ cs. finite.get (patched other cs) (codes "a")) changes_of_four
+      ∙ simp (maps, finite.get-remove) refl,
+  ap (λ cs. finite.get (patched other cs) (codes "b")) changes_of_four
+      ∙ simp (maps, finite.get-remove) refl,
+  ap (λ cs. finite.get (patched other cs) (codes "bc")) changes_of_four
+      ∙ simp maps refl,
+  ap (λ cs. finite.get (patched other cs) (codes "c")) changes_of_four
+      ∙ simp maps refl,
+)
+
+pub conflict_of_one : ConflictOfOne
+conflict_of_one = simp maps refl

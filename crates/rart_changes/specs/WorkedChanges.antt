@@ -1,0 +1,33 @@
+-- Worked values of changes and conflicts, found by hand.
+use Rattle.std.specs.Prelude.{◌≡◌, ◌==◌, ℕ, [], ◌∷◌, Some, None, codes}
+use Rattle.std.specs.FinMap as finite
+use Rattle.rart_maps.specs.Versions.{Map}
+use Rattle.rart_changes.specs.ChangeLists.{patched, changes}
+use Rattle.rart_changes.specs.Merges.{conflicts}
+
+abbrev pub before : Map ℕ
+before = finite.from_entries ((codes "a", 1) ∷ (codes "b", 2) ∷ (codes "bc", 3) ∷ [])
+
+abbrev pub after : Map ℕ
+after = finite.from_entries ((codes "b", 2) ∷ (codes "bc", 4) ∷ (codes "c", 5) ∷ [])
+
+abbrev pub other : Map ℕ
+other = finite.from_entries ((codes "a", 1) ∷ (codes "b", 6) ∷ (codes "bc", 7) ∷ [])
+
+-- One key goes, one stays, one has another value, one comes.
+abbrev pub ChangesOfFour : Type 0
+ChangesOfFour = changes (λ x y. x == y) before after
+    ≡ (codes "a", Some 1, None) ∷ (codes "bc", Some 3, Some 4) ∷ (codes "c", None, Some 5) ∷ []
+
+-- Made on another map: what it alone changed stays.
+abbrev pub patch : Map ℕ
+patch = patched other (changes (λ x y. x == y) before after)
+
+abbrev pub PatchOfAnother : Type 0
+PatchOfAnother = (finite.get patch (codes "a") ≡ None) × (finite.get patch (codes "b") ≡ Some 6)
+    × (finite.get patch (codes "bc") ≡ Some 4) × (finite.get patch (codes "c") ≡ Some 5)
+
+-- Both changed "bc", and not to the same.
+abbrev pub ConflictOfOne : Type 0
+ConflictOfOne = conflicts (λ x y. x == y) before after other
+    ≡ (codes "bc", Some 3, Some 4, Some 7) ∷ []

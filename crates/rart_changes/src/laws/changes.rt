@@ -1,0 +1,26 @@
+//! What the changes from one map to another are, and what they make of a map.
+ghost use Rattle.rart_changes.specs.ChangeLaws.{ChangesAscend, ChangesAreFound, NothingChanges};
+ghost use Rattle.rart_changes.specs.ChangeLaws.{ChangesReverse, NoChangeIsTheSame};
+ghost use Rattle.rart_changes.specs.ChangeLaws.{PatchesSetWhatChanged, PatchesGiveTheNew};
+
+/// The changes ascend strictly by key, and a change stands among them exactly where it should. So no
+/// other list is theirs.
+pub fn changes_are_found<V: Eq>()
+    ensures ascend { ChangesAscend V.eq }
+    ensures found { ChangesAreFound V.eq }
+{}
+
+/// From a map to itself nothing changes, and where nothing changes the maps are the same. The
+/// changes the other way are the same ones, each reversed.
+pub fn changes_reverse<V: Eq>()
+    ensures nothing { NothingChanges V.eq }
+    ensures same { NoChangeIsTheSame V.eq }
+    ensures reversed { ChangesReverse V.eq }
+{}
+
+/// Made on any map, the changes give each key that changed what is new there, and leave the others.
+/// Made on the old map, they give the new one.
+pub fn patches_set_what_changed<V: Eq>()
+    ensures any { PatchesSetWhatChanged V.eq }
+    ensures old { PatchesGiveTheNew V.eq }
+{}

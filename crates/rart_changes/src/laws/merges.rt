@@ -1,0 +1,17 @@
+//! Where two sides that began with one map are in conflict, and what a merge of them is.
+ghost use Rattle.rart_changes.specs.MergeLaws.{ConflictsAscend, ConflictsAreFound};
+ghost use Rattle.rart_changes.specs.MergeLaws.{MergesAreByKey, SidesAgree};
+
+/// The conflicts ascend strictly by key, and stand exactly where both sides changed a key, and not
+/// to the same.
+pub fn conflicts_are_found<V: Eq>()
+    ensures ascend { ConflictsAscend V.eq }
+    ensures found { ConflictsAreFound V.eq }
+{}
+
+/// A merge has at a key the answer where there is a conflict, else what the side that changed it has
+/// there, and else what the base has. Without a conflict it is the same from both sides.
+pub fn merges_are_by_key<V: Eq>()
+    ensures by_key { MergesAreByKey V.eq }
+    ensures agree { SidesAgree V.eq }
+{}

@@ -1,9 +1,10 @@
 -- The number whose bits mark the slots in use.
-use Rattle.std.proofs.Common.{◌≡◌, ◌<◌, ◌≤◌, ◌≢◌, inl, inr, ℕ, zero, suc, length, ◌+◌, ◌*◌, ◌/◌, ◌%◌, ◌^◌, w64, List, [], ◌∷◌, refl, ap, sym, ◌∙◌, subst, arith, get_or, get_or-set_same, get_or-set_other, set, Option, None, Some}
+use Rattle.std.proofs.Common.{◌≡◌, ◌<◌, ◌≤◌, ◌≢◌, inl, inr, ℕ, zero, suc, length, length-drop, drop, ◌+◌, ◌-◌, ◌*◌, ◌/◌, ◌%◌, ◌^◌, w64, List, [], ◌∷◌, refl, ap, sym, ◌∙◌, subst, arith, get_or, get_or-set_same, get_or-set_other, set, Option, None, Some}
 use Rattle.std.specs.Int.{bit_at, bit_not, trailing_ones}
 use Rattle.std.specs.Prelude.{bit_and, bit_or, count_ones}
 use Rattle.std.specs.Int.Count.{ones_step}
 use Rattle.std.proofs.Math.Nat.{pow-succ'}
+use Rattle.std.proofs.Math.Pow.{pow_mono}
 use Rattle.std.proofs.lemmas.Bool.{cases_eq, cases_lt}
 use Rattle.std.proofs.lemmas.List.{get_or_past}
 use Rattle.std.proofs.lemmas.Nat.{ones_le_self}
@@ -15,7 +16,7 @@ module _ {C : Type 0} where
   one_if_some-bound None = omega arith
   one_if_some-bound (Some child) = omega arith
 
-  bit_at-marks : (slots : List (Option C)) (place : ℕ)
+  pub bit_at-marks : (slots : List (Option C)) (place : ℕ)
       → bit_at (marks_of slots) place ≡ one_if_some (get_or slots place None)
   bit_at-marks [] place = bit_at-zero place
   bit_at-marks (slot ∷ slots) zero = bit_at_lowest (one_if_some slot + 2 * marks_of slots)
@@ -25,7 +26,7 @@ module _ {C : Type 0} where
       omega (arith, one_if_some-bound slot) in
       bit_at-suc (one_if_some slot + 2 * marks_of slots) place ∙ rw half (bit_at-marks slots place)
 
-  marks-lt : (slots : List (Option C)) → marks_of slots < 2 ^ length slots
+  pub marks-lt : (slots : List (Option C)) → marks_of slots < 2 ^ length slots
   marks-lt [] = omega arith
   marks-lt (slot ∷ slots) =
       rw (pow-succ' 2 (length slots)) (omega (arith, marks-lt slots, one_if_some-bound slot))
@@ -149,3 +150,43 @@ module _ {C : Type 0} where
       empty : (slot : Option C) → one_if_some slot ≡ 0 → slot ≡ None
       empty None e = refl
       empty (Some child) e = absurd (omega (arith, e))
+
+  -- the slots from a place on, and the one before them
+  pub marks-before : (place : ℕ) (slots : List (Option C)) → place < length slots
+      → marks_of (drop place slots)
+      ≡ one_if_some (get_or slots place None) + 2 * marks_of (drop (suc place) slots)
+  marks-before place [] lt = absurd (omega (arith, lt))
+  marks-before zero (slot ∷ slots) lt = refl
+  marks-before (suc place) (slot ∷ slots) lt = marks-before place slots (omega (arith, lt))
+
+  -- what the next slot before them makes of the number of those from a place on
+  pub marks-back : (back bits next : ℕ) (slots : List (Option C)) → length slots ≡ 64 → 1 ≤ back
+      → back < 65 → bits ≡ marks_of (drop (65 - back) slots)
+      → next ≡ one_if_some (get_or slots (64 - back) None)
+      → (bits * 2 + next < 2 ^ 64)
+      × (bits * 2 + next ≡ marks_of (drop (65 - (back + 1)) slots))
+  marks-back back bits next slots wide some within is at =
+      let rest = drop (65 - back) slots in
+      let long : length rest ≤ 63 =
+      omega (arith, wide, some, within, length-drop (65 - back) slots) in
+      let small : 2 ^ length rest ≤ 2 ^ 63 = pow_mono long in
+      let lt = marks-lt rest in
+      let bound = one_if_some-bound (get_or slots (64 - back) None) in
+      let same : suc (64 - back) ≡ 65 - back = omega (arith, within) in
+      let after : 64 - back ≡ 65 - (back + 1) = omega arith in
+      let before = marks-before (64 - back) slots (omega (arith, wide, some)) in
+      let later = ap (λ (n : ℕ). marks_of (drop n slots)) same in
+      let whole = ap (λ (n : ℕ). marks_of (drop n slots)) after in (
+        omega (arith, is, at, lt, small, bound),
+        omega (arith, is, at, before, later, whole),
+      )
+
+  pub marks-few : (back bits : ℕ) (slots : List (Option C)) → length slots ≡ 64 → 1 ≤ back
+      → back < 65 → bits ≡ marks_of (drop (65 - back) slots) → bits < 2 ^ 63
+  marks-few back bits slots wide some within is =
+      let rest = drop (65 - back) slots in
+      let long : length rest ≤ 63 =
+      omega (arith, wide, some, within, length-drop (65 - back) slots) in
+      let small : 2 ^ length rest ≤ 2 ^ 63 = pow_mono long in
+      let lt = marks-lt rest in
+      omega (arith, is, lt, small)

@@ -6,10 +6,11 @@ use Rattle.std.specs.Ordering.{nat_cmp}
 use Rattle.std.specs.FinMap.Entries.{is_sorted}
 use Rattle.std.proofs.lemmas.Bool.{and_parts, and_from, leb-true, le-leb}
 use Rattle.std.proofs.lemmas.List.{get_or_default}
-use Rattle.rart_below.specs.Children.{child_at, with_child, without_child, children_from, first_of, IsAscending}
+use Rattle.rart_below.specs.Children.{child_at, with_child, without_child, children_from, first_of, IsAscending, TakesFirst}
 use Rattle.rart_below.specs.Layouts.{rank, keyed_children, is_filled, IsPlaceOf, IsAbsent}
 use Rattle.rart_below.specs.Laws.{length-keyed_children}
 use Rattle.rart_below.proofs.AscendingLemmas.{ascending-with_child, ascending-where_key, without_child-absent}
+use Rattle.rart_below.proofs.ChildrenFromLemmas.{takes_first}
 use Rattle.rart_below.proofs.KeyedChildrenLemmas.{slots_enough, rank-small, child_at-rank, child_at-no_rank, keyed-insert, keyed-set, keyed-remove, children_from-rank, children_from-past, held_beside}
 
 module _ {C : Type 0} where
@@ -126,6 +127,18 @@ module _ {C : Type 0} where
       → None ≡ first_of (children_from from (keyed_children keys slots))
   next_none width from keys slots place kept e le =
       sym (children_from-past from keys slots kept.filled (subst (λ (i : ℕ). length keys ≤ i) e le))
+
+  -- what stands at the rank of a number is the first child from there on
+  pub next_taken : (width from : ℕ) (keys : List ℕ) (slots : List (Option C)) (place : ℕ)
+      (o other : Option C) → IsKept width keys slots → place ≡ rank from keys
+      → place < length keys → o ≡ get_or slots place other
+      → TakesFirst (children_from from (keyed_children keys slots)) o
+      (children_from (get_or keys place 0 + 1) (keyed_children keys slots))
+  next_taken width from keys slots place None other kept e lt is =
+      absurd (never_empty width keys slots place other kept lt (sym is))
+  next_taken width from keys slots place (Some child) other kept e lt is =
+      takes_first from (get_or keys place 0) child (keyed_children keys slots) kept.ascending
+      (next_found width from keys slots place other child kept e lt (sym is))
 
   -- ---- the lists after each change
   pub added : (width byte : ℕ) (child : C) (keys keys' : List ℕ) (slots slots' : List (Option C))

@@ -1,5 +1,5 @@
 -- Children: a list of things, each under its byte. A mapping or a node shows one.
-use Rattle.std.specs.Prelude.{ℕ, List, [], ◌∷◌, Option, Some, None, IsTrue, not, ◌==◌, nat_le, map}
+use Rattle.std.specs.Prelude.{◌≡◌, ℕ, List, [], ◌∷◌, Option, Some, None, IsTrue, not, ◌==◌, nat_le, map}
 use Rattle.std.specs.Ordering.{nat_cmp}
 use Rattle.std.specs.FinMap.Entries.{find, put, where_key, is_sorted}
 
@@ -23,6 +23,11 @@ module _ {C : Type 0} where
   abbrev pub first_of : List (ℕ × C) → Option (ℕ × C)
   first_of [] = None
   first_of (child ∷ children) = Some child
+
+  -- The first child was taken, and the others are left, or there was none.
+  abbrev pub TakesFirst : List (ℕ × C) → Option C → List (ℕ × C) → Type 0
+  TakesFirst before None after = (before ≡ []) × (after ≡ [])
+  TakesFirst before (Some child) after = (byte : ℕ) × (before ≡ (byte, child) ∷ after)
 
   -- The bytes strictly rise.
   abbrev pub IsAscending : List (ℕ × C) → Type 0

@@ -1,4 +1,5 @@
 pub mod Bytes
+pub mod ByteSets
 pub mod Children
 pub mod Clones
 pub mod Counting

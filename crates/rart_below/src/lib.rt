@@ -4,6 +4,7 @@
 #![tactic(auto)]
 
 mod array;
+mod byte_set;
 mod key;
 mod mapping;
 mod partial;
@@ -15,6 +16,7 @@ mod view;
 mod visit;
 
 pub use array::{ArrPartial, ArrayKey};
+pub use byte_set::ByteSet;
 pub use key::KeyTrait;
 pub use mapping::{Clear, DirectMapping, IndexedMapping, NodeMapping, SortedKeyedMapping};
 pub use partial::Partial;

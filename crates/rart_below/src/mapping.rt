@@ -3,7 +3,8 @@
 ghost use Rattle.std.specs.Prelude.{◌≡◌, ℕ, ◌<◌, ◌≤◌, Bool, List, [], Option, Some, None, length, IsSome, IsTrue, option_copied};
 ghost use Rattle.std.specs.Borrow.{sem};
 ghost use Rattle.std.specs.Option.{option_copied_mut};
-ghost use Rattle.rart_below.specs.Children.{child_at, with_child, without_child, children_from, first_of, IsAscending};
+ghost use Rattle.rart_below.specs.ByteSets.{AreBytesOf};
+ghost use Rattle.rart_below.specs.Children.{child_at, with_child, without_child, children_from, first_of, IsAscending, TakesFirst};
 ghost use Rattle.rart_below.specs.Layouts.{AreEmpty, entry_copied};
 ghost use Rattle.rart_below.specs.Lent.{LendsChild};
 
@@ -13,6 +14,7 @@ mod slot_array;
 mod slots;
 mod sorted;
 
+use crate::byte_set::ByteSet;
 pub use direct::DirectMapping;
 pub use indexed::IndexedMapping;
 pub use sorted::SortedKeyedMapping;
@@ -102,6 +104,19 @@ pub trait NodeMapping<C: Drop> {
     fn next_from(&self, from: usize) -> Option<(u8, &C)>
         requires { IsTrue (in_order self.now) }
         ensures { entry_copied result ≡ first_of (children_from from (children self.now)) };
+
+    /// Takes the child of the least byte that is not below the number, which is then one more than
+    /// that byte. Where there is none the number stays. It gives no byte, so that a walk has the
+    /// child in a register.
+    fn next_child(&self, from: &mut usize) -> Option<&C>
+        requires { IsTrue (in_order self.now) }
+        ensures { TakesFirst (children_from from.old (children self.now)) (option_copied result)
+            (children_from from.new (children self.now)) };
+
+    /// The bytes that have a child. rart has no such call.
+    fn bytes(&self) -> ByteSet
+        requires { IsTrue (in_order self.now) }
+        ensures { AreBytesOf result (children self.now) };
 
     ghost ascending: { (mapping : Self) → IsTrue (in_order mapping)
         → IsAscending (children mapping) };

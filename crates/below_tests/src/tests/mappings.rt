@@ -38,6 +38,9 @@ pub fn assert_next<M: NodeMapping<u32>>(
         }
         None => assert!(rt; false),
     }
+    let mut left = from;
+    assert_eq!(rt; mapping.next_child(&mut left).copied(), Some(child));
+    assert_eq!(rt; left, usize::from(byte) + 1);
 }
 
 // Writes over the child under the byte.
@@ -69,6 +72,7 @@ pub fn assert_four_children<M: NodeMapping<u32>>(rt: &impl Abort, mapping: &mut 
     assert_next(rt, mapping, 8, 9, 1);
     assert_next(rt, mapping, 10, 255, 3);
     assert!(rt; mapping.next_from(256).is_none());
+    assert!(rt; mapping.next_child(&mut 256).is_none());
     assert_eq!(rt; mapping.seek_child(255).copied(), Some(3));
     assert_eq!(rt; mapping.seek_child(8), None);
 }

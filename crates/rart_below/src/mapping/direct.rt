@@ -1,12 +1,13 @@
 // Ported from rart 0.11.0 (Apache-2.0), and rewritten.
 //! The mapping of width 256: a slot for each byte.
-ghost use Rattle.std.specs.Prelude.{◌≡◌, [], None, IsTrue};
-ghost use Rattle.rart_below.specs.Layouts.{SameBytes};
+ghost use Rattle.std.specs.Prelude.{◌≡◌, [], None, IsTrue, length};
+ghost use Rattle.rart_below.specs.Layouts.{SameBytes, marks_of};
 ghost use Rattle.rart_below.specs.DirectMapping.{direct_children, direct_in_order};
 
 use super::slot_array::SlotArray;
 use super::slots::{clear_slots, replace_slot, take_slot};
 use super::{Clear, NodeMapping};
+use crate::byte_set::ByteSet;
 use std::alloc::AllocError;
 use std::array;
 
@@ -84,9 +85,44 @@ impl<C: Drop> NodeMapping<C> for DirectMapping<C> {
         None
     }
 
+    fn next_child(&self, from: &mut usize) -> Option<&C> {
+        for byte in *from..256 {
+            if let Some(child) = &self.children.slots[byte] {
+                *from = byte + 1;
+                return Some(child);
+            }
+        }
+        None
+    }
+
+    #[inline]
+    fn bytes(&self) -> ByteSet {
+        let slots = &self.children.slots[..];
+        ByteSet {
+            words: [
+                used_in(&slots[0..64]),
+                used_in(&slots[64..128]),
+                used_in(&slots[128..192]),
+                used_in(&slots[192..256]),
+            ],
+        }
+    }
+
     ghost ascending = { direct-ascending };
 
     ghost fits = { direct-fits };
+}
+
+/// Which of 64 slots hold a child: a bit for each.
+fn used_in<C>(slots: &[Option<C>]) -> u64
+    requires { length slots.now ≡ 64 }
+    ensures { result ≡ marks_of slots.now }
+{
+    let mut bits = 0;
+    for back in 1..65 {
+        bits = bits * 2 + u64::from(slots[64 - back].is_some());
+    }
+    bits
 }
 
 impl<C> Clear<C> for DirectMapping<C> {

@@ -1,14 +1,17 @@
 // Ported from rart 0.11.0 (Apache-2.0), and rewritten.
 //! The mapping of width 48: an index from each byte to its slot.
-ghost use Rattle.std.specs.Prelude.{◌≡◌, ◌≤◌, [], length, IsTrue};
+ghost use Rattle.std.specs.Int.{bit_at};
+ghost use Rattle.std.specs.Prelude.{◌≡◌, ◌+◌, ◌<◌, ◌≤◌, ℕ, [], length, IsTrue, if◌then◌else◌, nat_lt, slice_index_or};
 ghost use Rattle.rart_below.specs.Layouts.{SameBytes};
 ghost use Rattle.rart_below.specs.IndexedMapping.{indexed_children, indexed_in_order};
 
 use super::slot_array::SlotArray;
 use super::slots::{child_in, clear_slots, replace_slot, take_slot};
 use super::{Clear, NodeMapping};
+use crate::byte_set::ByteSet;
 use std::alloc::AllocError;
 use std::array;
+use std::simd::prelude::*;
 
 /// An entry of the index that names no slot, as each does that is not below the number of slots.
 const NO_SLOT: u8 = 48;
@@ -125,9 +128,41 @@ impl<C: Drop> NodeMapping<C> for IndexedMapping<C> {
         None
     }
 
+    fn next_child(&self, from: &mut usize) -> Option<&C> {
+        for byte in *from..256 {
+            if let Some(child) = self.seek_child(byte as u8) {
+                *from = byte + 1;
+                return Some(child);
+            }
+        }
+        None
+    }
+
+    #[inline]
+    fn bytes(&self) -> ByteSet {
+        ByteSet {
+            words: [
+                named_at(&self.index, 0),
+                named_at(&self.index, 64),
+                named_at(&self.index, 128),
+                named_at(&self.index, 192),
+            ],
+        }
+    }
+
     ghost ascending = { indexed-ascending };
 
     ghost fits = { indexed-fits };
+}
+
+/// Which of the 64 entries from the first on name a slot: a bit for each.
+fn named_at(index: &[u8], first: usize) -> u64
+    requires { first + 64 ≤ length index.now }
+    ensures { (place : ℕ) → place < 64 → bit_at result place
+        ≡ (if nat_lt (slice_index_or index.now (first + place) 0) 48 then 1 else 0) }
+{
+    let entries = u8x64::from_slice(&index[first..]);
+    entries.simd_lt(u8x64::splat(NO_SLOT)).to_bitmask()
 }
 
 impl<C> Clear<C> for IndexedMapping<C> {

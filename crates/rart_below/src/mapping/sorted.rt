@@ -7,6 +7,7 @@ ghost use Rattle.rart_below.specs.SortedKeyedMapping.{sorted_children, sorted_in
 use super::slot_array::SlotArray;
 use super::slots::{clear_slots, insert_slot, remove_slot, replace_slot, take_slot};
 use super::{Clear, NodeMapping};
+use crate::byte_set::ByteSet;
 use arrayvec::ArrayVec;
 use std::alloc::AllocError;
 use std::array;
@@ -156,6 +157,26 @@ impl<C: Drop, const WIDTH: usize> NodeMapping<C> for SortedKeyedMapping<C, WIDTH
         } else {
             None
         }
+    }
+
+    fn next_child(&self, from: &mut usize) -> Option<&C> {
+        let keys = self.keys.as_slice();
+        let place = rank_from(keys, *from);
+        if place < keys.len() {
+            *from = usize::from(keys[place]) + 1;
+            self.children.slots[place].as_ref()
+        } else {
+            None
+        }
+    }
+
+    #[inline]
+    fn bytes(&self) -> ByteSet {
+        let mut bytes = ByteSet::new();
+        for key in self.keys.as_slice() {
+            bytes.insert(*key);
+        }
+        bytes
     }
 
     ghost ascending = { sorted-ascending };

@@ -1,0 +1,374 @@
+-- Sets of bytes in four words of 64 bits.
+use Rattle.std.proofs.Common.{◌≡◌, ◌<◌, ◌≤◌, ◌≢◌, inl, inr, ℕ, zero, suc, length, ◌+◌, ◌*◌, ◌/◌, ◌%◌, ◌^◌, w64, Bool, true, false, List, [], ◌∷◌, take, drop, cond, refl, ap, sym, ◌∙◌, arith, get_or, get_or-set_same, get_or-set_other, set, Option, None, Some}
+use Rattle.std.specs.Prelude.{◌==◌, ◌&&◌, ◌||◌, not, nat_lt, if◌then◌else◌, bit_and, bit_or, is_some, min}
+use Rattle.std.specs.Cmp.{unsigned_tied}
+use Rattle.std.specs.Int.{bit_at, bit_not, trailing_zeros}
+use Rattle.std.proofs.lemmas.Bool.{cases_eq, cases_lt, eq-eqb, ne_eqb, false≢true, lt-ltb}
+use Rattle.std.proofs.lemmas.List.{get_or_past, get_or-take, get_or-drop}
+use Rattle.std.proofs.lemmas.Nat.Bits.{bit_at-lt, bit_at-zero, bit_at_and, bit_at_set_same, bit_at_set_other, bit_at_clear_same, bit_at_clear_other, bit_at-trailing_zeros}
+use Rattle.rart_below.specs.ByteSets.{has_bit}
+use Rattle.rart_below.specs.Children.{child_at}
+use Rattle.rart_below.specs.Layouts.{one_if_some, marks_of, slot_children, named_slots, keyed_children, is_filled}
+use Rattle.rart_below.proofs.DirectMappingLemmas.{child_at-place}
+use Rattle.rart_below.proofs.IndexedMappingLemmas.{IsKept, child_at-named, held_once, absent_past}
+use Rattle.rart_below.proofs.MarkLemmas.{bit_at-marks}
+
+-- A word has no bit where it is 0.
+pub no-word : (words : List ℕ) (byte : ℕ) → get_or words (byte / 64) 0 ≡ 0
+    → has_bit words byte ≡ false
+no-word words byte none =
+    ap (λ (word : ℕ). bit_at word (byte % 64) == 1) none
+    ∙ ap (λ (bit : ℕ). bit == 1) (bit_at-zero (byte % 64))
+
+pub no-words : (count byte : ℕ) (words : List ℕ)
+    → ((place : ℕ) → get_or words place 0 ≡ 0) → has_bit words byte ≡ false
+no-words count byte words each = no-word words byte (each (byte / 64))
+
+-- ---- one byte put in, or taken out
+module _ (words : List ℕ) (byte : ℕ) (wide : length words ≡ 4) (fits : byte < 256) where
+  word_within : byte / 64 < length words
+  word_within = omega (arith, wide, fits)
+
+  pub bit-inserted : (other : ℕ)
+      → has_bit (set words (byte / 64)
+      (bit_or (get_or words (byte / 64) 0) (1 * 2 ^ (byte % 64) % 2 ^ 64))) other
+      ≡ (other == byte || has_bit words other)
+  bit-inserted other =
+      let word = get_or words (byte / 64) 0 in
+      let k = byte % 64 in
+      let low : k < 64 = omega arith in
+      let put = bit_or word (1 * 2 ^ k % 2 ^ 64) in
+      let after = set words (byte / 64) put in
+      elim (cases_eq (other / 64) (byte / 64)) [
+        | inl here ↦
+            let at : get_or after (other / 64) 0 ≡ put =
+            ap (λ (n : ℕ). get_or after n 0) here
+            ∙ get_or-set_same words (byte / 64) put 0 word_within in
+            let read : has_bit after other ≡ (bit_at put (other % 64) == 1) =
+            ap (λ (n : ℕ). bit_at n (other % 64) == 1) at in
+            elim (cases_eq (other % 64) k) [
+              | inl same ↦
+                  let equal : other ≡ byte = omega (arith, here, same) in
+                  let one : bit_at put (other % 64) ≡ 1 =
+                  ap (λ (n : ℕ). bit_at put n) same ∙ bit_at_set_same w64 word k low in
+                  read ∙ ap (λ (n : ℕ). n == 1) one
+                  ∙ sym (ap (λ (t : Bool). t || has_bit words other)
+                  (eq-eqb other byte equal))
+              | inr differ ↦
+                  let apart : other ≢ byte = λ e. differ (ap (λ (n : ℕ). n % 64) e) in
+                  read
+                  ∙ ap (λ (n : ℕ). n == 1) (bit_at_set_other w64 word k low (other % 64) differ)
+                  ∙ ap (λ (n : ℕ). bit_at (get_or words n 0) (other % 64) == 1) (sym here)
+                  ∙ sym (ap (λ (t : Bool). t || has_bit words other)
+                  (ne_eqb other byte apart))
+            ]
+        | inr there ↦
+            let apart : other ≢ byte = λ e. there (ap (λ (n : ℕ). n / 64) e) in
+            ap (λ (n : ℕ). bit_at n (other % 64) == 1)
+            (get_or-set_other words (byte / 64) (other / 64) put 0 there)
+            ∙ sym (ap (λ (t : Bool). t || has_bit words other) (ne_eqb other byte apart))
+      ]
+
+  pub bit-removed : (other : ℕ)
+      → has_bit (set words (byte / 64)
+      (bit_and (get_or words (byte / 64) 0) (bit_not w64 (1 * 2 ^ (byte % 64) % 2 ^ 64)))) other
+      ≡ (not (other == byte) && has_bit words other)
+  bit-removed other =
+      let word = get_or words (byte / 64) 0 in
+      let k = byte % 64 in
+      let low : k < 64 = omega arith in
+      let cut = bit_and word (bit_not w64 (1 * 2 ^ k % 2 ^ 64)) in
+      let after = set words (byte / 64) cut in
+      elim (cases_eq (other / 64) (byte / 64)) [
+        | inl here ↦
+            let at : get_or after (other / 64) 0 ≡ cut =
+            ap (λ (n : ℕ). get_or after n 0) here
+            ∙ get_or-set_same words (byte / 64) cut 0 word_within in
+            let read : has_bit after other ≡ (bit_at cut (other % 64) == 1) =
+            ap (λ (n : ℕ). bit_at n (other % 64) == 1) at in
+            elim (cases_eq (other % 64) k) [
+              | inl same ↦
+                  let equal : other ≡ byte = omega (arith, here, same) in
+                  let none : bit_at cut (other % 64) ≡ 0 =
+                  ap (λ (n : ℕ). bit_at cut n) same ∙ bit_at_clear_same w64 word k low in
+                  read ∙ ap (λ (n : ℕ). n == 1) none
+                  ∙ sym (ap (λ (t : Bool). not t && has_bit words other)
+                  (eq-eqb other byte equal))
+              | inr differ ↦
+                  let apart : other ≢ byte = λ e. differ (ap (λ (n : ℕ). n % 64) e) in
+                  read
+                  ∙ ap (λ (n : ℕ). n == 1)
+                  (bit_at_clear_other w64 word k low (other % 64) (omega arith) differ)
+                  ∙ ap (λ (n : ℕ). bit_at (get_or words n 0) (other % 64) == 1) (sym here)
+                  ∙ sym (ap (λ (t : Bool). not t && has_bit words other)
+                  (ne_eqb other byte apart))
+            ]
+        | inr there ↦
+            let apart : other ≢ byte = λ e. there (ap (λ (n : ℕ). n / 64) e) in
+            ap (λ (n : ℕ). bit_at n (other % 64) == 1)
+            (get_or-set_other words (byte / 64) (other / 64) cut 0 there)
+            ∙ sym (ap (λ (t : Bool). not t && has_bit words other) (ne_eqb other byte apart))
+      ]
+
+-- ---- the bytes of both
+both-bits : (a b : ℕ) → a < 2 → b < 2 → (min a b == 1) ≡ ((a == 1) && (b == 1))
+both-bits a b small also = elim (cases_lt a 1) [
+  | inl none ↦
+      let zero_a : a ≡ 0 = omega (arith, none) in
+      let least : min a b ≡ 0 = omega (arith, none) in
+      ap (λ (n : ℕ). n == 1) least
+      ∙ sym (ap (λ (n : ℕ). (n == 1) && (b == 1)) zero_a)
+  | inr some ↦
+      let one_a : a ≡ 1 = omega (arith, some, small) in
+      let least : min a b ≡ b = omega (arith, some, also) in
+      ap (λ (n : ℕ). n == 1) least
+      ∙ sym (ap (λ (n : ℕ). (n == 1) && (b == 1)) one_a)
+]
+
+pub bit-common : (one other both : List ℕ) (byte : ℕ)
+    → ((place : ℕ) → get_or both place 0 ≡ bit_and (get_or one place 0) (get_or other place 0))
+    → has_bit both byte ≡ (has_bit one byte && has_bit other byte)
+bit-common one other both byte each =
+    let a = get_or one (byte / 64) 0 in
+    let b = get_or other (byte / 64) 0 in
+    let k = byte % 64 in
+    ap (λ (word : ℕ). bit_at word k == 1) (each (byte / 64))
+    ∙ ap (λ (bit : ℕ). bit == 1) (bit_at_and a b k)
+    ∙ both-bits (bit_at a k) (bit_at b k) (bit_at-lt a k) (bit_at-lt b k)
+
+-- ---- the least byte
+-- In the first word that is not 0, the lowest bit is that of the least byte.
+pub record IsFirst (words : List ℕ) (first : ℕ) : Type 0 where
+  pub fits : first < 256
+  pub has : has_bit words first ≡ true
+  pub least : (byte : ℕ) → byte < first → has_bit words byte ≡ false
+
+pub first-bit : (words : List ℕ) (place : ℕ) → place < 4
+    → ((before : ℕ) → before < place → get_or words before 0 ≡ 0)
+    → 0 < get_or words place 0 → get_or words place 0 < 2 ^ 64
+    → IsFirst words (place * 64 + trailing_zeros w64 (get_or words place 0))
+first-bit words place within before some fits =
+    let word = get_or words place 0 in
+    let zeros = trailing_zeros w64 word in
+    let lowest = bit_at-trailing_zeros w64 word some fits in
+    let few : zeros < 64 = lowest.0 in
+    let at : (place * 64 + zeros) / 64 ≡ place = omega (arith, few) in
+    let bit : (place * 64 + zeros) % 64 ≡ zeros = omega (arith, few) in
+    record {
+      fits = omega (arith, few, within);
+      has = (λ i. bit_at (get_or words (at i) 0) (bit i) == 1)
+          ∙ ap (λ (n : ℕ). n == 1) lowest.1;
+      least = λ byte less. elim (cases_lt (byte / 64) place) [
+        | inl early ↦ no-word words byte (before (byte / 64) early)
+        | inr late ↦
+            let here : byte / 64 ≡ place = omega (arith, late, less, few) in
+            let low : byte % 64 < zeros = omega (arith, here, less) in
+            ap (λ (n : ℕ). bit_at (get_or words n 0) (byte % 64) == 1) here
+            ∙ ap (λ (n : ℕ). n == 1) (lowest.2 (byte % 64) low)
+      ];
+    }
+
+pub no-first : (words : List ℕ) → length words ≡ 4
+    → ((before : ℕ) → before < 4 → get_or words before 0 ≡ 0) → (byte : ℕ)
+    → has_bit words byte ≡ false
+no-first words wide before byte = no-word words byte (elim (cases_lt (byte / 64) 4) [
+  | inl early ↦ before (byte / 64) early
+  | inr late ↦ get_or_past words (byte / 64) 0 (omega (arith, wide, late))
+])
+
+-- ---- the bytes of a list
+abbrev pub holds_key : ℕ → List ℕ → Bool
+holds_key byte [] = false
+holds_key byte (key ∷ keys) = byte == key || holds_key byte keys
+
+or-swaps : (s t u : Bool) → (s || (t || u)) ≡ (t || (s || u))
+or-swaps true true u = refl
+or-swaps true false u = refl
+or-swaps false true u = refl
+or-swaps false false u = refl
+
+pub holds-next : (byte place : ℕ) (keys : List ℕ) → place < length keys
+    → holds_key byte (take (suc place) keys)
+    ≡ (byte == get_or keys place 0 || holds_key byte (take place keys))
+holds-next byte place [] lt = absurd (omega (arith, lt))
+holds-next byte zero (key ∷ keys) lt = refl
+holds-next byte (suc place) (key ∷ keys) lt =
+    ap (λ (t : Bool). byte == key || t) (holds-next byte place keys (omega (arith, lt)))
+    ∙ or-swaps (byte == key) (byte == get_or keys place 0) (holds_key byte (take place keys))
+
+-- the words of both sets
+abbrev pub common_words : List ℕ → List ℕ → List ℕ
+common_words one other =
+    bit_and (get_or one 0 0) (get_or other 0 0) ∷ bit_and (get_or one 1 0) (get_or other 1 0)
+    ∷ bit_and (get_or one 2 0) (get_or other 2 0) ∷ bit_and (get_or one 3 0) (get_or other 3 0)
+    ∷ []
+
+pub and-past : (one other : List ℕ) → length one ≡ 4 → length other ≡ 4 → (place : ℕ)
+    → get_or (common_words one other) place 0
+    ≡ bit_and (get_or one place 0) (get_or other place 0)
+and-past one other wide also zero = refl
+and-past one other wide also (suc zero) = refl
+and-past one other wide also (suc (suc zero)) = refl
+and-past one other wide also (suc (suc (suc zero))) = refl
+and-past one other wide also (suc (suc (suc (suc place)))) =
+    let past = get_or_past one (suc (suc (suc (suc place)))) 0 (omega (arith, wide)) in
+    let too = get_or_past other (suc (suc (suc (suc place)))) 0 (omega (arith, also)) in
+    let none : bit_and 0 0 ≡ 0 = refl in
+    sym none ∙ (λ i. bit_and (sym past i) (sym too i))
+
+-- The least byte, and the words without its bit.
+pub first-taken : (words : List ℕ) (place : ℕ) → length words ≡ 4 → place < 4
+    → ((before : ℕ) → before < place → get_or words before 0 ≡ 0)
+    → 0 < get_or words place 0 → get_or words place 0 < 2 ^ 64
+    → (has_bit words (place * 64 + trailing_zeros w64 (get_or words place 0)) ≡ true)
+    × ((byte : ℕ) → byte < place * 64 + trailing_zeros w64 (get_or words place 0)
+    → has_bit words byte ≡ false)
+    × ((byte : ℕ) → has_bit (set words place (bit_and (get_or words place 0)
+    (bit_not w64 (1 * 2 ^ trailing_zeros w64 (get_or words place 0) % 2 ^ 64)))) byte
+    ≡ (not (byte == place * 64 + trailing_zeros w64 (get_or words place 0))
+    && has_bit words byte))
+first-taken words place wide within before some fits =
+    let word = get_or words place 0 in
+    let zeros = trailing_zeros w64 word in
+    let first = first-bit words place within before some fits in
+    let few : zeros < 64 = (bit_at-trailing_zeros w64 word some fits).0 in
+    let at : (place * 64 + zeros) / 64 ≡ place = omega (arith, few) in
+    let bit : (place * 64 + zeros) % 64 ≡ zeros = omega (arith, few) in (
+      first.has,
+      first.least,
+      λ byte.
+          (λ i. has_bit (set words (sym at i) (bit_and (get_or words (sym at i) 0)
+          (bit_not w64 (1 * 2 ^ sym bit i % 2 ^ 64)))) byte)
+          ∙ bit-removed words (place * 64 + zeros) wide first.fits byte,
+    )
+
+-- ---- a set of four words that were made one by one
+-- Each word has the bits of its 64 bytes, and no other byte has one.
+pub bits-of-words : (bit : ℕ → Bool) (a b c d : ℕ)
+    → ((place : ℕ) → place < 64 → (bit_at a place == 1) ≡ bit (0 + place))
+    → ((place : ℕ) → place < 64 → (bit_at b place == 1) ≡ bit (64 + place))
+    → ((place : ℕ) → place < 64 → (bit_at c place == 1) ≡ bit (128 + place))
+    → ((place : ℕ) → place < 64 → (bit_at d place == 1) ≡ bit (192 + place))
+    → ((byte : ℕ) → 256 ≤ byte → bit byte ≡ false) → (byte : ℕ)
+    → has_bit (a ∷ b ∷ c ∷ d ∷ []) byte ≡ bit byte
+bits-of-words bit a b c d in_a in_b in_c in_d past byte =
+    let words : List ℕ = a ∷ b ∷ c ∷ d ∷ [] in
+    let low : byte % 64 < 64 = omega arith in
+    let at : (place : ℕ) → byte / 64 ≡ place
+    → has_bit words byte ≡ (bit_at (get_or words place 0) (byte % 64) == 1) =
+    λ place e. ap (λ (n : ℕ). bit_at (get_or words n 0) (byte % 64) == 1) e in
+    elim (cases_lt byte 128) [
+      | inl lower ↦ elim (cases_lt byte 64) [
+        | inl first ↦
+            let here : byte / 64 ≡ 0 = omega (arith, first) in
+            let same : 0 + byte % 64 ≡ byte = omega (arith, first) in
+            at 0 here ∙ (in_a (byte % 64) low ∙ ap bit same)
+        | inr second ↦
+            let here : byte / 64 ≡ 1 = omega (arith, second, lower) in
+            let same : 64 + byte % 64 ≡ byte = omega (arith, second, lower) in
+            at 1 here ∙ (in_b (byte % 64) low ∙ ap bit same)
+      ]
+      | inr upper ↦ elim (cases_lt byte 192) [
+        | inl third ↦
+            let here : byte / 64 ≡ 2 = omega (arith, upper, third) in
+            let same : 128 + byte % 64 ≡ byte = omega (arith, upper, third) in
+            at 2 here ∙ (in_c (byte % 64) low ∙ ap bit same)
+        | inr fourth ↦ elim (cases_lt byte 256) [
+          | inl last ↦
+              let here : byte / 64 ≡ 3 = omega (arith, fourth, last) in
+              let same : 192 + byte % 64 ≡ byte = omega (arith, fourth, last) in
+              at 3 here ∙ (in_d (byte % 64) low ∙ ap bit same)
+          | inr beyond ↦
+              no-word words byte (get_or_past words (byte / 64) 0 (omega (arith, beyond)))
+              ∙ sym (past byte beyond)
+        ]
+      ]
+    ]
+
+-- ---- the bytes of a mapping
+one-is-some : {C : Type 0} (slot : Option C) → (one_if_some slot == 1) ≡ is_some slot
+one-is-some None = refl
+one-is-some (Some child) = refl
+
+module _ {C : Type 0} (slots : List (Option C)) where
+  -- a word of the slots' bits
+  pub marks-word : (first place : ℕ) → place < 64
+      → (bit_at (marks_of (take 64 (drop first slots))) place == 1)
+      ≡ is_some (child_at (first + place) (slot_children 0 slots))
+  marks-word first place lt =
+      let word = take 64 (drop first slots) in
+      ap (λ (n : ℕ). n == 1) (bit_at-marks word place)
+      ∙ (one-is-some (get_or word place None)
+      ∙ ap is_some (get_or-take 64 (drop first slots) place None lt
+      ∙ (get_or-drop first slots place None ∙ sym (child_at-place (first + place) slots))))
+
+  pub none-beyond : length slots ≡ 256 → (byte : ℕ) → 256 ≤ byte
+      → is_some (child_at byte (slot_children 0 slots)) ≡ false
+  none-beyond wide byte past =
+      ap is_some (child_at-place byte slots ∙ get_or_past slots byte None (omega (arith, wide, past)))
+
+  -- So all of them are the bytes that have a child.
+  pub bytes-of-slots : length slots ≡ 256 → (byte : ℕ)
+      → has_bit (marks_of (take 64 slots) ∷ marks_of (take 64 (drop 64 slots))
+      ∷ marks_of (take 64 (drop 128 slots)) ∷ marks_of (take 64 (drop 192 slots)) ∷ []) byte
+      ≡ is_some (child_at byte (slot_children 0 slots))
+  bytes-of-slots wide =
+      bits-of-words (λ (byte : ℕ). is_some (child_at byte (slot_children 0 slots))) _ _ _ _
+      (marks-word 0) (marks-word 64) (marks-word 128) (marks-word 192) (none-beyond wide)
+
+pub some-where : {C : Type 0} (byte key : ℕ) (child : C) (rest : List (ℕ × C))
+    → is_some (child_at byte ((key, child) ∷ rest)) ≡ (byte == key || is_some (child_at byte rest))
+some-where byte key child rest =
+    ap (λ (t : Bool). is_some (cond t (Some child) (child_at byte rest))) (unsigned_tied byte key)
+    ∙ by (byte == key)
+  where
+    by : (t : Bool)
+        → is_some (cond t (Some child) (child_at byte rest)) ≡ (t || is_some (child_at byte rest))
+    by true = refl
+    by false = refl
+
+-- the keys of slots that are filled
+pub keys-some : {C : Type 0} (byte : ℕ) (keys : List ℕ) (slots : List (Option C))
+    → is_filled keys slots ≡ true
+    → holds_key byte keys ≡ is_some (child_at byte (keyed_children keys slots))
+keys-some byte [] slots filled = refl
+keys-some byte (key ∷ keys) [] filled = absurd (false≢true filled)
+keys-some byte (key ∷ keys) (None ∷ slots) filled = absurd (false≢true filled)
+keys-some byte (key ∷ keys) (Some child ∷ slots) filled =
+    ap (λ (t : Bool). byte == key || t) (keys-some byte keys slots filled)
+    ∙ sym (some-where byte key child (keyed_children keys slots))
+
+not-none : {C : Type 0} (slot : Option C) → slot ≢ None → is_some slot ≡ true
+not-none None some = absurd (some refl)
+not-none (Some child) some = refl
+
+-- the entries of an index that name a slot
+pub named-some : {C : Type 0} (byte : ℕ) (index : List ℕ) (slots : List (Option C)) (used : ℕ)
+    → IsKept index slots used → byte < 256
+    → nat_lt (get_or index byte 0) 48
+    ≡ is_some (child_at byte (slot_children 0 (named_slots slots index)))
+named-some byte index slots used kept fits = elim (cases_lt (get_or index byte 0) 48) [
+  | inl named ↦
+      let some = (held_once byte (get_or index byte 0) index slots used kept fits refl named).1 in
+      lt-ltb (get_or index byte 0) 48 named
+      ∙ sym (ap is_some (child_at-named byte index slots used kept fits)
+      ∙ not-none (get_or slots (get_or index byte 0) None) some)
+  | inr beyond ↦
+      let none : nat_lt (get_or index byte 0) 48 ≡ false = grind (arith, beyond) in
+      none ∙ sym (ap is_some (absent_past byte index slots used kept fits beyond))
+]
+
+-- a word of their bits
+pub named-word : {C : Type 0} (first place word : ℕ) (index : List ℕ) (slots : List (Option C))
+    (used : ℕ) → IsKept index slots used → first + place < 256
+    → bit_at word place ≡ (if nat_lt (get_or index (first + place) 0) 48 then 1 else 0)
+    → (bit_at word place == 1)
+    ≡ is_some (child_at (first + place) (slot_children 0 (named_slots slots index)))
+named-word first place word index slots used kept fits is =
+    ap (λ (n : ℕ). n == 1) is
+    ∙ (by (nat_lt (get_or index (first + place) 0) 48)
+    ∙ named-some (first + place) index slots used kept fits)
+  where
+    by : (t : Bool) → ((if t then 1 else 0) == 1) ≡ t
+    by true = refl
+    by false = refl

@@ -1,0 +1,11 @@
+use Rattle.std.proofs.Common.{◌≡◌}
+use Rattle.rart_below.specs.Layouts.{slot_children}
+use Rattle.rart_below.proofs.AscendingLemmas.{Walked}
+use Rattle.rart_below.proofs.mapping.direct.DirectMappingNodeMapping.next_child.Given as goal
+
+abbrev pub invariant-loop-byte : goal.invariant-loop-byte
+invariant-loop-byte g l =
+    record {
+      same : l.from ≡ l.fn.from;
+      walked : Walked l.fn.from l.byte (slot_children 0 l.self.children.slots);
+    }

@@ -1,0 +1,62 @@
+// Ported from rart 0.11.0 (Apache-2.0), and rewritten.
+//! Sets of bytes. rart has no such type: there children in common are found one by one.
+ghost use Rattle.std.specs.Prelude.{◌≡◌, ◌==◌, ◌||◌, ◌&&◌, ℕ, false};
+ghost use Rattle.rart_below.specs.ByteSets.{has_byte, TakesFirst};
+
+/// A set of bytes: a bit for each, in four words.
+///
+/// Contracts see it by `has_byte`.
+#[derive(Drop)]
+pub struct ByteSet {
+    pub(crate) words: [u64; 4],
+}
+
+impl ByteSet {
+    /// No byte.
+    pub fn new() -> ByteSet
+        ensures { (byte : ℕ) → has_byte result byte ≡ false }
+    {
+        ByteSet { words: [0; 4] }
+    }
+
+    /// Puts the byte in, if it is not there.
+    #[inline]
+    pub fn insert(&mut self, byte: u8)
+        ensures { (other : ℕ) → has_byte self.new other
+            ≡ (other == byte || has_byte self.old other) }
+    {
+        self.words[usize::from(byte / 64)] |= 1 << (byte % 64);
+    }
+
+    /// The bytes of both sets.
+    #[inline]
+    pub fn common(&self, other: &ByteSet) -> ByteSet
+        ensures { (byte : ℕ) → has_byte result byte
+            ≡ (has_byte self.now byte && has_byte other.now byte) }
+    {
+        ByteSet {
+            words: [
+                self.words[0] & other.words[0],
+                self.words[1] & other.words[1],
+                self.words[2] & other.words[2],
+                self.words[3] & other.words[3],
+            ],
+        }
+    }
+
+    /// Takes the least byte out, if there is one.
+    #[inline]
+    pub fn take_first(&mut self) -> Option<u8>
+        ensures { TakesFirst self.old result self.new }
+    {
+        for place in 0..4 {
+            let word = self.words[place];
+            if word != 0 {
+                let bit = word.trailing_zeros();
+                self.words[place] = word & !(1 << bit);
+                return Some((place * 64) as u8 + bit as u8);
+            }
+        }
+        None
+    }
+}

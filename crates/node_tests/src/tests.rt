@@ -76,3 +76,18 @@ fn assert_children<P: Partial>(
     }
     assert_eq!(rt; count, wanted.len());
 }
+
+// The children that are left, without their bytes.
+fn assert_next_children<P: Partial>(
+    rt: &impl Abort,
+    mut children: VersionedNodeIter<'_, P, u64>,
+    wanted: &[(u8, u64)],
+) {
+    for (byte, value) in wanted {
+        match children.next_child() {
+            Some(child) => assert_eq!(rt; value_of(child), Some(*value)),
+            None => assert!(rt; false, "none under {byte}"),
+        }
+    }
+    assert!(rt; children.next_child().is_none());
+}

@@ -1,11 +1,11 @@
 -- What maps children commutes with what is done to one under its byte.
-use Rattle.std.proofs.Common.{◌≡◌, ℕ, List, [], ◌∷◌, true, false, not, Some, cond, refl, ap}
-use Rattle.std.specs.Prelude.{◌==◌, nat_le}
+use Rattle.std.proofs.Common.{◌≡◌, ℕ, List, [], ◌∷◌, true, false, not, Option, Some, None, cond, refl, ap}
+use Rattle.std.specs.Prelude.{◌==◌, nat_le, is_some}
 use Rattle.std.specs.Option.{option_map}
 use Rattle.std.specs.Ordering.{nat_cmp, eq_by_cmp}
 use Rattle.std.specs.FinMap.Entries.{find, put, by_order}
 use Rattle.std.specs.declared.cmp.Ordering.TheVariants.{Less, Equal, Greater}
-use Rattle.rart_below.specs.Children.{child_at, with_child, without_child, children_from, first_of, map_children}
+use Rattle.rart_below.specs.Children.{child_at, with_child, without_child, children_from, first_of, map_children, TakesFirst}
 
 module _ {X Y : Type 0} (f : X → Y) where
   pub child_at-map_children : (b : ℕ) (es : List (ℕ × X))
@@ -54,7 +54,18 @@ module _ {X Y : Type 0} (f : X → Y) where
         | false ↦ children_from-map_children n es
       ]
 
+  pub takes-map_children : (before : List (ℕ × X)) (o : Option X) (after : List (ℕ × X))
+      → TakesFirst before o after
+      → TakesFirst (map_children f before) (option_map f o) (map_children f after)
+  takes-map_children before None after takes =
+      (ap (map_children f) takes.0, ap (map_children f) takes.1)
+  takes-map_children before (Some x) after takes = (takes.0, ap (map_children f) takes.1)
+
   pub first_of-map_children : (es : List (ℕ × X))
       → first_of (map_children f es) ≡ option_map (λ e. (e.0, f e.1)) (first_of es)
   first_of-map_children [] = refl
   first_of-map_children (e ∷ es) = refl
+
+  pub is_some-mapped : (o : Option X) → is_some o ≡ is_some (option_map f o)
+  is_some-mapped None = refl
+  is_some-mapped (Some x) = refl

@@ -4,7 +4,7 @@ use Rattle.std.specs.Prelude.{◌↔◌, IsTrue, option_copied}
 use Rattle.std.specs.Borrow.{Bor, MutBor}
 use Rattle.std.specs.Option.{option_map, option_copied_mut, OnSome}
 use Rattle.std.proofs.lemmas.Option.{none-some}
-use Rattle.rart_below.specs.Children.{child_at, with_child, without_child, children_from, first_of, map_children, IsAscending as IsRising}
+use Rattle.rart_below.specs.Children.{child_at, with_child, without_child, children_from, first_of, map_children, TakesFirst, IsAscending as IsRising}
 use Rattle.rart_below.specs.Mapped.{length-map_children}
 use Rattle.rart_below.specs.Layouts.{entry_copied}
 use Rattle.rart_node.specs.declared.node.VersionedNode.{VersionedNode, out-VersionedNode, roll-VersionedNode}
@@ -12,7 +12,7 @@ use Rattle.rart_node.specs.declared.node_ref.NodeRef.{NodeRef}
 use Rattle.rart_node.specs.Contents.{Content, content_shape, Holds}
 use Rattle.rart_node.specs.Shape.{Shape, node, node_of, prefix_of, value_of, width_of, children_of, with_children, with_replaced, with_deleted, with_added, widened, widenings, is_full_at, entries_of-forest_of, IsAscending, IsFull, IsFullAt}
 use Rattle.rart_node.specs.NodeShapes.{node_shape, pointer_shape, entry_shape, shapes_of_content, node_of_content, node_shape_roll, node_shape_out, if_in_order}
-use Rattle.rart_node.proofs.ChildMapLemmas.{child_at-map_children, with_child-map_children, without_child-map_children, children_from-map_children, first_of-map_children}
+use Rattle.rart_node.proofs.ChildMapLemmas.{child_at-map_children, with_child-map_children, without_child-map_children, children_from-map_children, first_of-map_children, takes-map_children}
 
 -- a list that ascends is none that stands for disorder
 in_order-ascending : {V : Type 0} (in_order : Bool) (children : List (ℕ × Shape V))
@@ -109,6 +109,21 @@ module _ {P V : Type 0} (bytes : P → List ℕ) where
         ap (λ es. first_of (children_from from es)) (children-pointer_shape order)
         ∙ ap first_of (children_from-map_children (pointer_shape bytes) from children_in)
         ∙ first_of-map_children (pointer_shape bytes) (children_from from children_in)
+
+    -- the first child from a byte on is taken
+    pub takes-node_shape : (from later : ℕ) (o : Option (NodeRef P V))
+        → IsAscending (node_shape bytes n)
+        → TakesFirst (children_from from children_in) o (children_from later children_in)
+        → TakesFirst (children_from from (children_of (node_shape bytes n)))
+        (option_map (pointer_shape bytes) o)
+        (children_from later (children_of (node_shape bytes n)))
+    takes-node_shape from later o order takes =
+        let at : (k : ℕ) → map_children (pointer_shape bytes) (children_from k children_in)
+        ≡ children_from k (children_of (node_shape bytes n)) =
+        λ k. sym (ap (children_from k) (children-pointer_shape order)
+        ∙ children_from-map_children (pointer_shape bytes) k children_in) in
+        rw (sym (at from), sym (at later))
+        (takes-map_children (pointer_shape bytes) _ o _ takes)
 
     -- ---- with another content
     module _ (content : Content (NodeRef P V)) (width : ℕ) (entries : List (ℕ × NodeRef P V))

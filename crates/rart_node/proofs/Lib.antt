@@ -1,7 +1,6 @@
 pub mod ContentLemmas
 pub mod CopyLemmas
 pub mod ChildMapLemmas
-pub mod ChildrenFromLemmas
 pub mod ChildOrderLemmas
 pub mod RoomLemmas
 pub mod MergeLemmas

@@ -3,7 +3,8 @@
 ghost use Rattle.std.specs.Prelude.{◌≡◌, ◌<◌, ◌+◌, ◌↔◌, None, Some, false, length, if◌then◌else◌, IfOk, IsOk, IsSome, IsTrue, OnOk, OnErr, option_copied};
 ghost use Rattle.std.specs.Borrow.{sem};
 ghost use Rattle.std.specs.Option.{option_copied_mut};
-ghost use Rattle.rart_below.specs.Children.{child_at, children_from, first_of, with_child, without_child};
+ghost use Rattle.rart_below.specs.ByteSets.{AreBytesOf};
+ghost use Rattle.rart_below.specs.Children.{child_at, children_from, first_of, with_child, without_child, TakesFirst};
 ghost use Rattle.rart_below.specs.Layouts.{entry_copied};
 ghost use Rattle.rart_node.specs.Contents.{content_shape, Holds};
 ghost use Rattle.rart_node.specs.Shape.{IsFullAt, is_full_at, wider, widened};
@@ -11,7 +12,9 @@ ghost use Rattle.rart_node.specs.Shape.{IsFullAt, is_full_at, wider, widened};
 use crate::node_ref::NodeRef;
 use crate::wide_box::WideBox;
 use crate::work::Work;
-use rart_below::{DirectMapping, IndexedMapping, NodeMapping, Partial, SortedKeyedMapping};
+use rart_below::{
+    ByteSet, DirectMapping, IndexedMapping, NodeMapping, Partial, SortedKeyedMapping,
+};
 use std::alloc::{AllocError, Global};
 
 /// Where a node keeps its children: nowhere in a leaf, else in a mapping of one of four widths.
@@ -103,6 +106,37 @@ impl<P: Partial, V: Drop> Content<P, V> {
             Layout::Node16(mapping) => mapping.boxed.next_from(from),
             Layout::Node48(mapping) => mapping.boxed.next_from(from),
             Layout::Node256(mapping) => mapping.boxed.next_from(from),
+        }
+    }
+
+    /// Takes the child of the least byte that is not below the number, which is then one more than
+    /// that byte.
+    pub(crate) fn next_child(&self, from: &mut usize) -> Option<&NodeRef<P, V>>
+        requires { IsTrue (content_shape self.now).in_order }
+        ensures { TakesFirst (children_from from.old (content_shape self.now).children)
+            (option_copied result) (children_from from.new (content_shape self.now).children) }
+    {
+        match self {
+            Layout::Leaf => None,
+            Layout::Node4(mapping) => mapping.next_child(from),
+            Layout::Node16(mapping) => mapping.boxed.next_child(from),
+            Layout::Node48(mapping) => mapping.boxed.next_child(from),
+            Layout::Node256(mapping) => mapping.boxed.next_child(from),
+        }
+    }
+
+    /// The bytes that have a child.
+    #[inline]
+    pub(crate) fn bytes(&self) -> ByteSet
+        requires { IsTrue (content_shape self.now).in_order }
+        ensures { AreBytesOf result (content_shape self.now).children }
+    {
+        match self {
+            Layout::Leaf => ByteSet::new(),
+            Layout::Node4(mapping) => mapping.bytes(),
+            Layout::Node16(mapping) => mapping.boxed.bytes(),
+            Layout::Node48(mapping) => mapping.boxed.bytes(),
+            Layout::Node256(mapping) => mapping.boxed.bytes(),
         }
     }
 

@@ -2,7 +2,8 @@
 //! The node: a prefix, an optional value, and children under bytes.
 ghost use Rattle.std.specs.Prelude.{◌≡◌, ◌==◌, ◌+◌, ◌↔◌, ℕ, IsErrOf, IsOk, IsSome, IsTrue, IfOk, OnOk, OnErr, Some, None, [], length, not};
 ghost use Rattle.std.specs.Option.{option_map, option_copied};
-ghost use Rattle.rart_below.specs.Children.{child_at, children_from, first_of};
+ghost use Rattle.rart_below.specs.ByteSets.{AreBytesOf};
+ghost use Rattle.rart_below.specs.Children.{child_at, children_from, first_of, TakesFirst};
 ghost use Rattle.rart_below.specs.Clones.{ClonesEqual};
 ghost use Rattle.rart_node.specs.Shape.{node_of, prefix_of, value_of, width_of, children_of, with_value, with_prefix, with_replaced, with_deleted, with_added, with_width, widenings, wider, FitsWidth, IsAscending, IsFull};
 
@@ -11,7 +12,7 @@ use crate::grow_error::GrowError;
 use crate::node_iter::VersionedNodeIter;
 use crate::node_ref::NodeRef;
 use crate::work::Work;
-use rart_below::{Partial, SortedKeyedMapping};
+use rart_below::{ByteSet, Partial, SortedKeyedMapping};
 use std::alloc::{AllocError, Global};
 
 /// A node: a prefix, an optional value, a width and a finite map from bytes to pointers.
@@ -20,13 +21,26 @@ use std::alloc::{AllocError, Global};
 /// width none is a leaf. Contracts see a node by its shape, in which each pointer is the node that
 /// it shows.
 #[cycle(node)]
-#[derive(Drop)]
 pub struct VersionedNode<P, V> {
     prefix: P,
     value: Option<V>,
     version: u64,
     alloc: Global,
     content: Content<P, V>,
+}
+
+/// Written out, so that a crate that drops a node proves nothing of what it is made of.
+impl<P: Drop, V: Drop> Drop for VersionedNode<P, V> {
+    #[cycle(drop_node)]
+    fn drop(self) {
+        let VersionedNode {
+            prefix: _,
+            value: _,
+            version: _,
+            alloc: _,
+            content: _,
+        } = self;
+    }
 }
 
 #[tactic(auto, using(crate::proofs::NodeLemmas::seeing))]
@@ -151,6 +165,14 @@ impl<P: Partial, V: Drop> VersionedNode<P, V> {
         }
     }
 
+    /// The bytes that have a child. rart has no such call.
+    pub fn bytes(&self) -> ByteSet
+        requires { IsAscending (node_shape P.bytes self.now) }
+        ensures { AreBytesOf result (children_of (node_shape P.bytes self.now)) }
+    {
+        self.content.bytes()
+    }
+
     /// The child of the least byte that is not below the number.
     pub(crate) fn next_from(&self, from: usize) -> Option<(u8, &NodeRef<P, V>)>
         requires { IsAscending (node_shape P.bytes self.now) }
@@ -158,6 +180,17 @@ impl<P: Partial, V: Drop> VersionedNode<P, V> {
             ≡ first_of (children_from from (children_of (node_shape P.bytes self.now))) }
     {
         self.content.next_from(from)
+    }
+
+    /// Takes the child of the least byte that is not below the number, which is then one more than
+    /// that byte.
+    pub(crate) fn next_child(&self, from: &mut usize) -> Option<&NodeRef<P, V>>
+        requires { IsAscending (node_shape P.bytes self.now) }
+        ensures { TakesFirst (children_from from.old (children_of (node_shape P.bytes self.now)))
+            (option_map (λ child. pointer_shape P.bytes child.now) result)
+            (children_from from.new (children_of (node_shape P.bytes self.now))) }
+    {
+        self.content.next_child(from)
     }
 
     /// The pointer under the byte, for writing. The node then has that child as it was left.
@@ -253,12 +286,19 @@ impl<P: Partial, V: Drop> VersionedNode<P, V> {
         ensures { node_shape P.bytes result
             ≡ with_prefix (P.bytes prefix) (node_shape P.bytes self) }
     {
+        let VersionedNode {
+            prefix: _,
+            value,
+            version,
+            alloc,
+            content,
+        } = self;
         VersionedNode {
             prefix,
-            value: self.value,
-            version: self.version,
-            alloc: self.alloc,
-            content: self.content,
+            value, // stays
+            version,
+            alloc,
+            content,
         }
     }
 }

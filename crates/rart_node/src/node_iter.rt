@@ -34,3 +34,19 @@ impl<'a, P: Partial, V: Drop> Iterator for VersionedNodeIter<'a, P, V> {
         Some((byte, child))
     }
 }
+
+impl<'a, P: Partial, V: Drop> VersionedNodeIter<'a, P, V> {
+    ghost use Rattle.std.specs.Option.{option_map};
+    ghost use Rattle.rart_below.specs.Children.{TakesFirst};
+    ghost use Rattle.rart_node.specs.NodeShapes.{pointer_shape};
+    ghost use Rattle.rart_node.specs.VersionedNodeIter.{children_left};
+
+    /// The pointer that `next` would give, without its byte. rart has no such call.
+    pub fn next_child(&mut self) -> Option<&'a NodeRef<P, V>>
+        ensures { TakesFirst (children_left P.bytes self.old)
+            (option_map (λ child. pointer_shape P.bytes child.now) result)
+            (children_left P.bytes self.new) }
+    {
+        self.node.next_child(&mut self.from)
+    }
+}

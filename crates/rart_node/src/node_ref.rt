@@ -15,9 +15,16 @@ use std::rc::Rc;
 /// write through one of them changes what that one shows and no other. Nothing can be read through
 /// a pointer without a count in a `Work`.
 #[cycle(node)]
-#[derive(Drop)]
 pub struct NodeRef<P, V> {
     shared: Rc<VersionedNode<P, V>, Global>,
+}
+
+/// Written out, so that a crate that drops a pointer proves nothing of what nodes are made of.
+impl<P: Drop, V: Drop> Drop for NodeRef<P, V> {
+    #[cycle(drop_node)]
+    fn drop(self) {
+        let NodeRef { shared: _ } = self;
+    }
 }
 
 #[tactic(auto, using(crate::proofs::NodeLemmas::seeing))]

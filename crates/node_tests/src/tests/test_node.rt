@@ -2,7 +2,7 @@
 ghost use Rattle.rart_node.specs.NodeShapes.{node_shape};
 ghost use Rattle.rart_node.specs.Shape.{IsAscending};
 
-use crate::tests::{add_leaf, assert_children, leaf, value_of};
+use crate::tests::{add_leaf, assert_children, assert_next_children, leaf, value_of};
 use rart_below::Partial;
 use rart_node::{GrowError, NodeRef, VersionedNode, VersionedNodeIter};
 use std::alloc::{AllocError, Global};
@@ -148,6 +148,7 @@ impl<P: Partial> TestNode<P, u64> {
     /// The same of the children from a byte on.
     pub fn assert_children_from(&self, rt: &impl Abort, least: u8, wanted: &[(u8, u64)]) {
         assert_children(rt, self.node.iter_from(least), wanted);
+        assert_next_children(rt, self.node.iter_from(least), wanted);
     }
 
     pub fn grow(&self, alloc: Global) -> Result<TestNode<P, u64>, GrowError> {

@@ -1,7 +1,7 @@
 use Rattle.std.proofs.Common.{length, ap, sym, arith}
 use Rattle.rart_node.specs.NodeShapes.{node_shape, pointer_shape}
 use Rattle.rart_node.specs.Shape.{children_of}
-use Rattle.rart_node.proofs.ChildrenFromLemmas.{from-next}
+use Rattle.rart_below.proofs.ChildrenFromLemmas.{from-next}
 use Rattle.rart_node.proofs.node_iter.VersionedNodeIterIterator.next.Goals as goal
 
 pub returns-clause-steps : goal.returns-clause-steps

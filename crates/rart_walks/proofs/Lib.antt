@@ -3,6 +3,7 @@ pub mod BeginningLemmas
 pub mod EndLemmas
 pub mod GatherLemmas
 pub mod LastLemmas
+pub mod LeafLemmas
 pub mod PartLemmas
 pub mod PlaceLemmas
 pub mod SkipLemmas

@@ -3,7 +3,7 @@ use Rattle.std.proofs.Common.{◌≡◌, ◌+◌, ℕ, List, [], ◌∷◌, Opti
 use Rattle.std.proofs.lemmas.Option.{none-some}
 use Rattle.rart_below.specs.Children.{child_at, children_from, first_of, IsAscending}
 use Rattle.rart_below.proofs.AscendingLemmas.{walked_on, walked_to}
-use Rattle.rart_node.proofs.ChildrenFromLemmas.{from-next}
+use Rattle.rart_below.proofs.ChildrenFromLemmas.{from-next}
 
 abbrev rest_of : {A : Type 0} → List A → List A
 rest_of [] = []

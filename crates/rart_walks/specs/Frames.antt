@@ -36,6 +36,11 @@ module _ {V : Type 0} where
   AreTrees [] = ⊤
   AreTrees (child ∷ children) = IsTree child.1 × AreTrees children
 
+  -- the nodes, and below them a leaf with this prefix, if there is one
+  abbrev pub with_leaf : List (OpenNode V) → Option (List ℕ) → List (OpenNode V)
+  with_leaf frames None = frames
+  with_leaf frames (Some segment) = frames ++ (segment, []) ∷ []
+
   abbrev pub segments_of : List (OpenNode V) → List (List ℕ)
   segments_of frames = map (λ frame. frame.0) frames
 

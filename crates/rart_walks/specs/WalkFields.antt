@@ -6,7 +6,7 @@ use Rattle.rart_node.specs.VersionedNodeIter.{children_left}
 use Rattle.rart_walks.specs.declared.walk.Frame.{Frame}
 use Rattle.rart_walks.specs.declared.walk.Walk.{Walk}
 use Rattle.rart_walks.specs.Walks.{Position, AreShort}
-use Rattle.rart_walks.specs.Frames.{OpenNode, segments_of, pairs_ahead, TreesAhead, position_of}
+use Rattle.rart_walks.specs.Frames.{OpenNode, segments_of, pairs_ahead, TreesAhead, position_of, with_leaf}
 
 -- `partial` is what is known of prefixes, which the types take for a ghost field
 module _ {P V : Type 0} {partial : _} (bytes : P → List ℕ) where
@@ -15,9 +15,13 @@ module _ {P V : Type 0} {partial : _} (bytes : P → List ℕ) where
   open_nodes frames = map (λ frame. (frame.segment.now, children_left bytes frame.children)) frames
 
   module _ {T : Type 0} where
+    -- the nodes that a walk has open: those with a frame, and the leaf that it stands at
+    abbrev pub nodes_open : Walk P V T partial → List (OpenNode V)
+    nodes_open walk = with_leaf (open_nodes walk.frames.items) (option_copied walk.leaf)
+
     -- where a walk stands, and what it has left
     abbrev pub position : Walk P V T partial → Position V
-    position walk = position_of (open_nodes walk.frames.items) (option_copied walk.pending)
+    position walk = position_of (nodes_open walk) (option_copied walk.pending)
 
     -- the prefixes down to where a walk stands, joined
     abbrev pub path_to : Walk P V T partial → List ℕ
@@ -27,6 +31,6 @@ module _ {P V : Type 0} {partial : _} (bytes : P → List ℕ) where
     -- keeps the way to where the walk stands.
     pub record IsWalk (holds : T → List (List ℕ) → Type 0) (greatest : Option ℕ)
         (walk : Walk P V T partial) : Type 0 where
-      pub holds_way : holds walk.trail (segments_of (open_nodes walk.frames.items))
-      pub trees : TreesAhead (open_nodes walk.frames.items)
-      pub short : AreShort greatest (pairs_ahead (open_nodes walk.frames.items))
+      pub holds_way : holds walk.trail (segments_of (nodes_open walk))
+      pub trees : TreesAhead (nodes_open walk)
+      pub short : AreShort greatest (pairs_ahead (nodes_open walk))

@@ -11,7 +11,7 @@ ghost use Rattle.rart_node.specs.Shape.{IsAscending, prefix_of, value_of, childr
 ghost use Rattle.rart_shape.specs.Trees.{IsTree, pairs_of};
 ghost use Rattle.rart_walks.specs.Walks.{Gives, Steps, AreShort, walk_end, nodes_of, paths_of};
 ghost use Rattle.rart_walks.specs.Frames.{OpenNode, TakesChild, TakesAhead, segments_of, behind_path, under_path};
-ghost use Rattle.rart_walks.specs.WalkFields.{open_nodes, position, path_to, IsWalk};
+ghost use Rattle.rart_walks.specs.WalkFields.{open_nodes, nodes_open, position, path_to, IsWalk};
 
 mod path;
 
@@ -27,7 +27,8 @@ struct Frame<'a, P: Partial, V> {
     children: VersionedNodeIter<'a, P, V>,
 }
 
-/// A walk over a tree, from node to node.
+/// A walk over a tree, from node to node. A leaf that it comes to has no frame: nothing is left
+/// below it.
 ///
 /// Contracts see a walk as the prefixes of the nodes down to the one that it stands at, the pairs
 /// that it has left, and the paths of the nodes that it has left to enter.
@@ -35,6 +36,7 @@ struct Frame<'a, P: Partial, V> {
 pub struct Walk<'a, P: Partial, V, T> {
     trail: T,
     frames: Vec<Frame<'a, P, V>>,
+    leaf: Option<&'a [u8]>,
     pending: Option<&'a V>,
 }
 
@@ -44,11 +46,13 @@ impl<'a, P: Partial, V: Drop, T: Trail<'a>> Walk<'a, P, V, T> {
         ensures walk { IsWalk P.bytes T.holds T.greatest result }
         ensures ended { position P.bytes result ≡ walk_end }
         ensures frames { open_nodes P.bytes result.frames.items ≡ [] }
+        ensures leaf { result.leaf ≡ None }
         ensures pending { result.pending ≡ None }
     {
         Walk {
             trail: T::new(alloc),
             frames: Vec::new(alloc),
+            leaf: None,
             pending: None,
         }
     }
@@ -56,6 +60,7 @@ impl<'a, P: Partial, V: Drop, T: Trail<'a>> Walk<'a, P, V, T> {
     /// Enters a node below the innermost one, whose value and children are all left then.
     fn enter_whole(&mut self, node: &'a VersionedNode<P, V>) -> Result<(), AllocError>
         requires walk { IsWalk P.bytes T.holds T.greatest self.old }
+        requires leaf { self.old.leaf ≡ None }
         requires pending { self.old.pending ≡ None }
         requires tree { IsTree (node_shape P.bytes node.now) }
         requires short { AreShort T.greatest (behind_path
@@ -72,6 +77,7 @@ impl<'a, P: Partial, V: Drop, T: Trail<'a>> Walk<'a, P, V, T> {
             ≡ open_nodes P.bytes self.old.frames.items
             ++ (prefix_of (node_shape P.bytes node.now), children_of (node_shape P.bytes node.now))
             ∷ []) }
+        ensures leaf { self.new.leaf ≡ None }
         ensures pending { OnOk result (option_copied self.new.pending
             ≡ value_of (node_shape P.bytes node.now)) }
     {
@@ -95,6 +101,7 @@ impl<'a, P: Partial, V: Drop, T: Trail<'a>> Walk<'a, P, V, T> {
         ensures frames { OnOk result (open_nodes P.bytes self.new.frames.items
             ≡ open_nodes P.bytes self.old.frames.items
             ++ (segment.now, children_left P.bytes children.entry) ∷ []) }
+        ensures leaf { self.new.leaf ≡ self.old.leaf }
         ensures pending { self.new.pending ≡ self.old.pending }
     {
         enter_for(&mut self.frames, &mut self.trail, segment, children)
@@ -137,7 +144,55 @@ impl<'a, P: Partial, V: Drop, T: Trail<'a>> Walk<'a, P, V, T> {
         ensures ended { position P.bytes self.new ≡ walk_end }
     {
         self.pending = None;
+        self.leave_leaf();
         leave_all(&mut self.frames, &mut self.trail);
+    }
+
+    /// Leaves the leaf that the walk stands at, if it stands at one without a frame.
+    #[inline(always)]
+    fn leave_leaf(&mut self)
+        requires holds { T.holds self.old.trail (segments_of (nodes_open P.bytes self.old)) }
+        ensures holds { T.holds self.new.trail
+            (segments_of (open_nodes P.bytes self.new.frames.items)) }
+        ensures frames { self.new.frames ≡ self.old.frames }
+        ensures leaf { self.new.leaf ≡ None }
+        ensures pending { self.new.pending ≡ self.old.pending }
+    {
+        if let Some(segment) = self.leaf {
+            self.leaf = None;
+            self.trail.pop(segment);
+        }
+    }
+
+    /// Enters a node below the innermost one: a leaf without a frame. Refused for memory, none is
+    /// entered.
+    #[inline(always)]
+    fn enter_next(&mut self, node: &'a VersionedNode<P, V>) -> Result<(), AllocError>
+        requires leaf { self.old.leaf ≡ None }
+        requires order { IsAscending (node_shape P.bytes node.now) }
+        requires holds { T.holds self.old.trail
+            (segments_of (open_nodes P.bytes self.old.frames.items)) }
+        requires short { IsAdmitted T.greatest (length (concat
+            (segments_of (open_nodes P.bytes self.old.frames.items)
+            ++ prefix_of (node_shape P.bytes node.now) ∷ []))) }
+        ensures opened { OnOk result (nodes_open P.bytes self.new
+            ≡ open_nodes P.bytes self.old.frames.items
+            ++ (prefix_of (node_shape P.bytes node.now), children_of (node_shape P.bytes node.now))
+            ∷ []) }
+        ensures holds { OnOk result (T.holds self.new.trail
+            (segments_of (nodes_open P.bytes self.new))) }
+        ensures refused { OnErr result (T.holds self.new.trail
+            (segments_of (open_nodes P.bytes self.new.frames.items)) × (self.new.leaf ≡ None)) }
+        ensures pending { self.new.pending ≡ self.old.pending }
+    {
+        if node.is_leaf() {
+            let segment = node.prefix().as_ref();
+            self.trail.push(segment)?;
+            self.leaf = Some(segment);
+        } else {
+            enter(&mut self.frames, &mut self.trail, node)?;
+        }
+        Ok(())
     }
 
     /// Goes on to the next node, and gives its value: `Some(None)` where it has none. Where the
@@ -145,7 +200,7 @@ impl<'a, P: Partial, V: Drop, T: Trail<'a>> Walk<'a, P, V, T> {
     /// where no node is left.
     ///
     /// Refused for memory, the walk has ended.
-    #[inline]
+    #[inline(always)]
     pub fn next_node(&mut self, work: &mut Work) -> Result<Option<Option<&'a V>>, AllocError>
         requires walk { IsWalk P.bytes T.holds T.greatest self.old }
         ensures walk { IsWalk P.bytes T.holds T.greatest self.new }
@@ -162,11 +217,12 @@ impl<'a, P: Partial, V: Drop, T: Trail<'a>> Walk<'a, P, V, T> {
             self.pending = None;
             return Ok(Some(Some(value)));
         }
+        self.leave_leaf();
         let Some(child) = next_ahead(&mut self.frames, &mut self.trail) else {
             return Ok(None);
         };
         let node = child.open(work);
-        if let Err(refused) = enter(&mut self.frames, &mut self.trail, node) {
+        if let Err(refused) = self.enter_next(node) {
             leave_all(&mut self.frames, &mut self.trail);
             return Err(refused);
         }
@@ -176,7 +232,7 @@ impl<'a, P: Partial, V: Drop, T: Trail<'a>> Walk<'a, P, V, T> {
     /// Gives the next value, or `None` where there is none left.
     ///
     /// Refused for memory, the walk has ended.
-    #[inline]
+    #[inline(always)]
     pub fn next_value(&mut self, work: &mut Work) -> Result<Option<&'a V>, AllocError>
         requires walk { IsWalk P.bytes T.holds T.greatest self.old }
         ensures walk { IsWalk P.bytes T.holds T.greatest self.new }
@@ -199,7 +255,7 @@ impl<'a, P: Partial, V: Drop, T: Trail<'a>> Walk<'a, P, V, T> {
 
 /// The next child of the innermost node that has one left; the nodes that have none are left.
 /// `None` where no open node has one: then none is open.
-#[inline]
+#[inline(always)]
 fn next_ahead<'a, P: Partial, V: Drop, T: Trail<'a>>(
     frames: &mut Vec<Frame<'a, P, V>>,
     trail: &mut T,
@@ -221,7 +277,7 @@ fn next_ahead<'a, P: Partial, V: Drop, T: Trail<'a>>(
 
 /// Takes the next child of the innermost node: `Some(None)` where it has none left, `None` where no
 /// node is open.
-#[inline]
+#[inline(always)]
 fn next_child<'a, P: Partial, V: Drop>(
     frames: &mut Vec<Frame<'a, P, V>>,
 ) -> Option<Option<&'a NodeRef<P, V>>>
@@ -230,10 +286,7 @@ fn next_child<'a, P: Partial, V: Drop>(
         (open_nodes P.bytes frames.new.items) }
 {
     let frame = frames.last_mut()?;
-    match frame.children.next() {
-        Some((_byte, child)) => Some(Some(child)),
-        None => Some(None),
-    }
+    Some(frame.children.next_child())
 }
 
 /// Opens a node below the innermost one. Refused for memory, none is opened.

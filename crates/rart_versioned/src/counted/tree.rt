@@ -12,11 +12,21 @@ use std::marker::Model;
 ///
 /// Contracts see it as a finite map from the keys' bytes, and the number. What a snapshot or a
 /// clone shows is copied where either is changed, so neither sees what the other becomes.
-#[derive(Drop)]
 pub struct VersionedAdaptiveRadixTree<K: KeyTrait, V: Clone> {
     pub(crate) alloc: Global,
     pub(crate) root: Option<NodeRef<K::PartialType, V>>,
     pub(crate) version: u64,
+}
+
+/// Written out, so that a crate that drops a tree proves nothing of the nodes below it.
+impl<K: KeyTrait, V: Clone + Drop> Drop for VersionedAdaptiveRadixTree<K, V> {
+    fn drop(self) {
+        let VersionedAdaptiveRadixTree {
+            alloc: _,
+            root: _,
+            version: _,
+        } = self;
+    }
 }
 
 impl<K: KeyTrait, V: Clone> Model for VersionedAdaptiveRadixTree<K, V> {

@@ -1,12 +1,13 @@
 // Ported from rart 0.11.0 (Apache-2.0), and rewritten.
 //! The pairs of a tree, in the order of their keys: all of them, or those under a prefix.
-ghost use Rattle.std.specs.Prelude.{◌≡◌, [], ◌∷◌, Some, IfSome, IfOk, OnOk};
+ghost use Rattle.std.specs.Prelude.{◌≡◌, [], ◌∷◌, Some, None, Err, IfSome, IfOk, length};
+ghost use Rattle.rart_below.specs.Bytes.{IsAdmitted};
 ghost use Rattle.rart_maps.specs.Pairs.{pairs, under};
 ghost use Rattle.rart_node.specs.NodeShapes.{pointer_shape};
 ghost use Rattle.rart_shape.specs.Trees.{pairs_of};
 ghost use Rattle.rart_versioned.specs.Entries.{HasKeys, pairs_to_come};
-ghost use Rattle.rart_versioned.specs.IteratorFields.{EntryGives, IsKeyWalk};
-ghost use Rattle.rart_walks.specs.WalkFields.{position};
+ghost use Rattle.rart_walks.specs.Trails.{HoldsBytes};
+ghost use Rattle.rart_walks.specs.WalkFields.{path_to, IsWalk};
 
 use crate::counted::VersionedAdaptiveRadixTree;
 use rart_below::{KeyTrait, Partial};
@@ -57,19 +58,35 @@ impl<'a, K: KeyTrait, P: Partial, V: Drop> Iterator for VersionedIter<'a, K, P, 
     ghost remaining = { items_left };
 
     fn next(&mut self) -> Option<Result<(K, &'a V), AllocError>> {
-        match &mut self.entries {
-            None => None,
-            Some(entries) => match next_entry(self.alloc, entries) {
-                Ok(Some(entry)) => Some(Ok(entry)),
+        let Some(entries) = &mut self.entries else {
+            return None;
+        };
+        match entries {
+            Entries::Walk(walk) => match walk.next_value(&mut Work::new()) {
+                Ok(Some(value)) => match key_at(self.alloc, walk) {
+                    Ok(key) => Some(Ok((key, value))),
+                    Err(refused) => refuse(&mut self.entries, refused),
+                },
                 Ok(None) => {
                     self.entries = None;
                     None
                 }
-                Err(refused) => {
-                    self.entries = None;
-                    Some(Err(refused))
-                }
+                Err(refused) => refuse(&mut self.entries, refused),
             },
+            Entries::Entry(bytes, value) => {
+                let value = *value;
+                match K::new_from_slice(self.alloc, *bytes) {
+                    Ok(key) => {
+                        self.entries = Some(Entries::Empty);
+                        Some(Ok((key, value)))
+                    }
+                    Err(refused) => refuse(&mut self.entries, refused),
+                }
+            }
+            Entries::Empty => {
+                self.entries = None;
+                None
+            }
         }
     }
 
@@ -82,42 +99,30 @@ impl<'a, K: KeyTrait, P: Partial, V: Drop> Iterator for VersionedIter<'a, K, P, 
     }
 }
 
-/// The next pair, with a key of its own.
-fn next_entry<'a, K: KeyTrait, P: Partial, V: Drop>(
-    alloc: Global,
-    entries: &mut Entries<'a, P, V>,
-) -> Result<Option<(K, &'a V)>, AllocError>
-    requires { HasKeys P.bytes K.MAXIMUM_SIZE entries.old }
-    ensures keys { OnOk result (HasKeys P.bytes K.MAXIMUM_SIZE entries.new) }
-    ensures gives { IfOk result (λ entry. EntryGives K.bytes (pairs_to_come P.bytes entries.old)
-        entry (pairs_to_come P.bytes entries.new)) }
+/// Ends an iterator, the refusal being its last item.
+#[cold]
+fn refuse<'a, K, P: Partial, V>(
+    entries: &mut Option<Entries<'a, P, V>>,
+    refused: AllocError,
+) -> Option<Result<(K, &'a V), AllocError>>
+    ensures over { entries.new ≡ None }
+    ensures refused { result ≡ Some (Err refused) }
 {
-    match entries {
-        Entries::Empty => Ok(None),
-        Entries::Entry(bytes, value) => {
-            let entry = (K::new_from_slice(alloc, *bytes)?, *value);
-            *entries = Entries::Empty;
-            Ok(Some(entry))
-        }
-        Entries::Walk(walk) => next_walked(alloc, walk),
-    }
+    *entries = None;
+    Some(Err(refused))
 }
 
-/// The next pair of a walk, with a key of its own.
-fn next_walked<'a, K: KeyTrait, P: Partial, V: Drop>(
+/// The key at which a walk stands.
+#[inline(always)]
+fn key_at<'a, K: KeyTrait, P: Partial, V: Drop>(
     alloc: Global,
-    walk: &mut Walk<'a, P, V, KeyTrail>,
-) -> Result<Option<(K, &'a V)>, AllocError>
-    requires { IsKeyWalk P.bytes K.MAXIMUM_SIZE walk.old }
-    ensures walk { OnOk result (IsKeyWalk P.bytes K.MAXIMUM_SIZE walk.new) }
-    ensures gives { IfOk result (λ entry. EntryGives K.bytes (position P.bytes walk.old).pairs entry
-        (position P.bytes walk.new).pairs) }
+    walk: &Walk<'a, P, V, KeyTrail>,
+) -> Result<K, AllocError>
+    requires walk { IsWalk P.bytes HoldsBytes None walk.now }
+    requires admitted { IsAdmitted K.MAXIMUM_SIZE (length (path_to P.bytes walk.now)) }
+    ensures { IfOk result (λ key. K.bytes key ≡ path_to P.bytes walk.now) }
 {
-    let Some(value) = walk.next_value(&mut Work::new())? else {
-        return Ok(None);
-    };
-    let key = K::new_from_slice(alloc, walk.trail().as_slice())?;
-    Ok(Some((key, value)))
+    K::new_from_slice(alloc, walk.trail().as_slice())
 }
 
 /// The pair of a root without children.

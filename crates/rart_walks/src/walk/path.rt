@@ -162,6 +162,7 @@ fn finish<'a, P: Partial, V: Drop, T: Trail<'a>>(
     common: usize,
 ) -> Result<(), AllocError>
     requires walk { IsWalk P.bytes T.holds T.greatest walk.old }
+    requires leaf { walk.old.leaf ≡ None }
     requires pending { walk.old.pending ≡ None }
     requires tree { IsTree (node_shape P.bytes node.now) }
     requires short { AreShort T.greatest (behind_path (concat (position P.bytes walk.old).segments)
@@ -207,6 +208,7 @@ fn enter_end<'a, P: Partial, V: Drop, T: Trail<'a>>(
     is_passed: bool,
 ) -> Result<(), AllocError>
     requires walk { IsWalk P.bytes T.holds T.greatest walk.old }
+    requires leaf { walk.old.leaf ≡ None }
     requires pending { walk.old.pending ≡ None }
     requires tree { IsTree (node_shape P.bytes node.now) }
     requires short { AreShort T.greatest (behind_path (concat (position P.bytes walk.old).segments)

@@ -13,10 +13,10 @@ enter-requires g c =
       (
         ascending s (ordered s c.requires.tree),
         (
-          c.requires.walk.holds_way,
+          rw c.requires.leaf at c.requires.walk.holds_way,
           path-fits
               (open_nodes g.P.Partial.bytes c.args.self.now.frames.items) s g.T.Trail.greatest
-              c.requires.tree c.requires.short,
+              c.requires.tree (rw c.requires.leaf at c.requires.short),
         ),
       ),
     )
@@ -27,21 +27,29 @@ returns-clause-walk g c =
     let s = node_shape g.P.Partial.bytes c.args.node.now in
     let is = c.in_ok-enter.ensures.opened in
     record {
-      holds_way = c.in_ok-enter.ensures.holds;
-      trees = rw is (whole-trees frames s c.requires.tree c.requires.walk.trees);
+      holds_way = rw c.requires.leaf c.in_ok-enter.ensures.holds;
+      trees =
+          rw (c.requires.leaf, is) (whole-trees frames s c.requires.tree
+          (rw c.requires.leaf at c.requires.walk.trees));
       short =
-          rw is (whole-short frames s g.T.Trail.greatest c.requires.short c.requires.walk.short);
+          rw (c.requires.leaf, is) (whole-short frames s g.T.Trail.greatest
+          (rw c.requires.leaf at c.requires.short) (rw c.requires.leaf at c.requires.walk.short));
     }
 
 pub returns-clause-pairs : goal.returns-clause-pairs
 returns-clause-pairs g c =
     let frames = open_nodes g.P.Partial.bytes c.args.self.now.frames.items in
     let s = node_shape g.P.Partial.bytes c.args.node.now in
-    rw (c.in_ok-enter.ensures.opened, c.value-self.ensures, c.requires.pending)
+    rw (
+      c.requires.leaf,
+      c.in_ok-enter.ensures.opened,
+      c.value-self.ensures,
+      c.requires.pending,
+    )
     (sym (whole-pairs frames s))
 
 pub returns-clause-places : goal.returns-clause-places
 returns-clause-places g c =
     let frames = open_nodes g.P.Partial.bytes c.args.self.now.frames.items in
     let s = node_shape g.P.Partial.bytes c.args.node.now in
-    rw c.in_ok-enter.ensures.opened (sym (whole-places frames s))
+    rw (c.requires.leaf, c.in_ok-enter.ensures.opened) (sym (whole-places frames s))

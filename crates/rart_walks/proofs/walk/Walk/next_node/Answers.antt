@@ -1,6 +1,6 @@
-use Rattle.std.proofs.Common.{◌≡◌, ◌+◌, ◌≤◌, ℕ, ◌++◌, ◌∷◌, [], length, inl, inr, refl, arith, sym, ap, subst, ◌∙◌}
+use Rattle.std.proofs.Common.{◌≡◌, ◌+◌, ◌≤◌, ℕ, ◌++◌, ◌∷◌, [], Some, None, length, inl, inr, refl, arith, sym, ap, subst, ◌∙◌}
 use Rattle.std.specs.List.{concat}
-use Rattle.std.specs.Option.{option_map}
+use Rattle.std.specs.Option.{option_map, option_copied}
 use Rattle.std.proofs.lemmas.List.{append-nil}
 use Rattle.rart_node.specs.Counts.{Counts, CountsUpTo}
 use Rattle.rart_node.specs.NodeShapes.{node_shape, pointer_shape}
@@ -8,7 +8,8 @@ use Rattle.rart_node.specs.Shape.{prefix_of, children_of, value_of}
 use Rattle.rart_shape.proofs.FindLemmas.{ascending, ordered}
 use Rattle.rart_walks.specs.Frames.{segments_of, pairs_ahead, paths_ahead}
 use Rattle.rart_walks.specs.Walks.{GoesOnFirst, pending_pair}
-use Rattle.rart_walks.specs.WalkFields.{open_nodes}
+use Rattle.rart_walks.specs.WalkFields.{open_nodes, nodes_open}
+use Rattle.rart_walks.proofs.LeafLemmas.{takes-above}
 use Rattle.rart_walks.proofs.WalkLemmas.{took-none, taken-tree, taken-fits, inner-pairs, inner-places, inner-first, inner-trees, inner-short}
 use Rattle.rart_walks.proofs.walk.Walk.next_node.Goals as goal
 
@@ -27,7 +28,7 @@ one-entered left start after some opens =
 
 pub returns-in-Some-clause-steps : goal.returns-in-Some-clause-steps
 returns-in-Some-clause-steps g c =
-    let frames = open_nodes g.P.Partial.bytes c.args.self.now.frames.items in
+    let frames = nodes_open g.P.Partial.bytes c.args.self.now in
     let path = concat (segments_of frames) in
     let given : pending_pair path (option_map (λ value. value.now) c.args.self.now.pending)
     ++ pairs_ahead frames ≡ (path, c.in-Some.value.now) ∷ pairs_ahead frames =
@@ -47,32 +48,50 @@ returns-in-Some-clause-steps g c =
 
 pub returns-in_default-next_ahead-clause-steps : goal.returns-in_default-next_ahead-clause-steps
 returns-in_default-next_ahead-clause-steps g c =
-    let none =
-    took-none _ _ c.in_default-next_ahead.ensures.takes in
-    let ended = c.in_default-next_ahead.ensures.takes.1 in
-    rw (c.in_default.is, ended) (none.0, none.1, refl)
+    let bytes = g.P.Partial.bytes in
+    let takes =
+    takes-above (open_nodes bytes c.args.self.now.frames.items)
+    (option_copied c.args.self.now.leaf) None
+    (open_nodes bytes c.next_ahead.new.frames.items)
+    (rw c.leave_leaf.ensures.frames at c.in_default-next_ahead.ensures.takes) in
+    let none = took-none _ _ takes in
+    rw (c.leave_leaf.ensures.leaf, c.leave_leaf.ensures.pending, c.in_default.is, takes.1)
+    (none.0, none.1, refl)
 
 pub returns-in_default-next_ahead-clause-entered : goal.returns-in_default-next_ahead-clause-entered
 returns-in_default-next_ahead-clause-entered g c =
-    let none = ap length (took-none _ _ c.in_default-next_ahead.ensures.takes).1 in
-    let ended = ap (λ frames. length (paths_ahead frames))
-    c.in_default-next_ahead.ensures.takes.1 in
-    omega (arith, none, ended)
+    let bytes = g.P.Partial.bytes in
+    let takes =
+    takes-above (open_nodes bytes c.args.self.now.frames.items)
+    (option_copied c.args.self.now.leaf) None
+    (open_nodes bytes c.next_ahead.new.frames.items)
+    (rw c.leave_leaf.ensures.frames at c.in_default-next_ahead.ensures.takes) in
+    let none = ap length (took-none _ _ takes).1 in
+    let ended = ap (λ frames. length (paths_ahead frames)) takes.1 in
+    rw c.leave_leaf.ensures.leaf (omega (arith, none, ended))
 
-pub enter-requires : goal.enter-requires
-enter-requires g c κs =
+pub enter_next-requires : goal.enter_next-requires
+enter_next-requires g c =
     let bytes = g.P.Partial.bytes in
     let s = pointer_shape bytes c.in-Some-next_ahead.child.now in
     let same : node_shape bytes c.open-node.result.now ≡ s = c.open-node.ensures.shown in
-    let takes = c.in-Some-next_ahead.ensures.takes in
+    let takes =
+    takes-above (open_nodes bytes c.args.self.now.frames.items)
+    (option_copied c.args.self.now.leaf) (Some s)
+    (open_nodes bytes c.next_ahead.new.frames.items)
+    (rw c.leave_leaf.ensures.frames at c.in-Some-next_ahead.ensures.takes) in
     let walk = c.requires.walk in
-    let tree = taken-tree _ _ s _ takes walk.trees walk.short in (
+    let tree = taken-tree _ _ s _ takes walk.trees walk.short in
+    λ _. (
       (refl, tt),
       (
-        rw same (ascending s (ordered s tree)),
+        c.leave_leaf.ensures.leaf,
         (
-          c.next_ahead.ensures.holds,
-          rw same (taken-fits _ _ s _ takes walk.trees walk.short),
+          rw same (ascending s (ordered s tree)),
+          (
+            c.next_ahead.ensures.holds,
+            rw same (taken-fits _ _ s _ takes walk.trees walk.short),
+          ),
         ),
       ),
     )
@@ -81,7 +100,11 @@ pub returns-in-Err-clause-counted : goal.returns-in-Err-clause-counted
 returns-in-Err-clause-counted g c =
     let bytes = g.P.Partial.bytes in
     let s = pointer_shape bytes c.in-Some-next_ahead.child.now in
-    let takes = c.in-Some-next_ahead.ensures.takes in
+    let takes =
+    takes-above (open_nodes bytes c.args.self.now.frames.items)
+    (option_copied c.args.self.now.leaf) (Some s)
+    (open_nodes bytes c.next_ahead.new.frames.items)
+    (rw c.leave_leaf.ensures.frames at c.in-Some-next_ahead.ensures.takes) in
     let walk = c.requires.walk in
     let places = ap length (inner-places _ _ s _ takes walk.trees walk.short _ refl) in
     one-entered _ c.args.work.now c.open-node.new.work (omega (arith, places))
@@ -92,13 +115,17 @@ returns-clause-walk g c =
     let bytes = g.P.Partial.bytes in
     let s = pointer_shape bytes c.in-Some-next_ahead.child.now in
     let same : node_shape bytes c.open-node.result.now ≡ s = c.open-node.ensures.shown in
-    let takes = c.in-Some-next_ahead.ensures.takes in
+    let takes =
+    takes-above (open_nodes bytes c.args.self.now.frames.items)
+    (option_copied c.args.self.now.leaf) (Some s)
+    (open_nodes bytes c.next_ahead.new.frames.items)
+    (rw c.leave_leaf.ensures.frames at c.in-Some-next_ahead.ensures.takes) in
     let walk = c.requires.walk in
-    let opened = c.in_default-enter.ensures.opened
+    let opened = c.in_default-enter_next.ensures.opened
     ∙ ap (λ z. open_nodes bytes c.next_ahead.new.frames.items ++ (prefix_of z, children_of z) ∷ [])
     same in
     record {
-      holds_way = c.in_default-enter.ensures.holds;
+      holds_way = c.in_default-enter_next.ensures.holds;
       trees = inner-trees _ _ s _ takes walk.trees walk.short _ opened;
       short = inner-short _ _ s _ takes walk.trees walk.short _ opened;
     }
@@ -106,14 +133,18 @@ returns-clause-walk g c =
 pub returns-clause-steps : goal.returns-clause-steps
 returns-clause-steps g c =
     let bytes = g.P.Partial.bytes in
-    let frames = open_nodes bytes c.args.self.now.frames.items in
-    let inner = open_nodes bytes c.enter.new.frames.items in
+    let frames = nodes_open bytes c.args.self.now in
+    let inner = nodes_open bytes c.enter_next.new.self in
     let path = concat (segments_of inner) in
     let s = pointer_shape bytes c.in-Some-next_ahead.child.now in
     let same : node_shape bytes c.open-node.result.now ≡ s = c.open-node.ensures.shown in
-    let takes = c.in-Some-next_ahead.ensures.takes in
+    let takes =
+    takes-above (open_nodes bytes c.args.self.now.frames.items)
+    (option_copied c.args.self.now.leaf) (Some s)
+    (open_nodes bytes c.next_ahead.new.frames.items)
+    (rw c.leave_leaf.ensures.frames at c.in-Some-next_ahead.ensures.takes) in
     let walk = c.requires.walk in
-    let opened = c.in_default-enter.ensures.opened
+    let opened = c.in_default-enter_next.ensures.opened
     ∙ ap (λ z. open_nodes bytes c.next_ahead.new.frames.items ++ (prefix_of z, children_of z) ∷ [])
     same in
     let none : pending_pair (concat (segments_of frames))
@@ -121,10 +152,11 @@ returns-clause-steps g c =
     ≡ pairs_ahead frames =
     ap (λ pending. pending_pair (concat (segments_of frames))
     (option_map (λ value. value.now) pending) ++ pairs_ahead frames) c.in_default.is in
-    let after : pending_pair path (option_map (λ value. value.now) c.args.self.now.pending)
+    let after : pending_pair path (option_map (λ value. value.now) c.enter_next.new.self.pending)
     ++ pairs_ahead inner ≡ pairs_ahead inner =
     ap (λ pending. pending_pair path (option_map (λ value. value.now) pending)
-    ++ pairs_ahead inner) c.in_default.is in
+    ++ pairs_ahead inner)
+    (c.enter_next.ensures.pending ∙ c.leave_leaf.ensures.pending ∙ c.in_default.is) in
     let own : value_of s ≡ option_map (λ value. value.now) c.value.result =
     sym (c.value.ensures ∙ ap value_of same) in
     record {
@@ -140,9 +172,13 @@ returns-clause-entered g c =
     let bytes = g.P.Partial.bytes in
     let s = pointer_shape bytes c.in-Some-next_ahead.child.now in
     let same : node_shape bytes c.open-node.result.now ≡ s = c.open-node.ensures.shown in
-    let takes = c.in-Some-next_ahead.ensures.takes in
+    let takes =
+    takes-above (open_nodes bytes c.args.self.now.frames.items)
+    (option_copied c.args.self.now.leaf) (Some s)
+    (open_nodes bytes c.next_ahead.new.frames.items)
+    (rw c.leave_leaf.ensures.frames at c.in-Some-next_ahead.ensures.takes) in
     let walk = c.requires.walk in
-    let opened = c.in_default-enter.ensures.opened
+    let opened = c.in_default-enter_next.ensures.opened
     ∙ ap (λ z. open_nodes bytes c.next_ahead.new.frames.items ++ (prefix_of z, children_of z) ∷ [])
     same in
     let places = ap length (inner-places _ _ s _ takes walk.trees walk.short _ opened) in
@@ -151,8 +187,13 @@ returns-clause-entered g c =
 
 pub returns-clause-counted : goal.returns-clause-counted
 returns-clause-counted g c =
-    let s = pointer_shape g.P.Partial.bytes c.in-Some-next_ahead.child.now in
-    let takes = c.in-Some-next_ahead.ensures.takes in
+    let bytes = g.P.Partial.bytes in
+    let s = pointer_shape bytes c.in-Some-next_ahead.child.now in
+    let takes =
+    takes-above (open_nodes bytes c.args.self.now.frames.items)
+    (option_copied c.args.self.now.leaf) (Some s)
+    (open_nodes bytes c.next_ahead.new.frames.items)
+    (rw c.leave_leaf.ensures.frames at c.in-Some-next_ahead.ensures.takes) in
     let walk = c.requires.walk in
     let places = ap length (inner-places _ _ s _ takes walk.trees walk.short _ refl) in
     one-entered _ c.args.work.now c.open-node.new.work (omega (arith, places))

@@ -17,14 +17,18 @@ enter_whole-requires g c =
       (
         c.new-walk.ensures.walk,
         (
-          c.new-walk.ensures.pending,
+          c.new-walk.ensures.leaf,
           (
-            rw c.open.ensures.shown c.requires.tree,
-            rw (
-              c.open.ensures.shown,
-              c.new-walk.ensures.frames,
-              behind-none (pairs_of s),
-            ) c.requires.short,
+            c.new-walk.ensures.pending,
+            (
+              rw c.open.ensures.shown c.requires.tree,
+              rw (
+                c.open.ensures.shown,
+                c.new-walk.ensures.leaf,
+                c.new-walk.ensures.frames,
+                behind-none (pairs_of s),
+              ) c.requires.short,
+            ),
           ),
         ),
       ),

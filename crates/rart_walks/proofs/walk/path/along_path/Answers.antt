@@ -17,12 +17,13 @@ pub down-init : goal.down-init
 down-init g c =
     let root = pointer_shape g.P.Partial.bytes c.args.root.now in
     record {
-      holds_way = c.new-walk.ensures.walk.holds_way;
+      holds_way = rw c.new-walk.ensures.leaf at c.new-walk.ensures.walk.holds_way;
       way =
           subst (λ f. IsOnWay c.args.part g.T.Trail.greatest c.args.probe.now root c.args.work.now
           root c.args.probe.now f c.args.work.now) (sym c.new-walk.ensures.frames)
           (way-start c.args.part g.T.Trail.greatest c.args.probe.now root c.args.work.now
           c.requires.tree c.requires.short);
+      leaf = c.new-walk.ensures.leaf;
       none = c.new-walk.ensures.pending;
     }
 
@@ -42,7 +43,8 @@ returns-then-common-rest-clause-pairs g c =
     let o = node_shape bytes c.open-node.result.now in
     let same : o ≡ s = c.open-node.ensures.shown in
     let kept = way-kept _ _ _ _ _ _ _ _ _ c.down.invariant.way in
-    (rw (c.down.invariant.none, same) at c.in_ok-finish.ensures.pairs) ∙ sym kept
+    (rw (c.down.invariant.leaf, c.down.invariant.none, same) at c.in_ok-finish.ensures.pairs)
+    ∙ sym kept
 
 pub returns-then-common-rest-clause-places : goal.returns-then-common-rest-clause-places
 returns-then-common-rest-clause-places g c =
@@ -50,7 +52,8 @@ returns-then-common-rest-clause-places g c =
     let o = node_shape bytes c.open-node.result.now in
     let same : o ≡ pointer_shape bytes c.down.at.now = c.open-node.ensures.shown in
     let whole = way-placed _ _ _ _ _ _ _ _ _ c.down.invariant.way in
-    subst (IsEndOf _) (sym whole) (rw same at c.in_ok-finish.ensures.places)
+    subst (IsEndOf _) (sym whole)
+    (rw (c.down.invariant.leaf, same) at c.in_ok-finish.ensures.places)
 
 pub returns-then-common-rest-clause-counted : goal.returns-then-common-rest-clause-counted
 returns-then-common-rest-clause-counted g c =
@@ -132,16 +135,17 @@ returns-in-None-clause-walk g c =
     (children_of o)) []) c.goes_on.ensures in
     let inner = open_nodes bytes c.enter_part.new.self.frames.items in
     let segment = c.as_ref.ensures ∙ c.prefix-in-down.ensures in
+    let none = c.in_ok-enter_part.ensures.leaf ∙ c.down.invariant.leaf in
     record {
-      holds_way = c.in_ok-enter_part.ensures.holds;
+      holds_way = rw none c.in_ok-enter_part.ensures.holds;
       trees =
-          step-trees _ _ _ _ _ _ _ _ _ c.down.invariant.way o c.open-node.new.work
+          rw none (step-trees _ _ _ _ _ _ _ _ _ c.down.invariant.way o c.open-node.new.work
           c.open-node.ensures.work same _ _ goes inner _ _ c.in_ok-enter_part.ensures.frames segment
-          leaves;
+          leaves);
       short =
-          step-short _ _ _ _ _ _ _ _ _ c.down.invariant.way o c.open-node.new.work
+          rw none (step-short _ _ _ _ _ _ _ _ _ c.down.invariant.way o c.open-node.new.work
           c.open-node.ensures.work same _ _ goes inner _ _ c.in_ok-enter_part.ensures.frames segment
-          leaves;
+          leaves);
     }
 
 pub returns-in-None-clause-pairs : goal.returns-in-None-clause-pairs
@@ -171,7 +175,12 @@ returns-in-None-clause-pairs g c =
     step-missing _ _ _ _ _ _ _ _ _ c.down.invariant.way o c.open-node.new.work
     c.open-node.ensures.work same _ _ goes inner _ _ c.in_ok-enter_part.ensures.frames segment
     leaves c.in-None.ensures in
-    rw (c.in_ok-enter_part.ensures.pending, c.down.invariant.none) (sym missing.0)
+    rw (
+      c.in_ok-enter_part.ensures.leaf,
+      c.down.invariant.leaf,
+      c.in_ok-enter_part.ensures.pending,
+      c.down.invariant.none,
+    ) (sym missing.0)
 
 pub returns-in-None-clause-places : goal.returns-in-None-clause-places
 returns-in-None-clause-places g c =
@@ -196,9 +205,10 @@ returns-in-None-clause-places g c =
     (children_of o)) []) c.goes_on.ensures in
     let inner = open_nodes bytes c.enter_part.new.self.frames.items in
     let segment = c.as_ref.ensures ∙ c.prefix-in-down.ensures in
-    inl (step-missing _ _ _ _ _ _ _ _ _ c.down.invariant.way o c.open-node.new.work
+    rw (c.in_ok-enter_part.ensures.leaf, c.down.invariant.leaf)
+    (inl (step-missing _ _ _ _ _ _ _ _ _ c.down.invariant.way o c.open-node.new.work
     c.open-node.ensures.work same _ _ goes inner _ _ c.in_ok-enter_part.ensures.frames segment
-    leaves c.in-None.ensures).1
+    leaves c.in-None.ensures).1)
 
 pub returns-in-None-clause-counted : goal.returns-in-None-clause-counted
 returns-in-None-clause-counted g c =
@@ -257,5 +267,6 @@ down-preserved g c =
           step-child _ _ _ _ _ _ _ _ _ c.down.invariant.way o c.open-node.new.work
           c.open-node.ensures.work same _ _ goes inner _ _ c.in_ok-enter_part.ensures.frames segment
           leaves (pointer_shape bytes c.in-Some.child.now) c.in-Some.ensures;
+      leaf = c.in_ok-enter_part.ensures.leaf ∙ c.down.invariant.leaf;
       none = c.in_ok-enter_part.ensures.pending ∙ c.down.invariant.none;
     }

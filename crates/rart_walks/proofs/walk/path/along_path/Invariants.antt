@@ -14,6 +14,7 @@ invariant-down g l = record {
       (pointer_shape g.P.Partial.bytes l.fn.root) l.fn.work
       (pointer_shape g.P.Partial.bytes l.at) l.rest
       (open_nodes g.P.Partial.bytes l.walk.frames.items) l.work;
+  leaf : l.walk.leaf ≡ None;
   none : l.walk.pending ≡ None;
 }
 

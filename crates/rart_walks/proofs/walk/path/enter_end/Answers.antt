@@ -12,7 +12,13 @@ returns-then-is_passed-clause-pairs g c =
     let frames = open_nodes g.P.Partial.bytes c.args.walk.now.frames.items in
     let s = node_shape g.P.Partial.bytes c.args.node.now in
     let path = concat (segments_of frames) in
-    rw (c.if-is_passed.true, c.requires.pending, c.in_ok-enter_whole.ensures.frames)
+    rw (
+      c.if-is_passed.true,
+      c.requires.leaf,
+      c.requires.pending,
+      c.in_ok-enter_whole.ensures.leaf,
+      c.in_ok-enter_whole.ensures.frames,
+    )
     (ahead-push frames (prefix_of s, children_of s)
     ∙ ap (λ z. z ++ pairs_ahead frames)
     (sym (behind-behind path (prefix_of s) (pairs_of_all (children_of s)))))

@@ -134,6 +134,15 @@ module _ {V : Type 0} where
           omega (arith, parts, most, same),
     )
 
+  -- The next pair was opened, and no node below it entered.
+  pub enters-past : (s t : Shape V) (all rest : List (ℕ × (Shape V × Shape V))) (byte : ℕ)
+      (x y : Shape V) (before now opened : Counts)
+      → EntersUpTo s t all ((byte, (x, y)) ∷ rest) before now → IsArm s byte x → IsArm t byte y
+      → CountsUpTo 2 0 now opened → EntersUpTo s t all rest before opened
+  enters-past s t all rest byte x y before now opened so_far left right two =
+      enters-next s t all rest byte x y before now opened opened so_far left right two
+      (enters-none x y left.tree right.tree opened)
+
   -- From the roots, with both opened.
   pub enters-roots : (s t : Shape V) (before opened after : Counts)
       → opened.entered ≡ before.entered + 2 → opened.made ≡ before.made

@@ -3,6 +3,7 @@ pub mod BranchLemmas
 pub mod ChildLemmas
 pub mod CommonLemmas
 pub mod EnterLemmas
+pub mod LeafLemmas
 pub mod LockstepLemmas
 pub mod MeetingLemmas
 pub mod SharedLemmas

@@ -1,5 +1,5 @@
 -- A step of the way down two trees, as its calls know it.
-use Rattle.std.proofs.Common.{◌≡◌, ◌≢◌, ◌<◌, ◌≤◌, ◌+◌, ◌⊎◌, ℕ, suc, Bool, true, false, cond, inl, inr, ⊎_elim, List, [], ◌∷◌, ◌++◌, Option, Some, None, length, take, drop, refl, sym, ap, subst, ◌∙◌, arith}
+use Rattle.std.proofs.Common.{◌≡◌, ◌≢◌, ◌<◌, ◌≤◌, ◌⊎◌, ℕ, suc, Bool, true, false, cond, inl, inr, ⊎_elim, List, [], ◌∷◌, ◌++◌, Option, Some, None, length, take, drop, refl, sym, ap, subst, ◌∙◌, arith}
 use Rattle.std.specs.Prelude.{◌==◌}
 use Rattle.std.specs.List.{cons_option}
 use Rattle.std.specs.Option.{option_map}
@@ -64,7 +64,7 @@ module _ {V : Type 0} where
   behind-none (node prefix value width forest) = refl
 
   -- ---- what is in common
-  own-none : (path : List ℕ) (value : Option V) → own_entry path value None ≡ []
+  pub own-none : (path : List ℕ) (value : Option V) → own_entry path value None ≡ []
   own-none path None = refl
   own-none path (Some value) = refl
 
@@ -81,7 +81,7 @@ module _ {V : Type 0} where
   all-other byte s (Some other) = append-nil (commons s other)
 
   -- Of two nodes of which one has ended: the entry here, and what is in common further down.
-  commons-arms : (s t : Shape V) → IsTree s → (prefix_of s ≡ []) ⊎ (prefix_of t ≡ [])
+  pub commons-arms : (s t : Shape V) → IsTree s → (prefix_of s ≡ []) ⊎ (prefix_of t ≡ [])
       → commons s t ≡ own_entry [] (value_here s) (value_here t)
       ++ commons_of_all (common_children (arms s) (arms t))
   commons-arms (node [] value width forest) (node [] other w below) tree ends =
@@ -124,7 +124,7 @@ module _ {V : Type 0} where
         subst (λ n. prefix_of t ≡ take n (prefix_of s) ++ drop n (prefix_of t)) (sym is)
         (split-common (prefix_of s) (prefix_of t))
 
-    commons-step : commons s t ≡ behind_key (take count (prefix_of s))
+    pub commons-step : commons s t ≡ behind_key (take count (prefix_of s))
         (commons (behind_bytes count s) (behind_bytes count t))
     commons-step =
         commons-matched s t (take count (prefix_of s)) (drop count (prefix_of s))

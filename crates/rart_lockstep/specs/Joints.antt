@@ -1,5 +1,5 @@
 -- Two nodes side by side: what their prefixes have in common.
-use Rattle.std.specs.Prelude.{◌≡◌, ◌<◌, ◌⊎◌, ℕ, length, Option, Some, None}
+use Rattle.std.specs.Prelude.{◌≡◌, ◌≢◌, ◌<◌, ◌⊎◌, ℕ, length, Option, Some, None}
 use Rattle.rart_below.specs.Bytes.{common_length}
 use Rattle.rart_node.specs.Shape.{Shape, prefix_of}
 
@@ -13,3 +13,9 @@ module _ {V : Type 0} where
   CommonBytes left right (Some count) =
       (count ≡ common_length (prefix_of left) (prefix_of right))
       × ((count ≡ length (prefix_of left)) ⊎ (count ≡ length (prefix_of right)))
+
+  -- So many bytes are what is left of both prefixes, which are the same; or they are not.
+  abbrev pub SameBytes : Shape V → Shape V → Option ℕ → Type 0
+  SameBytes left right None = prefix_of left ≢ prefix_of right
+  SameBytes left right (Some count) =
+      (prefix_of left ≡ prefix_of right) × (count ≡ length (prefix_of left))

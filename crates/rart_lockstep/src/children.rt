@@ -3,24 +3,27 @@
 ghost use Rattle.std.specs.Prelude.{◌≡◌};
 ghost use Rattle.std.specs.Option.{option_map};
 ghost use Rattle.rart_node.specs.NodeShapes.{node_shape};
-ghost use Rattle.rart_node.specs.Shape.{IsAscending};
+ghost use Rattle.rart_node.specs.Shape.{IsAscending, children_of};
+ghost use Rattle.rart_lockstep.specs.Children.{HaveBoth};
 
-use rart_below::Partial;
-use rart_node::{NodeRef, VersionedNode, VersionedNodeIter};
+use rart_below::{ByteSet, Partial};
+use rart_node::{NodeRef, VersionedNode};
 
-/// The children of two nodes under the same bytes, two at a time, in the order of these. The node
-/// with fewer children leads, and the other is asked for each of its bytes.
+/// The children of two nodes under the same bytes, two at a time, in the order of these: those whose
+/// bytes are in the set are left.
 #[derive(Drop)]
 pub(crate) struct CommonChildren<'a, P: Partial, V> {
-    leading: VersionedNodeIter<'a, P, V>,
-    other: &'a VersionedNode<P, V>,
-    right_leads: bool,
-    ghost order: { IsAscending (node_shape P.bytes other.now) },
+    left: &'a VersionedNode<P, V>,
+    right: &'a VersionedNode<P, V>,
+    bytes: ByteSet,
+    ghost left_order: { IsAscending (node_shape P.bytes left.now) },
+    ghost right_order: { IsAscending (node_shape P.bytes right.now) },
+    ghost both: { HaveBoth bytes (children_of (node_shape P.bytes left.now))
+        (children_of (node_shape P.bytes right.now)) },
 }
 
 impl<'a, P: Partial, V: Drop> CommonChildren<'a, P, V> {
     ghost use Rattle.rart_node.specs.NodeShapes.{pointer_shape};
-    ghost use Rattle.rart_node.specs.Shape.{children_of};
     ghost use Rattle.rart_lockstep.specs.ChildFields.{pairs_left};
     ghost use Rattle.rart_lockstep.specs.Children.{TakesPair, common_children};
 
@@ -34,17 +37,10 @@ impl<'a, P: Partial, V: Drop> CommonChildren<'a, P, V> {
             ≡ common_children (children_of (node_shape P.bytes left.now))
             (children_of (node_shape P.bytes right.now)) }
     {
-        if right.num_children() < left.num_children() {
-            return CommonChildren {
-                leading: right.iter(),
-                other: left,
-                right_leads: true,
-            };
-        }
         CommonChildren {
-            leading: left.iter(),
-            other: right,
-            right_leads: false,
+            left,
+            right,
+            bytes: left.bytes().common(&right.bytes()),
         }
     }
 
@@ -57,15 +53,9 @@ impl<'a, P: Partial, V: Drop> CommonChildren<'a, P, V> {
             )) result)
             (pairs_left P.bytes self.new) }
     {
-        'seeking: while let Some((byte, child)) = self.leading.next() {
-            if let Some(other) = self.other.seek_child(byte) {
-                return Some(if self.right_leads {
-                    (other, child)
-                } else {
-                    (child, other)
-                });
-            }
-        }
-        None
+        let byte = self.bytes.take_first()?;
+        let left = self.left.seek_child(byte)?;
+        let right = self.right.seek_child(byte)?;
+        Some((left, right))
     }
 }

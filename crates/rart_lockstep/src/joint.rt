@@ -5,9 +5,9 @@ ghost use Rattle.std.specs.Option.{option_map};
 ghost use Rattle.std.specs.List.{concat};
 ghost use Rattle.rart_below.specs.Bytes.{common_length, IsAdmitted};
 ghost use Rattle.rart_node.specs.Counts.{CountsUpTo};
-ghost use Rattle.rart_node.specs.Shape.{Shape, IsAscending, prefix_of};
+ghost use Rattle.rart_node.specs.Shape.{Shape, IsAscending, children_of, prefix_of};
 ghost use Rattle.rart_lockstep.specs.Children.{TakesPair, common_children};
-ghost use Rattle.rart_lockstep.specs.Joints.{CommonBytes};
+ghost use Rattle.rart_lockstep.specs.Joints.{CommonBytes, SameBytes};
 ghost use Rattle.rart_lockstep.specs.Sides.{behind_bytes, arms};
 
 use rart_node::Work;
@@ -35,6 +35,21 @@ pub(crate) trait Joint<V, T>: Drop {
     ghost greatest: { Option ℕ };
 
     ghost can_refuse: { Bool };
+
+    /// Whether both go on for two bytes at least, and with another second byte. Two next steps have
+    /// the same first byte, so the second is where most that have nothing in common differ.
+    fn parts_early(&self) -> bool
+        ensures { IsTrue result → CommonBytes (left self.now) (right self.now) None };
+
+    /// Whether both are leaves, which have no children.
+    fn are_leaves(&self) -> bool
+        ensures left { IsTrue result → children_of (left self.now) ≡ [] }
+        ensures right { IsTrue result → children_of (right self.now) ≡ [] };
+
+    /// How many bytes are left of either prefix, if the same are left of both.
+    fn same(&self) -> Option<usize>
+        requires whole { HasWhole self.now }
+        ensures { SameBytes (left self.now) (right self.now) result };
 
     /// How many bytes both have in common, or `None` where neither ends behind them.
     fn common(&self) -> Option<usize>

@@ -11,6 +11,7 @@ mod children;
 mod count;
 mod joint;
 mod keys;
+mod leaves;
 mod lockstep;
 mod meeting;
 mod side;

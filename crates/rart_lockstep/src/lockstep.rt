@@ -5,6 +5,7 @@ ghost use Rattle.rart_shape.specs.Trees.{IsTree};
 ghost use Rattle.rart_lockstep.specs.Meetings.{MayMeet, HaveMet};
 ghost use Rattle.rart_lockstep.specs.Steps.{EntersBelow};
 
+use crate::leaves::meet_leaves;
 use crate::meeting::Meeting;
 use rart_node::Work;
 use std::alloc::AllocError;
@@ -37,6 +38,13 @@ pub(crate) fn meet_below<V, T, F, J: Meeting<V, T, F>>(
     next.meet(trail, f)?;
     let mut branches = next.branches();
     'branches: while let Some(below) = J::next(&mut branches, work) {
+        if below.parts_early() {
+            continue;
+        }
+        if below.are_leaves() {
+            meet_leaves(below, trail, f)?;
+            continue;
+        }
         meet_below(below, trail, f, work)?;
     }
     at.pop(common, trail);

@@ -71,6 +71,28 @@ impl<'a, P: Partial, V: Drop, T: Trail<'a>> Joint<V, T> for Sides<'a, P, V> {
 
     ghost can_refuse = { T.can_refuse };
 
+    #[inline]
+    fn parts_early(&self) -> bool {
+        let left = self.left.rest();
+        let right = self.right.rest();
+        1 < left.len() && 1 < right.len() && left[1] != right[1]
+    }
+
+    #[inline]
+    fn are_leaves(&self) -> bool {
+        self.left.node.is_leaf() && self.right.node.is_leaf()
+    }
+
+    #[inline]
+    fn same(&self) -> Option<usize> {
+        let len = self.left.rest().len();
+        if self.right.rest().len() == len && self.left.common_with(&self.right) == len {
+            Some(len)
+        } else {
+            None
+        }
+    }
+
     fn common(&self) -> Option<usize> {
         let common = self.left.common_with(&self.right);
         if !self.left.is_longer(common) {

@@ -6,7 +6,7 @@ use Rattle.rart_node.specs.Shape.{IsAscending, prefix_of}
 use Rattle.rart_lockstep.specs.Children.{common_children}
 use Rattle.rart_lockstep.specs.Entries.{entry_here}
 use Rattle.rart_lockstep.specs.Sides.{behind_bytes, arms}
-use Rattle.rart_lockstep.proofs.EnterLemmas.{EntersUpTo, enters-none, enters-start, enters-next, enters-end}
+use Rattle.rart_lockstep.proofs.EnterLemmas.{EntersUpTo, enters-none, enters-start, enters-next, enters-past, enters-end}
 use Rattle.rart_lockstep.proofs.LockstepLemmas.{IsMeeting, here-visitable, here-refused, meeting-start, next-may, meeting-next, meeting-refused, visits-apart, push-admits, step-lower, enters-still, tree-ascending}
 use Rattle.rart_lockstep.proofs.MeetingLemmas.{have-refused}
 use Rattle.rart_lockstep.proofs.StepLemmas.{count-left, count-right, one-ends, tree-with}
@@ -152,6 +152,125 @@ branches-init g t c =
           (enters-start x y (common_children (arms x) (arms y)) c.args.work.now);
       common = c.in-Some.ensures;
     }
+
+pub branches-preserved-then-parts_early : goal.branches-preserved-then-parts_early
+branches-preserved-then-parts_early g t c =
+    let s = g.J.Joint.left c.args.at in
+    let t = g.J.Joint.right c.args.at in
+    let calls = g.J.Meeting.calls in
+    let Shows = g.J.Meeting.Shows in
+    let holds = g.J.Joint.holds in
+    let count = c.in-Some.common in
+    let x = g.J.Joint.left c.in-Some-next.below in
+    let y = g.J.Joint.right c.in-Some-next.below in
+    let rest = g.J.Joint.branches_left c.next.new.branches in
+    let takes = c.in-Some-next.ensures.takes in
+    let here = subst (λ left. IsMeeting calls Shows holds s t count c.args.trail.now c.args.f.now
+    left c.branches.trail c.branches.f) takes.1 c.branches.invariant.meeting in
+    let all = common_children (arms (behind_bytes count s)) (arms (behind_bytes count t)) in
+    let so_far = subst (λ left. EntersUpTo (behind_bytes count s) (behind_bytes count t) all left
+    c.args.work.now c.branches.work) takes.1 c.branches.invariant.entered in
+    let apart = c.parts_early.ensures c.if-parts_early.true in
+    record {
+      meeting = meeting-next calls Shows holds s t count c.in-Some.ensures c.requires.left
+          c.requires.right c.args.trail.now c.branches.trail c.branches.trail c.args.f.now
+          c.branches.f c.branches.f takes.0 x y rest here
+          (λ segments held. (visits-apart calls Shows x y (concat segments) c.branches.f apart, held));
+      entered = enters-past (behind_bytes count s) (behind_bytes count t) all rest takes.0 x y
+          c.args.work.now c.branches.work c.next.new.work so_far here.pairs.0.0 here.pairs.0.1
+          c.in-Some-next.ensures.counted;
+      common = c.in-Some.ensures;
+    }
+
+pub meet_leaves-requires-clause-meets : goal.meet_leaves-requires-clause-meets
+meet_leaves-requires-clause-meets g t c =
+    let s = g.J.Joint.left c.args.at in
+    let t = g.J.Joint.right c.args.at in
+    let calls = g.J.Meeting.calls in
+    let Shows = g.J.Meeting.Shows in
+    let holds = g.J.Joint.holds in
+    let count = c.in-Some.common in
+    let x = g.J.Joint.left c.in-Some-next.below in
+    let y = g.J.Joint.right c.in-Some-next.below in
+    let rest = g.J.Joint.branches_left c.next.new.branches in
+    let takes = c.in-Some-next.ensures.takes in
+    let here = subst (λ left. IsMeeting calls Shows holds s t count c.args.trail.now c.args.f.now
+    left c.branches.trail c.branches.f) takes.1 c.branches.invariant.meeting in
+    next-may calls Shows holds s t count c.in-Some.ensures c.requires.left
+    c.requires.right g.J.Joint.greatest c.args.trail.now c.branches.trail c.args.f.now c.branches.f
+    takes.0 x y rest c.requires.meets here
+
+pub branches-preserved-then-are_leaves : goal.branches-preserved-then-are_leaves
+branches-preserved-then-are_leaves g t c =
+    let s = g.J.Joint.left c.args.at in
+    let t = g.J.Joint.right c.args.at in
+    let calls = g.J.Meeting.calls in
+    let Shows = g.J.Meeting.Shows in
+    let holds = g.J.Joint.holds in
+    let count = c.in-Some.common in
+    let x = g.J.Joint.left c.in-Some-next.below in
+    let y = g.J.Joint.right c.in-Some-next.below in
+    let rest = g.J.Joint.branches_left c.next.new.branches in
+    let takes = c.in-Some-next.ensures.takes in
+    let here = subst (λ left. IsMeeting calls Shows holds s t count c.args.trail.now c.args.f.now
+    left c.branches.trail c.branches.f) takes.1 c.branches.invariant.meeting in
+    let all = common_children (arms (behind_bytes count s)) (arms (behind_bytes count t)) in
+    let so_far = subst (λ left. EntersUpTo (behind_bytes count s) (behind_bytes count t) all left
+    c.args.work.now c.branches.work) takes.1 c.branches.invariant.entered in
+    record {
+      meeting = meeting-next calls Shows holds s t count c.in-Some.ensures c.requires.left
+          c.requires.right c.args.trail.now c.branches.trail c.meet_leaves.new.trail c.args.f.now
+          c.branches.f c.meet_leaves.new.f takes.0 x y rest here c.in_ok-meet_leaves.ensures.met;
+      entered = enters-past (behind_bytes count s) (behind_bytes count t) all rest takes.0 x y
+          c.args.work.now c.branches.work c.next.new.work so_far here.pairs.0.0 here.pairs.0.1
+          c.in-Some-next.ensures.counted;
+      common = c.in-Some.ensures;
+    }
+
+pub returns-in_err-meet_leaves-clause-met : goal.returns-in_err-meet_leaves-clause-met
+returns-in_err-meet_leaves-clause-met g t c =
+    λ segments held.
+    let s = g.J.Joint.left c.args.at in
+    let t = g.J.Joint.right c.args.at in
+    let calls = g.J.Meeting.calls in
+    let Shows = g.J.Meeting.Shows in
+    let holds = g.J.Joint.holds in
+    let count = c.in-Some.common in
+    let x = g.J.Joint.left c.in-Some-next.below in
+    let y = g.J.Joint.right c.in-Some-next.below in
+    let rest = g.J.Joint.branches_left c.next.new.branches in
+    let takes = c.in-Some-next.ensures.takes in
+    let here = subst (λ left. IsMeeting calls Shows holds s t count c.args.trail.now c.args.f.now
+    left c.branches.trail c.branches.f) takes.1 c.branches.invariant.meeting in
+    have-refused calls Shows _ _ _ _ c.from_residual-in_err-meet_leaves.result
+    c.from_residual-in_err-meet_leaves.ensures.0
+    (meeting-refused calls Shows holds s t count c.in-Some.ensures c.requires.left
+    c.requires.right _ c.args.trail.now c.branches.trail c.meet_leaves.new.trail c.args.f.now
+    c.branches.f c.meet_leaves.new.f takes.0 x y rest here c.in_err-meet_leaves.ensures.met segments
+    held)
+
+pub returns-in_err-meet_leaves-clause-enters : goal.returns-in_err-meet_leaves-clause-enters
+returns-in_err-meet_leaves-clause-enters g t c =
+    let s = g.J.Joint.left c.args.at in
+    let t = g.J.Joint.right c.args.at in
+    let calls = g.J.Meeting.calls in
+    let Shows = g.J.Meeting.Shows in
+    let holds = g.J.Joint.holds in
+    let count = c.in-Some.common in
+    let x = g.J.Joint.left c.in-Some-next.below in
+    let y = g.J.Joint.right c.in-Some-next.below in
+    let rest = g.J.Joint.branches_left c.next.new.branches in
+    let takes = c.in-Some-next.ensures.takes in
+    let here = subst (λ left. IsMeeting calls Shows holds s t count c.args.trail.now c.args.f.now
+    left c.branches.trail c.branches.f) takes.1 c.branches.invariant.meeting in
+    let all = common_children (arms (behind_bytes count s)) (arms (behind_bytes count t)) in
+    let so_far = subst (λ left. EntersUpTo (behind_bytes count s) (behind_bytes count t) all left
+    c.args.work.now c.branches.work) takes.1 c.branches.invariant.entered in
+    enters-end s t c.requires.left c.requires.right count rest c.args.work.now c.next.new.work
+    c.in-Some.ensures.0
+    (enters-past (behind_bytes count s) (behind_bytes count t) all rest takes.0 x y
+    c.args.work.now c.branches.work c.next.new.work so_far here.pairs.0.0 here.pairs.0.1
+    c.in-Some-next.ensures.counted)
 
 pub meet_below-requires : goal.meet_below-requires
 meet_below-requires g t c κs within =

@@ -156,5 +156,6 @@ def _owner_pattern(head):
     last = [re.findall(r"\w+", side)[-1:] for side in sides]
     if not all(last) or len(last) > 2:
         return "(?!)"
-    *trait, of = [it[0] for it in last]
+    # (what drops a value is named by its type alone)
+    *trait, of = [it[0] for it in last if it != ["Drop"]]
     return rf"{of}(\+\w+)*" + (rf"{trait[0]}(\+?\w+)*" if trait else "")

@@ -27,6 +27,7 @@ class Function:
     body: tuple
     owner: tuple
     name: str
+    is_in_cycle: bool
     # Whether more than the function itself may rest on its body.
     is_shared: bool
 
@@ -118,11 +119,12 @@ class _Reader:
         key = (*self.around, name)
         key = (*key, sum(it[:-1] == key for it in self.functions))
         before = said[: said.index("fn")]
+        is_in_cycle = "cycle" in before
         # (one that runs at compile time, is in a cycle of calls, or whose type its body tells)
-        is_shared = bool({"const", "cycle"} & {*before}) or "impl" in said
+        is_shared = is_in_cycle or "const" in before or "impl" in said
         is_shared = is_shared or any(it[0] == "Code" and it[1] in SEEN_OUTSIDE for it in body)
-        place = self.first, token.start, self.tokens[end].end
-        self.functions[key] = Function(*place, tuple(self.head), body, owner, name, is_shared)
+        place, head = (self.first, token.start, self.tokens[end].end), tuple(self.head)
+        self.functions[key] = Function(*place, head, body, owner, name, is_in_cycle, is_shared)
         self.at = end + 1
         return True
 

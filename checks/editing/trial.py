@@ -110,9 +110,10 @@ class CrateTrial:
                     yield name, function
 
     def _recursive(self):
-        """The functions that call themselves: the prover keeps a proof of theirs elsewhere, so that
-        none can stand in for it."""
-        return {name for name, function in self._named() if _calls_itself(function)}
+        """The functions that call themselves or stand in a cycle: the prover keeps a proof of theirs
+        elsewhere, so that none can stand in for it."""
+        named = self._named()
+        return {name for name, it in named if it.is_in_cycle or _calls_itself(it)}
 
     def _controls(self):
         """The functions that may go with a batch as they stand, those with the shortest bodies

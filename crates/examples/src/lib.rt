@@ -2,5 +2,3 @@
 #![tactic(auto)]
 
 pub mod snapshots;
-#[cfg(test)]
-mod tests;

@@ -8,7 +8,5 @@ pub mod listing;
 pub mod meeting;
 pub mod prices;
 pub mod stock;
-#[cfg(test)]
-mod tests;
 pub mod values;
 pub mod visiting;

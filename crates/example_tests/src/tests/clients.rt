@@ -1,12 +1,12 @@
 //! The functions that change a few keys.
-use crate::clients::{
-    Counts, compare_and_set, count_up, get_or_insert, move_value, set_three, set_twice, swap,
-    take_and_put_back, transfer, try_and_undo,
-};
 use rart_versioned::{KeyTrait, VectorKey};
 use std::alloc::{AllocError, Global};
 use std::process::Abort;
 use std::test::Fail;
+use tree_examples::clients::{
+    Counts, compare_and_set, count_up, get_or_insert, move_value, set_three, set_twice, swap,
+    take_and_put_back, transfer, try_and_undo,
+};
 
 fn key(alloc: Global, name: &str) -> Result<VectorKey, AllocError> {
     VectorKey::new_from_slice(alloc, name.as_bytes())

@@ -1,5 +1,5 @@
-// With ample memory no reply is that memory was refused, which no contract can say.
-use crate::snapshots::replies_beside_a_snapshot;
+//! Replies beside a snapshot: none is that memory was refused.
+use examples::snapshots::replies_beside_a_snapshot;
 use rart_family::{ArrayKey, KeyTrait, Reply, VectorKey};
 use std::alloc::{AllocError, Global};
 use std::process::Abort;

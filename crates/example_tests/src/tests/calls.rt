@@ -1,18 +1,19 @@
-//! With ample memory the calls succeed, which no contract can say.
-mod clients;
+//! The functions that show the calls of a tree.
 
-use crate::listing::{
-    all_prices, follows_a_refusal, listing, listing_along, listing_between, listing_under,
-};
-use crate::meeting::{PricedTwice, prices_both_ways, prices_of_both};
-use crate::prices::{PriceList, before_and_after, set_price, set_price_counted, try_set_price};
-use crate::stock::{Stock, add};
-use crate::values::{Numbers, Readings, Text, Titles, keep, retitle};
-use crate::visiting::prices_under;
 use rart_versioned::{KeyTrait, VectorKey, Work};
 use std::alloc::{AllocError, Global};
 use std::process::Abort;
 use std::test::Fail;
+use tree_examples::listing::{
+    all_prices, follows_a_refusal, listing, listing_along, listing_between, listing_under,
+};
+use tree_examples::meeting::{PricedTwice, prices_both_ways, prices_of_both};
+use tree_examples::prices::{
+    PriceList, before_and_after, set_price, set_price_counted, try_set_price,
+};
+use tree_examples::stock::{Stock, add};
+use tree_examples::values::{Numbers, Readings, Text, Titles, keep, retitle};
+use tree_examples::visiting::prices_under;
 
 fn key(alloc: Global, name: &str) -> Result<VectorKey, AllocError> {
     VectorKey::new_from_slice(alloc, name.as_bytes())

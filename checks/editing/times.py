@@ -61,11 +61,11 @@ class Sampler(threading.Thread):
             found[crate][kind] += seconds
         return found
 
-    def table(self, order):
-        """The table of times, of which `order` has the crates."""
+    def table(self, crates):
+        """The table of times of these crates, lowest first, and what ran beside them."""
         self.ends.set()
         found = self.by_crate()
-        rows = [it for it in order if it in found] + sorted({*found} - {*order})
+        rows = [it for it in crates if it in found] + sorted({*found} - {*crates})
         lines = [f"| crate | {' | '.join(KINDS)} |", "|---|" + "---|" * len(KINDS)]
         for crate in rows:
             cells = [f"{found[crate][it]:.0f}" if found[crate][it] else "-" for it in KINDS]
@@ -76,9 +76,19 @@ class Sampler(threading.Thread):
         lines.append("")
         lines.append(
             f"Wall {wall / 60:.0f} minutes, processor {sum(sums) / 60:.0f}; at most"
-            f" {peak / 1e9:.1f} GB of memory at a time."
+            f" {peak / 1e9:.1f} GB of memory at a time. {_longest_chain(crates, found)}"
         )
         return "\n".join(lines)
+
+
+def _longest_chain(crates, found):
+    """The dearest way of proofs that wait for one another, each crate's for those that it names."""
+    chains = {}
+    for name, crate in crates.items():
+        seconds, way = max((chains[it] for it in crate.of_repository), default=(0, ()))
+        chains[name] = seconds + found[name]["proofs"], (*way, name)
+    seconds, way = max((it[0] + found[name]["tests"], it[1]) for name, it in chains.items())
+    return f"Longest chain of proofs: {seconds / 60:.0f} minutes, through {', '.join(way)}."
 
 
 def _what(process):

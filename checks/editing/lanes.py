@@ -2,11 +2,19 @@
 import concurrent.futures
 import os
 import re
+import threading
 import time
 
+# How much a call in a lane gives way to what runs beside it.
+NICENESS = 10
 # The memory that is left free when a check begins, and the most that such a check takes.
 RESERVE = 3_000_000_000
 NEEDS = 2_500_000_000
+
+
+def _give_way():
+    # (what a thread begins is as nice as the thread)
+    os.setpriority(os.PRIO_PROCESS, threading.get_native_id(), NICENESS)
 
 
 def processors():
@@ -49,9 +57,9 @@ class Lanes:
 
     def __init__(self, beside=None):
         """`beside` is a process that comes first, a run of the toolchain: while it runs, a call
-        begins only where two processors are idle."""
+        begins only where two processors are idle, and gives way to it."""
         self.beside, self.waiting, self.running = beside, [], {}
-        self.pool = concurrent.futures.ThreadPoolExecutor(processors())
+        self.pool = concurrent.futures.ThreadPoolExecutor(processors(), initializer=_give_way)
 
     def put(self, cost, call, then):
         """Has `call` run in a lane, and then `then` on what it gave, in the caller's own."""

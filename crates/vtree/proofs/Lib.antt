@@ -1,0 +1,11 @@
+pub mod NumberLemmas
+pub mod WordLemmas
+pub mod KnownLemmas
+pub mod SessionLemmas
+pub mod OneCommand
+pub mod OwnLineLemmas
+pub mod TranscriptLemmas
+pub mod WorkedLineLemmas
+pub mod ReplyTextLemmas
+pub mod StepLemmas
+pub mod ServeLemmas

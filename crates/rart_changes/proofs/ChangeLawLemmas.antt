@@ -19,7 +19,7 @@ not-false true is = refl
 not-false false is = absurd (false≢true (sym is))
 
 module _ {V : Type 0} (same : V → V → Bool) where
-  differ-itself : IsReflexive same → (x : Option V) → differ same x x ≡ false
+  pub differ-itself : IsReflexive same → (x : Option V) → differ same x x ≡ false
   differ-itself reflexive None = refl
   differ-itself reflexive (Some x) = ap not (reflexive x)
 

@@ -111,7 +111,7 @@ module _ {V : Type 0} where
       (Contains-cases d cs c there)
 
 module _ {V : Type 0} (same : V → V → Bool) where
-  change_of-is : (key : List ℕ) (x y : Option V) (c : Change V) → change_of same key x y ≡ Some c
+  pub change_of-is : (key : List ℕ) (x y : Option V) (c : Change V) → change_of same key x y ≡ Some c
       → (c ≡ (key, x, y)) × (differ same x y ≡ true)
   change_of-is key x y c is =
       elim (differ same x y) as (λ d. cond d (Some (key, x, y)) None ≡ Some c

@@ -1,0 +1,6 @@
+pub mod ChangesAtLemmas
+pub mod ConflictLemmas
+pub mod KeyLemmas
+pub mod RebaseLemmas
+pub mod ShowLemmas
+pub mod TrackingLemmas

@@ -1,0 +1,31 @@
+-- How a closure is shown a change, and how many nodes it takes to find the changes.
+use Rattle.std.specs.Prelude.{◌≡◌, ℕ, ◌+◌, ◌*◌, Bool, List, Option, sum_by, filter_map}
+use Rattle.std.specs.Borrow.{Bor}
+use Rattle.std.specs.Option.{option_copied}
+use Rattle.std.specs.FinMap as finite
+use Rattle.rart_maps.specs.Bounds.{lookup_bound}
+use Rattle.rart_maps.specs.Pairs.{Strings}
+use Rattle.rart_maps.specs.Versions.{Map}
+use Rattle.rart_changes.specs.ChangeLists.{Change, change_of}
+use Rattle.rart_tracked.specs.Tracking.{listed}
+
+-- a change, by a key with these bytes, and references to the values before and after where there
+-- are any
+abbrev pub ByChange : {K V : Type 0} → (K → List ℕ) →
+    K × (Option (Bor V) × (Option (Bor V) × Unit {0})) → Change V → Type 0
+ByChange bytes shown change = (bytes shown.0 ≡ change.0)
+    × (option_copied shown.1.0 ≡ change.1) × (option_copied shown.1.1.0 ≡ change.2)
+
+-- the changes at these keys
+abbrev pub changes_at : {V : Type 0} → (V → V → Bool) → Map V → Map V → List (List ℕ)
+    → List (Change V)
+changes_at same old new keys =
+    filter_map (λ w. change_of same w (finite.get old w) (finite.get new w)) keys
+
+-- looking each of these keys up in so many maps enters at most so many nodes
+abbrev pub lookups_bound : ℕ → List (List ℕ) → ℕ
+lookups_bound maps keys = sum_by (λ w. maps * lookup_bound w) keys
+
+-- and finding the changes at these keys, whatever the maps
+abbrev pub changes_bound : Strings → ℕ
+changes_bound keys = 2 * finite.len keys + lookups_bound 2 (listed keys)

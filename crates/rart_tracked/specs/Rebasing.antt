@@ -1,0 +1,19 @@
+-- What putting one value, or none, at a key makes of a tracked version.
+use Rattle.std.specs.Prelude.{◌≡◌, ℕ, ◌+◌, ◌≤◌, ◌⊎◌, List, Option, IsTrue}
+use Rattle.rart_maps.specs.Lookups.{with_value}
+use Rattle.rart_maps.specs.Pairs.{Strings}
+use Rattle.rart_tracked.specs.Tracking.{Tracking, is_in}
+
+-- Each string of the one set is in the other.
+abbrev pub IsWithin : Strings → Strings → Type 0
+IsWithin few many = (q : List ℕ) → IsTrue (is_in few q) → IsTrue (is_in many q)
+
+module _ {V : Type 0} where
+  -- The key has the value, or none, and no other key is touched.
+  pub record IsSetTo (before : Tracking V) (w : List ℕ) (value : Option V) (after : Tracking V)
+      : Type 0 where
+    pub base : after.base ≡ before.base
+    pub content : after.current.content ≡ with_value before.current.content w value
+    pub number : after.current.number ≤ before.current.number + 1
+    pub touched : (q : List ℕ) → IsTrue (is_in after.touched q)
+        → (q ≡ w) ⊎ IsTrue (is_in before.touched q)

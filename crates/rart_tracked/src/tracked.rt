@@ -1,0 +1,137 @@
+//! The tracked version itself: how it begins, and what is read off it.
+ghost use Rattle.std.specs.Prelude.{◌≡◌, ◌+◌, ◌≤◌, ◌<◌, false, IfOk, OnOk, OnErr};
+ghost use Rattle.std.specs.FinMap as finite;
+ghost use Rattle.std.specs.Option.{option_copied};
+ghost use Rattle.rart_maps.specs.Versions.{HasRoom, empty_at, value_at};
+ghost use Rattle.rart_tracked.specs.Tracking.{IsTracked, is_in, tracking_from, with_string};
+
+use rart_below::KeyTrait;
+use rart_versioned::VersionedAdaptiveRadixTree;
+use std::alloc::{AllocError, Global};
+use std::marker::Model;
+
+/// A version that keeps the one that it began with, its base, and the keys that were touched since.
+///
+/// Contracts see it as the base, the current version, and the finite set of touched keys. A key
+/// that was not touched has what it has in the base.
+pub struct TrackedTree<K: KeyTrait, V: Clone> {
+    pub(crate) alloc: Global,
+    pub(crate) base: VersionedAdaptiveRadixTree<K, V>,
+    pub(crate) current: VersionedAdaptiveRadixTree<K, V>,
+    pub(crate) touched: VersionedAdaptiveRadixTree<K, ()>,
+}
+
+/// Written out, as that of the tree.
+impl<K: KeyTrait, V: Clone + Drop> Drop for TrackedTree<K, V> {
+    fn drop(self) {
+        let TrackedTree {
+            alloc: _,
+            base: _,
+            current: _,
+            touched: _,
+        } = self;
+    }
+}
+
+impl<K: KeyTrait, V: Clone> Model for TrackedTree<K, V> {
+    ghost use Rattle.rart_tracked.specs.Tracking.{Keeps, Tracking, tracking_code, tracking_of};
+
+    ghost Value = { Tracking V };
+
+    ghost coded = { tracking_code V.code };
+
+    ghost view = { λ inside. tracking_of inside.base inside.current inside.touched };
+
+    ghost invariant = { λ inside. Keeps inside.base inside.current inside.touched };
+}
+
+impl<K: KeyTrait, V: Clone + Drop> TrackedTree<K, V> {
+    /// Begins with a version as base. It is the current one too, and no key is touched. Refused for
+    /// memory, there is none.
+    pub fn begin(
+        alloc: Global,
+        tree: &VersionedAdaptiveRadixTree<K, V>,
+    ) -> Result<TrackedTree<K, V>, AllocError>
+        ensures { IfOk result (λ tracked. tracked ≡ tracking_from tree.now) }
+    {
+        Ok(TrackedTree {
+            alloc,
+            base: tree.clone()?,
+            current: tree.clone()?,
+            touched: no_keys(alloc),
+        })
+    }
+
+    /// The current version. A key that was not touched has there what it has in the base.
+    pub fn current(&self) -> &VersionedAdaptiveRadixTree<K, V>
+        ensures current { result.now ≡ self.now.current }
+        ensures tracked { IsTracked self.now }
+    {
+        &self.current
+    }
+
+    /// The version that it began with.
+    pub fn base(&self) -> &VersionedAdaptiveRadixTree<K, V>
+        ensures { result.now ≡ self.now.base }
+    {
+        &self.base
+    }
+
+    /// The value of a key, if the key is there. It takes no memory.
+    pub fn get_k(&self, key: &K) -> Option<&V>
+        ensures { option_copied result ≡ value_at self.now.current (K.bytes key.now) }
+    {
+        self.current.get_k(key)
+    }
+
+    /// As `get_k`, the key by value.
+    pub fn get(&self, key: K) -> Option<&V>
+        ensures { option_copied result ≡ value_at self.now.current (K.bytes key) }
+    {
+        self.get_k(&key)
+    }
+
+    /// How many keys were touched.
+    pub fn touched_count(&self) -> u64
+        ensures { result ≡ finite.len self.now.touched }
+    {
+        self.touched.version()
+    }
+
+    /// Whether a key was touched. It takes no memory.
+    pub fn is_touched(&self, key: &K) -> bool
+        ensures touched { result ≡ is_in self.now.touched (K.bytes key.now) }
+        ensures tracked { result ≡ false → value_at self.now.current (K.bytes key.now)
+            ≡ value_at self.now.base (K.bytes key.now) }
+    {
+        self.touched.get_k(key).is_some()
+    }
+}
+
+/// A set without a key.
+pub(crate) fn no_keys<K: KeyTrait>(alloc: Global) -> VersionedAdaptiveRadixTree<K, ()>
+    ensures empty { result ≡ empty_at 0 }
+    ensures counted { result.number ≡ finite.len result.content }
+{
+    VersionedAdaptiveRadixTree::new(alloc)
+}
+
+/// These keys and one more, where the number of the tree is how many there are. Refused for memory,
+/// there are none.
+pub(crate) fn marked<K: KeyTrait>(
+    touched: &VersionedAdaptiveRadixTree<K, ()>,
+    key: &K,
+) -> Result<VersionedAdaptiveRadixTree<K, ()>, AllocError>
+    requires room { HasRoom touched.now 1 }
+    requires counted { touched.now.number ≡ finite.len touched.now.content }
+    ensures keys { IfOk result (λ marked. marked.content
+        ≡ with_string touched.now.content (K.bytes key.now)) }
+    ensures number { IfOk result (λ marked. marked.number ≤ touched.now.number + 1) }
+    ensures counted { IfOk result (λ marked. marked.number ≡ finite.len marked.content) }
+{
+    let mut marked = touched.clone()?;
+    if marked.get_k(key).is_none() {
+        marked.insert_k(key, ())?;
+    }
+    Ok(marked)
+}

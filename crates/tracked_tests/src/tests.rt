@@ -1,0 +1,3 @@
+mod draft;
+mod inline;
+mod steps;

@@ -1,0 +1,149 @@
+//! Tables of steps.
+use crate::tests::draft::Step::{Commit, Has, Meets, Rebase, Set, Shows, Take, Undo};
+use crate::tests::draft::{Pair, Step, assert_steps};
+use std::test::Fail;
+
+const FOUR: &[Pair] = &[(b"a", 1), (b"b", 2), (b"bc", 3)];
+
+// One key goes, one is set to the value that it has, one gets another value, one comes.
+const TOUCHED: &[Step] = &[
+    Shows(&[]),
+    Set(b"c", 5, None),
+    Set(b"bc", 4, Some(3)),
+    Set(b"b", 2, Some(2)),
+    Take(b"a", Some(1)),
+    Shows(&[
+        (b"a", Some(1), None),
+        (b"bc", Some(3), Some(4)),
+        (b"c", None, Some(5)),
+    ]),
+    Has(b"a", None, true),
+    Has(b"b", Some(2), true),
+    Has(b"bc", Some(4), true),
+    Has(b"c", Some(5), true),
+];
+
+#[test]
+fn changes_come_in_order(rt: HostRuntime) -> Result<(), Fail> {
+    assert_steps(&rt, rt.alloc(), FOUR, TOUCHED)
+}
+
+// A key that is set back has not changed, nor has one that came and went.
+const BACK: &[Step] = &[
+    Set(b"a", 9, Some(1)),
+    Set(b"x", 1, None),
+    Shows(&[(b"a", Some(1), Some(9)), (b"x", None, Some(1))]),
+    Set(b"a", 1, Some(9)),
+    Take(b"x", Some(1)),
+    Shows(&[]),
+    Has(b"a", Some(1), true),
+    Has(b"x", None, true),
+];
+
+#[test]
+fn what_is_set_back_has_not_changed(rt: HostRuntime) -> Result<(), Fail> {
+    assert_steps(&rt, rt.alloc(), FOUR, BACK)
+}
+
+// The taking out of an absent key touches nothing.
+const ABSENT: &[Step] = &[
+    Take(b"x", None),
+    Has(b"x", None, false),
+    Has(b"a", Some(1), false),
+    Shows(&[]),
+];
+
+#[test]
+fn absent_keys_are_not_touched(rt: HostRuntime) -> Result<(), Fail> {
+    assert_steps(&rt, rt.alloc(), FOUR, ABSENT)
+}
+
+const TURNED: &[Step] = &[
+    Take(b"b", Some(2)),
+    Set(b"", 7, None),
+    Shows(&[(b"", None, Some(7)), (b"b", Some(2), None)]),
+    Undo,
+    Shows(&[]),
+    Has(b"b", Some(2), false),
+    Has(b"", None, false),
+    Set(b"b", 8, Some(2)),
+    Commit,
+    Shows(&[]),
+    Has(b"b", Some(8), false),
+    Set(b"b", 2, Some(8)),
+    Shows(&[(b"b", Some(8), Some(2))]),
+    Undo,
+    Has(b"b", Some(8), false),
+];
+
+#[test]
+fn undo_and_commit_begin_again(rt: HostRuntime) -> Result<(), Fail> {
+    assert_steps(&rt, rt.alloc(), FOUR, TURNED)
+}
+
+// Nothing is there before.
+const FROM_NOTHING: &[Step] = &[
+    Shows(&[]),
+    Set(b"b", 1, None),
+    Set(b"a", 2, None),
+    Shows(&[(b"a", None, Some(2)), (b"b", None, Some(1))]),
+    Undo,
+    Shows(&[]),
+];
+
+#[test]
+fn empty_map_may_be_the_base(rt: HostRuntime) -> Result<(), Fail> {
+    assert_steps(&rt, rt.alloc(), &[], FROM_NOTHING)
+}
+
+// Ours takes "a" out, changes "b" and "bc", and puts "c" in.
+const OURS: &[Step] = &[
+    Take(b"a", Some(1)),
+    Set(b"b", 6, Some(2)),
+    Set(b"bc", 7, Some(3)),
+    Set(b"c", 5, None),
+];
+
+// Theirs keeps "a", changes "b" as ours does, "bc" to another value, and puts "d" in.
+const THEIRS: &[Pair] = &[(b"a", 1), (b"b", 6), (b"bc", 4), (b"d", 9)];
+
+// Of what both changed, "bc" alone is not the same.
+const MET: &[Step] = &[
+    Meets(FOUR, &[]),
+    Meets(THEIRS, &[(b"bc", Some(3), Some(7), Some(4))]),
+    Meets(
+        &[],
+        &[
+            (b"b", Some(2), Some(6), None),
+            (b"bc", Some(3), Some(7), None),
+        ],
+    ),
+];
+
+#[test]
+fn conflicts_are_where_both_changed(rt: HostRuntime) -> Result<(), Fail> {
+    let mut steps = OURS.to_vec(rt.alloc())?;
+    steps.extend_from_slice(MET)?;
+    assert_steps(&rt, rt.alloc(), FOUR, &steps)
+}
+
+// Ours on theirs: "b" is there already as ours has it.
+const REBASED: &[Step] = &[
+    Rebase(THEIRS),
+    Shows(&[
+        (b"a", Some(1), None),
+        (b"bc", Some(4), Some(7)),
+        (b"c", None, Some(5)),
+    ]),
+    Has(b"b", Some(6), true),
+    Has(b"d", Some(9), false),
+    Undo,
+    Has(b"bc", Some(4), false),
+];
+
+#[test]
+fn changes_are_made_on_another_base(rt: HostRuntime) -> Result<(), Fail> {
+    let mut steps = OURS.to_vec(rt.alloc())?;
+    steps.extend_from_slice(REBASED)?;
+    assert_steps(&rt, rt.alloc(), FOUR, &steps)
+}

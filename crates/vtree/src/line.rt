@@ -1,36 +1,20 @@
 //! Lines of commands, as the program reads them.
-use arrayvec::ArrayVec;
-use rart_family::{ArrayKey, Command, KeyTrait, SlotUpdate};
-use std::alloc::{AllocError, Global};
-use std::ops::Bound;
+ghost use Rattle.std.specs.Prelude.{◌≡◌, ◌≢◌, ℕ, List, [], ◌∷◌, length, map, MatchBool};
+ghost use Rattle.vtree.specs.Lines.{words};
+ghost use Rattle.vtree.specs.Grammar.{Said, Says};
+ghost use Rattle.vtree.specs.Reading.{Reads, by_bytes};
+ghost use Rattle.vtree.specs.Shapes.{name_of, HasPlace, HasPair, HasKey, HasValue, IsRest, IsKeyed, IsIntersection, IsRange, IsUpdate, IsTryUpdate, IsUntil};
 
-/// A command as the program has it: keys of at most 16 bytes, and numbers for values.
-pub type LineCommand = Command<ArrayKey<16>, u64>;
+use crate::words::{
+    answer_of, bound_of, end_of, failing_answer_of, is, key_of, number_of, place_of, words_of,
+    write_of,
+};
+use rart_family::Command;
 
-// The most words that a good line has: `try-update P K W insert V`.
-const MOST_WORDS: usize = 6;
+/// A command as a line says it: its keys are bytes of the line.
+pub type SaidCommand<'a> = Command<&'a [u8], u64>;
 
-/// Why a line gives no command.
-#[derive(Drop)]
-pub enum LineError {
-    /// It is in no form of the table.
-    Bad,
-    /// Memory for one of its keys was refused.
-    Memory,
-}
-
-impl From<AllocError> for LineError {
-    ghost use Rattle.std.specs.Prelude.{◌≡◌};
-    ghost use Rattle.vtree.specs.declared.line.LineError.TheVariants.{Memory};
-
-    ghost from_gives = { λ _ error. error ≡ Memory };
-
-    fn from(_refused: AllocError) -> LineError {
-        LineError::Memory
-    }
-}
-
-/// The command of a line, without its line feed.
+/// The command of a line, without its line feed, or `None` where the line is a bad one.
 ///
 /// A line is words parted by exactly one space. P, N and V are numbers of 1 to 20 digits, below
 /// `2^64`. K is an apostrophe and then the key, 0 to 16 bytes from 0x21 to 0x7E. B is a bound: `i`
@@ -59,207 +43,322 @@ impl From<AllocError> for LineError {
 /// | `intersect-values P P`, `intersect-count P P` | `IntersectValues`, `IntersectCount` |
 /// | `flatten P` | `Flatten` |
 /// | `longest P K` | `Longest` |
-pub fn parse(alloc: Global, line: &[u8]) -> Result<LineCommand, LineError> {
+pub fn parse(line: &[u8]) -> Option<SaidCommand<'_>>
+    ensures { Reads (by_bytes (λ key. key.now)) result
+        (λ command. Says command (words line.now)) }
+{
     let words = words_of(line)?;
-    match words.as_slice() {
-        [b"new"] => Ok(Command::New),
-        [b"new-at", number] => Ok(Command::NewAt {
-            number: parse_number(number)?,
-        }),
-        [name, place] => parse_place_command(name, parse_place(place)?),
-        [b"range", place, lo, hi] => Ok(Command::Range {
-            place: parse_place(place)?,
-            lo: parse_bound(alloc, lo)?,
-            hi: parse_bound(alloc, hi)?,
-        }),
-        [b"range-views", place, lo, hi] => Ok(Command::RangeViews {
-            place: parse_place(place)?,
-            lo: parse_bound(alloc, lo)?,
-            hi: parse_bound(alloc, hi)?,
-        }),
-        [name, left, right] if name.starts_with(b"intersect") => {
-            parse_intersection(name, parse_place(left)?, parse_place(right)?)
-        }
-        [name, place, key, rest @ ..] => {
-            let place = parse_place(place)?;
-            let key = parse_key(alloc, key)?;
-            parse_key_command(name, place, key, rest)
-        }
-        _ => Err(LineError::Bad),
+    parse_words(words.as_slice())
+}
+
+fn parse_words<'a>(words: &[&'a [u8]]) -> Option<SaidCommand<'a>>
+    ensures { Reads (by_bytes (λ key. key.now)) result
+        (λ command. Says command (map (λ word. word.now) words.now)) }
+{
+    match words {
+        [name] => parse_name(name),
+        [name, word] => parse_one(name, word),
+        [name, first, second, rest @ ..] => parse_longer(name, first, second, rest),
+        _ => None,
     }
 }
 
-// The words of a line, which are too many where there are more than any command has.
-fn words_of(line: &[u8]) -> Result<ArrayVec<&[u8], MOST_WORDS>, LineError> {
-    let mut words = ArrayVec::new();
-    for word in line.split(|byte| *byte == b' ') {
-        if words.try_push(word).is_err() {
-            return Err(LineError::Bad);
-        }
-    }
-    Ok(words)
-}
-
-fn parse_place_command(name: &[u8], place: usize) -> Result<LineCommand, LineError> {
-    match name {
-        b"snapshot" => Ok(Command::Snapshot { place }),
-        b"clone" => Ok(Command::Duplicate { place }),
-        b"discard" => Ok(Command::Discard { place }),
-        b"version" => Ok(Command::Version { place }),
-        b"empty" => Ok(Command::IsEmpty { place }),
-        b"iter" => Ok(Command::Iter { place }),
-        b"values" => Ok(Command::Values { place }),
-        b"views" => Ok(Command::Views { place }),
-        b"flatten" => Ok(Command::Flatten { place }),
-        _ => Err(LineError::Bad),
+fn parse_name<'a>(name: &[u8]) -> Option<SaidCommand<'a>>
+    ensures { Reads (by_bytes (λ key. key.now)) result
+        (λ command. Says command (name.now ∷ [])) }
+{
+    if is(name, "new") {
+        Some(Command::New)
+    } else {
+        None
     }
 }
 
-fn parse_intersection(name: &[u8], left: usize, right: usize) -> Result<LineCommand, LineError> {
-    match name {
-        b"intersect" => Ok(Command::Intersect { left, right }),
-        b"intersect-views" => Ok(Command::IntersectViews { left, right }),
-        b"intersect-values" => Ok(Command::IntersectValues { left, right }),
-        b"intersect-count" => Ok(Command::IntersectCount { left, right }),
-        _ => Err(LineError::Bad),
+fn parse_one<'a>(name: &[u8], word: &[u8]) -> Option<SaidCommand<'a>>
+    ensures { Reads (by_bytes (λ key. key.now)) result
+        (λ command. Says command (name.now ∷ word.now ∷ [])) }
+{
+    let number = number_of(word)?;
+    if is(name, "new-at") {
+        Some(Command::NewAt { number })
+    } else {
+        parse_place_command(name, number as usize)
     }
 }
 
-fn parse_key_command(
+fn parse_place_command<'a>(name: &[u8], place: usize) -> Option<SaidCommand<'a>>
+    ensures { Reads (by_bytes (λ key. key.now)) result
+        (λ command. (name.now ≡ name_of command) × HasPlace command place) }
+{
+    if is(name, "snapshot") {
+        Some(Command::Snapshot { place })
+    } else if is(name, "clone") {
+        Some(Command::Duplicate { place })
+    } else if is(name, "discard") {
+        Some(Command::Discard { place })
+    } else if is(name, "version") {
+        Some(Command::Version { place })
+    } else if is(name, "empty") {
+        Some(Command::IsEmpty { place })
+    } else if is(name, "iter") {
+        Some(Command::Iter { place })
+    } else if is(name, "values") {
+        Some(Command::Values { place })
+    } else if is(name, "views") {
+        Some(Command::Views { place })
+    } else if is(name, "flatten") {
+        Some(Command::Flatten { place })
+    } else {
+        None
+    }
+}
+
+fn parse_longer<'a>(
+    name: &[u8],
+    first: &'a [u8],
+    second: &'a [u8],
+    rest: &[&'a [u8]],
+) -> Option<SaidCommand<'a>>
+    ensures { Reads (by_bytes (λ key. key.now)) result
+        (λ command. Says command
+        (name.now ∷ first.now ∷ second.now ∷ map (λ word. word.now) rest.now)) }
+{
+    if is_intersection(name) {
+        parse_pair(name, first, second, rest)
+    } else if is_range(name) {
+        parse_range(name, first, second, rest)
+    } else {
+        parse_keyed(name, first, second, rest)
+    }
+}
+
+fn is_intersection(name: &[u8]) -> bool
+    ensures { MatchBool result
+        ((command : Said) → name.now ≡ name_of command → IsIntersection command)
+        ((command : Said) → name.now ≡ name_of command → IsIntersection command → ⊥) }
+{
+    is(name, "intersect")
+        || is(name, "intersect-views")
+        || is(name, "intersect-values")
+        || is(name, "intersect-count")
+}
+
+fn is_range(name: &[u8]) -> bool
+    ensures { MatchBool result
+        ((command : Said) → name.now ≡ name_of command → IsRange command)
+        ((command : Said) → name.now ≡ name_of command → IsRange command → ⊥) }
+{
+    is(name, "range") || is(name, "range-views")
+}
+
+fn parse_pair<'a>(name: &[u8], left: &[u8], right: &[u8], rest: &[&[u8]]) -> Option<SaidCommand<'a>>
+    ensures { Reads (by_bytes (λ key. key.now)) result
+        (λ command. IsIntersection command
+        × Says command (name.now ∷ left.now ∷ right.now ∷ map (λ word. word.now) rest.now)) }
+{
+    match rest {
+        [] => parse_intersection(name, left, right),
+        _ => None,
+    }
+}
+
+fn parse_intersection<'a>(name: &[u8], left: &[u8], right: &[u8]) -> Option<SaidCommand<'a>>
+    ensures { Reads (by_bytes (λ key. key.now)) result
+        (λ command. IsIntersection command
+        × Says command (name.now ∷ left.now ∷ right.now ∷ [])) }
+{
+    let left = place_of(left)?;
+    let right = place_of(right)?;
+    parse_places(name, left, right)
+}
+
+fn parse_places<'a>(name: &[u8], left: usize, right: usize) -> Option<SaidCommand<'a>>
+    ensures { Reads (by_bytes (λ key. key.now)) result
+        (λ command. (name.now ≡ name_of command) × HasPair command left right) }
+{
+    if is(name, "intersect") {
+        Some(Command::Intersect { left, right })
+    } else if is(name, "intersect-views") {
+        Some(Command::IntersectViews { left, right })
+    } else if is(name, "intersect-values") {
+        Some(Command::IntersectValues { left, right })
+    } else if is(name, "intersect-count") {
+        Some(Command::IntersectCount { left, right })
+    } else {
+        None
+    }
+}
+
+fn parse_range<'a>(
+    name: &[u8],
+    place: &[u8],
+    lo: &'a [u8],
+    rest: &[&'a [u8]],
+) -> Option<SaidCommand<'a>>
+    ensures { Reads (by_bytes (λ key. key.now)) result
+        (λ command. IsRange command
+        × Says command (name.now ∷ place.now ∷ lo.now ∷ map (λ word. word.now) rest.now)) }
+{
+    match rest {
+        [hi] => parse_bounds(name, place, lo, hi),
+        _ => None,
+    }
+}
+
+fn parse_bounds<'a>(
+    name: &[u8],
+    place: &[u8],
+    lo: &'a [u8],
+    hi: &'a [u8],
+) -> Option<SaidCommand<'a>>
+    ensures { Reads (by_bytes (λ key. key.now)) result
+        (λ command. IsRange command
+        × Says command (name.now ∷ place.now ∷ lo.now ∷ hi.now ∷ [])) }
+{
+    let place = place_of(place)?;
+    let lo = bound_of(lo)?;
+    let hi = bound_of(hi)?;
+    if is(name, "range") {
+        Some(Command::Range { place, lo, hi })
+    } else if is(name, "range-views") {
+        Some(Command::RangeViews { place, lo, hi })
+    } else {
+        None
+    }
+}
+
+fn parse_keyed<'a>(
+    name: &[u8],
+    place: &[u8],
+    key: &'a [u8],
+    rest: &[&[u8]],
+) -> Option<SaidCommand<'a>>
+    ensures { Reads (by_bytes (λ key. key.now)) result
+        (IsKeyed name.now place.now key.now (map (λ word. word.now) rest.now)) }
+{
+    let place = place_of(place)?;
+    let key = key_of(key)?;
+    parse_key_command(name, place, key, rest)
+}
+
+fn parse_key_command<'a>(
     name: &[u8],
     place: usize,
-    key: ArrayKey<16>,
+    key: &'a [u8],
     rest: &[&[u8]],
-) -> Result<LineCommand, LineError> {
-    match (name, rest) {
-        (_, []) => parse_bare_key_command(name, place, key),
-        (b"update", [write, answer @ ..]) => Ok(Command::Update {
+) -> Option<SaidCommand<'a>>
+    ensures { Reads (by_bytes (λ key. key.now)) result
+        (λ command. (name.now ≡ name_of command) × HasKey command place key.now
+        × IsRest command (map (λ word. word.now) rest.now)) }
+{
+    if is(name, "update") {
+        parse_update(place, key, rest)
+    } else if is(name, "try-update") {
+        parse_try_update(place, key, rest)
+    } else if is(name, "until") {
+        parse_until(place, key, rest)
+    } else {
+        match rest {
+            [] => parse_bare_key_command(name, place, key),
+            [value] => parse_value_command(name, place, key, number_of(value)?),
+            _ => None,
+        }
+    }
+}
+
+fn parse_update<'a>(place: usize, key: &'a [u8], rest: &[&[u8]]) -> Option<SaidCommand<'a>>
+    ensures { Reads (by_bytes (λ key. key.now)) result
+        (λ command. IsUpdate command × HasKey command place key.now
+        × IsRest command (map (λ word. word.now) rest.now)) }
+{
+    match rest {
+        [write, answer @ ..] => Some(Command::Update {
             place,
             key,
-            write: parse_write(write)?,
-            answer: parse_answer(answer)?,
+            write: write_of(write)?,
+            answer: answer_of(answer)?,
         }),
-        (b"try-update", [write, answer @ ..]) => Ok(Command::TryUpdate {
+        _ => None,
+    }
+}
+
+fn parse_try_update<'a>(place: usize, key: &'a [u8], rest: &[&[u8]]) -> Option<SaidCommand<'a>>
+    ensures { Reads (by_bytes (λ key. key.now)) result
+        (λ command. IsTryUpdate command × HasKey command place key.now
+        × IsRest command (map (λ word. word.now) rest.now)) }
+{
+    match rest {
+        [write, answer @ ..] => Some(Command::TryUpdate {
             place,
             key,
-            write: parse_write(write)?,
-            answer: parse_failing_answer(answer)?,
+            write: write_of(write)?,
+            answer: failing_answer_of(answer)?,
         }),
-        (b"until", [visits, end]) => Ok(Command::Until {
+        _ => None,
+    }
+}
+
+fn parse_until<'a>(place: usize, key: &'a [u8], rest: &[&[u8]]) -> Option<SaidCommand<'a>>
+    ensures { Reads (by_bytes (λ key. key.now)) result
+        (λ command. IsUntil command × HasKey command place key.now
+        × IsRest command (map (λ word. word.now) rest.now)) }
+{
+    match rest {
+        [visits, end] => Some(Command::Until {
             place,
             prefix: key,
-            visits: parse_number(visits)?,
-            fails: parse_end(end)?,
+            visits: number_of(visits)?,
+            fails: end_of(end)?,
         }),
-        (_, [value]) => parse_value_command(name, place, key, parse_number(value)?),
-        _ => Err(LineError::Bad),
+        _ => None,
     }
 }
 
-fn parse_bare_key_command(
-    name: &[u8],
-    place: usize,
-    key: ArrayKey<16>,
-) -> Result<LineCommand, LineError> {
-    match name {
-        b"get" => Ok(Command::Get { place, key }),
-        b"remove" => Ok(Command::Remove { place, key }),
-        b"delete" => Ok(Command::Delete { place, key }),
-        b"prefix" => Ok(Command::Prefix { place, prefix: key }),
-        b"prefix-views" => Ok(Command::PrefixViews { place, prefix: key }),
-        b"prefix-values" => Ok(Command::PrefixValues { place, prefix: key }),
-        b"matches" => Ok(Command::Matches { place, key }),
-        b"matches-each" => Ok(Command::MatchesEach { place, key }),
-        b"longest" => Ok(Command::Longest { place, key }),
-        _ => Err(LineError::Bad),
+fn parse_bare_key_command<'a>(name: &[u8], place: usize, key: &'a [u8]) -> Option<SaidCommand<'a>>
+    ensures { Reads (by_bytes (λ key. key.now)) result
+        (λ command. (name.now ≡ name_of command) × HasKey command place key.now
+        × IsRest command []) }
+{
+    if is(name, "get") {
+        Some(Command::Get { place, key })
+    } else if is(name, "remove") {
+        Some(Command::Remove { place, key })
+    } else if is(name, "delete") {
+        Some(Command::Delete { place, key })
+    } else if is(name, "prefix") {
+        Some(Command::Prefix { place, prefix: key })
+    } else if is(name, "prefix-views") {
+        Some(Command::PrefixViews { place, prefix: key })
+    } else if is(name, "prefix-values") {
+        Some(Command::PrefixValues { place, prefix: key })
+    } else if is(name, "matches") {
+        Some(Command::Matches { place, key })
+    } else if is(name, "matches-each") {
+        Some(Command::MatchesEach { place, key })
+    } else if is(name, "longest") {
+        Some(Command::Longest { place, key })
+    } else {
+        None
     }
 }
 
-fn parse_value_command(
+fn parse_value_command<'a>(
     name: &[u8],
     place: usize,
-    key: ArrayKey<16>,
+    key: &'a [u8],
     value: u64,
-) -> Result<LineCommand, LineError> {
-    match name {
-        b"get-mut" => Ok(Command::GetMut { place, key, value }),
-        b"insert" => Ok(Command::Insert { place, key, value }),
-        b"replace" => Ok(Command::Replace { place, key, value }),
-        _ => Err(LineError::Bad),
-    }
-}
-
-fn parse_place(word: &[u8]) -> Result<usize, LineError> {
-    Ok(parse_number(word)? as usize)
-}
-
-fn parse_number(word: &[u8]) -> Result<u64, LineError> {
-    number_of(word).ok_or(LineError::Bad)
-}
-
-fn number_of(word: &[u8]) -> Option<u64> {
-    if word.is_empty() || word.len() > 20 {
-        return None;
-    }
-    let mut number: u64 = 0;
-    for byte in word {
-        if !byte.is_ascii_digit() {
-            return None;
-        }
-        number = number
-            .checked_mul(10)?
-            .checked_add(u64::from(*byte - b'0'))?;
-    }
-    Some(number)
-}
-
-fn parse_key(alloc: Global, word: &[u8]) -> Result<ArrayKey<16>, LineError> {
-    match word {
-        [b'\'', key @ ..] if key.len() <= 16 && key.iter().all(|byte| byte.is_ascii_graphic()) => {
-            Ok(ArrayKey::new_from_slice(alloc, key)?)
-        }
-        _ => Err(LineError::Bad),
-    }
-}
-
-fn parse_bound(alloc: Global, word: &[u8]) -> Result<Bound<ArrayKey<16>>, LineError> {
-    match word {
-        b"-" => Ok(Bound::Unbounded),
-        [b'i', key @ ..] => Ok(Bound::Included(parse_key(alloc, key)?)),
-        [b'x', key @ ..] => Ok(Bound::Excluded(parse_key(alloc, key)?)),
-        _ => Err(LineError::Bad),
-    }
-}
-
-// Whether a visit ends by an error.
-fn parse_end(word: &[u8]) -> Result<bool, LineError> {
-    match word {
-        b"stop" => Ok(false),
-        b"fail" => Ok(true),
-        _ => Err(LineError::Bad),
-    }
-}
-
-fn parse_write(word: &[u8]) -> Result<Option<u64>, LineError> {
-    match word {
-        b"-" => Ok(None),
-        _ => Ok(Some(parse_number(word)?)),
-    }
-}
-
-// The answer of a callback that may fail, which is `None` where it does.
-fn parse_failing_answer(words: &[&[u8]]) -> Result<Option<SlotUpdate<u64>>, LineError> {
-    match words {
-        [b"fail"] => Ok(None),
-        _ => Ok(Some(parse_answer(words)?)),
-    }
-}
-
-fn parse_answer(words: &[&[u8]]) -> Result<SlotUpdate<u64>, LineError> {
-    match words {
-        [b"keep"] => Ok(SlotUpdate::Keep),
-        [b"remove"] => Ok(SlotUpdate::Remove),
-        [b"insert", value] => Ok(SlotUpdate::Insert(parse_number(value)?)),
-        _ => Err(LineError::Bad),
+) -> Option<SaidCommand<'a>>
+    ensures { Reads (by_bytes (λ key. key.now)) result
+        (λ command. (name.now ≡ name_of command) × HasKey command place key.now
+        × HasValue command value) }
+{
+    if is(name, "get-mut") {
+        Some(Command::GetMut { place, key, value })
+    } else if is(name, "insert") {
+        Some(Command::Insert { place, key, value })
+    } else if is(name, "replace") {
+        Some(Command::Replace { place, key, value })
+    } else {
+        None
     }
 }

@@ -2,16 +2,24 @@
 //!
 //! It reads command lines from standard input and writes one reply line each to standard
 //! output. Its status is 0, or 1 if some line was a bad one, or 2 as soon as reading or writing
-//! failed, or memory was refused for the buffer that it reads into or for the text of a list.
+//! failed, or memory was refused for the buffer that it reads into.
 #![tactic(auto)]
 
+mod keys;
+mod laws;
 mod line;
+mod output;
+mod reply;
+mod served;
 mod server;
+mod session;
 mod status;
 #[cfg(test)]
 mod tests;
+mod words;
 
-use server::{ServeError, serve};
+use served::ServeError;
+use server::serve;
 use status::status_of;
 use std::io::{self, BufReader};
 use std::process::ExitCode;

@@ -1,8 +1,8 @@
 //! What the program ends with.
 ghost use Rattle.std.specs.Prelude.{◌≡◌, Ok, OnErr};
-ghost use Rattle.vtree.specs.declared.server.Served.TheVariants.{Clean, BadLine};
+ghost use Rattle.vtree.specs.declared.served.Served.TheVariants.{Clean, BadLine};
 
-use crate::server::{ServeError, Served};
+use crate::served::{ServeError, Served};
 
 /// The program's status: 0 where each line was a good one, 1 where some line was bad, and 2 where
 /// the serving ended before its input did.

@@ -1,7 +1,6 @@
 // What no clause says: the lines of the program, and that calls succeed where there is memory.
 
 mod changes;
-mod commands;
 mod families;
 mod intersections;
 mod lines;
@@ -13,7 +12,8 @@ mod updates;
 mod visits;
 mod walks;
 
-use crate::server::{Served, serve};
+use crate::served::Served;
+use crate::server::serve;
 use std::alloc::Global;
 use std::process::Abort;
 use std::test::Fail;

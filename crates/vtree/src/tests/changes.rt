@@ -1,6 +1,6 @@
 // Insertions, replacements and removals, in versions and their snapshots.
 use super::assert_served;
-use crate::server::Served;
+use crate::served::Served;
 use std::test::Fail;
 
 #[test]

@@ -2,7 +2,7 @@
 ghost use Rattle.std.specs.Prelude.{ℕ, ◌≤◌};
 ghost use Rattle.rart_family.specs.Bytes.{IsAdmitted};
 
-use crate::server::write_reply;
+use crate::reply::write_reply;
 use rart_family::{ArrayKey, Command, Family, KeyTrait, SlotUpdate, VectorKey, Work};
 use std::alloc::{AllocError, Global};
 use std::ops::Bound;
@@ -182,7 +182,7 @@ fn assert_run<K: KeyTrait>(
     }
     let mut text = Vec::new(alloc);
     for reply in &family.run(&keyed_commands, &mut Work::new(), &mut Work::new())? {
-        write_reply(alloc, reply, &mut text)?;
+        write_reply(reply, &mut text)?;
     }
     assert_eq!(rt; str::from_utf8(&text)?, lines);
     Ok(family)

@@ -1,6 +1,6 @@
 // Commands that read two versions.
 use super::assert_served;
-use crate::server::Served;
+use crate::served::Served;
 use std::test::Fail;
 
 #[test]

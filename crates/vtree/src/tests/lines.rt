@@ -1,6 +1,7 @@
 // Good lines and bad ones.
 use super::assert_served;
-use crate::server::{Served, serve};
+use crate::served::Served;
+use crate::server::serve;
 use std::test::Fail;
 
 #[test]

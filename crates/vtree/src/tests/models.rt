@@ -1,6 +1,6 @@
 // Fixed lists of commands, their replies worked out on one sorted map for each version.
 use super::assert_served;
-use crate::server::Served;
+use crate::served::Served;
 use std::test::Fail;
 
 #[test]

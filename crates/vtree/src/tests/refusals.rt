@@ -1,6 +1,6 @@
 // A place without a version, and a number without room, for each command.
 use super::assert_served;
-use crate::server::Served;
+use crate::served::Served;
 use std::test::Fail;
 
 #[test]

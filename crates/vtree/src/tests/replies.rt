@@ -1,5 +1,5 @@
 // The line of each reply.
-use crate::server::{ServeError, write_reply};
+use crate::reply::write_reply;
 use rart_family::{ArrayKey, KeyTrait, Reply};
 use std::alloc::Global;
 use std::test::Fail;
@@ -70,7 +70,7 @@ fn each_reply_has_its_line(rt: HostRuntime) -> Result<(), Fail> {
     ];
     for (reply, line) in &replies {
         let mut text = Vec::new(alloc);
-        write_reply(alloc, reply, &mut text)?;
+        write_reply(reply, &mut text)?;
         assert_eq!(rt; str::from_utf8(&text)?, *line);
     }
     Ok(())

@@ -1,5 +1,6 @@
 // A reader and a writer that fail.
-use crate::server::{ServeError, Served, serve};
+use crate::served::{ServeError, Served};
+use crate::server::serve;
 use std::io::{self, Read, Write};
 use std::test::Fail;
 
@@ -39,6 +40,47 @@ impl Write for FailingWriter {
     fn flush(&mut self) -> io::Result<()> {
         Ok(())
     }
+}
+
+// Each second call is interrupted, the first one too; else it takes one byte.
+#[derive(Drop)]
+struct InterruptedWriter {
+    taken: Vec<u8>,
+    was_interrupted: bool,
+}
+
+impl Write for InterruptedWriter {
+    fn write(&mut self, bytes: &[u8]) -> io::Result<usize> {
+        if !self.was_interrupted {
+            self.was_interrupted = true;
+            return Err(io::Error::from(io::ErrorKind::Interrupted));
+        }
+        self.was_interrupted = false;
+        if bytes.is_empty() {
+            return Ok(0);
+        }
+        self.taken.push(bytes[0])?;
+        Ok(1)
+    }
+
+    fn flush(&mut self) -> io::Result<()> {
+        Ok(())
+    }
+}
+
+#[test]
+fn interrupted_write_is_tried_again(rt: HostRuntime) -> Result<(), Fail> {
+    let mut writer = InterruptedWriter {
+        taken: Vec::new(rt.alloc()),
+        was_interrupted: false,
+    };
+    let served = serve(rt.alloc(), b"new\nold\niter 0".as_slice(), &mut writer);
+    assert_eq!(rt;
+        writer.taken.as_slice(),
+        b"at 0\nbad line\nentries\n".as_slice()
+    );
+    assert!(rt; served == Ok(Served::BadLine));
+    Ok(())
 }
 
 #[test]

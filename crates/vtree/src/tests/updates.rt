@@ -1,6 +1,6 @@
 // Updates of a slot by a callback.
 use super::assert_served;
-use crate::server::Served;
+use crate::served::Served;
 use std::test::Fail;
 
 #[test]

@@ -1,6 +1,6 @@
 // Commands that list what a version has, by its iterators.
 use super::assert_served;
-use crate::server::Served;
+use crate::served::Served;
 use std::test::Fail;
 
 #[test]

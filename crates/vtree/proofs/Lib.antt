@@ -1,0 +1,17 @@
+pub mod NumberLemmas
+pub mod WordLemmas
+pub mod KnownLemmas
+pub mod PutLemmas
+pub mod SessionLemmas
+pub mod OneCommand
+pub mod OwnLineLemmas
+pub mod LineSplitLemmas
+pub mod FoundWordLemmas
+pub mod FoundLineLemmas
+pub mod TranscriptLemmas
+pub mod WorkedCommandLemmas
+pub mod WorkedLineLemmas
+pub mod WorkedRunLemmas
+pub mod ReplyTextLemmas
+pub mod StepLemmas
+pub mod ServeLemmas

@@ -1,0 +1,59 @@
+-- Transcripts of the same lines agree, and own replies are one.
+use Rattle.std.proofs.Common.{inl, inr, ◌≡◌, ◌≢◌, ℕ, List, [], ◌∷◌, refl, sym, ◌∙◌, ap, subst}
+use Rattle.rart_family.specs.Replies.{Reply, NoMemory}
+use Rattle.rart_family.specs.Families.{Family, reply_to, after}
+use Rattle.vtree.specs.Grammar.{Said}
+use Rattle.vtree.specs.ReplyTexts.{reply_line}
+use Rattle.vtree.specs.Transcript.{Replies, LineGives, Transcript}
+use Rattle.vtree.specs.Laws.{TranscriptsAgree, BadLinesChangeNothing, OwnRepliesAreTranscripts}
+use Rattle.vtree.proofs.OneCommand.{ap2, line_is_one_command}
+use Rattle.vtree.proofs.OwnLineLemmas.{own_line}
+
+-- a reply that does not say that memory was refused is the command's own
+pub own_reply : (old new : Family ℕ) (command : Said) (reply : Reply ℕ) →
+    Replies old command reply new → reply ≢ NoMemory →
+    (reply ≡ reply_to (λ key. key) old command) × (new ≡ after (λ key. key) old command)
+own_reply old new command reply (inl (inl own)) other = own
+own_reply old new command reply (inl (inr want)) other = absurd (other want.0)
+own_reply old new command reply (inr want) other = absurd (other want.0)
+
+pub line_agrees : (old one other : Family ℕ) (line text next : List ℕ) →
+    LineGives old line text one → LineGives old line next other → text ≢ reply_line NoMemory →
+    next ≢ reply_line NoMemory → (text ≡ next) × (one ≡ other)
+line_agrees old one other line text next (inl b) (inl c) p q = (b.1 ∙ sym c.1, b.2 ∙ sym c.2)
+line_agrees old one other line text next (inl b) (inr g) p q = absurd (b.0 g.0 g.2)
+line_agrees old one other line text next (inr g) (inl b) p q = absurd (b.0 g.0 g.2)
+line_agrees old one other line text next (inr g) (inr k) p q =
+    let same : g.0 ≡ k.0 = line_is_one_command line g.0 k.0 g.2 k.2 in
+    let left = own_reply old one g.0 g.1 g.3 (λ e. p (g.4 ∙ ap reply_line e)) in
+    let right = own_reply old other k.0 k.1 k.3 (λ e. q (k.4 ∙ ap reply_line e)) in (
+      g.4 ∙ ap reply_line (left.0 ∙ ap (reply_to (λ key. key) old) same ∙ sym right.0) ∙ sym k.4,
+      left.1 ∙ ap (after (λ key. key) old) same ∙ sym right.1,
+    )
+
+pub transcripts_agree : TranscriptsAgree
+transcripts_agree old one other [] [] [] h k p q = (refl, h ∙ sym k)
+transcripts_agree old one other [] (t ∷ ts) us h k p q = absurd h
+transcripts_agree old one other [] [] (u ∷ us) h k p q = absurd k
+transcripts_agree old one other (l ∷ ls) [] us h k p q = absurd h
+transcripts_agree old one other (l ∷ ls) (t ∷ ts) [] h k p q = absurd k
+transcripts_agree old one other (l ∷ ls) (t ∷ ts) (u ∷ us) h k p q =
+    let first = line_agrees old h.0 k.0 l t u h.1 k.1 p.0 q.0 in
+    let rest = transcripts_agree h.0 one other ls ts us h.2
+    (subst (λ (f : Family ℕ). Transcript f ls us other) (sym first.1) k.2) p.1 q.1 in
+    (ap2 (λ a b. a ∷ b) first.0 rest.0, rest.1)
+
+pub bad_lines_change_nothing : BadLinesChangeNothing
+bad_lines_change_nothing old new line text bad (inl b) = (b.1, b.2)
+bad_lines_change_nothing old new line text bad (inr g) = absurd (bad g.0 g.2)
+
+pub own_replies_are_transcripts : OwnRepliesAreTranscripts
+own_replies_are_transcripts old [] h = refl
+own_replies_are_transcripts old (c ∷ cs) h = (
+  after (λ key. key) old c,
+  inr (c, reply_to (λ key. key) old c, own_line c h.0, inl (inl (refl, refl)), refl),
+  own_replies_are_transcripts (after (λ key. key) old c) cs h.1,
+)
+
+-- what transcripts of the same lines have in common
+pub ruleset transcripts = (transcripts_agree, bad_lines_change_nothing, own_replies_are_transcripts)

@@ -1,0 +1,13 @@
+pub mod Lines
+pub mod Grammar
+pub mod ReplyTexts
+pub mod Transcript
+pub mod Reading
+pub mod Writing
+pub mod Shapes
+pub mod Sessions
+pub mod OwnLines
+pub mod Laws
+pub mod WorkedCommandLines
+pub mod WorkedLines
+pub mod WorkedRuns

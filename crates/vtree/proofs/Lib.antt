@@ -15,3 +15,4 @@ pub mod WorkedRunLemmas
 pub mod ReplyTextLemmas
 pub mod StepLemmas
 pub mod ServeLemmas
+pub mod ServingLawLemmas

@@ -1,7 +1,7 @@
 -- The worked lines, by computation.
 use Rattle.std.proofs.Common.{◌≡◌, ℕ, ◌<◌, List, [], ◌∷◌, ◌++◌, length, refl, sym, ◌∙◌, ap, subst, arith, true, false}
 use Rattle.std.proofs.lemmas.List.Elements.{All-head}
-use Rattle.std.specs.Prelude.{codes, Some, None}
+use Rattle.std.specs.Prelude.{codes, Option, Some, None}
 use Rattle.std.specs.declared.ops.Bound.{Bound}
 use Rattle.std.specs.declared.ops.Bound.TheVariants.{Included, Excluded, Unbounded}
 use Rattle.rart_versioned.specs.SlotUpdate.{SlotUpdate}
@@ -11,7 +11,7 @@ use Rattle.std.specs.Char.{is_ascii_graphic}
 use Rattle.std.specs.Fmt.{digits}
 use Rattle.rart_family.specs.declared.family.command.Command.TheVariants.{New, NewAt, Version, Get, Update, TryUpdate, Range, RangeViews, Until}
 use Rattle.vtree.specs.Lines.{number_of}
-use Rattle.vtree.specs.Grammar.{Said, IsLineOf, IsKey, IsNumber, IsBound, IsAnswer}
+use Rattle.vtree.specs.Grammar.{Said, IsLineOf, IsKey, IsNumber, IsBound, IsAnswer, IsWrite}
 use Rattle.vtree.specs.Shapes.{name_of}
 use Rattle.vtree.specs.WorkedLines.{WorkedNumbers, WorkedSplits, WorkedBadLines, WorkedTexts}
 use Rattle.vtree.proofs.WordLemmas.{says_name}
@@ -189,6 +189,44 @@ bad_18 command h = absurd (alike_names (codes "range-views") (codes "range-views
     (name_of command) refl (says_name command (codes "range-views")
     (codes "0" ∷ codes "x'abcdefghijklmnopq" ∷ codes "-" ∷ []) h.1))
 
+-- no word is no write, and no bound
+empty_no_write : {P : Type 0} (write : Option ℕ) → IsWrite [] write → P
+empty_no_write None h = not_alike [] [] _ refl h (λ never. never)
+empty_no_write (Some n) h = no_number [] n refl h
+
+empty_no_bound : {P : Type 0} (bound : Bound (List ℕ)) → IsBound [] bound → P
+empty_no_bound (Included key) h = absurd (omega (arith, ap length h.0))
+empty_no_bound (Excluded key) h = absurd (omega (arith, ap length h.0))
+empty_no_bound Unbounded h = absurd (omega (arith, ap length h))
+
+-- another word is no answer
+kept_no_answer : {P : Type 0} (a : SlotUpdate ℕ) → IsAnswer a (codes "kept" ∷ []) → P
+kept_no_answer slot.Keep h = not_alike (codes "kept") (codes "kept") _ refl h (λ never. never)
+kept_no_answer slot.Remove h = not_alike (codes "kept") (codes "kept") _ refl h (λ never. never)
+kept_no_answer (slot.Insert n) h = absurd h
+
+bad_19 : (command : Said) → IsLineOf (codes "update 0 'a  keep") command → ⊥
+bad_19 (Update a k w answer) h = empty_no_write w h.1.3
+bad_19 command h = absurd (alike_names (codes "update") (codes "update") (name_of command) refl
+    (says_name command (codes "update") (codes "0" ∷ codes "'a" ∷ [] ∷ codes "keep" ∷ []) h.1))
+
+bad_20 : (command : Said) → IsLineOf (codes "range 0  -") command → ⊥
+bad_20 (Range a lo hi) h = empty_no_bound lo h.1.2
+bad_20 command h = absurd (alike_names (codes "range") (codes "range") (name_of command) refl
+    (says_name command (codes "range") (codes "0" ∷ [] ∷ codes "-" ∷ []) h.1))
+
+bad_21 : (command : Said) → IsLineOf (codes "until 0 'a 1 keep") command → ⊥
+bad_21 (Until a k n false) h = not_alike (codes "keep") (codes "keep") _ refl h.1.4 (λ never. never)
+bad_21 (Until a k n true) h = not_alike (codes "keep") (codes "keep") _ refl h.1.4 (λ never. never)
+bad_21 command h = absurd (alike_names (codes "until") (codes "until") (name_of command) refl
+    (says_name command (codes "until")
+    (codes "0" ∷ codes "'a" ∷ codes "1" ∷ codes "keep" ∷ []) h.1))
+
+bad_22 : (command : Said) → IsLineOf (codes "update 0 'a - kept") command → ⊥
+bad_22 (Update a k w answer) h = kept_no_answer answer h.1.4
+bad_22 command h = absurd (alike_names (codes "update") (codes "update") (name_of command) refl
+    (says_name command (codes "update") (codes "0" ∷ codes "'a" ∷ codes "-" ∷ codes "kept" ∷ []) h.1))
+
 pub worked_bad_lines : WorkedBadLines
 worked_bad_lines = (
   bad_0,
@@ -210,6 +248,10 @@ worked_bad_lines = (
   bad_16,
   bad_17,
   bad_18,
+  bad_19,
+  bad_20,
+  bad_21,
+  bad_22,
 )
 
 -- worked numbers, splits, bad lines and texts

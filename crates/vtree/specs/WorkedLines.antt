@@ -33,7 +33,8 @@ WorkedSplits =
 -- Bad lines: an empty line, a word too many, a word too few, no such word, a carriage return, two
 -- spaces, a space at the end, 2^64, 21 digits, keys for bounds, a key without its apostrophe, a
 -- visit that failed, an update that fails, seven words, a byte 127 in a key, a byte 233 in a key,
--- and keys of 17 bytes: one alone, and one of a bound of each kind.
+-- keys of 17 bytes, one alone, and one of a bound of each kind; no word for a write, a bound that is
+-- no word, and other words for an end and an answer.
 abbrev pub WorkedBadLines : Type 0
 WorkedBadLines =
     IsBad []
@@ -55,6 +56,10 @@ WorkedBadLines =
     × IsBad (codes "get 0 'abcdefghijklmnopq")
     × IsBad (codes "range 0 - i'abcdefghijklmnopq")
     × IsBad (codes "range-views 0 x'abcdefghijklmnopq -")
+    × IsBad (codes "update 0 'a  keep")
+    × IsBad (codes "range 0  -")
+    × IsBad (codes "until 0 'a 1 keep")
+    × IsBad (codes "update 0 'a - kept")
 
 -- Texts of replies, each kind of them, and the text of a bad line.
 abbrev pub WorkedTexts : Type 0

@@ -1,5 +1,6 @@
 //! What the definitions of lines, replies and transcripts mean: laws, each the contract of a
 //! function that does nothing.
+ghost use Rattle.vtree.specs.ServingLaws.{InputIsRead, RefusalsChangeNothing, WritingIsBehind, FailedReadsLeaveABeginning, FailedWritesLeaveABeginning, ReadingTakesNoMemory};
 ghost use Rattle.vtree.specs.WorkedLines.{WorkedNumbers, WorkedSplits, WorkedBadLines, WorkedTexts};
 ghost use Rattle.vtree.specs.WorkedCommandLines.{WorkedChangeLines, WorkedReadLines, WorkedWalkLines, WorkedIntersectionLines};
 ghost use Rattle.vtree.specs.WorkedRuns.{FirstRun, WorkedRuns};
@@ -69,4 +70,16 @@ pub fn texts_tell_replies()
     ensures bad { BadTextIsNoReply }
     ensures tell { TextsTell }
     ensures fixed { TellingFixesText }
+{}
+
+#[tactic(auto, using(crate::proofs::ServingLawLemmas::ends))]
+/// What is left where an input ends, and where its serving ends early: a beginning of what the
+/// whole one writes, unless memory is refused.
+pub fn early_ends_leave_a_beginning()
+    ensures input { InputIsRead }
+    ensures refusals { RefusalsChangeNothing }
+    ensures writing { WritingIsBehind }
+    ensures reads { FailedReadsLeaveABeginning }
+    ensures writes { FailedWritesLeaveABeginning }
+    ensures memory { ReadingTakesNoMemory }
 {}

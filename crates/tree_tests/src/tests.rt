@@ -12,6 +12,7 @@ mod lending;
 mod removal;
 mod replacing;
 mod sharing;
+mod slices;
 mod snapshots;
 mod trying;
 mod unversioned;

@@ -68,7 +68,7 @@ impl<K: KeyTrait, V: Clone + Drop> VersionedAdaptiveRadixTree<K, V> {
                 Ok(())
             }
             Change::Take => {
-                self.take_in(key, more, work)?;
+                self.take_in(key.as_ref(), more, work)?;
                 Ok(())
             }
         }

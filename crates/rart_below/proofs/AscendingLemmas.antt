@@ -1,5 +1,5 @@
 -- Steps of the words on children, along a list whose bytes ascend.
-use Rattle.std.proofs.Common.{◌≡◌, ◌<◌, ◌≤◌, ◌≢◌, inl, inr, ℕ, suc, ◌+◌, Bool, true, false, cond, List, [], ◌∷◌, refl, ap, sym, ◌∙◌, arith, Option, None, Some, add-one}
+use Rattle.std.proofs.Common.{◌≡◌, ◌<◌, ◌≤◌, ◌≢◌, inl, inr, ℕ, zero, suc, ◌+◌, ◌-◌, Bool, true, false, cond, List, [], ◌∷◌, refl, ap, sym, ◌∙◌, arith, Option, None, Some, add-one}
 use Rattle.std.specs.Prelude.{T, ◌==◌, nat_le}
 use Rattle.std.specs.Ordering.{nat_cmp, eq_by_cmp, is_lt}
 use Rattle.std.specs.Cmp.{nat_cmp_is, nat_cmp_total}
@@ -220,6 +220,29 @@ module _ {C : Type 0} where
   walked_on from byte children walked missing =
       walked ∙ (next_after_absent byte children missing
       ∙ ap (λ (n : ℕ). children_from n children) (sym (add-one byte)))
+
+  -- the same, over many at once
+  walked_by : (count from : ℕ) (children : List (ℕ × C))
+      → ((byte : ℕ) → from ≤ byte → byte < from + count → child_at byte children ≡ None)
+      → Walked from (from + count) children
+  walked_by zero from children missing =
+      let here : from ≡ from + 0 = omega arith in
+      ap (λ (n : ℕ). children_from n children) here
+  walked_by (suc count) from children missing =
+      let next : from + count + 1 ≡ from + suc count = omega arith in
+      walked_on from (from + count) children
+      (walked_by count from children (λ byte le lt. missing byte le (omega (arith, lt))))
+      (missing (from + count) (omega arith) (omega arith))
+      ∙ ap (λ (n : ℕ). children_from n children) next
+
+  pub walked_over : (from to : ℕ) (children : List (ℕ × C)) → from ≤ to
+      → ((byte : ℕ) → from ≤ byte → byte < to → child_at byte children ≡ None)
+      → Walked from to children
+  walked_over from to children le missing =
+      let there : from + (to - from) ≡ to = omega (arith, le) in
+      walked_by (to - from) from children
+      (λ byte least lt. missing byte least (omega (arith, lt, there)))
+      ∙ ap (λ (n : ℕ). children_from n children) there
 
   pub walked_to : (from byte : ℕ) (found : C) (children : List (ℕ × C)) → Walked from byte children
       → IsAscending children → child_at byte children ≡ Some found

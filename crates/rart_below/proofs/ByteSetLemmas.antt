@@ -286,36 +286,6 @@ bits-of-words bit a b c d in_a in_b in_c in_d past byte =
     ]
 
 -- ---- the bytes of a mapping
-one-is-some : {C : Type 0} (slot : Option C) → (one_if_some slot == 1) ≡ is_some slot
-one-is-some None = refl
-one-is-some (Some child) = refl
-
-module _ {C : Type 0} (slots : List (Option C)) where
-  -- a word of the slots' bits
-  pub marks-word : (first place : ℕ) → place < 64
-      → (bit_at (marks_of (take 64 (drop first slots))) place == 1)
-      ≡ is_some (child_at (first + place) (slot_children 0 slots))
-  marks-word first place lt =
-      let word = take 64 (drop first slots) in
-      ap (λ (n : ℕ). n == 1) (bit_at-marks word place)
-      ∙ (one-is-some (get_or word place None)
-      ∙ ap is_some (get_or-take 64 (drop first slots) place None lt
-      ∙ (get_or-drop first slots place None ∙ sym (child_at-place (first + place) slots))))
-
-  pub none-beyond : length slots ≡ 256 → (byte : ℕ) → 256 ≤ byte
-      → is_some (child_at byte (slot_children 0 slots)) ≡ false
-  none-beyond wide byte past =
-      ap is_some (child_at-place byte slots ∙ get_or_past slots byte None (omega (arith, wide, past)))
-
-  -- So all of them are the bytes that have a child.
-  pub bytes-of-slots : length slots ≡ 256 → (byte : ℕ)
-      → has_bit (marks_of (take 64 slots) ∷ marks_of (take 64 (drop 64 slots))
-      ∷ marks_of (take 64 (drop 128 slots)) ∷ marks_of (take 64 (drop 192 slots)) ∷ []) byte
-      ≡ is_some (child_at byte (slot_children 0 slots))
-  bytes-of-slots wide =
-      bits-of-words (λ (byte : ℕ). is_some (child_at byte (slot_children 0 slots))) _ _ _ _
-      (marks-word 0) (marks-word 64) (marks-word 128) (marks-word 192) (none-beyond wide)
-
 pub some-where : {C : Type 0} (byte key : ℕ) (child : C) (rest : List (ℕ × C))
     → is_some (child_at byte ((key, child) ∷ rest)) ≡ (byte == key || is_some (child_at byte rest))
 some-where byte key child rest =

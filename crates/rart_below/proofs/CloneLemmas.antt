@@ -1,9 +1,11 @@
 -- What a clone of the slots shows.
 use Rattle.std.proofs.Common.{◌≡◌, ℕ, suc, length, List, [], ◌∷◌, refl, ap, Option, None, Some, zero, ◌+◌, ◌*◌, get_or}
-use Rattle.std.specs.Prelude.{◌&&◌, ◌==◌}
+use Rattle.std.specs.Prelude.{◌&&◌, ◌==◌, not, is_some, if◌then◌else◌}
 use Rattle.std.specs.List.{AllZip}
 use Rattle.std.specs.Ordering.{nat_cmp, is_lt}
 use Rattle.std.specs.FinMap.Entries.{is_sorted, below_all}
+use Rattle.rart_below.specs.ByteSets.{has_byte, marks_slots}
+use Rattle.rart_below.specs.declared.byte_set.ByteSet.{ByteSet}
 use Rattle.rart_below.specs.Layouts.{SameBytes, keyed_children, is_filled, slot_children, one_if_some, named_slots, names_of, marks_of, is_named_once}
 use Rattle.std.proofs.lemmas.Slice.Zip.{AllZip-long}
 use Rattle.rart_below.proofs.SortedMappingLemmas.{in_order}
@@ -82,16 +84,32 @@ module _ {C : Type 0} (Tied : C → C → Type 0) where
       let rest = slots-tied (suc first) slots copies h.1 in
       rw h.0.1 (((refl, h.0.2), rest.0), ap suc rest.1)
 
-  -- the test of a mapping by slots, on both
-  pub direct-order : (slots copies : List (Option C)) (count : ℕ)
+  some-tied : (slot copy : Option C) → SlotTied Tied slot copy → is_some copy ≡ is_some slot
+  some-tied None copy h = ap is_some h
+  some-tied (Some child) copy h = ap is_some h.1
+
+  bytes-tied : (bytes : ByteSet) (first : ℕ) (slots copies : List (Option C))
       → AllZip (SlotTied Tied) slots copies
+      → marks_slots bytes first copies ≡ marks_slots bytes first slots
+  bytes-tied bytes first [] [] h = refl
+  bytes-tied bytes first [] (copy ∷ copies) h = absurd h
+  bytes-tied bytes first (slot ∷ slots) [] h = absurd h
+  bytes-tied bytes first (slot ∷ slots) (copy ∷ copies) h =
+      let head = some-tied slot copy h.0 in
+      let rest = bytes-tied bytes (suc first) slots copies h.1 in
+      λ i. (if head i then has_byte bytes first else not (has_byte bytes first)) && rest i
+
+  -- the test of a mapping by slots, on both
+  pub direct-order : (slots copies : List (Option C)) (count : ℕ) (bytes bytes' : ByteSet)
+      → bytes' ≡ bytes → AllZip (SlotTied Tied) slots copies
       → SameBytes Tied (slot_children 0 slots) (slot_children 0 copies)
-      × (direct.in_order copies count ≡ direct.in_order slots count)
-  direct-order slots copies count h =
+      × (direct.in_order copies count bytes' ≡ direct.in_order slots count bytes)
+  direct-order slots copies count bytes bytes' same h =
+      let marked = bytes-tied bytes 0 slots copies h in
       let tied = slots-tied 0 slots copies h in
       let long = tied.1 in
       let counted = AllZip-long _ (slot_children 0 slots) (slot_children 0 copies) tied.0 in
-      (tied.0, rw (long, counted) refl)
+      (tied.0, rw (same, long, counted, marked) refl)
 
   held-tied : (slot copy : Option C) → SlotTied Tied slot copy → one_if_some copy ≡ one_if_some slot
   held-tied None copy h = ap one_if_some h

@@ -1,5 +1,5 @@
 -- Sets of bytes, and the set of the bytes under which children stand.
-use Rattle.std.specs.Prelude.{◌≡◌, ◌<◌, ℕ, ◌/◌, ◌%◌, ◌==◌, ◌&&◌, not, Bool, true, false, List, Option, Some, None, is_some, slice_index_or}
+use Rattle.std.specs.Prelude.{◌≡◌, ◌<◌, ◌≤◌, ℕ, suc, ◌/◌, ◌%◌, ◌==◌, ◌&&◌, not, Bool, true, false, List, [], ◌∷◌, Option, Some, None, is_some, if◌then◌else◌, slice_index_or}
 use Rattle.std.specs.Int.{bit_at}
 use Rattle.rart_below.specs.Children.{child_at}
 use Rattle.rart_below.specs.declared.byte_set.ByteSet.{ByteSet}
@@ -19,6 +19,21 @@ TakesFirst before (Some first) after =
     (has_byte before first ≡ true)
     × ((byte : ℕ) → byte < first → has_byte before byte ≡ false)
     × ((byte : ℕ) → has_byte after byte ≡ (not (byte == first) && has_byte before byte))
+
+-- This is the least number not below the first at which the test holds, or there is none.
+abbrev pub IsLeastFrom : ℕ → (ℕ → Bool) → Option ℕ → Type 0
+IsLeastFrom first holds None = (byte : ℕ) → first ≤ byte → holds byte ≡ false
+IsLeastFrom first holds (Some least) =
+    (first ≤ least) × (holds least ≡ true)
+    × ((byte : ℕ) → first ≤ byte → byte < least → holds byte ≡ false)
+
+-- whether the set has the bytes of the slots that have a child and not those of the others, where
+-- the first slot stands under this byte
+abbrev pub marks_slots : {C : Type 0} → ByteSet → ℕ → List (Option C) → Bool
+marks_slots set byte [] = true
+marks_slots set byte (slot ∷ slots) =
+    (if is_some slot then has_byte set byte else not (has_byte set byte))
+    && marks_slots set (suc byte) slots
 
 -- The set has each byte that has a child, and no other.
 abbrev pub AreBytesOf : {C : Type 0} → ByteSet → List (ℕ × C) → Type 0

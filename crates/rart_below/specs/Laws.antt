@@ -8,6 +8,7 @@ use Rattle.std.specs.Cmp.{nat_cmp_is}
 use Rattle.std.specs.declared.cmp.Ordering.TheVariants.{Less}
 use Rattle.std.specs.FinMap.Entries.{is_sorted, below_all}
 use Rattle.std.proofs.lemmas.Bool.{and_parts, and_from, leb-true, eqb-true, false≢true}
+use Rattle.rart_below.specs.ByteSets.{marks_slots}
 use Rattle.rart_below.specs.Children.{IsAscending}
 use Rattle.rart_below.specs.Layouts.{keyed_children, is_filled, slot_children, named_slots, marks_of, is_named_once}
 use Rattle.rart_below.specs.Counting.{length-named_slots}
@@ -77,7 +78,10 @@ module _ {C : Type 0} where
   direct-fits mapping order =
       let parts =
       and_parts (length mapping.children.slots == 256)
-      (mapping.count == length (direct_children mapping)) order in
+      (mapping.count == length (direct_children mapping))
+      (and_parts (length mapping.children.slots == 256
+      && mapping.count == length (direct_children mapping))
+      (marks_slots mapping.bytes 0 mapping.children.slots) order).0 in
       subst (λ (width : ℕ). length (direct_children mapping) ≤ width)
       (eqb-true (length mapping.children.slots) 256 parts.0)
       (length-slot_children 0 mapping.children.slots)

@@ -11,5 +11,6 @@ pub mod LendingKeyView
 pub mod Lent
 pub mod Mapped
 pub mod Plain
+pub mod RankedKeys
 pub mod SlotArray
 pub mod SortedKeyedMapping

@@ -1,16 +1,18 @@
 -- What maps the children of a mapping commutes with what the mapping shows, and keeps its order.
 -- For a fold above.
-use Rattle.std.specs.Prelude.{◌≡◌, ℕ, suc, ◌+◌, ◌*◌, ◌==◌, ◌&&◌, Bool, List, [], ◌∷◌, Option, Some, None, map, length, nat_le, slice_index_or, refl}
+use Rattle.std.specs.Prelude.{◌≡◌, ℕ, suc, ◌+◌, ◌*◌, ◌==◌, ◌&&◌, Bool, List, [], ◌∷◌, Option, Some, None, map, length, nat_le, slice_index_or, refl, is_some, not, if◌then◌else◌}
 use Rattle.std.proofs.Common.{ap, sym, ◌∙◌}
 use Rattle.std.proofs.Math.ListN.{get_or-map}
 use Rattle.std.proofs.lemmas.List.{length-map}
 use Rattle.std.specs.Ordering.{nat_cmp, is_lt}
 use Rattle.std.specs.FinMap.Entries.{is_sorted, below_all}
+use Rattle.rart_below.specs.ByteSets.{has_byte, marks_slots}
 use Rattle.rart_below.specs.Children.{map_children}
 use Rattle.rart_below.specs.Layouts.{one_if_some, keyed_children, is_filled, slot_children, named_slots, names_of, marks_of, is_named_once}
 use Rattle.rart_below.specs.SortedKeyedMapping.{sorted_children, sorted_in_order}
 use Rattle.rart_below.specs.IndexedMapping.{indexed_children, indexed_in_order}
 use Rattle.rart_below.specs.DirectMapping.{direct_children, direct_in_order}
+use Rattle.rart_below.specs.declared.byte_set.ByteSet.{ByteSet}
 use Rattle.rart_below.specs.declared.mapping.sorted.SortedKeyedMapping.{SortedKeyedMapping}
 use Rattle.rart_below.specs.declared.mapping.indexed.IndexedMapping.{IndexedMapping}
 use Rattle.rart_below.specs.declared.mapping.direct.DirectMapping.{DirectMapping}
@@ -91,6 +93,17 @@ module _ {A B : Type 0} (f : A → B) (g : Option A → Option B) (none : g None
   marks_of-map [] = refl
   marks_of-map (slot ∷ slots) = λ i. one_if_some-map slot i + 2 * marks_of-map slots i
 
+  is_some-map : (slot : Option A) → is_some (g slot) ≡ is_some slot
+  is_some-map None = ap is_some none
+  is_some-map (Some child) = ap is_some (some child)
+
+  pub marks_slots-map : (set : ByteSet) (byte : ℕ) (slots : List (Option A))
+      → marks_slots set byte (map g slots) ≡ marks_slots set byte slots
+  marks_slots-map set byte [] = refl
+  marks_slots-map set byte (slot ∷ slots) =
+      λ i. (if is_some-map slot i then has_byte set byte else not (has_byte set byte))
+      && marks_slots-map set (suc byte) slots i
+
   pub is_named_once-map : (first : ℕ) (slots : List (Option A)) (index : List ℕ)
       → is_named_once first (map g slots) index ≡ is_named_once first slots index
   is_named_once-map first [] index = refl
@@ -126,12 +139,14 @@ module _ {A B : Type 0} (f : A → B) (g : Option A → Option B) (none : g None
 
   pub direct_in_order-map : (mapping : DirectMapping A) (mapped : DirectMapping B)
       → mapped.children.slots ≡ map g mapping.children.slots → mapped.count ≡ mapping.count
-      → direct_in_order mapped ≡ direct_in_order mapping
-  direct_in_order-map mapping mapped slots count =
+      → mapped.bytes ≡ mapping.bytes → direct_in_order mapped ≡ direct_in_order mapping
+  direct_in_order-map mapping mapped slots count bytes =
       let wide = ap length slots ∙ length-map mapping.children.slots g in
       let counted = ap length (direct_children-map mapping mapped slots)
       ∙ length-map_children f (direct_children mapping) in
-      λ i. (wide i == 256) && (count i == counted i)
+      let marked = (λ i. marks_slots (bytes i) 0 (slots i))
+      ∙ marks_slots-map mapping.bytes 0 mapping.children.slots in
+      λ i. (wide i == 256) && (count i == counted i) && marked i
 
   pub indexed_children-map : (mapping : IndexedMapping A) (mapped : IndexedMapping B)
       → mapped.index ≡ mapping.index → mapped.children.slots ≡ map g mapping.children.slots

@@ -1,6 +1,6 @@
 // Ported from rart 0.11.0 (Apache-2.0), and rewritten.
 //! Keys and prefixes held inline, of a greatest length.
-ghost use Rattle.std.specs.Prelude.{◌≡◌, ◌≤◌, Some, length, refl};
+ghost use Rattle.std.specs.Prelude.{◌≡◌, ◌≤◌, Some, length, refl, IsOk, IfOk};
 ghost use Rattle.std.proofs.lemmas.Slice.Eq.{bytes_eq-Decides};
 
 use crate::key::KeyTrait;
@@ -103,7 +103,11 @@ impl<const N: usize> KeyTrait for ArrayKey<N> {
 
     ghost bytes = { λ key. key.bytes.items };
 
-    fn new_from_slice(_alloc: Global, slice: &[u8]) -> Result<ArrayKey<N>, AllocError> {
+    fn new_from_slice(_alloc: Global, slice: &[u8]) -> Result<ArrayKey<N>, AllocError>
+        requires admitted { length slice.now ≤ N }
+        ensures made { IsOk result }
+        ensures bytes { IfOk result (λ key. key.bytes.items ≡ slice.now) }
+    {
         Ok(ArrayKey {
             bytes: inline_bytes(slice),
         })

@@ -1,7 +1,7 @@
 // Ported from rart 0.11.0 (Apache-2.0), and rewritten.
 //! Sets of bytes. rart has no such type: there children in common are found one by one.
-ghost use Rattle.std.specs.Prelude.{◌≡◌, ◌==◌, ◌||◌, ◌&&◌, ℕ, false};
-ghost use Rattle.rart_below.specs.ByteSets.{has_byte, TakesFirst};
+ghost use Rattle.std.specs.Prelude.{◌≡◌, ◌≤◌, ◌==◌, ◌||◌, ◌&&◌, ℕ, false, not};
+ghost use Rattle.rart_below.specs.ByteSets.{has_byte, IsLeastFrom, TakesFirst};
 
 /// A set of bytes: a bit for each, in four words.
 ///
@@ -58,5 +58,38 @@ impl ByteSet {
             }
         }
         None
+    }
+    /// Takes the byte out, if it is there.
+    #[inline]
+    pub(crate) fn remove(&mut self, byte: u8)
+        ensures { (other : ℕ) → has_byte self.new other
+            ≡ (not (other == byte) && has_byte self.old other) }
+    {
+        self.words[usize::from(byte / 64)] &= !(1 << (byte % 64));
+    }
+
+    /// The least byte that is not below the number.
+    #[inline]
+    pub(crate) fn least_from(&self, from: usize) -> Option<u8>
+        ensures { IsLeastFrom from (λ byte. has_byte self.now byte) result }
+    {
+        let mut first = from;
+        while first < 256 {
+            let word = self.words[first / 64] >> (first % 64);
+            if word != 0 {
+                return Some((first + word.trailing_zeros() as usize) as u8);
+            }
+            first = first / 64 * 64 + 64;
+        }
+        None
+    }
+
+    /// The same bytes. No greater number is among them.
+    #[inline]
+    pub(crate) fn copy(&self) -> ByteSet
+        ensures same { result ≡ self.now }
+        ensures bytes { (number : ℕ) → 256 ≤ number → has_byte result number ≡ false }
+    {
+        ByteSet { words: self.words }
     }
 }

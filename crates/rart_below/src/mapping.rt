@@ -10,6 +10,7 @@ ghost use Rattle.rart_below.specs.Lent.{LendsChild};
 
 mod direct;
 mod indexed;
+mod ranked_keys;
 mod slot_array;
 mod slots;
 mod sorted;

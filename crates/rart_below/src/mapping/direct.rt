@@ -1,7 +1,7 @@
 // Ported from rart 0.11.0 (Apache-2.0), and rewritten.
 //! The mapping of width 256: a slot for each byte.
-ghost use Rattle.std.specs.Prelude.{◌≡◌, [], None, IsTrue, length};
-ghost use Rattle.rart_below.specs.Layouts.{SameBytes, marks_of};
+ghost use Rattle.std.specs.Prelude.{◌≡◌, [], None, IsTrue};
+ghost use Rattle.rart_below.specs.Layouts.{SameBytes};
 ghost use Rattle.rart_below.specs.DirectMapping.{direct_children, direct_in_order};
 
 use super::slot_array::SlotArray;
@@ -11,11 +11,13 @@ use crate::byte_set::ByteSet;
 use std::alloc::AllocError;
 use std::array;
 
-/// A mapping of up to 256 children: a slot for each byte, and a count.
+/// A mapping of up to 256 children: a slot for each byte, a count, and the bytes that have a child,
+/// so that a walk need not go over the free slots.
 #[derive(Drop)]
 pub struct DirectMapping<C> {
     children: SlotArray<Option<C>, 256>,
     count: usize,
+    bytes: ByteSet,
 }
 
 impl<C> DirectMapping<C> {
@@ -33,6 +35,7 @@ impl<C> DirectMapping<C> {
                 ),
             },
             count: 0,
+            bytes: ByteSet::new(),
         }
     }
 }
@@ -61,6 +64,7 @@ impl<C: Drop> NodeMapping<C> for DirectMapping<C> {
     fn add_child(&mut self, byte: u8, child: C) {
         replace_slot(&mut self.children.slots, byte as usize, child);
         self.count += 1;
+        self.bytes.insert(byte);
     }
 
     fn replace_child(&mut self, byte: u8, child: C) -> C {
@@ -73,56 +77,39 @@ impl<C: Drop> NodeMapping<C> for DirectMapping<C> {
     fn delete_child(&mut self, byte: u8) -> Option<C> {
         let child = take_slot(&mut self.children.slots, byte as usize)?;
         self.count -= 1;
+        self.bytes.remove(byte);
         Some(child)
     }
 
     fn next_from(&self, from: usize) -> Option<(u8, &C)> {
-        for byte in from..256 {
-            if let Some(child) = &self.children.slots[byte] {
-                return Some((byte as u8, child));
-            }
+        let byte = self.bytes.least_from(from)?;
+        match &self.children.slots[byte as usize] {
+            Some(child) => Some((byte, child)),
+            None => unreachable!(),
         }
-        None
     }
 
+    // Where nearly all bytes have a child, it is quicker to look at the slot first.
     fn next_child(&self, from: &mut usize) -> Option<&C> {
-        for byte in *from..256 {
-            if let Some(child) = &self.children.slots[byte] {
-                *from = byte + 1;
+        if *from < 256 {
+            if let Some(child) = &self.children.slots[*from] {
+                *from += 1;
                 return Some(child);
             }
         }
-        None
+        let byte = self.bytes.least_from(*from)?;
+        *from = byte as usize + 1;
+        self.children.slots[byte as usize].as_ref()
     }
 
     #[inline]
     fn bytes(&self) -> ByteSet {
-        let slots = &self.children.slots[..];
-        ByteSet {
-            words: [
-                used_in(&slots[0..64]),
-                used_in(&slots[64..128]),
-                used_in(&slots[128..192]),
-                used_in(&slots[192..256]),
-            ],
-        }
+        self.bytes.copy()
     }
 
     ghost ascending = { direct-ascending };
 
     ghost fits = { direct-fits };
-}
-
-/// Which of 64 slots hold a child: a bit for each.
-fn used_in<C>(slots: &[Option<C>]) -> u64
-    requires { length slots.now ≡ 64 }
-    ensures { result ≡ marks_of slots.now }
-{
-    let mut bits = 0;
-    for back in 1..65 {
-        bits = bits * 2 + u64::from(slots[64 - back].is_some());
-    }
-    bits
 }
 
 impl<C> Clear<C> for DirectMapping<C> {
@@ -138,6 +125,7 @@ impl<C> Clear<C> for DirectMapping<C> {
     {
         clear_slots(&mut self.children.slots);
         self.count = 0;
+        self.bytes = ByteSet::new();
     }
 }
 
@@ -151,6 +139,7 @@ impl<C: Clone + Drop> Clone for DirectMapping<C> {
                 slots: self.children.slots.clone()?,
             },
             count: self.count,
+            bytes: self.bytes.copy(),
         })
     }
 }

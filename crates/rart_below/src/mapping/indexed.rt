@@ -1,7 +1,9 @@
 // Ported from rart 0.11.0 (Apache-2.0), and rewritten.
 //! The mapping of width 48: an index from each byte to its slot.
 ghost use Rattle.std.specs.Int.{bit_at};
-ghost use Rattle.std.specs.Prelude.{◌≡◌, ◌+◌, ◌<◌, ◌≤◌, ℕ, [], length, IsTrue, if◌then◌else◌, nat_lt, slice_index_or};
+ghost use Rattle.std.specs.Prelude.{◌≡◌, ◌+◌, ◌<◌, ◌≤◌, ℕ, [], length, IsTrue, is_some, if◌then◌else◌, nat_lt, slice_index_or};
+ghost use Rattle.rart_below.specs.ByteSets.{IsLeastFrom};
+ghost use Rattle.rart_below.specs.Children.{child_at};
 ghost use Rattle.rart_below.specs.Layouts.{SameBytes};
 ghost use Rattle.rart_below.specs.IndexedMapping.{indexed_children, indexed_in_order};
 
@@ -46,6 +48,24 @@ impl<C> IndexedMapping<C> {
 }
 
 impl<C: Drop> IndexedMapping<C> {
+    /// The least byte with a child that is not below the number. It looks at 64 entries of the
+    /// index at once.
+    fn least_from(&self, from: usize) -> Option<u8>
+        requires { IsTrue (indexed_in_order self.now) }
+        ensures { IsLeastFrom from (λ byte. is_some (child_at byte (indexed_children self.now)))
+            result }
+    {
+        let mut first = from;
+        while first < 256 {
+            let word = named_at(&self.index, first / 64 * 64) >> (first % 64);
+            if word != 0 {
+                return Some((first + word.trailing_zeros() as usize) as u8);
+            }
+            first = first / 64 * 64 + 64;
+        }
+        None
+    }
+
     /// Moves the children into another mapping, which is empty and has room for them, in one walk
     /// over the index. This one is left empty.
     pub fn move_into<M: NodeMapping<C>>(&mut self, to: &mut M)
@@ -120,22 +140,24 @@ impl<C: Drop> NodeMapping<C> for IndexedMapping<C> {
     }
 
     fn next_from(&self, from: usize) -> Option<(u8, &C)> {
-        for byte in from..256 {
-            if let Some(child) = self.seek_child(byte as u8) {
-                return Some((byte as u8, child));
-            }
+        let byte = self.least_from(from)?;
+        match self.seek_child(byte) {
+            Some(child) => Some((byte, child)),
+            None => unreachable!(),
         }
-        None
     }
 
+    // Where most bytes have a child, it is quicker to look at the entry first.
     fn next_child(&self, from: &mut usize) -> Option<&C> {
-        for byte in *from..256 {
-            if let Some(child) = self.seek_child(byte as u8) {
-                *from = byte + 1;
+        if *from < 256 {
+            if let Some(child) = self.seek_child(*from as u8) {
+                *from += 1;
                 return Some(child);
             }
         }
-        None
+        let byte = self.least_from(*from)?;
+        *from = byte as usize + 1;
+        self.seek_child(byte)
     }
 
     #[inline]

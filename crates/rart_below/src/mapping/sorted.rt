@@ -1,14 +1,14 @@
 // Ported from rart 0.11.0 (Apache-2.0), and rewritten.
 //! The mapping of width 4 and 16: bytes in ascending order, with a child beside each.
-ghost use Rattle.std.specs.Prelude.{◌≡◌, ◌≤◌, ℕ, [], Some, None, length, MatchOption, IsTrue};
-ghost use Rattle.rart_below.specs.Layouts.{SameBytes, IsAbsent, IsPlaceOf, rank};
+ghost use Rattle.std.specs.Prelude.{◌≡◌, ◌≤◌, [], None, length, IsTrue};
+ghost use Rattle.rart_below.specs.Layouts.{SameBytes};
 ghost use Rattle.rart_below.specs.SortedKeyedMapping.{sorted_children, sorted_in_order};
 
+use super::ranked_keys::RankedKeys;
 use super::slot_array::SlotArray;
 use super::slots::{clear_slots, insert_slot, remove_slot, replace_slot, take_slot};
 use super::{Clear, NodeMapping};
 use crate::byte_set::ByteSet;
-use arrayvec::ArrayVec;
 use std::alloc::AllocError;
 use std::array;
 
@@ -16,47 +16,8 @@ use std::array;
 /// them in the same order.
 #[derive(Drop)]
 pub struct SortedKeyedMapping<C, const WIDTH: usize> {
-    keys: ArrayVec<u8, WIDTH>,
+    keys: RankedKeys<WIDTH>,
     children: SlotArray<Option<C>, WIDTH>,
-}
-
-/// How many of the keys are below the byte. It looks at each key, so that no branch depends on
-/// them, and counts in a byte, of which a register holds sixteen.
-fn rank_of(keys: &[u8], byte: u8) -> usize
-    requires { rank byte keys.now ≤ byte }
-    ensures value { result ≡ rank byte keys.now }
-    ensures fits { result ≤ length keys.now }
-{
-    let mut rank = 0u8;
-    for key in keys {
-        rank += u8::from(*key < byte);
-    }
-    usize::from(rank)
-}
-
-/// How many of the keys are below the number.
-fn rank_from(keys: &[u8], from: usize) -> usize
-    requires { (byte : ℕ) → rank byte keys.now ≤ byte }
-    ensures value { result ≡ rank from keys.now }
-    ensures fits { result ≤ length keys.now }
-{
-    if from > usize::from(u8::MAX) {
-        return keys.len();
-    }
-    rank_of(keys, from as u8)
-}
-
-/// Where the byte stands among ascending keys.
-fn place_of(keys: &[u8], byte: u8) -> Option<usize>
-    requires { rank byte keys.now ≤ byte }
-    ensures { MatchOption result (IsAbsent byte keys.now) (IsPlaceOf byte keys.now) }
-{
-    let place = rank_of(keys, byte);
-    if place < keys.len() && keys[place] == byte {
-        Some(place)
-    } else {
-        None
-    }
 }
 
 impl<C, const WIDTH: usize> SortedKeyedMapping<C, WIDTH> {
@@ -66,7 +27,7 @@ impl<C, const WIDTH: usize> SortedKeyedMapping<C, WIDTH> {
         ensures empty { sorted_children result ≡ [] }
     {
         SortedKeyedMapping {
-            keys: ArrayVec::new(),
+            keys: RankedKeys::new(),
             children: SlotArray {
                 slots: array::from_fn(|_| None),
             },
@@ -107,12 +68,12 @@ impl<C: Drop, const WIDTH: usize> NodeMapping<C> for SortedKeyedMapping<C, WIDTH
     ghost width = { WIDTH };
 
     fn seek_child(&self, byte: u8) -> Option<&C> {
-        let place = place_of(self.keys.as_slice(), byte)?;
+        let place = self.keys.place_of(byte)?;
         self.children.slots[place].as_ref()
     }
 
     fn seek_child_mut(&mut self, byte: u8) -> Option<&mut C> {
-        let Some(place) = place_of(self.keys.as_slice(), byte) else {
+        let Some(place) = self.keys.place_of(byte) else {
             return None;
         };
         self.children.slot_mut(place).as_mut()
@@ -123,14 +84,14 @@ impl<C: Drop, const WIDTH: usize> NodeMapping<C> for SortedKeyedMapping<C, WIDTH
     }
 
     fn add_child(&mut self, byte: u8, child: C) {
-        let place = rank_of(self.keys.as_slice(), byte);
+        let place = self.keys.rank_of(byte);
         let len = self.keys.len();
         self.keys.insert(place, byte);
         insert_slot(&mut self.children.slots, place, len, child);
     }
 
     fn replace_child(&mut self, byte: u8, child: C) -> C {
-        let Some(place) = place_of(self.keys.as_slice(), byte) else {
+        let Some(place) = self.keys.place_of(byte) else {
             unreachable!()
         };
         match replace_slot(&mut self.children.slots, place, child) {
@@ -140,7 +101,7 @@ impl<C: Drop, const WIDTH: usize> NodeMapping<C> for SortedKeyedMapping<C, WIDTH
     }
 
     fn delete_child(&mut self, byte: u8) -> Option<C> {
-        let place = place_of(self.keys.as_slice(), byte)?;
+        let place = self.keys.place_of(byte)?;
         let len = self.keys.len();
         self.keys.remove(place);
         remove_slot(&mut self.children.slots, place, len)
@@ -148,7 +109,7 @@ impl<C: Drop, const WIDTH: usize> NodeMapping<C> for SortedKeyedMapping<C, WIDTH
 
     fn next_from(&self, from: usize) -> Option<(u8, &C)> {
         let keys = self.keys.as_slice();
-        let place = rank_from(keys, from);
+        let place = self.keys.rank_from(from);
         if place < keys.len() {
             match &self.children.slots[place] {
                 Some(child) => Some((keys[place], child)),
@@ -161,7 +122,7 @@ impl<C: Drop, const WIDTH: usize> NodeMapping<C> for SortedKeyedMapping<C, WIDTH
 
     fn next_child(&self, from: &mut usize) -> Option<&C> {
         let keys = self.keys.as_slice();
-        let place = rank_from(keys, *from);
+        let place = self.keys.rank_from(*from);
         if place < keys.len() {
             *from = usize::from(keys[place]) + 1;
             self.children.slots[place].as_ref()
@@ -205,10 +166,9 @@ impl<C: Clone + Drop, const WIDTH: usize> Clone for SortedKeyedMapping<C, WIDTH>
         × (sorted_in_order copy ≡ sorted_in_order it) };
 
     fn clone(&self) -> Result<Self, AllocError> {
-        let keys = self.keys.clone()?;
         let slots = self.children.slots.clone()?;
         Ok(SortedKeyedMapping {
-            keys,
+            keys: self.keys.copy(),
             children: SlotArray { slots },
         })
     }

@@ -1,5 +1,6 @@
 use Rattle.std.proofs.Common.{length, sym, ap, ◌∙◌}
 use Rattle.rart_below.proofs.DirectMappingLemmas.{kept_from_order, order_from}
+use Rattle.rart_below.proofs.SlotByteLemmas.{marked-none}
 use Rattle.rart_below.proofs.SlotLemmas.{no_slots}
 use Rattle.rart_below.proofs.mapping.direct.DirectMappingClear.clear.Goals as goal
 
@@ -8,6 +9,7 @@ returns-clause-empty g c = no_slots 0 _ c.clear_slots.ensures
 
 pub returns-clause-order : goal.returns-clause-order
 returns-clause-order g c order =
-    let kept = kept_from_order _ _ order in
-    order_from _ 0 (c.clear_slots.auto.slots ∙ kept.wide)
+    let kept = kept_from_order _ _ _ order in
+    order_from _ 0 _ (c.clear_slots.auto.slots ∙ kept.wide)
     (sym (ap length (no_slots 0 _ c.clear_slots.ensures)))
+    (marked-none _ _ c.new-self.ensures c.clear_slots.ensures)

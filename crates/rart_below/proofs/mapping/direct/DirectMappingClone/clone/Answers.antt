@@ -12,4 +12,4 @@ returns g c =
     ])
     c.args.self.now.children.slots c.in_ok-clone.field-0
     (c.in_ok-clone.ensures {u = tt}).cases.whole in
-    record { cases = direct-order Tied _ _ c.args.self.now.count slots }
+    record { cases = direct-order Tied _ _ c.args.self.now.count _ _ c.copy.ensures.same slots }

@@ -1,14 +1,20 @@
-use Rattle.std.proofs.Common.{◌∙◌, ◌∷◌, []}
-use Rattle.rart_below.specs.ByteSets.{has_bit}
-use Rattle.rart_below.proofs.ByteSetLemmas.{bytes-of-slots}
-use Rattle.rart_below.proofs.DirectMappingLemmas.{kept_from_order}
+use Rattle.std.proofs.Common.{ℕ, inl, inr, ap, sym, ◌∙◌}
+use Rattle.std.specs.Prelude.{is_some}
+use Rattle.std.proofs.lemmas.Bool.{cases_lt}
+use Rattle.rart_below.specs.ByteSets.{has_byte}
+use Rattle.rart_below.proofs.DirectMappingLemmas.{kept_from_order, bytes_are, none_past}
 use Rattle.rart_below.proofs.mapping.direct.DirectMappingNodeMapping.bytes.Goals as goal
 
 pub returns : goal.returns
 returns g c =
-    let slots = c.args.self.now.children.slots in
-    let kept = kept_from_order slots c.args.self.now.count c.requires in
-    λ byte.
-    (λ i. has_bit (c.used_in.ensures i ∷ c.used_in-2.ensures i ∷ c.used_in-3.ensures i
-    ∷ c.used_in-4.ensures i ∷ []) byte)
-    ∙ bytes-of-slots slots kept.wide byte
+    let mapping = c.args.self.now in
+    let slots = mapping.children.slots in
+    let kept = kept_from_order slots mapping.count mapping.bytes c.requires in
+    λ byte. elim (cases_lt byte 256) [
+      | inl low ↦
+          ap (λ set. has_byte set byte) c.copy.ensures.same
+          ∙ bytes_are byte slots mapping.count mapping.bytes kept low
+      | inr high ↦
+          c.copy.ensures.bytes byte high
+          ∙ sym (ap is_some (none_past byte slots mapping.count mapping.bytes kept high))
+    ]

@@ -10,11 +10,11 @@ returns g c =
     let slot = c.slot_mut.result.now in
     let was = c.slot_mut.ensures.value in
     let copied = c.as_mut.ensures.value in
-    let kept = kept_from_order slots mapping.count c.requires in
+    let kept = kept_from_order slots mapping.count mapping.bytes c.requires in
     let within : c.args.byte < length slots = omega (arith, kept.wide, c.ranges.byte.fits) in
     let here = slot_was slots c.args.byte slot within was in
     let written = λ (left : g.row.C.Denot). of_lent c.as_mut.result slot _ copied
-    (λ child held. replaced c.args.byte left child slots _ mapping.count kept
+    (λ child held. replaced c.args.byte left child slots _ mapping.count mapping.bytes kept
     (omega (arith, c.ranges.byte.fits)) (held ∙ here) refl) in
     let as_was =
     ap (λ ended. record mapping { children = record { slots = ended } })

@@ -1,27 +1,43 @@
-use Rattle.std.proofs.Common.{◌∙◌, sym, ap, option_copied, arith}
-use Rattle.rart_below.specs.Layouts.{slot_children, named_slots}
-use Rattle.rart_below.specs.Laws.{slots-ascending}
-use Rattle.rart_below.proofs.AscendingLemmas.{walked_on, walked_to, walked_out}
+use Rattle.std.proofs.Common.{◌<◌, ℕ, ap, arith, refl, sym, ◌∙◌, option_copied}
+use Rattle.std.specs.Prelude.{is_some}
+use Rattle.std.proofs.lemmas.Option.{none-some}
+use Rattle.rart_below.specs.Children.{child_at}
+use Rattle.rart_below.specs.IndexedMapping.{indexed_children}
+use Rattle.rart_below.specs.Laws.{indexed-ascending}
+use Rattle.rart_below.specs.Layouts.{entry_copied}
+use Rattle.rart_below.proofs.LeastByteLemmas.{least_first, least_has, least_none}
 use Rattle.rart_below.proofs.IndexedMappingLemmas.{kept_from_order, none_past}
 use Rattle.rart_below.proofs.mapping.indexed.IndexedMappingNodeMapping.next_from.Goals as goal
 
-pub returns-in-Some : goal.returns-in-Some
-returns-in-Some g c =
-    let slots = named_slots c.args.self.now.children.slots c.args.self.now.index in
-    walked_to _ _ _ (slot_children 0 slots) c.loop-byte.invariant (slots-ascending 0 slots)
-    (sym c.seek_child.ensures ∙ ap option_copied c.in-Some.is)
+pub returns-in_err-byte : goal.returns-in_err-byte
+returns-in_err-byte g c =
+    let mapping = c.args.self.now in
+    let kept = kept_from_order mapping.index mapping.children.slots mapping.used c.requires in
+    ap entry_copied c.from_residual.ensures
+    ∙ least_none c.args.from (λ byte. is_some (child_at byte (indexed_children mapping)))
+    (indexed_children mapping) (λ byte lt. refl)
+    (λ byte. none_past byte mapping.index mapping.children.slots mapping.used kept)
+    (c.in_err-byte.ensures {u = tt})
 
-pub loop-byte-preserved : goal.loop-byte-preserved
-loop-byte-preserved g c =
-    let slots = named_slots c.args.self.now.children.slots c.args.self.now.index in
-    walked_on _ _ (slot_children 0 slots) c.loop-byte.invariant
-    (sym c.seek_child.ensures ∙ ap option_copied c.in_default.is)
+pub unreachable-requires : goal.unreachable-requires
+unreachable-requires g c =
+    let mapping = c.args.self.now in
+    let byte = c.in_ok-byte.byte in
+    let kept = kept_from_order mapping.index mapping.children.slots mapping.used c.requires in
+    let low : byte < 256 = omega arith in
+    let has =
+    least_has c.args.from (λ byte. is_some (child_at byte (indexed_children mapping)))
+    (indexed_children mapping) (λ byte lt. refl)
+    (λ byte. none_past byte mapping.index mapping.children.slots mapping.used kept)
+    byte low (c.in_ok-byte.ensures {u = tt}) in
+    none-some has.0 (sym (sym c.seek_child.ensures ∙ ap option_copied c.in-None.is) ∙ has.1)
 
 pub returns : goal.returns
 returns g c =
     let mapping = c.args.self.now in
     let kept = kept_from_order mapping.index mapping.children.slots mapping.used c.requires in
-    let slots = named_slots mapping.children.slots mapping.index in
-    walked_out _ _ (slot_children 0 slots) c.loop-byte.invariant
-    (λ later le. none_past later mapping.index mapping.children.slots mapping.used kept
-    (omega (arith, le, c.loop-byte-test.false)))
+    least_first c.args.from (λ byte. is_some (child_at byte (indexed_children mapping)))
+    (indexed_children mapping) (λ byte lt. refl)
+    (λ byte. none_past byte mapping.index mapping.children.slots mapping.used kept)
+    c.in_ok-byte.byte _ (c.in_ok-byte.ensures {u = tt}) (indexed-ascending mapping c.requires)
+    (sym c.seek_child.ensures ∙ ap option_copied c.in-Some.is)

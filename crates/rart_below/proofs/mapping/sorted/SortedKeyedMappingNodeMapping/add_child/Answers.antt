@@ -4,9 +4,7 @@ use Rattle.rart_below.proofs.mapping.sorted.SortedKeyedMappingNodeMapping.add_ch
 
 pub rank_of-place-requires : goal.rank_of-place-requires
 rank_of-place-requires g c =
-    rw c.as_slice.ensures.value
-    (rank-in_order g.row.WIDTH c.args.byte c.args.self.now.keys.items
-    c.args.self.now.children.slots c.requires.order)
+    (search rules, rank-in_order g.row.WIDTH c.args.byte c.args.self.now.keys.items c.args.self.now.children.slots c.requires.order)
 
 pub insert-requires : goal.insert-requires
 insert-requires g c =
@@ -33,7 +31,7 @@ returns-clause-order g c =
     c.requires.order in
     let room : length c.args.self.now.keys.items < g.row.WIDTH =
     omega (arith, length-kept _ _ _ kept, c.requires.room) in
-    let place = rw c.as_slice.ensures.value at c.rank_of-place.ensures.value in
+    let place = c.rank_of-place.ensures.value in
     (added _ c.args.byte c.args.child _ _ _ _ _ _ kept c.requires.absent c.insert.ensures.len room
     place c.len-len.ensures.value c.insert.ensures.items c.insert_slot.ensures).0
 
@@ -44,6 +42,6 @@ returns-clause-children g c =
     c.requires.order in
     let room : length c.args.self.now.keys.items < g.row.WIDTH =
     omega (arith, length-kept _ _ _ kept, c.requires.room) in
-    let place = rw c.as_slice.ensures.value at c.rank_of-place.ensures.value in
+    let place = c.rank_of-place.ensures.value in
     (added _ c.args.byte c.args.child _ _ _ _ _ _ kept c.requires.absent c.insert.ensures.len room
     place c.len-len.ensures.value c.insert.ensures.items c.insert_slot.ensures).1

@@ -1,19 +1,17 @@
-use Rattle.std.proofs.Common.{ap, refl, sym, ◌∙◌}
+use Rattle.std.proofs.Common.{rules, ap, refl, sym, ◌∙◌}
 use Rattle.rart_below.proofs.SortedMappingLemmas.{rank-in_order, kept_from_order, absent, found, replaced}
 use Rattle.rart_below.proofs.LentLemmas.{of_lent, set_as_was}
 use Rattle.rart_below.proofs.mapping.sorted.SortedKeyedMappingNodeMapping.seek_child_mut.Goals as goal
 
 pub place_of-requires : goal.place_of-requires
 place_of-requires g c =
-    rw c.as_slice.ensures.value
-    (rank-in_order g.row.WIDTH c.args.byte c.args.self.now.keys.items
-    c.args.self.now.children.slots c.requires)
+    (search rules, rank-in_order g.row.WIDTH c.args.byte c.args.self.now.keys.items c.args.self.now.children.slots c.requires)
 
 pub returns-in_default : goal.returns-in_default
 returns-in_default g c =
     let mapping = c.args.self.now in
     let kept = kept_from_order g.row.WIDTH mapping.keys.items mapping.children.slots c.requires in
-    let missing = rw c.as_slice.ensures.value at (c.in_default.ensures {u = tt}) in (
+    let missing = c.in_default.ensures {u = tt} in (
       (refl, (λ left. tt), refl),
       record {
         writes_back = tt;
@@ -30,7 +28,7 @@ returns g c =
     let was = c.slot_mut.ensures.value in
     let copied = c.as_mut.ensures.value in
     let kept = kept_from_order g.row.WIDTH keys slots c.requires in
-    let place = rw c.as_slice.ensures.value at (c.in-Some.ensures {u = tt}) in
+    let place = c.in-Some.ensures {u = tt} in
     let written =
     λ (left : g.row.C.Denot). of_lent c.as_mut.result slot _ copied
     (λ child held. replaced _ c.args.byte left keys slots _ c.in-Some.place kept place refl) in

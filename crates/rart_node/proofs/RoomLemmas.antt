@@ -41,8 +41,8 @@ module _ {C : Type 0} where
       next_has_room 48 256 _ (indexed-fits mapping.boxed.value order) (lit< tt)
   room (Node256 mapping) byte child order small absent =
       let m = mapping.boxed.value in
-      let kept = kept_from_order m.children.slots m.count order in
-      let less = room_for_one byte child m.children.slots m.count kept small absent in
+      let kept = kept_from_order m.children.slots m.count m.bytes order in
+      let less = room_for_one byte child m.children.slots m.count m.bytes kept small absent in
       omega (arith, less, kept.counted)
 
 -- What adding a child asks of a content that was made roomy.

@@ -66,11 +66,12 @@ module _ {A B : Type 0} (f : A → B) (g : Option A → Option B) (none : g None
 
   content_of_direct : (mapping : DirectMapping A) (mapped : DirectMapping B)
       → mapped.children.slots ≡ map g mapping.children.slots → mapped.count ≡ mapping.count
+      → mapped.bytes ≡ mapping.bytes
       → record { width = 256; in_order = direct_in_order mapped; children = direct_children mapped }
       ≡ content_by 256 (direct_in_order mapping) (direct_children mapping)
-  content_of_direct mapping mapped slots count = λ i. record {
+  content_of_direct mapping mapped slots count bytes = λ i. record {
     width = 256;
-    in_order = direct_in_order-map f g none some mapping mapped slots count i;
+    in_order = direct_in_order-map f g none some mapping mapped slots count bytes i;
     children = direct_children-map f g none some mapping mapped slots i;
   }
 
@@ -136,7 +137,7 @@ module _ {P V : Type 0} (bytes : P → List ℕ) where
       fold-roll-VersionedNode P V (Shape V) (Shape V) node_step pointer_step
       (record layer { content = Node256 mapping })
       ∙ ap (node_of_content (bytes layer.prefix) layer.value)
-      (content_of_direct pointer_shape _ refl (λ child. refl) mapping.boxed.value _ refl refl)
+      (content_of_direct pointer_shape _ refl (λ child. refl) mapping.boxed.value _ refl refl refl)
 
   pub node_shape_roll : (layer : VersionedNode-F P V (VersionedNode P V) (NodeRef P V))
       → node_shape (roll-VersionedNode P V layer)

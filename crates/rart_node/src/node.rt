@@ -29,9 +29,11 @@ pub struct VersionedNode<P, V> {
     content: Content<P, V>,
 }
 
-/// Written out, so that a crate that drops a node proves nothing of what it is made of.
+/// Written out, so that a crate that drops a node proves nothing of what it is made of. Inlined, it
+/// leaves no copy of the node in a frame of its own.
 impl<P: Drop, V: Drop> Drop for VersionedNode<P, V> {
     #[cycle(drop_node)]
+    #[inline(always)]
     fn drop(self) {
         let VersionedNode {
             prefix: _,

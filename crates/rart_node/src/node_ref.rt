@@ -22,8 +22,24 @@ pub struct NodeRef<P, V> {
 /// Written out, so that a crate that drops a pointer proves nothing of what nodes are made of.
 impl<P: Drop, V: Drop> Drop for NodeRef<P, V> {
     #[cycle(drop_node)]
+    #[inline]
     fn drop(self) {
-        let NodeRef { shared: _ } = self;
+        let NodeRef { shared } = self;
+        if Rc::strong_count(&shared) == 1 {
+            drop_last(shared);
+        } else {
+            drop(shared);
+        }
+    }
+}
+
+// Drops a node with its last pointer. The drop of an `Rc` would have the node in its frame while
+// the children go, and so the stack a copy of each node on the way down.
+#[cycle(drop_node)]
+#[inline(never)]
+fn drop_last<P: Drop, V: Drop>(shared: Rc<VersionedNode<P, V>, Global>) {
+    if let Some(node) = Rc::into_inner(shared) {
+        drop(node);
     }
 }
 

@@ -28,6 +28,8 @@ impl<M: Clear<C>, C> WideBox<M, C> {
 }
 
 impl<M: Clear<C> + Drop, C: Drop> Drop for WideBox<M, C> {
+    // Out of line, so that what is left of the mapping has no room in the frame of a node's drop.
+    #[inline(never)]
     fn drop(self) {
         let WideBox {
             mut boxed,

@@ -23,6 +23,6 @@ fn mappings_take_more_with_their_width(rt: HostRuntime) -> Result<(), Fail> {
     assert_eq!(rt; size_of::<SortedKeyedMapping<Pointer, 4>>(), 80);
     assert_eq!(rt; size_of::<SortedKeyedMapping<Pointer, 16>>(), 280);
     assert_eq!(rt; size_of::<IndexedMapping<Pointer>>(), 1032);
-    assert_eq!(rt; size_of::<DirectMapping<Pointer>>(), 4104);
+    assert_eq!(rt; size_of::<DirectMapping<Pointer>>(), 4136);
     Ok(())
 }

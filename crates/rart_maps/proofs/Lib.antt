@@ -2,6 +2,7 @@ pub mod ElementLemmas
 pub mod FoundLemmas
 pub mod IterationLawLemmas
 pub mod IterationLemmas
+pub mod LongestLemmas
 pub mod LookupLawLemmas
 pub mod LookupLemmas
 pub mod MapLemmas

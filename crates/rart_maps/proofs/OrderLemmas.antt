@@ -1,11 +1,11 @@
 -- The order of byte strings, the bounds on it, and beginnings.
-use Rattle.std.proofs.Common.{◌≡◌, ◌<◌, ◌↔◌, ◌⊎◌, ℕ, true, List, [], ◌∷◌, ◌++◌, refl, sym, ap, ◌∙◌, ⊎_elim, inl, inr, arith}
+use Rattle.std.proofs.Common.{◌≡◌, ◌<◌, ◌↔◌, ◌⊎◌, ℕ, true, List, [], ◌∷◌, ◌++◌, length, refl, sym, ap, ◌∙◌, ⊎_elim, inl, inr, arith}
 use Rattle.std.specs.Prelude.{◌==◌}
 use Rattle.std.specs.declared.cmp.Ordering.{Ordering}
 use Rattle.std.specs.declared.cmp.Ordering.TheVariants.{Less, Equal, Greater}
 use Rattle.std.specs.declared.ops.Bound.{Bound}
 use Rattle.std.specs.declared.ops.Bound.TheVariants.{Included, Excluded, Unbounded}
-use Rattle.std.specs.Ordering.{nat_cmp, ordering_then, is_lt, is_le, as_partial_cmp}
+use Rattle.std.specs.Ordering.{nat_cmp, ordering_then, ordering_reverse, is_lt, is_le, as_partial_cmp}
 use Rattle.std.specs.Cmp.{ranked, nat_cmp_is, tied_itself}
 use Rattle.std.specs.Cmp.Lexicographic.{nat_list_cmp_total}
 use Rattle.std.specs.Range.Bound.{is_from_start, is_up_to_end, bounds_contain}
@@ -42,7 +42,18 @@ before-less (b ∷ u) (c ∷ w) before =
     before
 
 pub order_is_of_first_difference : OrderIsOfFirstDifference
-order_is_of_first_difference u w = (less-before u w, before-less u w)
+order_is_of_first_difference u w = (
+  (less-before u w, before-less u w),
+  (
+    byte_order-IsAntisymmetric u w,
+    λ same. ap (λ v. byte_order u v) (sym same) ∙ tied_itself nat_list_cmp_total u,
+  ),
+  (
+    λ greater. less-before w u
+        (nat_list_cmp_total.antisymm w u ∙ ap ordering_reverse greater),
+    λ before. nat_list_cmp_total.antisymm u w ∙ ap ordering_reverse (before-less w u before),
+  ),
+)
 
 -- No string stands before itself, nor two each before the other.
 pub IsBefore-itself : (u : List ℕ) → IsBefore u u → ⊥
@@ -112,6 +123,20 @@ bounds_contain-is low high key = (
 )
 
 -- ---- beginnings
+
+-- Of two that begin the same string, the later one is the longer one.
+pub before-longer : (u v w : List ℕ) → begins u w ≡ true → begins v w ≡ true → IsBefore u v
+    → length u < length v
+before-longer u [] w first later before = absurd before
+before-longer [] (c ∷ v) w first later before = omega arith
+before-longer (b ∷ u) (c ∷ v) [] first later before = absurd (false≢true first)
+before-longer (b ∷ u) (c ∷ v) (d ∷ w) first later before =
+    let one = and_parts (b == d) (begins u w) first in
+    let other = and_parts (c == d) (begins v w) later in
+    ⊎_elim
+    (λ less. absurd (omega (arith, less, eqb-true b d one.0, eqb-true c d other.0)))
+    (λ both. let more = before-longer u v w one.1 other.1 both.1 in omega (arith, more))
+    before
 
 pub begins-append : (u rest : List ℕ) → begins u (u ++ rest) ≡ true
 begins-append [] rest = refl

@@ -1,10 +1,10 @@
 -- The laws of visits.
 use Rattle.std.proofs.Common.{◌≡◌, ◌⊎◌, ℕ, List, [], ◌∷◌, ◌++◌, Result, Ok, Err, refl, sym, ap, subst, inl, inr, ⊎_elim}
-use Rattle.std.specs.Fn.{Mut}
+use Rattle.std.specs.Fn.{Mut, Called}
 use Rattle.rart_below.specs.declared.visit.VisitControl.{VisitControl}
 use Rattle.rart_below.specs.declared.visit.VisitControl.TheVariants.{Continue, Stop}
 use Rattle.rart_maps.specs.Visits.{CalledOn, CallableOn, Answers, AnswersUpTo, CallableInTurn, VisitUpTo, VisitUntil}
-use Rattle.rart_maps.specs.VisitLaws.{ArgumentsShowTheirMembers, VisitsTell, VisitOfNothing, VisitOfParts, FrontOfVisit, VisitableStepByStep, IfContinues, UntilNothing, UntilStepByStep, FrontOfUntil, UntilCallableStepByStep, EndsOnOne, UntilDone, UntilCallbackRefuses, UntilMemoryIsRefused}
+use Rattle.rart_maps.specs.VisitLaws.{ArgumentsShowTheirMembers, VisitsTell, VisitOfNothing, VisitOfOne, VisitableOfOne, VisitOfParts, FrontOfVisit, VisitableStepByStep, IfContinues, UntilNothing, UntilStepByStep, FrontOfUntil, UntilCallableStepByStep, EndsOnOne, UntilDone, UntilCallbackRefuses, UntilMemoryIsRefused}
 use Rattle.rart_maps.proofs.VisitLemmas.{answers-append}
 
 same_first : {A : Type 0} {x y : A} {xs ys : List A} → x ∷ xs ≡ y ∷ ys → x ≡ y
@@ -31,6 +31,11 @@ module _ {F A R X : Type 0} (g : Mut F A R) (Shows : A → X → Type 0) (answer
   up_to-cases x xs y rest f j (z ∷ front, is, calls) =
       let called = subst (λ w. CalledOn g Shows f w answer calls.0) (sym (same_first is)) calls.1 in
       inr (calls.0, called, (front, same_rest is, calls.2))
+
+  -- No call stands before a member of an empty list.
+  up_to-none : (y : X) (rest : List X) (f j : F) → AnswersUpTo g Shows answer f [] (y ∷ rest) j → ⊥
+  up_to-none y rest f j ([], is, calls) = cc
+  up_to-none y rest f j (z ∷ front, is, calls) = cc
 
   up_to-first : (x : X) (xs rest : List X) (f k j : F) → CalledOn g Shows f x answer k →
       AnswersUpTo g Shows answer k xs rest j → AnswersUpTo g Shows answer f (x ∷ xs) rest j
@@ -64,6 +69,19 @@ module _ {F A X : Type 0} (g : Mut F A (Unit {0})) (Shows : A → X → Type 0) 
   pub visit_of_nothing : VisitOfNothing g Shows
   visit_of_nothing f f' = (λ same. same, λ same. same)
 
+  pub visit_of_one : VisitOfOne g Shows
+  visit_of_one x f f' = (
+    λ visit. (visit.1.0, subst (Called g f visit.1.0 tt) visit.2 visit.1.1, visit.1.2),
+    λ call. (f', call, refl),
+  )
+
+  pub visitable_of_one : VisitableOfOne g Shows
+  visitable_of_one x f = (
+    λ callable. (callable-first g Shows tt x [] f callable).0,
+    λ takes. callable-from g Shows tt x [] f takes
+        (λ j called. record { at = λ y rest k before. absurd (up_to-none g Shows tt y rest j k before) }),
+  )
+
   pub visit_of_parts : VisitOfParts g Shows
   visit_of_parts xs ys f f' =
       (answers-parts g Shows tt xs ys f f', λ v. answers-append g Shows tt xs ys f v.0 f' v.1 v.2)
@@ -82,8 +100,8 @@ module _ {F A X : Type 0} (g : Mut F A (Unit {0})) (Shows : A → X → Type 0) 
 
 module _ {F A X E : Type 0} (g : Mut F A (Result VisitControl E)) (Shows : A → X → Type 0) where
   not-up_to : (f f' : F) (last : Result VisitControl E) → VisitUpTo g Shows f [] last f' → ⊥
-  not-up_to f f' last (x, rest, j, ([], is, calls), called) = cc
-  not-up_to f f' last (x, rest, j, (z ∷ front, is, calls), called) = cc
+  not-up_to f f' last (x, rest, j, before, called) =
+      up_to-none g Shows (Ok Continue) x rest f j before
 
   pub until_nothing : UntilNothing g Shows
   until_nothing f f' (Ok Continue) = (λ same. (same, refl), λ both. both.0)
@@ -197,6 +215,8 @@ module _ {F A X E : Type 0} (g : Mut F A (Result VisitControl E)) (Shows : A →
 pub arguments_show_their_members : (K V : Type 0) (bytes : K → List ℕ) →
     ArgumentsShowTheirMembers K V bytes
 arguments_show_their_members K V bytes key k slice r s w x y = (
+  (λ v. v, λ v. v),
+  (λ v. v, λ v. v),
   (λ v. v, λ v. v),
   (λ v. v, λ v. v),
   (λ v. v, λ v. v),

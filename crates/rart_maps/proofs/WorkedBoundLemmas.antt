@@ -1,6 +1,6 @@
 -- The worked values of the bounds, by computation.
 use Rattle.std.proofs.Common.{◌*◌, refl, ap, inl, inr}
-use Rattle.rart_maps.specs.WorkedBounds.{LookupOfNoByte, LookupOfThreeBytes, ChangeOfNoByte, ChangeOfThreeBytes, TouchOfNoByte, TouchOfThreeBytes, MeetOfTwo, MeetBelowOne, MeetWithItself, MeetOfEmpty, ReachOfTwo, ReachOfAll, ReachOfNone, MeetOfDistinct, MeetInsideKeys, ReachOfFive, ReachOfOne, ReachPastKeys, WalkOfThree, WalkOfOneBelowOther, WalkOfNone, ScanOfTwo, RangeOfTwo, RangeOfAll, RangeReversed, RangeOfNone}
+use Rattle.rart_maps.specs.WorkedBounds.{LookupOfNoByte, LookupOfThreeBytes, ChangeOfNoByte, ChangeOfThreeBytes, TouchOfNoByte, TouchOfThreeBytes, MeetOfTwo, MeetBelowOne, MeetWithItself, MeetOfEmpty, ReachOfTwo, ReachOfAll, ReachOfNone, MeetOfDistinct, MeetInsideKeys, ReachOfFive, ReachOfOne, ReachPastKeys, WalkOfThree, WalkOfOneBelowOther, WalkOfNone, ScanOfTwo, ScanOfAll, ScanOfNone, ScanOfThree, RangeOfTwo, RangeOfAll, RangeReversed, RangeOfNone, RangeOfNoneBelow}
 use Rattle.rart_maps.proofs.MapLemmas.{maps, sets}
 use Rattle.rart_maps.proofs.PairLawLemmas.{shared_is_empty}
 use Rattle.std.specs.FinMap as finite
@@ -85,3 +85,15 @@ range_reversed = simp maps refl
 
 pub range_of_none : RangeOfNone
 range_of_none = simp maps refl
+
+pub scan_of_all : ScanOfAll
+scan_of_all = simp maps refl
+
+pub scan_of_none : ScanOfNone
+scan_of_none = simp maps refl
+
+pub scan_of_three : ScanOfThree
+scan_of_three = simp maps refl
+
+pub range_of_none_below : RangeOfNoneBelow
+range_of_none_below = simp maps refl

@@ -1,10 +1,10 @@
 -- Which pairs stand in what is read off maps: with their order, these laws say each list whole.
-use Rattle.std.specs.Prelude.{◌≡◌, ◌↔◌, ℕ, List, Some, Contains, AllPairs, IsTrue}
+use Rattle.std.specs.Prelude.{◌≡◌, ◌≤◌, ◌↔◌, ℕ, List, Some, length, Contains, AllPairs, IsTrue}
 use Rattle.std.specs.declared.ops.Bound.{Bound}
 use Rattle.std.specs.FinMap as finite
 use Rattle.rart_below.specs.Bytes.{begins}
 use Rattle.rart_maps.specs.Versions.{Map}
-use Rattle.rart_maps.specs.Pairs.{pairs, within, under, beginnings, common}
+use Rattle.rart_maps.specs.Pairs.{pairs, within, under, beginnings, longest_beginning, common}
 use Rattle.rart_maps.specs.Order.{IsBefore, MeetsLow, MeetsHigh}
 
 -- The keys of a list ascend strictly: each stands before each later one.
@@ -50,6 +50,14 @@ module _ (V : Type 0) where
   abbrev pub BeginningsAreFound : Type 0
   BeginningsAreFound = (m : Map V) (w key : List ℕ) (x : V) →
       Contains (beginnings m w) (key, x) ↔ (IsTrue (begins key w) × (finite.get m key ≡ Some x))
+
+  -- The longest of these is exactly the one whose key no other one's passes in length.
+  abbrev pub LongestIsFound : Type 0
+  LongestIsFound = (m : Map V) (w key : List ℕ) (x : V) →
+      (longest_beginning m w ≡ Some (key, x))
+      ↔ (Contains (beginnings m w) (key, x)
+      × ((other : List ℕ) (y : V) → Contains (beginnings m w) (other, y)
+      → length other ≤ length key))
 
   -- A key stands in common with two values exactly where either map has its value there.
   abbrev pub CommonIsFound : Type 0

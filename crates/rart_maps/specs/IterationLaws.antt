@@ -1,8 +1,9 @@
 -- What an iterator gives, call after call.
-use Rattle.std.specs.Prelude.{◌≡◌, ◌↔◌, ◌⊎◌, ℕ, List, ◌∷◌, ◌++◌, map, replicate, Option, Some, None, Result, Ok, Err}
+use Rattle.std.specs.Prelude.{◌≡◌, ◌↔◌, ◌⊎◌, ℕ, List, [], ◌∷◌, ◌++◌, map, replicate, Option, Some, None, Result, Ok, Err}
 use Rattle.std.specs.List.{AllZip, FoldsTo}
 use Rattle.std.specs.declared.alloc.AllocError.{AllocError}
-use Rattle.rart_maps.specs.Iterations.{ByKey, ByReference, NextGives}
+use Rattle.std.specs.Iterator.{Count, at_most}
+use Rattle.rart_maps.specs.Iterations.{ByKey, ByReference, NextGives, items_left}
 
 module _ {A X : Type 0} (Shows : A → X → Type 0) where
   -- Calls in turn gave these answers.
@@ -52,6 +53,13 @@ module _ {A X : Type 0} (Shows : A → X → Type 0) where
   NothingIsGivenBehind = (answers : List (Option (Result A AllocError)))
       (after : Option (List X)) → Gives None answers after
       ↔ ((times : ℕ) × (answers ≡ nothing_given times) × (after ≡ None))
+
+-- Of two members three items come at most, the third of them a refusal; behind the end, none.
+abbrev pub ItemsLeftOfTwo : Type 0 → Type 0
+ItemsLeftOfTwo X = (x y : X) → items_left (Some (x ∷ y ∷ [])) ≡ at_most 3
+
+abbrev pub ItemsLeftBehind : Type 0 → Type 0
+ItemsLeftBehind X = items_left {X = X} None ≡ at_most 0
 
 module _ (V : Type 0) where
   -- so of values by references, and of pairs by keys with their bytes and references to values

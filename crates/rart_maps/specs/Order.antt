@@ -1,6 +1,6 @@
 -- The order of byte strings and what bounds on it mean, in words of their own.
 use Rattle.std.specs.Prelude.{◌≡◌, ◌<◌, ◌⊎◌, ◌++◌, ◌↔◌, ℕ, List, [], ◌∷◌, IsTrue, ⊤}
-use Rattle.std.specs.declared.cmp.Ordering.TheVariants.{Less}
+use Rattle.std.specs.declared.cmp.Ordering.TheVariants.{Less, Equal, Greater}
 use Rattle.std.specs.declared.ops.Bound.{Bound}
 use Rattle.std.specs.declared.ops.Bound.TheVariants.{Included, Excluded, Unbounded}
 use Rattle.rart_below.specs.Bytes.{byte_order, begins}
@@ -27,9 +27,11 @@ MeetsHigh (Included high) key = IsAtMost key high
 MeetsHigh (Excluded high) key = IsBefore key high
 MeetsHigh Unbounded key = ⊤
 
--- The order of byte strings says of two that the one stands before the other exactly where it does.
+-- The order of byte strings says of two that the one stands before the other, that they are equal, or
+-- that the other stands before the one, exactly where it is so.
 abbrev pub OrderIsOfFirstDifference : Type 0
-OrderIsOfFirstDifference = (u w : List ℕ) → (byte_order u w ≡ Less) ↔ IsBefore u w
+OrderIsOfFirstDifference = (u w : List ℕ) → ((byte_order u w ≡ Less) ↔ IsBefore u w)
+    × ((byte_order u w ≡ Equal) ↔ (u ≡ w)) × ((byte_order u w ≡ Greater) ↔ IsBefore w u)
 
 -- A string begins another exactly where the other is it and a rest.
 abbrev pub BeginsIsOfRest : Type 0

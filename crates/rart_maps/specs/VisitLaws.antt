@@ -1,17 +1,28 @@
 -- What visits are, a call at a time and part by part.
 use Rattle.std.specs.Prelude.{◌≡◌, ◌↔◌, ◌⊎◌, ℕ, List, [], ◌∷◌, ◌++◌, Result, Ok, Err}
 use Rattle.std.specs.Borrow.{Bor}
-use Rattle.std.specs.Fn.{Mut}
+use Rattle.std.specs.Fn.{Mut, Called, Takes}
 use Rattle.std.specs.declared.alloc.AllocError.{AllocError}
 use Rattle.rart_below.specs.declared.slot.Refusal.TheVariants.{Callback, Memory}
 use Rattle.rart_below.specs.declared.visit.VisitControl.{VisitControl}
 use Rattle.rart_below.specs.declared.visit.VisitControl.TheVariants.{Continue, Stop}
+use Rattle.rart_maps.specs.Iterations.{ByKey, ByReference}
 use Rattle.rart_maps.specs.Visits.{CalledOn, CallableOn, Visit, VisitFront, Visits, ByView, BySlice, ByValue, ByViewPair, ByKeyPair, ByValuePair, Visitable, VisitUntil, VisitUntilFront, VisitsUntil, VisitableUntil}
 
 module _ {F A X : Type 0} (g : Mut F A (Unit {0})) (Shows : A → X → Type 0) where
   -- A visit of nothing leaves its closure as it was.
   abbrev pub VisitOfNothing : Type 0
   VisitOfNothing = (f f' : F) → Visit g Shows f [] f' ↔ (f ≡ f')
+
+  -- A visit of one member is one call, with arguments that show it.
+  abbrev pub VisitOfOne : Type 0
+  VisitOfOne = (x : X) (f f' : F) → Visit g Shows f (x ∷ []) f'
+      ↔ ((shown : A) × Called g f shown tt f' × Shows shown x)
+
+  -- What may be called on one member may be called with all arguments that show it.
+  abbrev pub VisitableOfOne : Type 0
+  VisitableOfOne = (x : X) (f : F) → Visitable g Shows f (x ∷ [])
+      ↔ ((shown : A) → Shows shown x → Takes g f shown)
 
   -- A visit of two lists, one behind the other, is one of the first and then one of the second.
   abbrev pub VisitOfParts : Type 0
@@ -95,7 +106,8 @@ module _ {F A X E : Type 0} (g : Mut F A (Result VisitControl E)) (Shows : A →
       ↔ ((front rest : List X) × (members ≡ front ++ rest)
       × VisitUntil g Shows f front (Ok Continue) f')
 
--- What a closure is shown: a key of these bytes, and references to these values, in this order.
+-- What a closure is shown, or an iterator gives: a key of these bytes, and references to these
+-- values, in this order.
 module _ (K V : Type 0) (bytes : K → List ℕ) where
   abbrev pub ArgumentsShowTheirMembers : Type 0
   ArgumentsShowTheirMembers = (key : List ℕ) (k : K) (slice : Bor (List ℕ)) (r s : Bor V)
@@ -107,3 +119,5 @@ module _ (K V : Type 0) (bytes : K → List ℕ) where
       × (ByKeyPair bytes (k, (r, (s, tt))) (w, x, y)
       ↔ ((bytes k ≡ w) × (r.now ≡ x) × (s.now ≡ y)))
       × (ByValuePair (r, (s, tt)) (x, y) ↔ ((r.now ≡ x) × (s.now ≡ y)))
+      × (ByKey bytes (k, r) (w, x) ↔ ((bytes k ≡ w) × (r.now ≡ x)))
+      × (ByReference r x ↔ (r.now ≡ x))

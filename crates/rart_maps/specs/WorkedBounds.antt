@@ -95,6 +95,19 @@ WalkOfNone = walk_cost (map_of []) ≡ 0
 abbrev pub ScanOfTwo : Type 0
 ScanOfTwo = scan_bound (map_of (codes "ac" ∷ codes "ad" ∷ codes "b" ∷ [])) (codes "a") ≡ 6
 
+-- Under the empty string are all three keys.
+abbrev pub ScanOfAll : Type 0
+ScanOfAll = scan_bound (map_of (codes "ac" ∷ codes "ad" ∷ codes "b" ∷ [])) [] ≡ 7
+
+-- Under abc is no key, and the prefix has three bytes.
+abbrev pub ScanOfNone : Type 0
+ScanOfNone = scan_bound (map_of (codes "ac" ∷ codes "ad" ∷ codes "b" ∷ [])) (codes "abc") ≡ 4
+
+-- Under a are three keys of four.
+abbrev pub ScanOfThree : Type 0
+ScanOfThree =
+    scan_bound (map_of (codes "ac" ∷ codes "ad" ∷ codes "ae" ∷ codes "b" ∷ [])) (codes "a") ≡ 8
+
 -- From a up to b, b itself not, are a and ab, and either bound has one byte.
 abbrev pub RangeOfTwo : Type 0
 RangeOfTwo = range_bound (map_of (codes "a" ∷ codes "ab" ∷ codes "b" ∷ []))
@@ -113,3 +126,7 @@ RangeReversed = range_bound (map_of (codes "a" ∷ codes "ab" ∷ codes "b" ∷ 
 -- Where there is no key, three bytes of a bound count.
 abbrev pub RangeOfNone : Type 0
 RangeOfNone = range_bound (map_of []) (Excluded (codes "abc")) Unbounded ≡ 5
+
+-- So do those of an upper bound.
+abbrev pub RangeOfNoneBelow : Type 0
+RangeOfNoneBelow = range_bound (map_of []) Unbounded (Included (codes "abc")) ≡ 5

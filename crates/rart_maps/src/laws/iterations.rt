@@ -1,5 +1,5 @@
 //! What iterators give, call after call.
-ghost use Rattle.rart_maps.specs.IterationLaws.{ValuesAreGiven, NoValueIsGivenBehind, PairsAreGiven, NoPairIsGivenBehind};
+ghost use Rattle.rart_maps.specs.IterationLaws.{ItemsLeftOfTwo, ItemsLeftBehind, ValuesAreGiven, NoValueIsGivenBehind, PairsAreGiven, NoPairIsGivenBehind};
 
 use rart_below::KeyTrait;
 
@@ -11,4 +11,10 @@ pub fn iterators_give_their_members<K: KeyTrait, V>()
     ensures no_value_behind { NoValueIsGivenBehind V }
     ensures pairs { PairsAreGiven V K.bytes }
     ensures no_pair_behind { NoPairIsGivenBehind V K.bytes }
+{}
+
+/// How many items an iterator gives at most: its members and a refusal, and behind its end none.
+pub fn items_left_are_counted<V>()
+    ensures two { ItemsLeftOfTwo V }
+    ensures behind { ItemsLeftBehind V }
 {}

@@ -1,5 +1,5 @@
 //! What is read off maps: in what order, and which pairs.
-ghost use Rattle.rart_maps.specs.FoundLaws.{PairsAscendByKey, WithinAscends, UnderAscends, BeginningsAscend, PairsAreFound, WithinIsFound, UnderIsFound, BeginningsAreFound, CommonIsFound, CommonAscends, AscendingListsAreFixed};
+ghost use Rattle.rart_maps.specs.FoundLaws.{PairsAscendByKey, WithinAscends, UnderAscends, BeginningsAscend, PairsAreFound, WithinIsFound, UnderIsFound, BeginningsAreFound, LongestIsFound, CommonIsFound, CommonAscends, AscendingListsAreFixed};
 ghost use Rattle.rart_maps.specs.PairLaws.{PairsAscend, WithinIsSublist, UnderIsSublist, BeginningsIsSublist, CommonSwaps};
 
 /// The pairs ascend strictly by key. Those within bounds, those under a prefix and those whose key
@@ -30,6 +30,12 @@ pub fn pairs_are_found<V>()
     ensures within { WithinIsFound V }
     ensures under { UnderIsFound V }
     ensures beginnings { BeginningsAreFound V }
+{}
+
+/// The longest of the pairs whose key begins a string is exactly the one of them whose key no other
+/// one's passes in length.
+pub fn longest_is_found<V>()
+    ensures { LongestIsFound V }
 {}
 
 /// A key stands in common with two values exactly where the left map has the one there and the

@@ -1,15 +1,18 @@
 //! What visits are, a call at a time and part by part.
 ghost use Rattle.rart_maps.specs.Visits.{ByValue};
-ghost use Rattle.rart_maps.specs.VisitLaws.{ArgumentsShowTheirMembers, VisitsTell, VisitOfNothing, VisitOfParts, FrontOfVisit, VisitableStepByStep, UntilNothing, UntilStepByStep, FrontOfUntil, UntilCallableStepByStep, UntilDone, UntilCallbackRefuses, UntilMemoryIsRefused};
+ghost use Rattle.rart_maps.specs.VisitLaws.{ArgumentsShowTheirMembers, VisitsTell, VisitOfNothing, VisitOfOne, VisitableOfOne, VisitOfParts, FrontOfVisit, VisitableStepByStep, UntilNothing, UntilStepByStep, FrontOfUntil, UntilCallableStepByStep, UntilDone, UntilCallbackRefuses, UntilMemoryIsRefused};
 
 use rart_below::{KeyTrait, VisitControl};
 
-/// A visit of nothing leaves its closure as it was, and a visit of two lists, one behind the other,
-/// is one of the first and then one of the second. A refused visit leaves what the visit of a
-/// beginning leaves. What may be called on the members in turn may be called on the first and then
-/// on the others. A visitor that takes memory tells by its answer which of the two it has made.
+/// A visit of nothing leaves its closure as it was, a visit of one member is one call on it, and a
+/// visit of two lists, one behind the other, is one of the first and then one of the second. A
+/// refused visit leaves what the visit of a beginning leaves. What may be called on the members in
+/// turn may be called on the first and then on the others. A visitor that takes memory tells by its
+/// answer which of the two it has made.
 pub fn visits_go_part_by_part<V, F: FnMut(&V)>()
     ensures nothing { VisitOfNothing F.FnMut ByValue }
+    ensures one { VisitOfOne F.FnMut ByValue }
+    ensures callable_on_one { VisitableOfOne F.FnMut ByValue }
     ensures told { VisitsTell F.FnMut ByValue }
     ensures parts { VisitOfParts F.FnMut ByValue }
     ensures front { FrontOfVisit F.FnMut ByValue }
@@ -36,8 +39,8 @@ pub fn visits_tell_where_they_end<V, E, F: FnMut(&V) -> Result<VisitControl, E>>
     ensures memory { UntilMemoryIsRefused F.FnMut ByValue }
 {}
 
-/// What closures are shown: the key of a member, by a view, a slice or a key of its bytes, and
-/// references to its values, in their order.
+/// What closures are shown, and iterators give: the key of a member, by a view, a slice or a key of
+/// its bytes, and references to its values, in their order.
 pub fn arguments_show_their_members<K: KeyTrait, V>()
     ensures { ArgumentsShowTheirMembers K V K.bytes }
 {}

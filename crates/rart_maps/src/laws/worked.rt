@@ -1,5 +1,5 @@
 //! Worked values of what is read off maps and of the bounds, found by hand.
-ghost use Rattle.rart_maps.specs.WorkedBounds.{LookupOfNoByte, LookupOfThreeBytes, ChangeOfNoByte, ChangeOfThreeBytes, TouchOfNoByte, TouchOfThreeBytes, MeetOfTwo, MeetBelowOne, MeetWithItself, MeetOfEmpty, ReachOfTwo, ReachOfAll, ReachOfNone, MeetOfDistinct, MeetInsideKeys, ReachOfFive, ReachOfOne, ReachPastKeys, WalkOfThree, WalkOfOneBelowOther, WalkOfNone, ScanOfTwo, RangeOfTwo, RangeOfAll, RangeReversed, RangeOfNone};
+ghost use Rattle.rart_maps.specs.WorkedBounds.{LookupOfNoByte, LookupOfThreeBytes, ChangeOfNoByte, ChangeOfThreeBytes, TouchOfNoByte, TouchOfThreeBytes, MeetOfTwo, MeetBelowOne, MeetWithItself, MeetOfEmpty, ReachOfTwo, ReachOfAll, ReachOfNone, MeetOfDistinct, MeetInsideKeys, ReachOfFive, ReachOfOne, ReachPastKeys, WalkOfThree, WalkOfOneBelowOther, WalkOfNone, ScanOfTwo, ScanOfAll, ScanOfNone, ScanOfThree, RangeOfTwo, RangeOfAll, RangeReversed, RangeOfNone, RangeOfNoneBelow};
 ghost use Rattle.rart_maps.specs.WorkedPairs.{WithinIncluded, WithinExcluded, WithinOtherKeys, WithinLowAlone, WithinHighAlone, WithinReversed, WithinOneKey, WithinNoKey, UnderTwo, UnderOne, UnderItself, UnderEmpty, UnderNone, BeginningsShortestFirst, BeginningsOfKey, BeginningsNone, LongestInside, LongestIsItself, LongestIsEmpty, LongestNone, CommonLeftFirst, CommonNone, CommonOfTwo, CommonOfOne, CommonOfEmpty, SharedOfTwo, SharedOfOne, SharedOfEmpty};
 
 /// Worked values: the pairs within two bounds, that include or exclude their key, one bound alone,
@@ -86,8 +86,12 @@ pub fn worked_walks()
     ensures one_below_other { WalkOfOneBelowOther }
     ensures none { WalkOfNone }
     ensures two_under { ScanOfTwo }
+    ensures all_under { ScanOfAll }
+    ensures none_under { ScanOfNone }
+    ensures three_under { ScanOfThree }
     ensures two_within { RangeOfTwo }
     ensures all_within { RangeOfAll }
     ensures reversed { RangeReversed }
     ensures none_within { RangeOfNone }
+    ensures none_below { RangeOfNoneBelow }
 {}

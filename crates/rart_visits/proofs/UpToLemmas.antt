@@ -21,7 +21,7 @@ longer-behind [] c more = tt
 longer-behind (b ∷ u) c more = inr (refl, longer-behind u c more)
 
 -- What goes on from a string past an upper bound is past it too.
-past-further : (high : Bound (List ℕ)) (u more : List ℕ) → is_below high u ≡ false
+pub past-further : (high : Bound (List ℕ)) (u more : List ℕ) → is_below high u ≡ false
     → is_below high (u ++ more) ≡ false
 past-further high u [] past = ap (is_below high) (append-nil u) ∙ past
 past-further high u (c ∷ more) past =

@@ -1,17 +1,19 @@
 // Ported from rart 0.11.0 (Apache-2.0), and rewritten.
 //! Visits of values alone.
-ghost use Rattle.std.specs.Prelude.{map, length, Ok, Err};
+ghost use Rattle.std.specs.Prelude.{◌+◌, ◌≤◌, map, length, Ok, Err, OnOk};
 ghost use Rattle.rart_below.specs.declared.visit.VisitControl.TheVariants.{Continue, Stop};
 ghost use Rattle.rart_maps.specs.Visits.{ByValue, Visits, Visitable, VisitsUntil, VisitableUntil};
 ghost use Rattle.rart_node.specs.Counts.{CountsUpTo};
-ghost use Rattle.rart_walks.specs.WalkFields.{position, IsWalk};
+ghost use Rattle.rart_visits.specs.Ends.{Ends, EntersUpTo};
+ghost use Rattle.rart_walks.specs.WalkFields.{position, at_hand, IsWalk};
 
 use rart_below::{Partial, Refusal, VisitControl};
 use rart_node::Work;
 use rart_walks::{Trail, Walk};
 use std::alloc::AllocError;
 
-/// Calls the closure on each value that a walk has left.
+/// Calls the closure on each value that a walk has left. It enters a node at least for each, but
+/// for one at hand.
 ///
 /// Refused for memory, it has called it on a beginning of them.
 pub fn visit_values<'a, P: Partial, V: Drop, T: Trail<'a>, F: FnMut(&V)>(
@@ -26,6 +28,8 @@ pub fn visit_values<'a, P: Partial, V: Drop, T: Trail<'a>, F: FnMut(&V)>(
         (map (λ pair. pair.1) (position P.bytes walk.entry).pairs) f.new }
     ensures counted { CountsUpTo (length (position P.bytes walk.entry).places) 0
         work.old work.new }
+    ensures least { OnOk result (work.old.entered + length (position P.bytes walk.entry).pairs
+        ≤ work.new.entered + at_hand walk.entry) }
 {
     'visiting: while let Some(value) = walk.next_value(work)? {
         f(value);
@@ -34,7 +38,8 @@ pub fn visit_values<'a, P: Partial, V: Drop, T: Trail<'a>, F: FnMut(&V)>(
 }
 
 /// Calls the closure on each value that a walk has left, up to the first on which it answers `Stop`
-/// or an error. Its error is answered as `Refusal::Callback`.
+/// or an error. Its error is answered as `Refusal::Callback`. It enters no node behind the one of
+/// that value.
 ///
 /// Refused for memory, the answer is `Refusal::Memory`: it has called the closure on a beginning of
 /// them, and each time the closure answered `Continue`.
@@ -53,10 +58,16 @@ pub fn visit_values_until<
         (map (λ pair. pair.1) (position P.bytes walk.entry).pairs) f.new }
     ensures counted { CountsUpTo (length (position P.bytes walk.entry).places) 0
         work.old work.new }
+    ensures ends { Ends F.FnMut ByValue
+        (work.old.entered + length (position P.bytes walk.entry).pairs
+        ≤ work.new.entered + at_hand walk.entry)
+        (EntersUpTo (position P.bytes walk.entry).places (at_hand walk.entry) work.old work.new)
+        result f.old (position P.bytes walk.entry).pairs f.new }
 {
     'visiting: loop {
-        let value = match walk.next_value(work) {
-            Ok(Some(value)) => value,
+        let value = match walk.next_node(work) {
+            Ok(Some(Some(value))) => value,
+            Ok(Some(None)) => continue 'visiting,
             Ok(None) => return Ok(()),
             Err(refused) => return Err(Refusal::Memory(refused)),
         };

@@ -1,6 +1,6 @@
 // Ported from rart 0.11.0 (Apache-2.0), and rewritten.
 //! Visits of pairs, their keys lent as views.
-ghost use Rattle.std.specs.Prelude.{◌≡◌, ◌+◌, ◌^◌, ◌-◌, not, length, filter, count_by, Some, OnOk};
+ghost use Rattle.std.specs.Prelude.{◌≡◌, ◌+◌, ◌≤◌, ◌^◌, ◌-◌, not, length, filter, count_by, Some, OnOk};
 ghost use Rattle.std.specs.List.{concat};
 ghost use Rattle.std.specs.Ordering.{as_partial_cmp};
 ghost use Rattle.std.specs.Range.Bound.{bound_map, is_up_to_end};
@@ -8,7 +8,7 @@ ghost use Rattle.rart_below.specs.Bytes.{byte_order};
 ghost use Rattle.rart_maps.specs.FoundLaws.{KeysAscend};
 ghost use Rattle.rart_maps.specs.Visits.{ByView, Visits, Visitable};
 ghost use Rattle.rart_node.specs.Counts.{CountsUpTo};
-ghost use Rattle.rart_walks.specs.WalkFields.{position, IsWalk};
+ghost use Rattle.rart_walks.specs.WalkFields.{position, at_hand, IsWalk};
 ghost use Rattle.rart_walks.specs.Trails.{HoldsSegments};
 
 use rart_below::{LendingKeyView, Partial};
@@ -21,7 +21,8 @@ use std::ops::Bound;
 /// Calls the closure on each pair that a walk has left: with a view of the key, which ends with the
 /// call, and a reference to the value.
 ///
-/// It enters each node that the walk has left. Refused for memory, it has called the closure on a
+/// It enters each node that the walk has left, and so one at least for each pair, but for one at
+/// hand. Refused for memory, it has called the closure on a
 /// beginning of the pairs.
 pub fn visit_views<'a, P: Partial, V: Drop, F: FnMut(LendingKeyView<'_, '_>, &V)>(
     mut walk: Walk<'a, P, V, SegmentTrail<'a>>,
@@ -35,6 +36,8 @@ pub fn visit_views<'a, P: Partial, V: Drop, F: FnMut(LendingKeyView<'_, '_>, &V)
         work.old work.new }
     ensures entered { OnOk result (work.new.entered
         ≡ work.old.entered + length (position P.bytes walk.entry).places) }
+    ensures least { OnOk result (work.old.entered + length (position P.bytes walk.entry).pairs
+        ≤ work.new.entered + at_hand walk.entry) }
 {
     'visiting: while let Some(value) = walk.next_value(work)? {
         f(view_of(walk.trail()), value);
@@ -44,7 +47,7 @@ pub fn visit_views<'a, P: Partial, V: Drop, F: FnMut(LendingKeyView<'_, '_>, &V)
 
 /// As `visit_views`, for the pairs up to an upper bound. It ends at the first node past that, with
 /// a value or without: so, of the nodes that the walk has left, it enters no more than those whose
-/// path meets the bound, and one.
+/// path meets the bound, and one; and one at least for each pair, but for one at hand.
 pub fn visit_views_up_to<'a, P: Partial, V: Drop, F: FnMut(LendingKeyView<'_, '_>, &V)>(
     mut walk: Walk<'a, P, V, SegmentTrail<'a>>,
     high: Bound<&[u8]>,
@@ -65,6 +68,10 @@ pub fn visit_views_up_to<'a, P: Partial, V: Drop, F: FnMut(LendingKeyView<'_, '_
     ensures few { CountsUpTo (count_by (is_up_to_end (as_partial_cmp byte_order)
         (bound_map (λ high. high.now) high.entry)) (position P.bytes walk.entry).places + 1) 0
         work.old work.new }
+    ensures least { OnOk result (work.old.entered
+        + length (filter (λ pair. is_up_to_end (as_partial_cmp byte_order)
+        (bound_map (λ high. high.now) high.entry) pair.0) (position P.bytes walk.entry).pairs)
+        ≤ work.new.entered + at_hand walk.entry) }
 {
     'visiting: while let Some(value) = walk.next_node(work)? {
         let path = view_of(walk.trail());

@@ -1,7 +1,8 @@
 -- What the fields of a walk mean.
-use Rattle.std.specs.Prelude.{ℕ, List, Option, map}
+use Rattle.std.specs.Prelude.{ℕ, ◌+◌, ◌≤◌, List, Option, is_some, length, map, if◌then◌else◌}
 use Rattle.std.specs.List.{concat}
 use Rattle.std.specs.Option.{option_copied}
+use Rattle.rart_node.specs.Counts.{Counts}
 use Rattle.rart_node.specs.VersionedNodeIter.{children_left}
 use Rattle.rart_walks.specs.declared.walk.Frame.{Frame}
 use Rattle.rart_walks.specs.declared.walk.Walk.{Walk}
@@ -9,6 +10,12 @@ use Rattle.rart_walks.specs.Walks.{Position, AreShort}
 use Rattle.rart_walks.specs.Frames.{OpenNode, segments_of, pairs_ahead, TreesAhead, position_of, with_leaf}
 
 -- `partial` is what is known of prefixes, which the types take for a ghost field
+module _ {P V T : Type 0} {partial : _} where
+  -- how many pairs a walk gives before it enters a node: one where it stands at a node whose value
+  -- is still to give, and else none
+  abbrev pub at_hand : Walk P V T partial → ℕ
+  at_hand walk = if is_some walk.pending then 1 else 0
+
 module _ {P V : Type 0} {partial : _} (bytes : P → List ℕ) where
   -- frames, as the nodes that they stand for
   abbrev pub open_nodes : List (Frame P V partial) → List (OpenNode V)
@@ -34,3 +41,11 @@ module _ {P V : Type 0} {partial : _} (bytes : P → List ℕ) where
       pub holds_way : holds walk.trail (segments_of (nodes_open walk))
       pub trees : TreesAhead (nodes_open walk)
       pub short : AreShort greatest (pairs_ahead (nodes_open walk))
+
+    -- From the one walk to the other, which it has become, it has entered a node for each pair that
+    -- it gave, but for one that was at hand.
+    abbrev pub EntersForEach :
+        Walk P V T partial → Counts → Walk P V T partial → Counts → Type 0
+    EntersForEach walk start later now =
+        start.entered + length (position walk).pairs + at_hand later
+        ≤ now.entered + length (position later).pairs + at_hand walk

@@ -11,7 +11,7 @@ ghost use Rattle.rart_node.specs.Shape.{IsAscending, prefix_of, value_of, childr
 ghost use Rattle.rart_shape.specs.Trees.{IsTree, pairs_of};
 ghost use Rattle.rart_walks.specs.Walks.{Gives, Steps, AreShort, walk_end, nodes_of, paths_of};
 ghost use Rattle.rart_walks.specs.Frames.{OpenNode, TakesChild, TakesAhead, segments_of, behind_path, under_path};
-ghost use Rattle.rart_walks.specs.WalkFields.{open_nodes, nodes_open, position, path_to, IsWalk};
+ghost use Rattle.rart_walks.specs.WalkFields.{open_nodes, nodes_open, position, path_to, IsWalk, EntersForEach};
 
 mod path;
 
@@ -212,6 +212,7 @@ impl<'a, P: Partial, V: Drop, T: Trail<'a>> Walk<'a, P, V, T> {
         ensures counted { CountsUpTo (length (position P.bytes self.old).places) 0
             work.old work.new }
         ensures one { CountsUpTo 1 0 work.old work.new }
+        ensures each { OnOk result (EntersForEach P.bytes self.old work.old self.new work.new) }
     {
         if let Some(value) = self.pending {
             self.pending = None;
@@ -243,6 +244,7 @@ impl<'a, P: Partial, V: Drop, T: Trail<'a>> Walk<'a, P, V, T> {
             ≡ work.old.entered + length (position P.bytes self.old).places) }
         ensures counted { CountsUpTo (length (position P.bytes self.old).places) 0
             work.old work.new }
+        ensures each { OnOk result (EntersForEach P.bytes self.old work.old self.new work.new) }
     {
         'node: while let Some(value) = self.next_node(work)? {
             if let Some(value) = value {

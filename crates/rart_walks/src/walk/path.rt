@@ -13,7 +13,7 @@ ghost use Rattle.rart_node.specs.VersionedNodeIter.{children_left};
 ghost use Rattle.rart_shape.specs.Trees.{IsTree, pairs_of, path_bound};
 ghost use Rattle.std.specs.List.{concat};
 ghost use Rattle.rart_walks.specs.Frames.{behind_path, under_path, pairs_inside};
-ghost use Rattle.rart_walks.specs.WalkFields.{open_nodes, position, path_to, IsWalk};
+ghost use Rattle.rart_walks.specs.WalkFields.{open_nodes, position, path_to, at_hand, IsWalk};
 ghost use Rattle.rart_walks.specs.Parts.{keeps, reaches, goes_on, is_strict, start_of};
 ghost use Rattle.rart_walks.specs.Walks.{AreShort, IsEndOf, paths_of};
 
@@ -60,7 +60,7 @@ impl Part {
 
 impl<'a, P: Partial, V: Drop, T: Trail<'a>> Walk<'a, P, V, T> {
     /// A walk over the keys that a prefix begins. It enters the nodes on the way down to them: at
-    /// most one for each byte of the prefix, and one.
+    /// most one for each byte of the prefix, and one; and the root at least.
     ///
     /// Refused for memory, there is none.
     pub fn under(
@@ -76,13 +76,18 @@ impl<'a, P: Partial, V: Drop, T: Trail<'a>> Walk<'a, P, V, T> {
             ≡ filter (λ p. begins prefix.now p.0) (pairs_of (pointer_shape P.bytes root.now))) }
         ensures nodes { IfOk result (λ walk. length (position P.bytes walk).places
             ≤ count_by (begins prefix.now) (paths_of (pointer_shape P.bytes root.now))) }
+        ensures places { IfOk result (λ walk. IsEndOf (position P.bytes walk).places
+            (filter (begins prefix.now) (paths_of (pointer_shape P.bytes root.now)))) }
         ensures counted { CountsUpTo (length prefix.now + 1) 0 work.old work.new }
+        ensures entered { work.old.entered < work.new.entered }
+        ensures at_hand { IfOk result (λ walk. work.old.entered + at_hand walk
+            ≤ work.new.entered) }
     {
         along_path(alloc, root, Part::Under, prefix, work)
     }
 
     /// A walk over the keys that meet a lower bound. It enters the nodes on the way down to the
-    /// first of them: at most one for each byte of the bound, and one.
+    /// first of them: at most one for each byte of the bound, and one; and the root at least.
     ///
     /// Refused for memory, there is none.
     pub fn from(
@@ -104,6 +109,9 @@ impl<'a, P: Partial, V: Drop, T: Trail<'a>> Walk<'a, P, V, T> {
             (paths_of (pointer_shape P.bytes root.now)))) }
         ensures counted { CountsUpTo
             (length (start_of (bound_map (λ low. low.now) low.entry)) + 1) 0 work.old work.new }
+        ensures entered { work.old.entered < work.new.entered }
+        ensures at_hand { IfOk result (λ walk. work.old.entered + at_hand walk
+            ≤ work.new.entered) }
     {
         match low {
             Bound::Included(low) => along_path(alloc, root, Part::From, low, work),
@@ -130,6 +138,7 @@ fn along_path<'a, P: Partial, V: Drop, T: Trail<'a>>(
         (filter (reaches part probe.now) (paths_of (pointer_shape P.bytes root.now)))) }
     ensures counted { CountsUpTo (path_bound (pointer_shape P.bytes root.now) probe.now) 0
         work.old work.new }
+    ensures entered { work.old.entered < work.new.entered }
 {
     let mut walk = Walk::new(alloc);
     let mut at = root;

@@ -1,4 +1,4 @@
-use Rattle.std.proofs.Common.{rules, map, refl, ap}
+use Rattle.std.proofs.Common.{rules, arith, map, refl, ap}
 use Rattle.rart_maps.specs.Visits.{ByValue}
 use Rattle.rart_maps.proofs.VisitLemmas.{callable-next, up_to-next}
 use Rattle.rart_visits.proofs.CountLemmas.{counted-next}
@@ -22,4 +22,5 @@ visiting-preserved g c =
       walk = walked.walk;
       calls = up_to-next g.F.FnMut ByValue tt _ _ same before.calls (_, c.f.ensures, refl);
       counted = counted-next _ before.counted walked.entered walked.counted;
+      each = let each = before.each in let next = walked.each in omega (arith, each, next);
     }

@@ -1,6 +1,6 @@
 use Rattle.std.proofs.Common.{length, map}
 use Rattle.rart_maps.specs.Visits.{ByValue, AnswersUpTo}
-use Rattle.rart_walks.specs.WalkFields.{position, IsWalk}
+use Rattle.rart_walks.specs.WalkFields.{position, IsWalk, EntersForEach}
 use Rattle.rart_visits.proofs.CountLemmas.{IsCounted}
 use Rattle.rart_visits.proofs.values.visit_values.Given as goal
 
@@ -14,6 +14,7 @@ invariant-visiting g l =
       calls : AnswersUpTo g.F.FnMut ByValue tt l.fn.f (map (λ pair. pair.1) start.pairs)
           (map (λ pair. pair.1) left.pairs) l.f;
       counted : IsCounted (length start.places) l.fn.work (length left.places) l.work;
+      each : EntersForEach bytes l.fn.walk l.fn.work l.walk l.work;
     }
 
 abbrev pub decreases-visiting : goal.decreases-visiting

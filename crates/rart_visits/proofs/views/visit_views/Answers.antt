@@ -1,4 +1,4 @@
-use Rattle.std.proofs.Common.{rules, refl, ap, ◌∙◌}
+use Rattle.std.proofs.Common.{rules, arith, refl, ap, ◌∙◌}
 use Rattle.std.specs.List.{concat}
 use Rattle.rart_maps.specs.Visits.{ByView}
 use Rattle.rart_maps.proofs.VisitLemmas.{callable-next, up_to-next, visits-refused}
@@ -29,4 +29,5 @@ visiting-preserved g c =
       walk = walked.walk;
       calls = up_to-next g.F.FnMut ByView tt _ _ gives before.calls (_, c.f.ensures, (key, refl));
       counted = counted-next _ before.counted walked.entered walked.counted;
+      each = let each = before.each in let next = walked.each in omega (arith, each, next);
     }

@@ -1,6 +1,6 @@
 use Rattle.std.proofs.Common.{◌^◌, ◌-◌, length, Some}
 use Rattle.rart_maps.specs.Visits.{ByView, AnswersUpTo}
-use Rattle.rart_walks.specs.WalkFields.{position, IsWalk}
+use Rattle.rart_walks.specs.WalkFields.{position, IsWalk, EntersForEach}
 use Rattle.rart_walks.specs.Trails.{HoldsSegments}
 use Rattle.rart_visits.proofs.CountLemmas.{IsCounted}
 use Rattle.rart_visits.proofs.views.visit_views.Given as goal
@@ -14,6 +14,7 @@ invariant-visiting g l =
       walk : IsWalk bytes HoldsSegments (Some (2 ^ 64 - 1)) l.walk;
       calls : AnswersUpTo g.F.FnMut ByView tt l.fn.f start.pairs left.pairs l.f;
       counted : IsCounted (length start.places) l.fn.work (length left.places) l.work;
+      each : EntersForEach bytes l.fn.walk l.fn.work l.walk l.work;
     }
 
 abbrev pub decreases-visiting : goal.decreases-visiting

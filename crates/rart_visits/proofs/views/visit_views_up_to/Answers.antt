@@ -1,4 +1,4 @@
-use Rattle.std.proofs.Common.{rules, [], refl, sym, ap, subst, ◌∙◌}
+use Rattle.std.proofs.Common.{rules, arith, [], length, refl, sym, ap, subst, ◌∙◌}
 use Rattle.std.specs.List.{concat}
 use Rattle.std.specs.Range.Bound.{bound_map}
 use Rattle.rart_maps.specs.FoundLaws.{KeysAscend}
@@ -49,6 +49,12 @@ visiting-preserved-in-Some-value g c =
       calls = up_to-next g.F.FnMut ByView tt _ _ first before.calls (_, c.f.ensures, (path, refl));
       counted = counted-next _ before.counted walked.entered walked.counted;
       few = few-next high comes meets before.few walked.entered walked.one;
+      each =
+          let each = before.each in
+          let next = walked.each in
+          let given = ap length gives in
+          let met = ap length first in
+          omega (arith, each, next, given, met);
     }
 
 pub visiting-preserved : goal.visiting-preserved
@@ -66,4 +72,22 @@ visiting-preserved g c =
       calls = up_to-part g.F.FnMut ByView tt [] _ (ap (up_to high) same) before.calls refl;
       counted = counted-next _ before.counted walked.entered walked.counted;
       few = few-next high comes meets before.few walked.entered walked.one;
+      each =
+          let each = before.each in
+          let next = walked.each in
+          let given = ap length same in
+          let met = ap (λ pairs. length (up_to high pairs)) same in
+          omega (arith, each, next, given, met);
     }
+
+pub returns-then-not-is_up_to-clause-least : goal.returns-then-not-is_up_to-clause-least
+returns-then-not-is_up_to-clause-least g c =
+    let high = bound_map (λ high. high.now) c.args.high in
+    let comes = rw c.in-Some.is at c.in_ok-value.ensures.steps in
+    let path = c.view_of-path.ensures ∙ ap concat c.trail.ensures in
+    let past = ap (is_below high) (sym path) ∙ sym c.if-not-is_up_to.ensures in
+    let none = ap length (none-past high _ _ comes.first c.visiting.invariant.ascend past) in
+    let each = c.visiting.invariant.each in
+    let one = c.in_ok-value.ensures.one in
+    let grows = one.entered_grows in
+    omega (arith, each, none, grows)

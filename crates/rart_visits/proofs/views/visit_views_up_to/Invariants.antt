@@ -1,9 +1,9 @@
-use Rattle.std.proofs.Common.{◌+◌, ◌^◌, ◌-◌, length, Some}
+use Rattle.std.proofs.Common.{◌+◌, ◌≤◌, ◌^◌, ◌-◌, length, Some}
 use Rattle.std.specs.Range.Bound.{bound_map}
 use Rattle.rart_maps.specs.FoundLaws.{KeysAscend}
 use Rattle.rart_maps.specs.Visits.{ByView, AnswersUpTo}
 use Rattle.rart_maps.proofs.RangeLemmas.{up_to}
-use Rattle.rart_walks.specs.WalkFields.{position, IsWalk}
+use Rattle.rart_walks.specs.WalkFields.{position, at_hand, IsWalk}
 use Rattle.rart_walks.specs.Trails.{HoldsSegments}
 use Rattle.rart_visits.proofs.CountLemmas.{IsCounted}
 use Rattle.rart_visits.proofs.UpToLemmas.{IsFew}
@@ -22,6 +22,8 @@ invariant-visiting g l =
           (up_to high left.pairs) l.f;
       counted : IsCounted (length start.places) l.fn.work (length left.places) l.work;
       few : IsFew high start.places l.fn.work left.places l.work;
+      each : l.fn.work.entered + length (up_to high start.pairs) + at_hand l.walk
+          ≤ l.work.entered + length (up_to high left.pairs) + at_hand l.fn.walk;
     }
 
 abbrev pub decreases-visiting : goal.decreases-visiting

@@ -1,7 +1,7 @@
-use Rattle.std.proofs.Common.{◌≡◌, ◌+◌, ◌≤◌, ℕ, ◌++◌, ◌∷◌, [], Some, None, length, inl, inr, refl, arith, sym, ap, subst, ◌∙◌}
+use Rattle.std.proofs.Common.{◌≡◌, ◌+◌, ◌≤◌, ℕ, ◌++◌, ◌∷◌, [], List, Option, Some, None, cond, is_some, length, inl, inr, refl, arith, sym, ap, subst, ◌∙◌}
 use Rattle.std.specs.List.{concat}
 use Rattle.std.specs.Option.{option_map, option_copied}
-use Rattle.std.proofs.lemmas.List.{append-nil}
+use Rattle.std.proofs.lemmas.List.{append-nil, length-append}
 use Rattle.rart_node.specs.Counts.{Counts, CountsUpTo}
 use Rattle.rart_node.specs.NodeShapes.{node_shape, pointer_shape}
 use Rattle.rart_node.specs.Shape.{prefix_of, children_of, value_of}
@@ -25,6 +25,11 @@ one-entered left start after some opens =
       made_grows = omega (arith, made);
       made_at_most = omega (arith, made);
     }
+
+-- A node has one pair of its own at most.
+own-one : {V : Type 0} (path : List ℕ) (value : Option V) → length (pending_pair path value) ≤ 1
+own-one path None = omega arith
+own-one path (Some value) = omega arith
 
 pub returns-in-Some-clause-steps : goal.returns-in-Some-clause-steps
 returns-in-Some-clause-steps g c =
@@ -198,3 +203,27 @@ returns-clause-counted g c =
     let places = ap length (inner-places _ _ s _ takes walk.trees walk.short _ refl) in
     one-entered _ c.args.work.now c.open-node.new.work (omega (arith, places))
     c.open-node.ensures.work
+
+pub returns-in_default-next_ahead-clause-each : goal.returns-in_default-next_ahead-clause-each
+returns-in_default-next_ahead-clause-each g c =
+    let bytes = g.P.Partial.bytes in
+    let takes =
+    takes-above (open_nodes bytes c.args.self.now.frames.items)
+    (option_copied c.args.self.now.leaf) None
+    (open_nodes bytes c.next_ahead.new.frames.items)
+    (rw c.leave_leaf.ensures.frames at c.in_default-next_ahead.ensures.takes) in
+    let none = ap length (took-none _ _ takes).0 in
+    rw (c.leave_leaf.ensures.leaf, c.leave_leaf.ensures.pending, c.in_default.is, takes.1)
+    (omega (arith, none))
+
+pub returns-clause-each : goal.returns-clause-each
+returns-clause-each g c =
+    let bytes = g.P.Partial.bytes in
+    let path = concat (segments_of (nodes_open bytes c.enter_next.new.self)) in
+    let own = pending_pair path (option_copied c.value.result) in
+    let pairs = ap length (returns-clause-steps g c).pairs ∙ length-append own _ in
+    let most = own-one path (option_copied c.value.result) in
+    let one = ap (λ z. z.entered) c.open-node.ensures.work in
+    let hand = ap {B = ℕ} (λ pending. cond (is_some pending) 1 0)
+    (c.enter_next.ensures.pending ∙ c.leave_leaf.ensures.pending) in
+    omega (arith, pairs, most, one, hand)

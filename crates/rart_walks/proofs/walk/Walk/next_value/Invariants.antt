@@ -1,5 +1,5 @@
 use Rattle.std.proofs.Common.{◌≡◌, ◌+◌, ◌≤◌, length}
-use Rattle.rart_walks.specs.WalkFields.{IsWalk, position}
+use Rattle.rart_walks.specs.WalkFields.{IsWalk, position, EntersForEach}
 use Rattle.rart_walks.proofs.walk.Walk.next_value.Given as goal
 
 abbrev pub invariant-node : goal.invariant-node
@@ -12,6 +12,7 @@ invariant-node g l =
           ≡ l.initial.work.entered + length (position bytes l.initial.self).places;
       grows : l.initial.work.entered ≤ l.work.entered;
       made : l.work.made ≡ l.initial.work.made;
+      each : EntersForEach bytes l.initial.self l.initial.work l.self l.work;
     }
 
 abbrev pub decreases-node : goal.decreases-node

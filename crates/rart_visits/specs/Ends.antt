@@ -1,0 +1,62 @@
+-- How a visit ends that its closure may end, and how many nodes it has entered by then.
+use Rattle.std.specs.Prelude.{◌≡◌, ◌+◌, ◌≤◌, ◌⊎◌, ℕ, List, [], ◌∷◌, ◌++◌, Result, Ok, Err, All, IsTrue, count_by, length, map, ⊤}
+use Rattle.std.specs.Fn.{Mut}
+use Rattle.std.specs.Ordering.{as_partial_cmp}
+use Rattle.std.specs.Range.Bound.{is_up_to_end}
+use Rattle.std.specs.declared.ops.Bound.{Bound}
+use Rattle.rart_below.specs.Bytes.{byte_order}
+use Rattle.rart_below.specs.declared.slot.Refusal.{Refusal}
+use Rattle.rart_below.specs.declared.slot.Refusal.TheVariants.{Callback, Memory}
+use Rattle.rart_below.specs.declared.visit.VisitControl.{VisitControl}
+use Rattle.rart_below.specs.declared.visit.VisitControl.TheVariants.{Continue, Stop}
+use Rattle.rart_maps.specs.Visits.{Answers, CalledOn}
+use Rattle.rart_node.specs.Counts.{Counts, CountsUpTo}
+
+-- ---- where it ends
+
+module _ {F A V E : Type 0} (g : Mut F A (Result VisitControl E)) (Shows : A → V → Type 0) where
+  -- f is called on the values of the pairs in front, and answers `Continue`; then on that of the
+  -- last, and gives this answer. The rest are left out.
+  pub record EndsOn (f : F) (members front : List (List ℕ × V)) (last : List ℕ × V)
+      (answer : Result VisitControl E) (f' : F) : Type 0 where
+    pub rest : List (List ℕ × V)
+    pub is : members ≡ front ++ last ∷ rest
+    pub state : F
+    pub calls : Answers g Shows (Ok Continue) f (map (λ pair. pair.1) front) state
+    pub call : CalledOn g Shows state last.1 answer f'
+
+  -- It ends on some pair with this answer, and then the counts are right for that one and those in
+  -- front of it.
+  abbrev pub EndsWithin : (List (List ℕ × V) → List ℕ × V → Type 0) → F → List (List ℕ × V)
+      → Result VisitControl E → F → Type 0
+  EndsWithin Costs f members answer f' =
+      (front : List (List ℕ × V)) × (last : List ℕ × V)
+      × EndsOn f members front last answer f' × Costs front last
+
+  -- By what a visitor answers: it went through all members, and the counts are right for that, or
+  -- it ended on one of them. Of a refusal nothing is said.
+  abbrev pub Ends : Type 0 → (List (List ℕ × V) → List ℕ × V → Type 0)
+      → Result (Unit {0}) (Refusal E) → F → List (List ℕ × V) → F → Type 0
+  Ends Through Costs (Ok done) f members f' =
+      (Answers g Shows (Ok Continue) f (map (λ pair. pair.1) members) f' × Through)
+      ⊎ EndsWithin Costs f members (Ok Stop) f'
+  Ends Through Costs (Err (Callback e)) f members f' = EndsWithin Costs f members (Err e) f'
+  Ends Through Costs (Err (Memory refused)) f members f' = ⊤
+
+-- ---- what it has entered
+
+module _ {V : Type 0} where
+  -- The keys of these pairs meet an upper bound.
+  abbrev pub MeetUpTo : Bound (List ℕ) → List (List ℕ × V) → Type 0
+  MeetUpTo high pairs =
+      All (λ pair. IsTrue (is_up_to_end (as_partial_cmp byte_order) high pair.0)) pairs
+
+  -- A visit of a walk that has these places left ends on the last of these pairs: it has entered at
+  -- most those of the places that meet an upper bound, whichever all of the pairs meet, and at least
+  -- one for each pair, but for so many that were at hand.
+  pub record EntersUpTo (places : List (List ℕ)) (at_hand : ℕ) (before after : Counts)
+      (front : List (List ℕ × V)) (last : List ℕ × V) : Type 0 where
+    pub at_most : (high : Bound (List ℕ)) → MeetUpTo high (front ++ last ∷ [])
+        → CountsUpTo (count_by (is_up_to_end (as_partial_cmp byte_order) high) places) 0 before
+        after
+    pub at_least : before.entered + (length front + 1) ≤ after.entered + at_hand

@@ -3,8 +3,11 @@ ghost use Rattle.rart_node.specs.NodeShapes.{node_shape, pointer_shape};
 ghost use Rattle.rart_node.specs.Shape.{node, node_of, bare, grown};
 
 use rart_below::{ArrPartial, ArrayKey, KeyTrait, LendingKeyView, Partial};
-use rart_lockstep::{count_common, visit_common_keys, visit_common_values, visit_common_views};
+use rart_lockstep::{
+    ViewTrail, count_common, visit_common, visit_common_keys, visit_common_values,
+};
 use rart_node::{NodeRef, VersionedNode, Work};
+use rart_walks::Trail;
 use std::alloc::{AllocError, Global};
 use std::test::Fail;
 
@@ -156,8 +159,9 @@ fn views_are_of_the_whole_key(rt: HostRuntime) -> Result<(), Fail> {
     let right = stems(rt.alloc(), &mut work)?;
     let mut keys = 0u64;
     let mut values = 0u64;
-    visit_common_views(
-        rt.alloc(),
+    let trail: ViewTrail<'_, u64> = ViewTrail::new(rt.alloc());
+    visit_common(
+        trail,
         &left,
         &right,
         &mut |key: LendingKeyView<'_, '_>, left: &u64, right: &u64| {

@@ -7,7 +7,7 @@ use Rattle.std.specs.FinSet as set
 use Rattle.std.specs.Result.{IsErr}
 use Rattle.std.proofs.lemmas.Bool.{false≢true}
 use Rattle.std.proofs.lemmas.Option.{same_Some}
-use Rattle.rart_maps.specs.Visits.{CalledOn, CallableOn, Visit, Visits, VisitFront, Visitable}
+use Rattle.rart_maps.specs.Visits.{AnswersUpTo, CalledOn, CallableOn, Visit, Visits, VisitFront, Visitable}
 use Rattle.rart_maps.proofs.VisitLemmas.{callable-next, up_to-start}
 use Rattle.rart_node.specs.Counts.{Counts, CountsUpTo}
 use Rattle.rart_node.specs.Shape.{Shape}
@@ -61,6 +61,18 @@ module _ {F A V : Type 0} (g : Mut F A (Unit {0})) (Shows : A → List ℕ × V 
     here-visit f f' called =
         subst (λ members. Visit g Shows f members f')
         (sym (entry-own path one other (value_here s) (value_here t) there)) (f', called, refl)
+
+    -- So it was, or, refused, it was not called.
+    pub here-visits : (result : Result (Unit {0}) AllocError) (f f' : F)
+        → OnOk result (CalledOn g Shows f (path, one, other) tt f')
+        → OnErr result (f' ≡ f)
+        → Visits g Shows result f (entry_here path s t) f'
+    here-visits (Ok done) f f' called still = here-visit f f' called
+    here-visits (Err refused) f f' called still = (
+      entry_here path s t,
+      subst (λ f'. AnswersUpTo g Shows tt f (entry_here path s t) (entry_here path s t) f')
+          (sym still) (up_to-start g Shows tt f (entry_here path s t)),
+    )
 
   -- There is no key here.
   pub here-none : None ≡ both (value_here s) (value_here t) → (f : F)

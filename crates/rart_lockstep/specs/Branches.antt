@@ -27,3 +27,10 @@ module _ {P V : Type 0} {partial : _} (bytes : P → List ℕ) where
     (side_shape bytes step.0, pointer_shape bytes step.1.now),
   ) ∷ []
   branches_left (Both children) = pairs_left bytes children
+
+module _ {P V : Type 0} {partial : _} where
+  -- how many nodes the next step enters: the child of one side, or that of either
+  abbrev pub nodes_a_step : Branches P V partial → ℕ
+  nodes_a_step (Left step) = 1
+  nodes_a_step (Right step) = 1
+  nodes_a_step (Both children) = 2

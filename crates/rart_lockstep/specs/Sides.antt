@@ -17,3 +17,10 @@ module _ {V : Type 0} where
   abbrev pub arms : Shape V → List (ℕ × Shape V)
   arms (node [] value width forest) = entries_of forest
   arms (node (b ∷ prefix) value width forest) = (b, node (b ∷ prefix) value width forest) ∷ []
+
+-- how many children are next behind two prefixes: one where either goes on, and two where both have
+-- ended
+abbrev pub children_next : List ℕ → List ℕ → ℕ
+children_next [] [] = 2
+children_next [] (b ∷ other) = 1
+children_next (b ∷ prefix) other = 1

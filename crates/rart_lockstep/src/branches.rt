@@ -1,6 +1,6 @@
 // Ported from rart 0.11.0 (Apache-2.0), and rewritten.
 //! Where the way down two trees goes on: from byte to byte that leads on in both.
-ghost use Rattle.std.specs.Prelude.{◌≡◌, ◌⊎◌, [], IfSome, is_some, if◌then◌else◌};
+ghost use Rattle.std.specs.Prelude.{◌≡◌, ◌⊎◌, ◌+◌, [], IfSome, is_some, if◌then◌else◌};
 ghost use Rattle.std.specs.Option.{option_map};
 ghost use Rattle.rart_node.specs.NodeShapes.{node_shape};
 ghost use Rattle.rart_node.specs.Shape.{IsAscending, prefix_of};
@@ -26,19 +26,22 @@ pub(crate) enum Branches<'a, P: Partial, V> {
 
 impl<'a, P: Partial, V: Drop> Branches<'a, P, V> {
     ghost use Rattle.rart_node.specs.Counts.{CountsUpTo};
-    ghost use Rattle.rart_lockstep.specs.Branches.{branches_left};
+    ghost use Rattle.rart_lockstep.specs.Branches.{branches_left, nodes_a_step};
     ghost use Rattle.rart_lockstep.specs.Children.{TakesPair, common_children};
     ghost use Rattle.rart_lockstep.specs.SideFields.{side_shape};
-    ghost use Rattle.rart_lockstep.specs.Sides.{arms};
+    ghost use Rattle.rart_lockstep.specs.Sides.{arms, children_next};
 
     pub(crate) fn new(left: Side<'a, P, V>, right: Side<'a, P, V>) -> Branches<'a, P, V>
         requires left { IsAscending (side_shape P.bytes left) }
         requires right { IsAscending (side_shape P.bytes right) }
         requires ended { (prefix_of (side_shape P.bytes left) ≡ [])
             ⊎ (prefix_of (side_shape P.bytes right) ≡ []) }
-        ensures { branches_left P.bytes result
+        ensures steps { branches_left P.bytes result
             ≡ common_children (arms (side_shape P.bytes left.entry))
             (arms (side_shape P.bytes right.entry)) }
+        ensures nodes { nodes_a_step result ≡ children_next
+            (prefix_of (side_shape P.bytes left.entry))
+            (prefix_of (side_shape P.bytes right.entry)) }
     {
         if let Some(byte) = right.rest().first() {
             let Some(child) = left.node.seek_child(*byte) else {
@@ -55,7 +58,7 @@ impl<'a, P: Partial, V: Drop> Branches<'a, P, V> {
         Branches::Both(CommonChildren::new(left.node, right.node))
     }
 
-    /// Takes the next step: two nodes at most are entered.
+    /// Takes the next step: the child of one side is entered, or that of either.
     pub(crate) fn next(&mut self, work: &mut Work) -> Option<(Side<'a, P, V>, Side<'a, P, V>)>
         ensures takes { TakesPair (branches_left P.bytes self.old)
             (option_map (λ pair. (side_shape P.bytes pair.0, side_shape P.bytes pair.1)) result)
@@ -63,6 +66,11 @@ impl<'a, P: Partial, V: Drop> Branches<'a, P, V> {
         ensures whole { IfSome result (λ pair. (pair.0.from ≡ 0) ⊎ (pair.1.from ≡ 0)) }
         ensures counted { CountsUpTo (if is_some result then 2 else 0) 0
             work.old work.new }
+        ensures entered { work.new ≡ record work.old {
+          entered = work.old.entered
+              + (if is_some result then nodes_a_step self.old else 0);
+        } }
+        ensures nodes { nodes_a_step self.new ≡ nodes_a_step self.old }
     {
         match self {
             Branches::Left(step) => {

@@ -8,7 +8,7 @@ ghost use Rattle.rart_node.specs.Counts.{CountsUpTo};
 ghost use Rattle.rart_node.specs.Shape.{Shape, IsAscending, children_of, prefix_of};
 ghost use Rattle.rart_lockstep.specs.Children.{TakesPair, common_children};
 ghost use Rattle.rart_lockstep.specs.Joints.{CommonBytes, SameBytes};
-ghost use Rattle.rart_lockstep.specs.Sides.{behind_bytes, arms};
+ghost use Rattle.rart_lockstep.specs.Sides.{behind_bytes, arms, children_next};
 
 use rart_node::Work;
 use std::alloc::AllocError;
@@ -29,6 +29,8 @@ pub(crate) trait Joint<V, T>: Drop {
     ghost HasWhole: { Self → Type 0 };
 
     ghost branches_left: { Self.Branches → List (ℕ × (Shape V × Shape V)) };
+
+    ghost nodes_a_step: { Self.Branches → ℕ };
 
     ghost holds: { T → List (List ℕ) → Type 0 };
 
@@ -88,13 +90,22 @@ pub(crate) trait Joint<V, T>: Drop {
         requires left { IsAscending (left self) }
         requires right { IsAscending (right self) }
         requires ended { (prefix_of (left self) ≡ []) ⊎ (prefix_of (right self) ≡ []) }
-        ensures { branches_left result ≡ common_children (arms (left self)) (arms (right self)) };
+        ensures steps { branches_left result
+            ≡ common_children (arms (left self)) (arms (right self)) }
+        ensures nodes { nodes_a_step result
+            ≡ children_next (prefix_of (left self)) (prefix_of (right self)) };
 
-    /// Takes the next step. It enters two nodes at most, and none where there is no step.
+    /// Takes the next step. It enters the one child that is next, or the two, and none where there
+    /// is no step.
     fn next(branches: &mut Self::Branches, work: &mut Work) -> Option<Self>
         ensures takes { TakesPair (branches_left branches.old)
             (option_map (λ at. (left at, right at)) result) (branches_left branches.new) }
         ensures whole { IfSome result HasWhole }
         ensures counted { CountsUpTo (if is_some result then 2 else 0) 0
-            work.old work.new };
+            work.old work.new }
+        ensures entered { work.new ≡ record work.old {
+          entered = work.old.entered
+              + (if is_some result then nodes_a_step branches.old else 0);
+        } }
+        ensures nodes { nodes_a_step branches.new ≡ nodes_a_step branches.old };
 }

@@ -3,14 +3,14 @@
 ghost use Rattle.std.specs.Prelude.{◌+◌, ◌*◌, ◌≤◌, true};
 ghost use Rattle.std.specs.FinSet as set;
 ghost use Rattle.rart_lockstep.specs.Commons.{commons, shared_of};
-ghost use Rattle.rart_maps.specs.Visits.{ByKeyPair, CallableOn, CalledOn, Visits, Visitable};
+ghost use Rattle.rart_maps.specs.Visits.{ByKeyPair, Visits, Visitable};
 ghost use Rattle.rart_node.specs.Counts.{CountsUpTo};
 ghost use Rattle.rart_node.specs.NodeShapes.{pointer_shape};
 ghost use Rattle.rart_shape.specs.Trees.{IsTree, pairs_of};
 ghost use Rattle.rart_walks.specs.Walks.{AreShort};
 
 use crate::lockstep::meet_below;
-use crate::meeting::Meeting;
+use crate::meet_trail::MeetTrail;
 use crate::sides::Sides;
 use rart_below::{KeyTrait, Partial};
 use rart_node::{NodeRef, Work};
@@ -41,20 +41,21 @@ pub fn visit_common_keys<'a, K: KeyTrait, P: Partial, V: Drop, F: FnMut(K, &'a V
         (pointer_shape P.bytes right.now))) 0 work.old work.new }
     ensures entered { work.old.entered + 2 ≤ work.new.entered }
 {
-    let mut trail: KeyMaker<K> = KeyMaker::new(alloc);
+    let mut trail: KeyMaker<'a, K, V> = KeyMaker::new(alloc);
     let at = Sides::open(left, right, work);
     meet_below(at, &mut trail, f, work)
 }
 
 // A trail that makes keys.
 #[derive(Drop)]
-struct KeyMaker<K> {
+struct KeyMaker<'a, K, V> {
     alloc: Global,
     trail: KeyTrail,
     made: PhantomData<K>,
+    lent: PhantomData<&'a V>,
 }
 
-impl<'a, K: KeyTrait> Trail<'a> for KeyMaker<K> {
+impl<'a, K: KeyTrait, V> Trail<'a> for KeyMaker<'a, K, V> {
     ghost use Rattle.rart_walks.specs.Trails.{HoldsBytes};
 
     ghost holds = { λ maker. HoldsBytes maker.trail };
@@ -63,11 +64,12 @@ impl<'a, K: KeyTrait> Trail<'a> for KeyMaker<K> {
 
     ghost can_refuse = { true };
 
-    fn new(alloc: Global) -> KeyMaker<K> {
+    fn new(alloc: Global) -> KeyMaker<'a, K, V> {
         KeyMaker {
             alloc,
             trail: KeyTrail::new(alloc),
             made: PhantomData,
+            lent: PhantomData,
         }
     }
 
@@ -80,8 +82,7 @@ impl<'a, K: KeyTrait> Trail<'a> for KeyMaker<K> {
     }
 }
 
-impl<'a, K: KeyTrait, P: Partial, V: Drop, F: FnMut(K, &'a V, &'a V)> Meeting<V, KeyMaker<K>, F>
-    for Sides<'a, P, V> {
+impl<'a, K: KeyTrait, V, F: FnMut(K, &'a V, &'a V)> MeetTrail<'a, V, F> for KeyMaker<'a, K, V> {
     ghost use Rattle.std.specs.Borrow.{Bor};
 
     ghost Arguments = { K × (Bor V × (Bor V × Unit {0})) };
@@ -90,22 +91,9 @@ impl<'a, K: KeyTrait, P: Partial, V: Drop, F: FnMut(K, &'a V, &'a V)> Meeting<V,
 
     ghost Shows = { ByKeyPair K.bytes };
 
-    fn meet(&self, trail: &KeyMaker<K>, f: &mut F) -> Result<(), AllocError> {
-        let Some((left, right)) = self.values_here() else {
-            return Ok(());
-        };
-        let key = K::new_from_slice(trail.alloc, trail.trail.as_slice())?;
-        call(key, left, right, f);
+    fn meet(&self, left: &'a V, right: &'a V, f: &mut F) -> Result<(), AllocError> {
+        let key = K::new_from_slice(self.alloc, self.trail.as_slice())?;
+        f(key, left, right);
         Ok(())
     }
-}
-
-// A call on a key and two values.
-fn call<'a, K: KeyTrait, V, F: FnMut(K, &'a V, &'a V)>(key: K, left: &'a V, right: &'a V, f: &mut F)
-    requires { CallableOn F.FnMut (ByKeyPair K.bytes) f.old
-        (K.bytes key, left.now, right.now) }
-    ensures { CalledOn F.FnMut (ByKeyPair K.bytes) f.old (K.bytes key, left.now, right.now) tt
-        f.new }
-{
-    f(key, left, right);
 }

@@ -13,13 +13,17 @@ mod joint;
 mod keys;
 mod leaves;
 mod lockstep;
+mod meet_trail;
 mod meeting;
 mod side;
 mod sides;
 mod values;
 mod views;
+mod visit;
 
 pub use count::count_common;
 pub use keys::visit_common_keys;
+pub use meet_trail::MeetTrail;
 pub use values::visit_common_values;
-pub use views::visit_common_views;
+pub use views::ViewTrail;
+pub use visit::visit_common;

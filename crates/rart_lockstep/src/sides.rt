@@ -54,7 +54,7 @@ impl<'a, P: Partial, V: Drop> Sides<'a, P, V> {
 impl<'a, P: Partial, V: Drop, T: Trail<'a>> Joint<V, T> for Sides<'a, P, V> {
     type Branches = Branches<'a, P, V>;
 
-    ghost use Rattle.rart_lockstep.specs.Branches.{branches_left};
+    ghost use Rattle.rart_lockstep.specs.Branches.{branches_left, nodes_a_step};
     ghost use Rattle.rart_lockstep.specs.SideFields.{side_shape};
 
     ghost left = { λ at. side_shape P.bytes at.left };
@@ -64,6 +64,8 @@ impl<'a, P: Partial, V: Drop, T: Trail<'a>> Joint<V, T> for Sides<'a, P, V> {
     ghost HasWhole = { λ at. (at.left.from ≡ 0) ⊎ (at.right.from ≡ 0) };
 
     ghost branches_left = { branches_left P.bytes };
+
+    ghost nodes_a_step = { nodes_a_step };
 
     ghost holds = { T.holds };
 

@@ -1,20 +1,20 @@
 // Ported from rart 0.11.0 (Apache-2.0), and rewritten.
 //! Visits of the values of the keys of two trees.
-ghost use Rattle.std.specs.Prelude.{◌+◌, ◌*◌, ◌≤◌, map};
+ghost use Rattle.std.specs.Prelude.{◌+◌, ◌*◌, ◌≤◌, false, None, map};
 ghost use Rattle.std.specs.FinSet as set;
 ghost use Rattle.rart_lockstep.specs.Commons.{commons, shared_of};
-ghost use Rattle.rart_maps.specs.Visits.{ByValuePair, CallableOn, CalledOn, Visit, Visitable};
+ghost use Rattle.rart_maps.specs.Visits.{ByValuePair, Visit, Visitable};
 ghost use Rattle.rart_node.specs.Counts.{CountsUpTo};
 ghost use Rattle.rart_node.specs.NodeShapes.{pointer_shape};
 ghost use Rattle.rart_shape.specs.Trees.{IsTree};
 
-use crate::lockstep::meet_below;
-use crate::meeting::Meeting;
-use crate::sides::Sides;
+use crate::meet_trail::MeetTrail;
+use crate::visit::visit_common;
 use rart_below::Partial;
 use rart_node::{NodeRef, Work};
-use rart_walks::NoTrail;
-use std::alloc::AllocError;
+use rart_walks::Trail;
+use std::alloc::{AllocError, Global};
+use std::marker::PhantomData;
 
 /// Calls the closure on each key of two trees, in order: with references to what either tree has
 /// there.
@@ -38,11 +38,39 @@ pub fn visit_common_values<'a, P: Partial, V: Drop, F: FnMut(&'a V, &'a V)>(
     ensures entered { work.old.entered + 2 ≤ work.new.entered }
 {
     // (a trail that keeps nothing refuses nothing)
-    let at = Sides::open(left, right, work);
-    let _met = meet_below(at, &mut NoTrail, f, work);
+    let trail = ValueTrail { lent: PhantomData };
+    let _met = visit_common(trail, left, right, f, work);
 }
 
-impl<'a, P: Partial, V: Drop, F: FnMut(&'a V, &'a V)> Meeting<V, NoTrail, F> for Sides<'a, P, V> {
+// A trail that keeps nothing, for a closure that is lent the values alone.
+#[derive(Drop)]
+struct ValueTrail<'a, V> {
+    lent: PhantomData<&'a V>,
+}
+
+impl<'a, V> Trail<'a> for ValueTrail<'a, V> {
+    ghost use Rattle.rart_walks.specs.Trails.{HoldsNothing};
+
+    ghost holds = { HoldsNothing };
+
+    ghost greatest = { None };
+
+    ghost can_refuse = { false };
+
+    fn new(_alloc: Global) -> ValueTrail<'a, V> {
+        ValueTrail { lent: PhantomData }
+    }
+
+    #[inline]
+    fn push(&mut self, _segment: &'a [u8]) -> Result<(), AllocError> {
+        Ok(())
+    }
+
+    #[inline]
+    fn pop(&mut self, _segment: &'a [u8]) {}
+}
+
+impl<'a, V, F: FnMut(&'a V, &'a V)> MeetTrail<'a, V, F> for ValueTrail<'a, V> {
     ghost use Rattle.std.specs.Borrow.{Bor};
     ghost use Rattle.rart_lockstep.specs.Entries.{ByItsValues};
 
@@ -52,19 +80,8 @@ impl<'a, P: Partial, V: Drop, F: FnMut(&'a V, &'a V)> Meeting<V, NoTrail, F> for
 
     ghost Shows = { ByItsValues };
 
-    fn meet(&self, _trail: &NoTrail, f: &mut F) -> Result<(), AllocError> {
-        let Some((left, right)) = self.values_here() else {
-            return Ok(());
-        };
-        call(left, right, f);
+    fn meet(&self, left: &'a V, right: &'a V, f: &mut F) -> Result<(), AllocError> {
+        f(left, right);
         Ok(())
     }
-}
-
-// A call on two values.
-fn call<'a, V, F: FnMut(&'a V, &'a V)>(left: &'a V, right: &'a V, f: &mut F)
-    requires { CallableOn F.FnMut ByValuePair f.old (left.now, right.now) }
-    ensures { CalledOn F.FnMut ByValuePair f.old (left.now, right.now) tt f.new }
-{
-    f(left, right);
 }

@@ -1,58 +1,54 @@
 // Ported from rart 0.11.0 (Apache-2.0), and rewritten.
-//! Visits of the keys of two trees, lent as views.
-ghost use Rattle.std.specs.Prelude.{◌≡◌, ◌+◌, ◌*◌, ◌-◌, ◌≤◌, ◌^◌, Some};
-ghost use Rattle.std.specs.FinSet as set;
-ghost use Rattle.std.specs.List.{concat};
-ghost use Rattle.rart_lockstep.specs.Commons.{commons, shared_of};
-ghost use Rattle.rart_maps.specs.Visits.{ByViewPair, CallableOn, CalledOn, Visits, Visitable};
-ghost use Rattle.rart_node.specs.Counts.{CountsUpTo};
-ghost use Rattle.rart_node.specs.NodeShapes.{pointer_shape};
-ghost use Rattle.rart_shape.specs.Trees.{IsTree, pairs_of};
-ghost use Rattle.rart_walks.specs.Walks.{AreShort};
+//! Keys of two trees lent as views.
+ghost use Rattle.std.specs.Prelude.{◌-◌, ◌^◌, true, Some};
 
-use crate::lockstep::meet_below;
-use crate::meeting::Meeting;
-use crate::sides::Sides;
-use rart_below::{LendingKeyView, Partial};
-use rart_node::{NodeRef, Work};
+use crate::meet_trail::MeetTrail;
+use rart_below::LendingKeyView;
 use rart_walks::{SegmentTrail, Trail};
 use std::alloc::{AllocError, Global};
+use std::marker::PhantomData;
 
-/// Calls the closure on each key of two trees, in order: with a view of the key, which ends with
-/// the call, and references to what either tree has there.
-///
-/// Refused for memory, it has called it on a beginning of them. Two nodes are entered for each
-/// string that begins keys of both at most, and the two that the pointers show at least.
-pub fn visit_common_views<'a, P: Partial, V: Drop, F: FnMut(LendingKeyView<'_, '_>, &V, &V)>(
-    alloc: Global,
-    left: &'a NodeRef<P, V>,
-    right: &'a NodeRef<P, V>,
-    f: &mut F,
-    work: &mut Work,
-) -> Result<(), AllocError>
-    requires left { IsTree (pointer_shape P.bytes left.now) }
-    requires right { IsTree (pointer_shape P.bytes right.now) }
-    requires short { AreShort (Some (2 ^ 64 - 1)) (pairs_of (pointer_shape P.bytes left.now)) }
-    requires visitable { Visitable F.FnMut ByViewPair f.old
-        (commons (pointer_shape P.bytes left.now) (pointer_shape P.bytes right.now)) }
-    ensures visits { Visits F.FnMut ByViewPair result f.old
-        (commons (pointer_shape P.bytes left.now) (pointer_shape P.bytes right.now)) f.new }
-    ensures counted { CountsUpTo (2 * set.len (shared_of (pointer_shape P.bytes left.now)
-        (pointer_shape P.bytes right.now))) 0 work.old work.new }
-    ensures entered { work.old.entered + 2 ≤ work.new.entered }
-{
-    let mut trail = SegmentTrail::new(alloc);
-    let at = Sides::open(left, right, work);
-    meet_below(at, &mut trail, f, work)
+/// A trail of segments, for a closure that is lent a view of the key, which ends with the call, and
+/// references to what either tree has there. It may keep the segments and the references.
+#[derive(Drop)]
+pub struct ViewTrail<'a, V> {
+    trail: SegmentTrail<'a>,
+    // (the values live as long as the segments)
+    lent: PhantomData<&'a V>,
 }
 
-impl<'a, P: Partial, V: Drop, F: FnMut(LendingKeyView<'_, '_>, &V, &V)> Meeting<
-    V,
-    SegmentTrail<'a>,
-    F,
-> for Sides<'a, P, V> {
+impl<'a, V> Trail<'a> for ViewTrail<'a, V> {
+    ghost use Rattle.rart_walks.specs.Trails.{HoldsSegments};
+
+    ghost holds = { λ trail. HoldsSegments trail.trail };
+
+    ghost greatest = { Some (2 ^ 64 - 1) };
+
+    ghost can_refuse = { true };
+
+    fn new(alloc: Global) -> ViewTrail<'a, V> {
+        ViewTrail {
+            trail: SegmentTrail::new(alloc),
+            lent: PhantomData,
+        }
+    }
+
+    #[inline]
+    fn push(&mut self, segment: &'a [u8]) -> Result<(), AllocError> {
+        self.trail.push(segment)
+    }
+
+    #[inline]
+    fn pop(&mut self, segment: &'a [u8]) {
+        self.trail.pop(segment);
+    }
+}
+
+impl<'a, V, F: FnMut(LendingKeyView<'a, '_>, &'a V, &'a V)> MeetTrail<'a, V, F>
+    for ViewTrail<'a, V> {
     ghost use Rattle.std.specs.Borrow.{Bor};
     ghost use Rattle.std.specs.Prelude.{ℕ, List};
+    ghost use Rattle.rart_maps.specs.Visits.{ByViewPair};
 
     ghost Arguments = { List ℕ × (Bor V × (Bor V × Unit {0})) };
 
@@ -60,25 +56,9 @@ impl<'a, P: Partial, V: Drop, F: FnMut(LendingKeyView<'_, '_>, &V, &V)> Meeting<
 
     ghost Shows = { ByViewPair };
 
-    fn meet(&self, trail: &SegmentTrail<'a>, f: &mut F) -> Result<(), AllocError> {
-        let Some((left, right)) = self.values_here() else {
-            return Ok(());
-        };
-        call(trail, left, right, f);
+    fn meet(&self, left: &'a V, right: &'a V, f: &mut F) -> Result<(), AllocError> {
+        let key = LendingKeyView::new(self.trail.segments(), self.trail.len());
+        f(key, left, right);
         Ok(())
     }
-}
-
-// A call on the key that a trail keeps the way to, and two values.
-fn call<V, F: FnMut(LendingKeyView<'_, '_>, &V, &V)>(
-    trail: &SegmentTrail<'_>,
-    left: &V,
-    right: &V,
-    f: &mut F,
-)
-    requires { CallableOn F.FnMut ByViewPair f.old (concat trail.now, left.now, right.now) }
-    ensures { CalledOn F.FnMut ByViewPair f.old (concat trail.now, left.now, right.now) tt f.new }
-{
-    let key = LendingKeyView::new(trail.segments(), trail.len());
-    f(key, left, right);
 }

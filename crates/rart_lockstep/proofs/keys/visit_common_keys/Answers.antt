@@ -11,7 +11,7 @@ meet_below-requires-clause-meets g c =
     let t = pointer_shape g.P.Partial.bytes c.args.right.now in
     let opened = c.open-at.ensures in
     may-start g.F.FnMut (ByKeyPair g.K.KeyTrait.bytes)
-    (λ (maker : KeyMaker g.row.K.Denot). HoldsBytes maker.trail) s t _ _ opened.left opened.right
+    (λ (maker : KeyMaker g.row.K.Denot g.row.V.Denot). HoldsBytes maker.trail) s t _ _ opened.left opened.right
     g.K.KeyTrait.MAXIMUM_SIZE _ c.args.f.now c.new-trail.ensures c.requires.admitted
     c.requires.visitable
 
@@ -21,7 +21,7 @@ returns-clause-visits g c =
     let t = pointer_shape g.P.Partial.bytes c.args.right.now in
     let opened = c.open-at.ensures in
     met-end g.F.FnMut (ByKeyPair g.K.KeyTrait.bytes)
-    (λ (maker : KeyMaker g.row.K.Denot). HoldsBytes maker.trail) s t _ _ opened.left opened.right
+    (λ (maker : KeyMaker g.row.K.Denot g.row.V.Denot). HoldsBytes maker.trail) s t _ _ opened.left opened.right
     _ _
     c.args.f.now c.meet_below.new.f c.meet_below.result c.new-trail.ensures c.meet_below.ensures.met
 

@@ -135,7 +135,7 @@ branches-init g t c =
     let next = c.behind-next.ensures in
     let left : g.J.Joint.branches_left c.branches-branches.result
     ≡ common_children (arms x) (arms y) =
-    c.branches-branches.ensures
+    c.branches-branches.ensures.steps
     ∙ (λ i. common_children (arms (next.left i)) (arms (next.right i))) in
     record {
       meeting = subst (λ left. IsMeeting calls Shows g.J.Joint.holds s t count c.args.trail.now

@@ -5,8 +5,8 @@ use Rattle.rart_lockstep.proofs.BranchLemmas.{step-left}
 use Rattle.rart_lockstep.proofs.StepLemmas.{prefix-with}
 use Rattle.rart_lockstep.proofs.branches.Branches.new.Goals as goal
 
-pub returns-in_default-seek_child : goal.returns-in_default-seek_child
-returns-in_default-seek_child g c =
+pub returns-in_default-seek_child-clause-steps : goal.returns-in_default-seek_child-clause-steps
+returns-in_default-seek_child-clause-steps g c =
     let bytes = g.P.Partial.bytes in
     let n = node_shape bytes c.args.left.node.now in
     let t = side_shape bytes c.args.right in
@@ -14,8 +14,8 @@ returns-in_default-seek_child g c =
     (⊎_elim (λ is. inl (sym (prefix-with n _) ∙ is)) (λ is. inr is) c.requires.ended)
     c.rest.ensures c.in-Some.ensures.value c.in_default-seek_child.ensures
 
-pub returns-in-Some : goal.returns-in-Some
-returns-in-Some g c =
+pub returns-in-Some-clause-steps : goal.returns-in-Some-clause-steps
+returns-in-Some-clause-steps g c =
     let bytes = g.P.Partial.bytes in
     let n = node_shape bytes c.args.left.node.now in
     let t = side_shape bytes c.args.right in

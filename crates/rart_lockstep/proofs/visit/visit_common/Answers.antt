@@ -1,17 +1,14 @@
-use Rattle.std.proofs.Common.{Some, ◌-◌, ◌^◌}
-use Rattle.rart_maps.specs.Visits.{ByViewPair}
 use Rattle.rart_node.specs.NodeShapes.{pointer_shape}
-use Rattle.rart_walks.specs.Trails.{HoldsSegments}
 use Rattle.rart_lockstep.proofs.MeetingLemmas.{may-start, met-end, counted-roots}
-use Rattle.rart_lockstep.proofs.views.visit_common_views.Goals as goal
+use Rattle.rart_lockstep.proofs.visit.visit_common.Goals as goal
 
 pub meet_below-requires-clause-meets : goal.meet_below-requires-clause-meets
 meet_below-requires-clause-meets g c =
     let s = pointer_shape g.P.Partial.bytes c.args.left.now in
     let t = pointer_shape g.P.Partial.bytes c.args.right.now in
     let opened = c.open-at.ensures in
-    may-start g.F.FnMut ByViewPair HoldsSegments s t _ _ opened.left opened.right
-    (Some (2 ^ 64 - 1)) _ c.args.f.now c.new-trail.ensures c.requires.short
+    may-start g.T.MeetTrail.calls g.T.MeetTrail.Shows g.T.Trail.holds s t _ _ opened.left
+    opened.right g.T.Trail.greatest _ c.args.f.now c.requires.empty c.requires.admitted
     c.requires.visitable
 
 pub returns-clause-visits : goal.returns-clause-visits
@@ -19,8 +16,9 @@ returns-clause-visits g c =
     let s = pointer_shape g.P.Partial.bytes c.args.left.now in
     let t = pointer_shape g.P.Partial.bytes c.args.right.now in
     let opened = c.open-at.ensures in
-    met-end g.F.FnMut ByViewPair HoldsSegments s t _ _ opened.left opened.right _ _
-    c.args.f.now c.meet_below.new.f c.meet_below.result c.new-trail.ensures c.meet_below.ensures.met
+    met-end g.T.MeetTrail.calls g.T.MeetTrail.Shows g.T.Trail.holds s t _ _ opened.left
+    opened.right _ _ c.args.f.now c.meet_below.new.f c.meet_below.result c.requires.empty
+    c.meet_below.ensures.met
 
 pub returns-clause-counted : goal.returns-clause-counted
 returns-clause-counted g c =

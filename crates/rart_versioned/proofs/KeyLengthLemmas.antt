@@ -20,7 +20,7 @@ module _ {V : Type 0} (most : Option ℕ) (count : ℕ) (root : Shape V)
       let map = map_of (Some root) in
       let listed = subst (λ list. Contains list pair) (sym (pairs-map (Some root) sound.0)) there in
       let value = (Contains-pairs map pair.0 pair.1).0 listed in
-      sound.1 pair.0 (ap is_some (sym (get-found (Some root) pair.0 sound.0) ∙ value))
+      (sound.1 pair.0 (ap is_some (sym (get-found (Some root) pair.0 sound.0) ∙ value))).0
 
   -- for a trail of segments
   pub short-segments : AreShort (Some (2 ^ 64 - 1)) (pairs_of root)

@@ -1,4 +1,5 @@
 pub mod CommonLemmas
+pub mod EndLemmas
 pub mod MapLemmas
 pub mod MeetLemmas
 pub mod KeyLemmas
@@ -15,5 +16,6 @@ pub mod SoundLemmas
 pub mod RemovalLemmas
 pub mod SlotChangeLemmas
 pub mod UnversionedLemmas
+pub mod UpdateCountLemmas
 pub mod UpdateLookupLemmas
 pub mod VisitLemmas

@@ -3,6 +3,7 @@ use Rattle.std.proofs.Common.{◌≡◌, ◌≢◌, ◌⊎◌, ◌+◌, ◌≤�
 use Rattle.std.specs.Prelude.{◌==◌, ◌↔◌, ◌*◌, IsTrue, Contains, count_by, filter}
 use Rattle.std.specs.Option.{option_and_then, option_map}
 use Rattle.std.specs.declared.ops.Bound.{Bound}
+use Rattle.std.specs.declared.ops.Bound.TheVariants.{Included}
 use Rattle.std.proofs.lemmas.Bool.{and_parts, eq-eqb, ne_eqb, false≢true, cases_eq}
 use Rattle.std.proofs.lemmas.Option.{same_Some}
 use Rattle.rart_node.specs.Shape.{Shape, Forest, node, bare, grown, prefix_of, entries_of}
@@ -33,6 +34,7 @@ use Rattle.std.proofs.lemmas.List.Kept.{AllPairs-filter}
 use Rattle.std.proofs.lemmas.List.Sums.{length-filter}
 use Rattle.rart_below.specs.Bytes.{byte_order, begins}
 use Rattle.rart_walks.specs.Walks.{paths_of, paths_below}
+use Rattle.rart_versioned.proofs.EndLemmas.{behind-prefix}
 use Rattle.rart_maps.specs.Points.{parting, points}
 use Rattle.rart_maps.proofs.PointLemmas.{head_of, tail_of, parting-cons, parting-same, parting-other, IsPointOf, points-is, points-counted, under-point, key-pair, in-list, len-ascending, map-contains}
 
@@ -488,3 +490,20 @@ module _ {V : Type 0} where
         let many = length-filter kept (nodes_at s) ∙ ap (count_by kept) (marked-pairs s)
         ∙ sum_by-map (λ (at : List ℕ × Unit {0}). cond (kept at) 1 0) place (paths_of s) in
         omega (arith, few, many)
+
+    -- Those under p whose path meets an upper bound are no more than that, and one, with p for the
+    -- lower bound.
+    pub nodes-under-to : (p : List ℕ) (high : Bound (List ℕ)) →
+        count_by (λ path. begins p path && is_below high path) (paths_of s)
+        ≤ bound_length high + 1 + 2 * length (within m (Included p) high)
+    nodes-under-to p high =
+        let few = nodes-within (Included p) high in
+        let under = λ (at : List ℕ × Unit {0}). begins p at.0 && is_below high at.0 in
+        let behind = λ (at : List ℕ × Unit {0}).
+        is_lt (byte_order p at.0) && is_below high at.0 in
+        let fewer = behind-prefix p (is_below high) (nodes_at s) (nodes-ascend s tree) in
+        let left = ap (count_by under) (marked-pairs s)
+        ∙ sum_by-map (λ (at : List ℕ × Unit {0}). cond (under at) 1 0) place (paths_of s) in
+        let right = ap (count_by behind) (marked-pairs s)
+        ∙ sum_by-map (λ (at : List ℕ × Unit {0}). cond (behind at) 1 0) place (paths_of s) in
+        omega (arith, few, fewer, left, right)

@@ -7,7 +7,7 @@ use Rattle.std.proofs.lemmas.Cmp.{nat_list_cmp_total}
 use Rattle.std.proofs.lemmas.Map.Text.{is_eq-slice_cmp}
 use Rattle.std.specs.FinMap as finite
 use Rattle.rart_below.specs.Bytes.{byte_order, IsAdmitted}
-use Rattle.rart_versioned.specs.Keys.{IsKeyLength}
+use Rattle.rart_versioned.specs.Keys.{IsKey}
 use Rattle.rart_node.specs.Shape.{Shape}
 use Rattle.rart_removal.specs.Removals.{AreAdmitted, IsTakenOr}
 use Rattle.rart_maps.specs.Versions.{Version, value_at, without_key}
@@ -43,7 +43,7 @@ module _ {V : Type 0} where
   pub sound-admitted : (most of_prefix : Option ℕ) (count : ℕ) (root : Shape V)
       → IsSound most count (Some root) → of_prefix ≡ most → AreAdmitted of_prefix root
   sound-admitted most of_prefix count root sound same key there =
-      subst (λ m. IsAdmitted m (length key)) (sym same) (sound.1 key there).0
+      subst (λ m. IsAdmitted m (length key)) (sym same) (sound.1 key there).0.0
 
   -- an absent key: nothing is answered and nothing changes
   pub absent-changes : (v : Version V) (w : List ℕ) (more : ℕ) → value_at v w ≡ None
@@ -75,7 +75,7 @@ module _ {V : Type 0} where
   sound-taken most count later before None key sound le taken = tt
   sound-taken most count later before (Some root) key sound le taken =
       let Keys : Bool → List ℕ → Type 0 = λ t q. IsSome (cond t None (found_in before q))
-      → IsKeyLength most (length q) in
+      → IsKey most q in
       let both : (q : List ℕ) (t : Bool) → Keys t q =
       λ q. elim [
         | true ↦ (λ there. absurd (false≢true there))

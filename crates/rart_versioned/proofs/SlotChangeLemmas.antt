@@ -63,11 +63,11 @@ module _ {V : Type 0} where
     absent-by-slot slot is absent = ap is_some (vacant (value_at v w) slot is absent)
 
     -- ---- what an answer makes of a version
-    none : has_key v w ≡ false → (o : Option V) → o ≡ value_at v w → o ≡ None
+    pub none : has_key v w ≡ false → (o : Option V) → o ≡ value_at v w → o ≡ None
     none absent None is = refl
     none absent (Some value) is = absurd (false≢true (sym absent ∙ sym (ap is_some is)))
 
-    some : has_key v w ≡ true → (o : Option V) → o ≡ value_at v w → (value : V) × (o ≡ Some value)
+    pub some : has_key v w ≡ true → (o : Option V) → o ≡ value_at v w → (value : V) × (o ≡ Some value)
     some there None is = absurd (false≢true (ap is_some is ∙ there))
     some there (Some value) is = (value, refl)
 

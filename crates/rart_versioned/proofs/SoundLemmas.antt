@@ -10,11 +10,12 @@ use Rattle.std.proofs.lemmas.Slice.Eq.{bytes_eq-Decides}
 use Rattle.std.proofs.lemmas.Bool.{false≢true, true≢false}
 use Rattle.std.specs.FinMap as finite
 use Rattle.rart_below.specs.Bytes.{byte_order}
-use Rattle.rart_versioned.specs.Keys.{IsKeyLength}
+use Rattle.rart_versioned.specs.Keys.{IsKeyLength, IsKey}
 use Rattle.rart_node.specs.Shape.{Shape, node_of}
 use Rattle.rart_versioned.specs.Roots.{IsPutBelow}
 use Rattle.rart_shape.specs.Trees.{found, IsTree, IsPut}
 use Rattle.rart_versioned.specs.Roots.{found_in, map_of, IsTreeIn, IsSound}
+use Rattle.rart_maps.specs.StartLaws.{HasByteKeys}
 use Rattle.rart_maps.specs.Versions.{Version, value_at, has_key, has_no_key}
 use Rattle.rart_versioned.proofs.MapLemmas.{get-found}
 use Rattle.rart_shape.proofs.InsertionLemmas.{found-leaf}
@@ -51,7 +52,7 @@ module _ {V : Type 0} where
   few most count (Some root) sound = sound.2
 
   pub admitted : (most : Option ℕ) (count : ℕ) (o : Option (Shape V)) → IsSound most count o
-      → (q : List ℕ) → IsSome (found_in o q) → IsKeyLength most (length q)
+      → (q : List ℕ) → IsSome (found_in o q) → IsKey most q
   admitted most count None sound q there = absurd (false≢true there)
   admitted most count (Some root) sound q there = sound.1 q there
 
@@ -85,14 +86,14 @@ module _ {V : Type 0} where
 
   pub sound-put : (most : Option ℕ) (count later : ℕ) (o : Option (Shape V)) (after : Shape V)
       (key : List ℕ) (value : V) → IsSound most count o → count + 1 ≤ later
-      → IsKeyLength most (length key) → IsPutIn key value o after
+      → IsKey most key → IsPutIn key value o after
       → IsSound most later (Some after)
   sound-put most count later o after key value sound le fits puts =
       let Keys : Bool → List ℕ → Type 0 =
       λ t q. bytes_eq q key ≡ t → IsSome (cond t (Some value) (found_in o q))
-      → IsKeyLength most (length q) in
+      → IsKey most q in
       let both : (q : List ℕ) (t : Bool) → Keys t q = λ q. elim [
-        | true ↦ (λ same there. subst (λ z. IsKeyLength most (length z))
+        | true ↦ (λ same there. subst (IsKey most)
             (sym ((bytes_eq-Decides q key).0 same)) fits)
         | false ↦ (λ differs there. admitted most count o sound q there)
       ] in
@@ -140,11 +141,17 @@ module _ {V : Type 0} where
     pub few-in : finite.len v.content ≤ count
     few-in = subst (λ (z : Version V). finite.len z.content ≤ count) shows (few most count o sound)
 
-    pub lengths-in : (key : List ℕ) → IsTrue (has_key v key) → IsKeyLength most (length key)
-    lengths-in key there =
+    key-in : (key : List ℕ) → IsTrue (has_key v key) → IsKey most key
+    key-in key there =
         admitted most count o sound key
         (subst IsSome (get-found o key (tree-in most count o sound))
         (subst (λ (z : Version V). IsTrue (has_key z key)) (sym shows) there))
+
+    pub lengths-in : (key : List ℕ) → IsTrue (has_key v key) → IsKeyLength most (length key)
+    lengths-in key there = (key-in key there).0
+
+    pub bytes-in : HasByteKeys v.content
+    bytes-in key there = (key-in key there).1
 
   -- Where a version has a key there is a root.
   pub has-root : {A : Type 0} (shape : A → Shape V) (root : Option A) (number : ℕ) (v : Version V)

@@ -1,5 +1,5 @@
 -- What a visitor over a tree goes over and enters, in the words of the version that is shown.
-use Rattle.std.proofs.Common.{◌≡◌, ◌+◌, ◌*◌, ◌≤◌, ◌++◌, ◌&&◌, ⊎_elim, ℕ, Bool, true, false, cond, List, [], Option, None, Some, length, filter, map, arith, refl, sym, ap, subst, ◌∙◌}
+use Rattle.std.proofs.Common.{◌≡◌, ◌+◌, ◌*◌, ◌≤◌, ◌++◌, ◌&&◌, ⊎_elim, ℕ, Bool, true, false, cond, List, [], Option, None, Some, Result, Ok, Err, OnOk, length, filter, map, arith, refl, sym, ap, subst, ◌∙◌}
 use Rattle.std.specs.Prelude.{count_by}
 use Rattle.std.specs.Option.{option_map}
 use Rattle.std.specs.Ordering.{is_lt}
@@ -24,8 +24,13 @@ use Rattle.rart_versioned.specs.Roots.{map_of, IsSound}
 use Rattle.rart_versioned.proofs.IterationLemmas.{no-pairs, root-pairs, root-sound}
 use Rattle.rart_versioned.proofs.MapLemmas.{get-found}
 use Rattle.rart_versioned.proofs.NodeBoundLemmas.{reach-walk}
-use Rattle.rart_versioned.proofs.PointLemmas.{nodes-points, nodes-under, nodes-within}
+use Rattle.rart_versioned.proofs.PointLemmas.{nodes-points, nodes-under, nodes-under-to, nodes-within}
 use Rattle.rart_versioned.proofs.SoundLemmas.{no-key}
+
+-- What follows where a call succeeds.
+pub OnOk-weaker : {A E P Q : Type 0} (result : Result A E) → (P → Q) → OnOk result P → OnOk result Q
+OnOk-weaker (Ok value) follows holds = follows holds
+OnOk-weaker (Err error) follows holds = tt
 
 -- A tree has a node.
 pub some-node : {V : Type 0} (s : Shape V) → 1 ≤ nodes_of s
@@ -134,4 +139,19 @@ module _ {A V : Type 0} (shape : A → Shape V) (most : Option ℕ) (count : ℕ
         ∙ length-filter (λ path. behind path && is_below high path) all
         ∙ ap (λ start. count_by (λ path. is_lt (byte_order start path) && is_below high path) all)
         (start-is low) in
+        omega (arith, few, fewer, both)
+
+    -- Of the nodes under p no more meet an upper bound than do so between the two, and one.
+    pub root-under : (p : List ℕ) (high : Bound (List ℕ)) (places : List (List ℕ)) →
+        IsEndOf places (filter (begins p) (paths_of (shape root))) →
+        count_by (is_below high) places
+        ≤ bound_length high + 1 + 2 * length (within v.content (Included p) high)
+    root-under p high places end =
+        let tree = (root-sound shape most count inside v sound shows root is).0 in
+        let all = paths_of (shape root) in
+        let few = nodes-under-to v.content (shape root) tree content-found p high in
+        let fewer = end-counts (is_below high) end in
+        let both = sym (length-filter (is_below high) (filter (begins p) all))
+        ∙ ap length (sym (filter-both (begins p) (is_below high) all))
+        ∙ length-filter (λ path. begins p path && is_below high path) all in
         omega (arith, few, fewer, both)

@@ -3,8 +3,8 @@ use Rattle.std.specs.Prelude.{ℕ, List, [], ◌∷◌, Option, length, ⊤}
 use Rattle.std.specs.Option.{option_map}
 use Rattle.rart_below.specs.Bytes.{IsAdmitted}
 use Rattle.rart_walks.specs.WalkFields.{position}
-use Rattle.rart_versioned.specs.declared.plain.iter.Entries.{Entries}
-use Rattle.rart_versioned.specs.declared.plain.iter.Entries.TheVariants.{Empty, Entry, Walk}
+use Rattle.rart_versioned.specs.declared.counted.iter.Entries.{Entries}
+use Rattle.rart_versioned.specs.declared.counted.iter.Entries.TheVariants.{Empty, Entry, Walk}
 use Rattle.rart_versioned.specs.IteratorFields.{IsKeyWalk}
 
 module _ {P V : Type 0} {partial : _} (bytes : P → List ℕ) where

@@ -1,5 +1,6 @@
 pub mod ChangeCounts
 pub mod Entries
+pub mod Hints
 pub mod IteratorFields
 pub mod Keys
 pub mod Lent
@@ -9,8 +10,10 @@ pub mod ProbeFields
 pub mod Missing
 pub mod Roots
 pub mod SlotChanges
+pub mod UpdateCounts
 pub mod UpdateLookups
 pub mod Updates
+pub mod VisitCounts
 pub use Rattle.rart_below.specs.Bytes
 pub use Rattle.rart_below.specs.Clones
 pub use Rattle.rart_below.specs.declared.slot.SlotUpdate

@@ -1,6 +1,6 @@
 -- What a root stands for, or the lack of one: a finite map. When it is sound, and what a value lent
 -- from below it leaves.
-use Rattle.std.specs.Prelude.{◌≡◌, ℕ, ◌≤◌, List, [], Option, Some, None, IsSome, Result, ⊤, length, if◌then◌else◌}
+use Rattle.std.specs.Prelude.{◌≡◌, ℕ, ◌≤◌, List, [], Option, Some, None, IsSome, Result, ⊤, if◌then◌else◌}
 use Rattle.std.specs.Option.{option_map}
 use Rattle.std.specs.Result.{IsOk, OnErr}
 use Rattle.std.specs.Str.{bytes_eq}
@@ -13,7 +13,7 @@ use Rattle.rart_node.specs.declared.node_ref.NodeRef.{NodeRef}
 use Rattle.rart_node.specs.NodeShapes.{pointer_shape}
 use Rattle.rart_node.specs.Shape.{Shape}
 use Rattle.rart_shape.specs.Trees.{found, pairs_of, IsTree}
-use Rattle.rart_versioned.specs.Keys.{IsKeyLength}
+use Rattle.rart_versioned.specs.Keys.{IsKey}
 
 module _ {V : Type 0} where
   -- the map that a root stands for, or the lack of one
@@ -36,13 +36,13 @@ module _ {V : Type 0} where
   IsTreeIn None = ⊤
   IsTreeIn (Some root) = IsTree root
 
-  -- Below the root all is in order, each key has a length that it may have, and there are at most
-  -- so many keys.
+  -- Below the root all is in order, each key is a string that it may be, and there are at most so
+  -- many keys.
   abbrev pub IsSound : Option ℕ → ℕ → Option (Shape V) → Type 0
   IsSound most count None = ⊤
   IsSound most count (Some root) =
       IsTree root
-      × ((key : List ℕ) → IsSome (found root key) → IsKeyLength most (length key))
+      × ((key : List ℕ) → IsSome (found root key) → IsKey most key)
       × (finite.len (map_of (Some root)) ≤ count)
 
   -- After, the key has the value below the root, and every other string has what it had.

@@ -1,11 +1,12 @@
 -- What becomes of a key that is there, once a callback has answered.
-use Rattle.std.specs.Prelude.{◌≡◌, ℕ, Bool, true, false, List, Result, Ok, Err, if◌then◌else◌}
+use Rattle.std.specs.Prelude.{◌≡◌, ◌*◌, ℕ, Bool, true, false, List, Result, Ok, Err, if◌then◌else◌}
 use Rattle.rart_below.specs.declared.slot.Refusal.{Refusal}
 use Rattle.rart_below.specs.declared.slot.Refusal.TheVariants.{Callback, Memory}
 use Rattle.rart_below.specs.declared.slot.Slot.{Slot}
 use Rattle.rart_below.specs.declared.slot.Slot.TheVariants.{Vacant, Occupied}
 use Rattle.rart_below.specs.declared.slot.SlotUpdate.{SlotUpdate}
 use Rattle.rart_below.specs.declared.slot.SlotUpdate.TheVariants.{Keep, Insert, Remove}
+use Rattle.rart_maps.specs.Bounds.{lookup_bound, change_bound}
 use Rattle.rart_maps.specs.Changes.{slot_attempt}
 use Rattle.rart_versioned.specs.declared.counted.change.Change.{Change}
 use Rattle.rart_versioned.specs.declared.counted.change.Change.TheVariants.{Stay, Put, Take}
@@ -25,6 +26,17 @@ module _ {V : Type 0} where
   version_after v w (Put x) more = with_key v w x more
   version_after v w Take more = without_key v w more
 
+  -- how many nodes it enters at most, and how many it makes
+  abbrev pub change_enters : List ℕ → Change V → ℕ
+  change_enters w Stay = 0
+  change_enters w (Put x) = lookup_bound w
+  change_enters w Take = 2 * lookup_bound w
+
+  abbrev pub change_makes : List ℕ → Change V → ℕ
+  change_makes w Stay = 0
+  change_makes w (Put x) = change_bound w
+  change_makes w Take = lookup_bound w
+
   -- without the key where it was there, and the number then so much greater
   abbrev pub without_if_there : Version V → List ℕ → ℕ → Version V
   without_if_there v w more = if has_key v w then without_key v w more else v
@@ -39,6 +51,22 @@ module _ {V : Type 0} where
   outcome_of_absent v w (Insert x) = (true, with_key v w x 1)
   outcome_of_absent v w Remove = (false, v)
   outcome_of_absent v w Keep = (false, v)
+
+  -- what is to be done by a callback's answer where the key is absent
+  abbrev pub change_of_absent : SlotUpdate V → Change V
+  change_of_absent (Insert x) = Put x
+  change_of_absent Remove = Stay
+  change_of_absent Keep = Stay
+
+  -- the same of a callback that may fail, for an error of which nothing is done: where the key is
+  -- there, and where it is absent
+  abbrev pub attempt_of : {E : Type 0} → Slot V → Result (SlotUpdate V) E → Change V
+  attempt_of left (Ok told) = change_of left told
+  attempt_of left (Err e) = Stay
+
+  abbrev pub attempt_of_absent : {E : Type 0} → Result (SlotUpdate V) E → Change V
+  attempt_of_absent (Ok told) = change_of_absent told
+  attempt_of_absent (Err e) = Stay
 
   -- The answer asks for a value to be stored.
   abbrev pub AsksMemory : SlotUpdate V → Type 0

@@ -8,10 +8,11 @@
 mod counted;
 mod plain;
 
-pub use counted::VersionedAdaptiveRadixTree;
-pub use plain::{
-    InsertError, VersionedIter, VersionedPrefixMatchIter, VersionedRange, VersionedValuesIter,
+pub use counted::{
+    VersionedAdaptiveRadixTree, VersionedIter, VersionedPrefixMatchIter, VersionedRange,
+    VersionedValuesIter,
 };
+pub use plain::InsertError;
 pub use rart_below::{
     AdaptiveRadixTree, ArrPartial, ArrayKey, DirectMapping, IndexedMapping, KeyTrait,
     LendingKeyView, NodeMapping, Partial, PlainIter, Refusal, Slot, SlotUpdate, SortedKeyedMapping,

@@ -17,8 +17,4 @@ mod update;
 mod values;
 mod visitors;
 
-pub use iter::VersionedIter;
-pub use prefix_match::VersionedPrefixMatchIter;
-pub use range::VersionedRange;
 pub use try_insert::InsertError;
-pub use values::VersionedValuesIter;

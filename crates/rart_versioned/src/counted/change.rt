@@ -4,7 +4,7 @@ ghost use Rattle.std.specs.Prelude.{◌≡◌, ◌+◌, ◌*◌, ◌≤◌, IsTr
 ghost use Rattle.rart_below.specs.Clones.{ClonesEqual};
 ghost use Rattle.rart_node.specs.Counts.{CountsUpTo};
 ghost use Rattle.rart_maps.specs.Bounds.{lookup_bound, change_bound};
-ghost use Rattle.rart_versioned.specs.SlotChanges.{change_of, version_after};
+ghost use Rattle.rart_versioned.specs.SlotChanges.{change_enters, change_makes, change_of, version_after};
 ghost use Rattle.rart_maps.specs.Versions.{HasRoom, has_key, with_rise};
 
 use crate::counted::tree::VersionedAdaptiveRadixTree;
@@ -57,6 +57,8 @@ impl<K: KeyTrait, V: Clone + Drop> VersionedAdaptiveRadixTree<K, V> {
         ensures refused { OnErr result (self.new ≡ self.old) }
         ensures counted { CountsUpTo (2 * lookup_bound (K.bytes key.now))
             (change_bound (K.bytes key.now)) work.old work.new }
+        ensures counted_by_change { CountsUpTo (change_enters (K.bytes key.now) change)
+            (change_makes (K.bytes key.now) change) work.old work.new }
     {
         match change {
             Change::Stay => {
@@ -68,7 +70,7 @@ impl<K: KeyTrait, V: Clone + Drop> VersionedAdaptiveRadixTree<K, V> {
                 Ok(())
             }
             Change::Take => {
-                self.take_in(key, more, work)?;
+                self.take_in(key.as_ref(), more, work)?;
                 Ok(())
             }
         }

@@ -1,6 +1,6 @@
 // Ported from rart 0.11.0 (Apache-2.0), and rewritten.
 //! Insertion of a value at a key.
-ghost use Rattle.std.specs.Prelude.{◌<◌, ◌≤◌, OnOk};
+ghost use Rattle.std.specs.Prelude.{◌<◌, ◌≤◌, All, OnOk};
 ghost use Rattle.rart_below.specs.Clones.{ClonesEqual};
 ghost use Rattle.rart_maps.specs.Bounds.{lookup_bound};
 ghost use Rattle.rart_maps.specs.Changes.{Changes, insertion, replacement, replacement_by};
@@ -69,8 +69,9 @@ impl<K: KeyTrait, V: Clone + Drop> VersionedAdaptiveRadixTree<K, V> {
             (K.bytes key.now) work.old work.new }
         ensures made { OnOk result (work.old.made < work.new.made) }
     {
-        // Read for the invariant alone: a length is a number of 64 bits.
+        // Read for the invariant alone: a length is a number of 64 bits, and a byte one of 8.
         let _length = key.length_at(0);
+        read_bytes(key.as_ref());
         let version = self.version + more;
         match &mut self.root {
             None => {
@@ -85,5 +86,16 @@ impl<K: KeyTrait, V: Clone + Drop> VersionedAdaptiveRadixTree<K, V> {
                 Ok(old)
             }
         }
+    }
+}
+
+/// Reads each byte, and does nothing with it: so it is known that each is one.
+fn read_bytes(bytes: &[u8])
+    ensures { All (λ b. b < 256) bytes.now }
+{
+    let mut index = 0;
+    'reading: while index < bytes.len() {
+        let _byte = bytes[index];
+        index += 1;
     }
 }

@@ -11,8 +11,11 @@ ghost use Rattle.rart_versioned.specs.Meets.{AreRoots, HaveNoCommon};
 
 use crate::counted::tree::VersionedAdaptiveRadixTree;
 use rart_below::{KeyTrait, LendingKeyView, Partial};
-use rart_lockstep::{count_common, visit_common_keys, visit_common_values, visit_common_views};
+use rart_lockstep::{
+    ViewTrail, count_common, visit_common, visit_common_keys, visit_common_values,
+};
 use rart_node::{NodeRef, Work};
+use rart_walks::Trail;
 use std::alloc::AllocError;
 
 impl<K: KeyTrait, V: Clone + Drop> VersionedAdaptiveRadixTree<K, V> {
@@ -42,7 +45,7 @@ impl<K: KeyTrait, V: Clone + Drop> VersionedAdaptiveRadixTree<K, V> {
 
     /// As `intersect_lending_with`, with the nodes entered counted into `work`, as many as in
     /// `intersect_with_counted`.
-    pub fn intersect_lending_with_counted<'a, F: FnMut(LendingKeyView<'_, '_>, &V, &V)>(
+    pub fn intersect_lending_with_counted<'a, F: FnMut(LendingKeyView<'a, '_>, &'a V, &'a V)>(
         &'a self,
         other: &'a VersionedAdaptiveRadixTree<K, V>,
         f: &mut F,
@@ -59,7 +62,10 @@ impl<K: KeyTrait, V: Clone + Drop> VersionedAdaptiveRadixTree<K, V> {
     {
         match self.both_roots(other) {
             None => Ok(()),
-            Some((left, right)) => visit_common_views(self.alloc, left, right, f, work),
+            Some((left, right)) => {
+                let trail: ViewTrail<'a, V> = ViewTrail::new(self.alloc);
+                visit_common(trail, left, right, f, work)
+            }
         }
     }
 

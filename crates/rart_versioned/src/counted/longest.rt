@@ -1,11 +1,11 @@
 // Ported from rart 0.11.0 (Apache-2.0), and rewritten.
 //! The longest of the keys that begin a probe.
-ghost use Rattle.std.specs.Prelude.{◌≡◌, ◌<◌, false, IfOk, IsSome, OnErr};
+ghost use Rattle.std.specs.Prelude.{◌≡◌, ◌≤◌, ◌<◌, false, length, IfOk, IfSome, IsSome, OnErr};
 ghost use Rattle.rart_maps.specs.Bounds.{lookup_bound};
 ghost use Rattle.rart_maps.specs.Pairs.{longest_beginning};
 ghost use Rattle.rart_maps.specs.Versions.{has_no_key};
 ghost use Rattle.rart_node.specs.Counts.{CountsUpTo};
-ghost use Rattle.rart_versioned.specs.Longest.{entry_found};
+ghost use Rattle.rart_versioned.specs.Longest.{entry_found, prefix_found};
 
 use crate::counted::tree::VersionedAdaptiveRadixTree;
 use rart_below::{KeyTrait, Partial};
@@ -28,14 +28,25 @@ impl<K: KeyTrait, V: Clone + Drop> VersionedAdaptiveRadixTree<K, V> {
         ensures counted { CountsUpTo (lookup_bound (K.bytes probe.now)) 0 work.old work.new }
         ensures entered { has_no_key self.now ≡ false → work.old.entered < work.new.entered }
     {
-        let Some(root) = &self.root else {
-            return Ok(None);
-        };
         let bytes = probe.as_ref();
-        let Some((length, value)) = longest_beginning(root, bytes, work) else {
+        let Some((length, value)) = self.longest_slice_counted(bytes, work) else {
             return Ok(None);
         };
         let key = K::new_from_slice(self.alloc, &bytes[..length])?;
         Ok(Some((key, value)))
+    }
+
+    /// As `longest_slice`, counted as by `longest_prefix_match_k_counted`.
+    pub fn longest_slice_counted(&self, probe: &[u8], work: &mut Work) -> Option<(usize, &V)>
+        ensures found { prefix_found probe.now result
+            ≡ longest_beginning self.now.content probe.now }
+        ensures within { IfSome result (λ found. found.0 ≤ length probe.now) }
+        ensures counted { CountsUpTo (lookup_bound probe.now) 0 work.old work.new }
+        ensures entered { has_no_key self.now ≡ false → work.old.entered < work.new.entered }
+    {
+        match &self.root {
+            None => None,
+            Some(root) => longest_beginning(root, probe, work),
+        }
     }
 }

@@ -19,9 +19,18 @@ impl<K: KeyTrait, V: Clone + Drop> VersionedAdaptiveRadixTree<K, V> {
         ensures counted { CountsUpTo (lookup_bound (K.bytes key.now)) 0 work.old work.new }
         ensures entered { has_no_key self.now ≡ false → work.old.entered < work.new.entered }
     {
+        self.get_slice_counted(key.as_ref(), work)
+    }
+
+    /// As `get_slice`, counted as by `get_k_counted`.
+    pub fn get_slice_counted(&self, key: &[u8], work: &mut Work) -> Option<&V>
+        ensures value { option_copied result ≡ value_at self.now key.now }
+        ensures counted { CountsUpTo (lookup_bound key.now) 0 work.old work.new }
+        ensures entered { has_no_key self.now ≡ false → work.old.entered < work.new.entered }
+    {
         match &self.root {
             None => None,
-            Some(root) => get_below(root, key.as_ref(), work),
+            Some(root) => get_below(root, key, work),
         }
     }
 }

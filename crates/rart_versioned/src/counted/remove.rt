@@ -29,6 +29,24 @@ impl<K: KeyTrait, V: Clone + Drop> VersionedAdaptiveRadixTree<K, V> {
         ensures absent_makes_none { value_at self.old (K.bytes key.now) ≡ None
             → work.new.made ≡ work.old.made }
     {
+        self.remove_slice_counted(key.as_ref(), work)
+    }
+
+    /// As `remove_slice`, counted as by `remove_k_counted`.
+    pub fn remove_slice_counted(
+        &mut self,
+        key: &[u8],
+        work: &mut Work,
+    ) -> Result<Option<V>, AllocError>
+        requires clones { ClonesEqual V.is_clone }
+        requires room { HasRoom self.old 1 }
+        ensures changes { Changes result self.old self.new (removal self.old key.now) }
+        ensures present { OnErr result (IsTrue (has_key self.old key.now)) }
+        ensures counted { CountsChange (2 * lookup_bound key.now) self.old key.now
+            work.old work.new }
+        ensures absent_makes_none { value_at self.old key.now ≡ None
+            → work.new.made ≡ work.old.made }
+    {
         self.take_in(key, 1, work)
     }
 
@@ -50,21 +68,21 @@ impl<K: KeyTrait, V: Clone + Drop> VersionedAdaptiveRadixTree<K, V> {
     /// Refused for memory, map and number are as before.
     pub(crate) fn take_in(
         &mut self,
-        key: &K,
+        key: &[u8],
         more: u64,
         work: &mut Work,
     ) -> Result<Option<V>, AllocError>
         requires clones { ClonesEqual V.is_clone }
         requires room { HasRoom self.old more }
         ensures changes { Changes result self.old self.new (
-          value_at self.old (K.bytes key.now),
-          without_if_there self.old (K.bytes key.now) more,
+          value_at self.old key.now,
+          without_if_there self.old key.now more,
         ) }
-        ensures present { OnErr result (IsTrue (has_key self.old (K.bytes key.now))) }
-        ensures counted { CountsUpTo (2 * lookup_bound (K.bytes key.now))
-            (lookup_bound (K.bytes key.now)) work.old work.new }
+        ensures present { OnErr result (IsTrue (has_key self.old key.now)) }
+        ensures counted { CountsUpTo (2 * lookup_bound key.now) (lookup_bound key.now)
+            work.old work.new }
         ensures at_least { has_no_key self.old ≡ false → work.old.entered < work.new.entered }
-        ensures absent_makes_none { value_at self.old (K.bytes key.now) ≡ None
+        ensures absent_makes_none { value_at self.old key.now ≡ None
             → work.new.made ≡ work.old.made }
     {
         let version = self.version + more;
@@ -72,7 +90,7 @@ impl<K: KeyTrait, V: Clone + Drop> VersionedAdaptiveRadixTree<K, V> {
         let Some(root) = &mut self.root else {
             return Ok(None);
         };
-        let removed = remove_below(alloc, root, key.as_ref(), version, work)?;
+        let removed = remove_below(alloc, root, key, version, work)?;
         if removed.value.is_none() {
             return Ok(None);
         }

@@ -52,6 +52,7 @@ impl<K: KeyTrait, V: Clone> Model for VersionedAdaptiveRadixTree<K, V> {
 
 impl<K: KeyTrait, V: Clone + Drop> VersionedAdaptiveRadixTree<K, V> {
     ghost use Rattle.rart_maps.specs.Lookups.{LacksAll};
+    ghost use Rattle.rart_maps.specs.StartLaws.{HasByteKeys};
     ghost use Rattle.rart_maps.specs.Versions.{empty_at, with_rise, has_no_key, has_key, HasRoom};
     ghost use Rattle.rart_versioned.specs.Keys.{IsKeyLength};
 
@@ -94,13 +95,14 @@ impl<K: KeyTrait, V: Clone + Drop> VersionedAdaptiveRadixTree<K, V> {
         }
     }
 
-    /// The number. The map has at most as many keys, and each is as long as the key type admits and
-    /// shorter than 2^64 bytes.
+    /// The number. The map has at most as many keys, and each is a string of bytes, as long as the
+    /// key type admits and shorter than 2^64.
     pub fn version(&self) -> u64
         ensures number { result ≡ self.now.number }
         ensures keys { finite.len self.now.content ≤ result }
         ensures lengths { (key : List ℕ) → IsTrue (has_key self.now key)
             → IsKeyLength K.MAXIMUM_SIZE (length key) }
+        ensures bytes { HasByteKeys self.now.content }
     {
         self.version
     }

@@ -8,7 +8,8 @@ ghost use Rattle.rart_maps.specs.Bounds.{lookup_bound, touch_bound, change_bound
 ghost use Rattle.rart_maps.specs.Changes.{slot_of};
 ghost use Rattle.rart_maps.specs.Versions.{HasRoom, has_key, value_at};
 ghost use Rattle.rart_versioned.specs.ChangeCounts.{CountsChange, MakesToTryInsert};
-ghost use Rattle.rart_versioned.specs.SlotChanges.{rise_of, Tries, TriesAbsent};
+ghost use Rattle.rart_versioned.specs.SlotChanges.{attempt_of, attempt_of_absent, change_enters, change_makes, rise_of, Tries, TriesAbsent};
+ghost use Rattle.rart_versioned.specs.UpdateCounts.{CountsTry};
 ghost use Rattle.rart_versioned.specs.Updates.{TriesUpdate};
 
 use crate::counted::change::Change;
@@ -18,7 +19,8 @@ use rart_below::{KeyTrait, Refusal, Slot, SlotUpdate};
 use rart_node::Work;
 
 impl<K: KeyTrait, V: Clone + Drop> VersionedAdaptiveRadixTree<K, V> {
-    /// As `try_update_k`, counted as by `update_k_counted`.
+    /// As `try_update_k`, counted as by `update_k_counted`. For an error none is made, and the key
+    /// is looked up once, whether it is there or not.
     pub fn try_update_k_counted<E: Drop, F: FnOnce(&mut Slot<V>) -> Result<SlotUpdate<V>, E>>(
         &mut self,
         key: &K,
@@ -34,6 +36,8 @@ impl<K: KeyTrait, V: Clone + Drop> VersionedAdaptiveRadixTree<K, V> {
             (K.bytes key.now) work.old work.new }
         ensures absent_makes_none { has_key self.old (K.bytes key.now) ≡ false
             → MakesToTryInsert result work.old work.new }
+        ensures counted_by_answer { CountsTry F.FnOnce f self.old (K.bytes key.now) result
+            self.new work.old work.new }
     {
         let mut slot = match self.slot_at(key, work) {
             Ok(slot) => slot,
@@ -61,6 +65,9 @@ impl<K: KeyTrait, V: Clone + Drop> VersionedAdaptiveRadixTree<K, V> {
         ensures tries { Tries self.old (K.bytes key.now) left told result self.new }
         ensures counted { CountsUpTo (2 * lookup_bound (K.bytes key.now))
             (change_bound (K.bytes key.now)) work.old work.new }
+        ensures counted_by_answer { CountsUpTo
+            (change_enters (K.bytes key.now) (attempt_of left told))
+            (change_makes (K.bytes key.now) (attempt_of left told)) work.old work.new }
     {
         match told {
             Err(error) => {
@@ -91,6 +98,9 @@ impl<K: KeyTrait, V: Clone + Drop> VersionedAdaptiveRadixTree<K, V> {
         ensures counted { CountsUpTo (lookup_bound (K.bytes key.now))
             (change_bound (K.bytes key.now)) work.old work.new }
         ensures makes_to_insert { MakesToTryInsert result work.old work.new }
+        ensures counted_by_answer { CountsUpTo
+            (change_enters (K.bytes key.now) (attempt_of_absent told))
+            (change_makes (K.bytes key.now) (attempt_of_absent told)) work.old work.new }
     {
         match told {
             Err(error) => Err(Refusal::Callback(error)),

@@ -8,7 +8,8 @@ ghost use Rattle.rart_maps.specs.Bounds.{lookup_bound, touch_bound, change_bound
 ghost use Rattle.rart_maps.specs.Changes.{Changes, slot_of};
 ghost use Rattle.rart_maps.specs.Versions.{HasRoom, has_key, value_at, has_no_key};
 ghost use Rattle.rart_versioned.specs.ChangeCounts.{CountsChange, MakesToInsert};
-ghost use Rattle.rart_versioned.specs.SlotChanges.{outcome_of_absent, AsksMemory, is_occupied};
+ghost use Rattle.rart_versioned.specs.SlotChanges.{outcome_of_absent, AsksMemory, change_enters, change_makes, change_of_absent, is_occupied};
+ghost use Rattle.rart_versioned.specs.UpdateCounts.{CountsUpdate};
 ghost use Rattle.rart_versioned.specs.Updates.{Updates};
 
 use crate::counted::change::Change;
@@ -19,8 +20,11 @@ use std::alloc::AllocError;
 
 impl<K: KeyTrait, V: Clone + Drop> VersionedAdaptiveRadixTree<K, V> {
     /// As `update_k`, with the nodes entered and made counted into `work`: at most three more
-    /// entered than three times the bytes of the key, and at most two more made than it has. None
-    /// is made where the key is absent and stays so.
+    /// entered than three times the bytes of the key, and at most two more made than it has.
+    ///
+    /// At most two more are entered than twice its bytes, unless the answer takes out a key that is
+    /// there. None is made where nothing is stored or taken out: where the key is absent and stays
+    /// so, and where an occupied slot was left vacant and the answer is `Keep`.
     pub fn update_k_counted<F: FnOnce(&mut Slot<V>) -> SlotUpdate<V>>(
         &mut self,
         key: &K,
@@ -36,6 +40,8 @@ impl<K: KeyTrait, V: Clone + Drop> VersionedAdaptiveRadixTree<K, V> {
             (K.bytes key.now) work.old work.new }
         ensures absent_makes_none { has_key self.old (K.bytes key.now) ≡ false
             → MakesToInsert result work.old work.new }
+        ensures counted_by_answer { CountsUpdate F.FnOnce f self.old (K.bytes key.now) result
+            self.new work.old work.new }
     {
         let mut slot = self.slot_at(key, work)?;
         let was_there = is_occupied(&slot);
@@ -77,6 +83,9 @@ impl<K: KeyTrait, V: Clone + Drop> VersionedAdaptiveRadixTree<K, V> {
         ensures counted { CountsUpTo (lookup_bound (K.bytes key.now))
             (change_bound (K.bytes key.now)) work.old work.new }
         ensures makes_to_insert { MakesToInsert result work.old work.new }
+        ensures counted_by_answer { CountsUpTo
+            (change_enters (K.bytes key.now) (change_of_absent told))
+            (change_makes (K.bytes key.now) (change_of_absent told)) work.old work.new }
     {
         match told {
             SlotUpdate::Insert(value) => {

@@ -1,11 +1,14 @@
 // Ported from rart 0.11.0 (Apache-2.0), and rewritten.
 //! Visitors over a tree, and their counts.
-ghost use Rattle.std.specs.Prelude.{◌≡◌, ◌+◌, map, OnOk};
+ghost use Rattle.std.specs.Prelude.{◌≡◌, ◌+◌, ◌<◌, ◌≤◌, false, length, map, OnOk};
 ghost use Rattle.std.specs.Range.Bound.{bound_map};
 ghost use Rattle.rart_maps.specs.Bounds.{range_bound, reach_bound, scan_bound, walk_cost};
 ghost use Rattle.rart_maps.specs.Pairs.{pairs, under, within};
+ghost use Rattle.rart_maps.specs.Versions.{has_no_key};
 ghost use Rattle.rart_maps.specs.Visits.{ByValue, ByView, Visits, Visitable, VisitsUntil, VisitableUntil};
 ghost use Rattle.rart_node.specs.Counts.{CountsUpTo};
+ghost use Rattle.rart_versioned.specs.VisitCounts.{EndsSoon};
+ghost use Rattle.rart_visits.specs.Ends.{Ends};
 
 use crate::counted::tree::VersionedAdaptiveRadixTree;
 use crate::counted::walks::bytes_of;
@@ -19,7 +22,8 @@ use std::ops::Bound;
 impl<K: KeyTrait, V: Clone + Drop> VersionedAdaptiveRadixTree<K, V> {
     /// As `prefix_for_each_view_k`, with the nodes entered counted into `work`: at most one more
     /// than the prefix has bytes, and one for each string that the prefix begins and that begins a
-    /// key; and at most one more than the prefix has bytes, and two for each key that it begins.
+    /// key; and at most one more than the prefix has bytes, and two for each key that it begins. One
+    /// at least where there is a key in the map, and, where it isn't refused, one for each pair.
     pub fn prefix_for_each_view_k_counted<F: FnMut(LendingKeyView<'_, '_>, &V)>(
         &self,
         prefix: &K,
@@ -34,13 +38,16 @@ impl<K: KeyTrait, V: Clone + Drop> VersionedAdaptiveRadixTree<K, V> {
             work.old work.new }
         ensures counted_by_pairs { CountsUpTo (scan_bound self.now.content (K.bytes prefix.now)) 0
             work.old work.new }
+        ensures entered { has_no_key self.now ≡ false → work.old.entered < work.new.entered }
+        ensures each { OnOk result (work.old.entered
+            + length (under self.now.content (K.bytes prefix.now)) ≤ work.new.entered) }
     {
         let walk = self.walk_under(prefix.as_ref(), work)?;
         visit_views(walk, f, work)
     }
 
-    /// As `prefix_values_for_each_k`, with the nodes entered counted into `work`: at most as many
-    /// as in `prefix_for_each_view_k_counted`.
+    /// As `prefix_values_for_each_k`, with the nodes entered counted into `work`: as many at most,
+    /// and at least, as in `prefix_for_each_view_k_counted`.
     pub fn prefix_values_for_each_k_counted<F: FnMut(&V)>(
         &self,
         prefix: &K,
@@ -55,13 +62,19 @@ impl<K: KeyTrait, V: Clone + Drop> VersionedAdaptiveRadixTree<K, V> {
             work.old work.new }
         ensures counted_by_pairs { CountsUpTo (scan_bound self.now.content (K.bytes prefix.now)) 0
             work.old work.new }
+        ensures entered { has_no_key self.now ≡ false → work.old.entered < work.new.entered }
+        ensures each { OnOk result (work.old.entered
+            + length (under self.now.content (K.bytes prefix.now)) ≤ work.new.entered) }
     {
         let walk: Walk<'_, K::PartialType, V, NoTrail> = self.walk_under(prefix.as_ref(), work)?;
         visit_values(walk, f, work)
     }
 
     /// As `try_prefix_values_for_each_k`, with the nodes entered counted into `work`: at most as
-    /// many as in `prefix_for_each_view_k_counted`.
+    /// many as in `prefix_for_each_view_k_counted`. Where the closure ends it, none is entered
+    /// behind the key that it was called on last: at most one for each byte of the prefix and of
+    /// that key, two for each value that it was called on, and two. One at least where there is a
+    /// key in the map, and, where it isn't refused, one for each value that it was called on.
     pub fn try_prefix_values_for_each_k_counted<E: Drop, F: FnMut(&V) -> Result<VisitControl, E>>(
         &self,
         prefix: &K,
@@ -76,6 +89,12 @@ impl<K: KeyTrait, V: Clone + Drop> VersionedAdaptiveRadixTree<K, V> {
             work.old work.new }
         ensures counted_by_pairs { CountsUpTo (scan_bound self.now.content (K.bytes prefix.now)) 0
             work.old work.new }
+        ensures entered { has_no_key self.now ≡ false → work.old.entered < work.new.entered }
+        ensures ends { Ends F.FnMut ByValue
+            (work.old.entered + length (under self.now.content (K.bytes prefix.now))
+            ≤ work.new.entered)
+            (EndsSoon (K.bytes prefix.now) work.old work.new)
+            result f.old (under self.now.content (K.bytes prefix.now)) f.new }
     {
         let walk: Result<Walk<'_, K::PartialType, V, NoTrail>, AllocError> = self.walk_under(
             prefix.as_ref(),
@@ -89,7 +108,8 @@ impl<K: KeyTrait, V: Clone + Drop> VersionedAdaptiveRadixTree<K, V> {
 
     /// As `for_each_view`, with the nodes entered counted into `work`: one for each key, and one
     /// for each other string at which keys part. So they are at most twice as many as keys,
-    /// whatever was inserted and removed before. Refused for memory, it has entered no more.
+    /// whatever was inserted and removed before. Refused for memory, it has entered no more, and
+    /// one at least where there is a key.
     pub fn for_each_view_counted<F: FnMut(LendingKeyView<'_, '_>, &V)>(
         &self,
         f: &mut F,
@@ -100,6 +120,7 @@ impl<K: KeyTrait, V: Clone + Drop> VersionedAdaptiveRadixTree<K, V> {
         ensures counted { CountsUpTo (walk_cost self.now.content) 0 work.old work.new }
         ensures entered { OnOk result (work.new.entered
             ≡ work.old.entered + walk_cost self.now.content) }
+        ensures entered_least { has_no_key self.now ≡ false → work.old.entered < work.new.entered }
     {
         let walk = self.whole_walk(work)?;
         visit_views(walk, f, work)
@@ -107,7 +128,8 @@ impl<K: KeyTrait, V: Clone + Drop> VersionedAdaptiveRadixTree<K, V> {
 
     /// As `for_each_range_view`, with the nodes entered counted into `work`: at most one for each
     /// byte of either bound, two for each pair within them, and two. A side without a bound has no
-    /// byte. Refused for memory, it has entered no more.
+    /// byte. Refused for memory, it has entered no more. One at least where there is a key in the
+    /// map, and, where it isn't refused, one for each pair.
     pub fn for_each_range_view_counted<F: FnMut(LendingKeyView<'_, '_>, &V)>(
         &self,
         range: (Bound<K>, Bound<K>),
@@ -120,6 +142,9 @@ impl<K: KeyTrait, V: Clone + Drop> VersionedAdaptiveRadixTree<K, V> {
             (bound_map K.bytes range.0) (bound_map K.bytes range.1)) f.new }
         ensures counted { CountsUpTo (range_bound self.now.content
             (bound_map K.bytes range.0) (bound_map K.bytes range.1)) 0 work.old work.new }
+        ensures entered { has_no_key self.now ≡ false → work.old.entered < work.new.entered }
+        ensures each { OnOk result (work.old.entered + length (within self.now.content
+            (bound_map K.bytes range.0) (bound_map K.bytes range.1)) ≤ work.new.entered) }
     {
         let (low, high) = range;
         self.visit_range(bytes_of(&low), bytes_of(&high), f, work)
@@ -141,6 +166,10 @@ impl<K: KeyTrait, V: Clone + Drop> VersionedAdaptiveRadixTree<K, V> {
         ensures counted { CountsUpTo (range_bound self.now.content
             (bound_map (λ low. low.now) low.entry) (bound_map (λ high. high.now) high.entry)) 0
             work.old work.new }
+        ensures entered { has_no_key self.now ≡ false → work.old.entered < work.new.entered }
+        ensures each { OnOk result (work.old.entered + length (within self.now.content
+            (bound_map (λ low. low.now) low.entry) (bound_map (λ high. high.now) high.entry))
+            ≤ work.new.entered) }
     {
         let walk = self.walk_from(low, work)?;
         visit_views_up_to(walk, high, f, work)

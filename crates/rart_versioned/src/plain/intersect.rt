@@ -37,7 +37,7 @@ impl<K: KeyTrait, V: Clone + Drop> VersionedAdaptiveRadixTree<K, V> {
     }
 
     /// As `intersect_with`, with a view of the key, which ends with the call. No key is put
-    /// together for it. In Rust the references to the values may be kept, and here not.
+    /// together for it. Its segments may be kept, as the values may.
     ///
     /// ```
     /// let mut longest = 0;
@@ -45,7 +45,7 @@ impl<K: KeyTrait, V: Clone + Drop> VersionedAdaptiveRadixTree<K, V> {
     ///     longest = longest.max(key.len());
     /// })?;
     /// ```
-    pub fn intersect_lending_with<'a, F: FnMut(LendingKeyView<'_, '_>, &V, &V)>(
+    pub fn intersect_lending_with<'a, F: FnMut(LendingKeyView<'a, '_>, &'a V, &'a V)>(
         &'a self,
         other: &'a VersionedAdaptiveRadixTree<K, V>,
         f: &mut F,

@@ -1,57 +1,25 @@
 // Ported from rart 0.11.0 (Apache-2.0), and rewritten.
 //! The pairs of a tree, in the order of their keys: all of them, or those under a prefix.
-ghost use Rattle.std.specs.Prelude.{◌≡◌, [], ◌∷◌, Some, None, Err, IfSome, IfOk, length};
+ghost use Rattle.std.specs.Prelude.{◌≡◌, Some, None, Err, IfOk, length, IfSome};
 ghost use Rattle.rart_below.specs.Bytes.{IsAdmitted};
 ghost use Rattle.rart_maps.specs.Pairs.{pairs, under};
-ghost use Rattle.rart_node.specs.NodeShapes.{pointer_shape};
-ghost use Rattle.rart_shape.specs.Trees.{pairs_of};
-ghost use Rattle.rart_versioned.specs.Entries.{HasKeys, pairs_to_come};
 ghost use Rattle.rart_walks.specs.Trails.{HoldsBytes};
 ghost use Rattle.rart_walks.specs.WalkFields.{path_to, IsWalk};
 
 use crate::counted::VersionedAdaptiveRadixTree;
+use crate::counted::iter::{Entries, VersionedIter};
 use rart_below::{KeyTrait, Partial};
-use rart_node::{NodeRef, Work};
+use rart_node::Work;
 use rart_walks::{KeyTrail, Walk};
 use std::alloc::{AllocError, Global};
-use std::marker::{Model, PhantomData};
-
-/// The pairs that are still to come.
-#[derive(Drop)]
-enum Entries<'a, P: Partial, V> {
-    /// None: of a tree without a key, or behind the one.
-    Empty,
-    /// One: of a root without children.
-    Entry(&'a [u8], &'a V),
-    /// That of the node where the walk starts, if it has a value, and then those of its children.
-    Walk(Walk<'a, P, V, KeyTrail>),
-}
-
-/// The pairs of a tree, or of a part of it, in the order of their keys.
-///
-/// Contracts see the pairs that are still to come, or `None` behind the end and behind a refusal.
-#[derive(Drop)]
-pub struct VersionedIter<'a, K: KeyTrait, P: Partial, V> {
-    alloc: Global,
-    entries: Option<Entries<'a, P, V>>,
-    key: PhantomData<K>,
-}
-
-impl<'a, K: KeyTrait, P: Partial, V> Model for VersionedIter<'a, K, P, V> {
-    ghost use Rattle.std.specs.Prelude.{List, ℕ, Option, IfSome};
-    ghost use Rattle.rart_versioned.specs.Entries.{HasKeys, entries_left};
-
-    ghost Value = { Option (List (List ℕ × V)) };
-
-    ghost view = { λ iter. entries_left P.bytes iter.entries };
-
-    ghost invariant = { λ iter. IfSome iter.entries (HasKeys P.bytes K.MAXIMUM_SIZE) };
-}
 
 impl<'a, K: KeyTrait, P: Partial, V: Drop> Iterator for VersionedIter<'a, K, P, V> {
     type Item = Result<(K, &'a V), AllocError>;
 
+    ghost use Rattle.std.specs.Iterator.{UpTo};
+    ghost use Rattle.std.specs.Iterator.SizeHint.{IsWithinCount};
     ghost use Rattle.rart_maps.specs.Iterations.{ByKey, NextGives, items_left};
+    ghost use Rattle.rart_versioned.specs.Hints.{IsHintOf};
 
     ghost next_gives = { NextGives (ByKey K.bytes) };
 
@@ -91,7 +59,11 @@ impl<'a, K: KeyTrait, P: Partial, V: Drop> Iterator for VersionedIter<'a, K, P, 
     }
 
     /// That nothing comes any more is known behind the end alone.
-    fn size_hint(&self) -> (usize, Option<usize>) {
+    fn size_hint(&self) -> (usize, Option<usize>)
+        ensures lower { IsWithinCount result.0 (items_left self.now) }
+        ensures upper { IfSome result.1 (UpTo (items_left self.now)) }
+        ensures hint { IsHintOf self.now result }
+    {
         match &self.entries {
             None => (0, Some(0)),
             Some(_) => (0, None),
@@ -125,19 +97,6 @@ fn key_at<'a, K: KeyTrait, P: Partial, V: Drop>(
     K::new_from_slice(alloc, walk.trail().as_slice())
 }
 
-/// The pair of a root without children.
-fn entry_of<'a, P: Partial, V: Drop>(root: &'a NodeRef<P, V>) -> Option<(&'a [u8], &'a V)>
-    ensures { IfSome result (λ entry. pairs_of (pointer_shape P.bytes root.now)
-        ≡ (entry.0.now, entry.1.now) ∷ []) }
-{
-    let node = root.open(&mut Work::new());
-    if !node.is_leaf() {
-        return None;
-    }
-    let value = node.value()?;
-    Some((node.prefix().as_ref(), value))
-}
-
 impl<K: KeyTrait, V: Clone + Drop> VersionedAdaptiveRadixTree<K, V> {
     /// All pairs, in the order of their keys, each with a key of its own.
     ///
@@ -153,28 +112,7 @@ impl<K: KeyTrait, V: Clone + Drop> VersionedAdaptiveRadixTree<K, V> {
     pub fn iter(&self) -> Result<VersionedIter<'_, K, K::PartialType, V>, AllocError>
         ensures { IfOk result (λ iter. iter ≡ Some (pairs self.now.content)) }
     {
-        let entries = self.entries()?;
-        Ok(VersionedIter {
-            alloc: self.alloc,
-            entries: Some(entries),
-            key: PhantomData,
-        })
-    }
-
-    /// All pairs.
-    fn entries(&self) -> Result<Entries<'_, K::PartialType, V>, AllocError>
-        ensures keys { IfOk result (HasKeys K.PartialType.bytes K.MAXIMUM_SIZE) }
-        ensures pairs { IfOk result (λ entries. pairs_to_come K.PartialType.bytes entries
-            ≡ pairs self.now.content) }
-    {
-        let Some(root) = &self.root else {
-            return Ok(Entries::Empty);
-        };
-        if let Some((bytes, value)) = entry_of(root) {
-            return Ok(Entries::Entry(bytes, value));
-        }
-        let walk = self.whole_walk(&mut Work::new())?;
-        Ok(Entries::Walk(walk))
+        self.iter_counted(&mut Work::new())
     }
 
     /// The pairs whose key the prefix begins, in the order of their keys. The empty prefix begins
@@ -196,12 +134,7 @@ impl<K: KeyTrait, V: Clone + Drop> VersionedAdaptiveRadixTree<K, V> {
         ensures { IfOk result (λ iter. iter
             ≡ Some (under self.now.content (K.bytes prefix.now))) }
     {
-        let walk = self.walk_under(prefix.as_ref(), &mut Work::new())?;
-        Ok(VersionedIter {
-            alloc: self.alloc,
-            entries: Some(Entries::Walk(walk)),
-            key: PhantomData,
-        })
+        self.prefix_iter_k_counted(prefix, &mut Work::new())
     }
 
     /// As `prefix_iter_k`, the prefix by value.

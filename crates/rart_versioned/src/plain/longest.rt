@@ -1,8 +1,8 @@
 // Ported from rart 0.11.0 (Apache-2.0), and rewritten.
 //! The longest of the keys that begin a probe, with no count.
-ghost use Rattle.std.specs.Prelude.{◌≡◌, IfOk, IsSome, OnErr};
+ghost use Rattle.std.specs.Prelude.{◌≡◌, ◌≤◌, length, IfOk, IfSome, IsSome, OnErr};
 ghost use Rattle.rart_maps.specs.Pairs.{longest_beginning};
-ghost use Rattle.rart_versioned.specs.Longest.{entry_found};
+ghost use Rattle.rart_versioned.specs.Longest.{entry_found, prefix_found};
 
 use crate::counted::VersionedAdaptiveRadixTree;
 use rart_below::KeyTrait;
@@ -25,6 +25,20 @@ impl<K: KeyTrait, V: Clone + Drop> VersionedAdaptiveRadixTree<K, V> {
             (IsSome (longest_beginning self.now.content (K.bytes probe.now))) }
     {
         self.longest_prefix_match_k_counted(probe, &mut Work::new())
+    }
+
+    /// How many bytes of the probe the longest key has that begins it, and a reference to its value.
+    /// It takes no memory. rart has no such call.
+    ///
+    /// ```
+    /// let hop = routes.longest_slice(&[10, 1, 2, 3]).map(|route| *route.1);
+    /// ```
+    pub fn longest_slice(&self, probe: &[u8]) -> Option<(usize, &V)>
+        ensures found { prefix_found probe.now result
+            ≡ longest_beginning self.now.content probe.now }
+        ensures within { IfSome result (λ found. found.0 ≤ length probe.now) }
+    {
+        self.longest_slice_counted(probe, &mut Work::new())
     }
 
     /// As `longest_prefix_match_k`, the probe by value.

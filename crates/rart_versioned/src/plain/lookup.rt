@@ -26,4 +26,15 @@ impl<K: KeyTrait, V: Clone + Drop> VersionedAdaptiveRadixTree<K, V> {
     {
         self.get_k(&key)
     }
+
+    /// As `get_k`, the key by its bytes. rart has no such call.
+    ///
+    /// ```
+    /// let price = list.get_slice(b"tea").copied().unwrap_or(0);
+    /// ```
+    pub fn get_slice(&self, key: &[u8]) -> Option<&V>
+        ensures { option_copied result ≡ value_at self.now key.now }
+    {
+        self.get_slice_counted(key, &mut Work::new())
+    }
 }

@@ -1,7 +1,8 @@
 // Ported from rart 0.11.0 (Apache-2.0), and rewritten.
 //! The pairs of a tree whose key begins a probe, the shortest first.
-ghost use Rattle.std.specs.Prelude.{◌≡◌, ◌≤◌, ◌<◌, ◌++◌, length, take, Some, IfOk, OnOk};
+ghost use Rattle.std.specs.Prelude.{◌≡◌, ◌≤◌, ◌<◌, ◌++◌, length, take, Some, IfOk, OnOk, IfSome};
 ghost use Rattle.std.specs.Option.{option_map, option_copied};
+ghost use Rattle.std.specs.Result.{IsOk};
 ghost use Rattle.rart_maps.specs.Pairs.{beginnings};
 ghost use Rattle.rart_node.specs.NodeShapes.{node_shape, pointer_shape};
 ghost use Rattle.rart_node.specs.Shape.{IsAscending, children_of, height};
@@ -11,45 +12,19 @@ ghost use Rattle.rart_versioned.specs.ProbeFields.{IsWay, matches_on, next_node}
 ghost use Rattle.rart_walks.specs.Frames.{pending_pair};
 
 use crate::counted::VersionedAdaptiveRadixTree;
+use crate::counted::prefix_match::{VersionedPrefixMatchIter, Way};
 use rart_below::{KeyTrait, Partial};
 use rart_node::{NodeRef, VersionedNode, Work};
 use rart_shape::{rest_of, strip_prefix};
 use std::alloc::{AllocError, Global};
-use std::marker::Model;
-
-/// How far down the probe it has come: the node that comes next, if there is one, and how many
-/// bytes of the probe stand above it.
-#[derive(Drop)]
-struct Way<'a, P: Partial, V> {
-    at: Option<&'a NodeRef<P, V>>,
-    depth: usize,
-}
-
-/// The pairs of a tree whose key begins a probe, the shortest first.
-///
-/// Contracts see the pairs that are still to come, or `None` behind the end and behind a refusal.
-#[derive(Drop)]
-pub struct VersionedPrefixMatchIter<'a, K: KeyTrait, P: Partial, V> {
-    alloc: Global,
-    probe: K,
-    way: Option<Way<'a, P, V>>,
-}
-
-impl<'a, K: KeyTrait, P: Partial, V> Model for VersionedPrefixMatchIter<'a, K, P, V> {
-    ghost use Rattle.std.specs.Prelude.{List, ℕ, Option, IfSome};
-    ghost use Rattle.rart_versioned.specs.ProbeFields.{IsWay, matches_left};
-
-    ghost Value = { Option (List (List ℕ × V)) };
-
-    ghost view = { λ iter. matches_left P.bytes (K.bytes iter.probe) iter.way };
-
-    ghost invariant = { λ iter. IfSome iter.way (IsWay P.bytes (K.bytes iter.probe)) };
-}
 
 impl<'a, K: KeyTrait, P: Partial, V: Drop> Iterator for VersionedPrefixMatchIter<'a, K, P, V> {
     type Item = Result<(K, &'a V), AllocError>;
 
+    ghost use Rattle.std.specs.Iterator.{UpTo};
+    ghost use Rattle.std.specs.Iterator.SizeHint.{IsWithinCount};
     ghost use Rattle.rart_maps.specs.Iterations.{ByKey, NextGives, items_left};
+    ghost use Rattle.rart_versioned.specs.Hints.{IsHintOf};
 
     ghost next_gives = { NextGives (ByKey K.bytes) };
 
@@ -73,7 +48,11 @@ impl<'a, K: KeyTrait, P: Partial, V: Drop> Iterator for VersionedPrefixMatchIter
     }
 
     /// That nothing comes any more is known behind the end alone.
-    fn size_hint(&self) -> (usize, Option<usize>) {
+    fn size_hint(&self) -> (usize, Option<usize>)
+        ensures lower { IsWithinCount result.0 (items_left self.now) }
+        ensures upper { IfSome result.1 (UpTo (items_left self.now)) }
+        ensures hint { IsHintOf self.now result }
+    {
         match &self.way {
             None => (0, Some(0)),
             Some(_) => (0, None),
@@ -181,7 +160,7 @@ impl<K: KeyTrait, V: Clone + Drop> VersionedAdaptiveRadixTree<K, V> {
     }
 
     /// As `prefix_match_iter_k`, the probe by value. It isn't copied: to make the iterator takes no
-    /// memory.
+    /// memory, and so it succeeds.
     ///
     /// ```
     /// let stops = list.prefix_match_iter(VectorKey::new_from_slice(alloc, b"teapot")?)?;
@@ -190,13 +169,10 @@ impl<K: KeyTrait, V: Clone + Drop> VersionedAdaptiveRadixTree<K, V> {
         &self,
         probe: K,
     ) -> Result<VersionedPrefixMatchIter<'_, K, K::PartialType, V>, AllocError>
-        ensures { IfOk result (λ iter. iter ≡ Some (beginnings self.now.content (K.bytes probe))) }
+        ensures pairs { IfOk result (λ iter. iter
+            ≡ Some (beginnings self.now.content (K.bytes probe))) }
+        ensures succeeds { IsOk result }
     {
-        let at = self.root.as_ref();
-        Ok(VersionedPrefixMatchIter {
-            alloc: self.alloc,
-            probe,
-            way: Some(Way { at, depth: 0 }),
-        })
+        self.prefix_match_iter_counted(probe, &mut Work::new())
     }
 }

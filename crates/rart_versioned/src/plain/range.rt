@@ -1,6 +1,6 @@
 // Ported from rart 0.11.0 (Apache-2.0), and rewritten.
 //! The pairs of a tree within two bounds, in the order of their keys.
-ghost use Rattle.std.specs.Prelude.{◌≡◌, Some, IfOk, OnOk};
+ghost use Rattle.std.specs.Prelude.{◌≡◌, Some, IfOk, OnOk, IfSome};
 ghost use Rattle.std.specs.Ordering.{as_partial_cmp};
 ghost use Rattle.std.specs.Range.Bound.{is_up_to_end, bound_map};
 ghost use Rattle.rart_below.specs.Bytes.{byte_order};
@@ -9,42 +9,20 @@ ghost use Rattle.rart_versioned.specs.IteratorFields.{EntryGives, IsRangeWalk, u
 ghost use Rattle.rart_walks.specs.WalkFields.{position};
 
 use crate::counted::VersionedAdaptiveRadixTree;
-use crate::counted::walks::bytes_of;
-use rart_below::{KeyTrait, Partial};
+use crate::counted::range::VersionedRange;
+use rart_below::KeyTrait;
 use rart_node::Work;
 use rart_walks::{KeyTrail, Walk};
 use std::alloc::{AllocError, Global};
-use std::marker::Model;
 use std::ops::Bound;
-
-/// The pairs of a tree within two bounds, in the order of their keys.
-///
-/// Contracts see the pairs that are still to come, or `None` behind the end and behind a refusal.
-#[derive(Drop)]
-pub struct VersionedRange<'a, K: KeyTrait, V> {
-    alloc: Global,
-    walk: Option<Walk<'a, K::PartialType, V, KeyTrail>>,
-    high: Bound<K>,
-}
-
-impl<'a, K: KeyTrait, V> Model for VersionedRange<'a, K, V> {
-    ghost use Rattle.std.specs.Prelude.{List, ℕ, Option, IfSome};
-    ghost use Rattle.std.specs.Range.Bound.{bound_map};
-    ghost use Rattle.rart_versioned.specs.IteratorFields.{IsRangeWalk, within_left};
-
-    ghost Value = { Option (List (List ℕ × V)) };
-
-    ghost view = { λ range.
-        within_left K.PartialType.bytes (bound_map K.bytes range.high) range.walk };
-
-    ghost invariant = { λ range.
-        IfSome range.walk (IsRangeWalk K.PartialType.bytes K.MAXIMUM_SIZE) };
-}
 
 impl<'a, K: KeyTrait, V: Drop> Iterator for VersionedRange<'a, K, V> {
     type Item = Result<(K, &'a V), AllocError>;
 
+    ghost use Rattle.std.specs.Iterator.{UpTo};
+    ghost use Rattle.std.specs.Iterator.SizeHint.{IsWithinCount};
     ghost use Rattle.rart_maps.specs.Iterations.{ByKey, NextGives, items_left};
+    ghost use Rattle.rart_versioned.specs.Hints.{IsHintOf};
 
     ghost next_gives = { NextGives (ByKey K.bytes) };
 
@@ -68,7 +46,11 @@ impl<'a, K: KeyTrait, V: Drop> Iterator for VersionedRange<'a, K, V> {
     }
 
     /// That nothing comes any more is known behind the end alone.
-    fn size_hint(&self) -> (usize, Option<usize>) {
+    fn size_hint(&self) -> (usize, Option<usize>)
+        ensures lower { IsWithinCount result.0 (items_left self.now) }
+        ensures upper { IfSome result.1 (UpTo (items_left self.now)) }
+        ensures hint { IsHintOf self.now result }
+    {
         match &self.walk {
             None => (0, Some(0)),
             Some(_) => (0, None),
@@ -130,12 +112,6 @@ impl<K: KeyTrait, V: Clone + Drop> VersionedAdaptiveRadixTree<K, V> {
         ensures { IfOk result (λ iter. iter ≡ Some (within self.now.content
             (bound_map K.bytes range.0) (bound_map K.bytes range.1))) }
     {
-        let (low, high) = range;
-        let walk = self.walk_from(bytes_of(&low), &mut Work::new())?;
-        Ok(VersionedRange {
-            alloc: self.alloc,
-            walk: Some(walk),
-            high,
-        })
+        self.range_counted(range, &mut Work::new())
     }
 }

@@ -42,6 +42,21 @@ impl<K: KeyTrait, V: Clone + Drop> VersionedAdaptiveRadixTree<K, V> {
         self.remove_k_counted(key, &mut Work::new())
     }
 
+    /// As `remove_k`, the key by its bytes. rart has no such call.
+    ///
+    /// ```
+    /// let price = list.remove_slice(b"tea")?;
+    /// ```
+    pub fn remove_slice(&mut self, key: &[u8]) -> Result<Option<V>, AllocError>
+        requires clones { ClonesEqual V.is_clone }
+        requires room { HasRoom self.old 1 }
+        ensures changes { Changes result self.old self.new (removal self.old key.now) }
+        ensures sets { OnOk result (Sets self.old self.new key.now None) }
+        ensures present { OnErr result (IsTrue (has_key self.old key.now)) }
+    {
+        self.remove_slice_counted(key, &mut Work::new())
+    }
+
     /// As `delete_k`, with the key by value.
     pub fn delete(&mut self, key: K) -> Result<bool, AllocError>
         requires clones { ClonesEqual V.is_clone }

@@ -1,40 +1,21 @@
 // Ported from rart 0.11.0 (Apache-2.0), and rewritten.
 //! The values of a tree, in the order of their keys.
-ghost use Rattle.std.specs.Prelude.{◌≡◌, Some, map, IfOk};
+ghost use Rattle.std.specs.Prelude.{◌≡◌, Some, map, IfOk, IfSome};
 ghost use Rattle.rart_maps.specs.Pairs.{pairs};
 
 use crate::counted::VersionedAdaptiveRadixTree;
+use crate::counted::values::VersionedValuesIter;
 use rart_below::{KeyTrait, Partial};
 use rart_node::Work;
-use rart_walks::{NoTrail, Walk};
 use std::alloc::AllocError;
-use std::marker::Model;
-
-/// The values of a tree, in the order of their keys.
-///
-/// Contracts see the values that are still to come, or `None` behind the end and behind a refusal.
-#[derive(Drop)]
-pub struct VersionedValuesIter<'a, P: Partial, V> {
-    walk: Option<Walk<'a, P, V, NoTrail>>,
-}
-
-impl<'a, P: Partial, V> Model for VersionedValuesIter<'a, P, V> {
-    ghost use Rattle.std.specs.Prelude.{List, Option, IfSome, None};
-    ghost use Rattle.rart_walks.specs.WalkFields.{IsWalk};
-    ghost use Rattle.rart_walks.specs.Trails.{HoldsNothing};
-    ghost use Rattle.rart_versioned.specs.IteratorFields.{values_left};
-
-    ghost Value = { Option (List V) };
-
-    ghost view = { λ iter. values_left P.bytes iter.walk };
-
-    ghost invariant = { λ iter. IfSome iter.walk (IsWalk P.bytes HoldsNothing None) };
-}
 
 impl<'a, P: Partial, V: Drop> Iterator for VersionedValuesIter<'a, P, V> {
     type Item = Result<&'a V, AllocError>;
 
+    ghost use Rattle.std.specs.Iterator.{UpTo};
+    ghost use Rattle.std.specs.Iterator.SizeHint.{IsWithinCount};
     ghost use Rattle.rart_maps.specs.Iterations.{ByReference, NextGives, items_left};
+    ghost use Rattle.rart_versioned.specs.Hints.{IsHintOf};
 
     ghost next_gives = { NextGives ByReference };
 
@@ -58,7 +39,11 @@ impl<'a, P: Partial, V: Drop> Iterator for VersionedValuesIter<'a, P, V> {
     }
 
     /// That nothing comes any more is known behind the end alone.
-    fn size_hint(&self) -> (usize, Option<usize>) {
+    fn size_hint(&self) -> (usize, Option<usize>)
+        ensures lower { IsWithinCount result.0 (items_left self.now) }
+        ensures upper { IfSome result.1 (UpTo (items_left self.now)) }
+        ensures hint { IsHintOf self.now result }
+    {
         match &self.walk {
             None => (0, Some(0)),
             Some(_) => (0, None),
@@ -81,7 +66,6 @@ impl<K: KeyTrait, V: Clone + Drop> VersionedAdaptiveRadixTree<K, V> {
         ensures { IfOk result (λ iter. iter
             ≡ Some (map (λ pair. pair.1) (pairs self.now.content))) }
     {
-        let walk = self.whole_walk(&mut Work::new())?;
-        Ok(VersionedValuesIter { walk: Some(walk) })
+        self.values_iter_counted(&mut Work::new())
     }
 }

@@ -1,6 +1,7 @@
 use Rattle.std.proofs.lemmas.Bool.{true≢false}
 use Rattle.rart_maps.specs.Versions.{has_no_key}
-use Rattle.std.proofs.Common.{◌≡◌, ◌+◌, None, Some, true, sym, ap, subst, ◌∙◌, arith, rules}
+use Rattle.std.proofs.Common.{◌≡◌, ◌+◌, ◌<◌, None, Some, true, sym, ap, subst, ◌∙◌, arith, rules}
+use Rattle.std.specs.Prelude.{All}
 use Rattle.std.specs.Option.{option_map}
 use Rattle.rart_node.specs.NodeShapes.{pointer_shape}
 use Rattle.rart_versioned.specs.Roots.{IsSound, found_in}
@@ -16,8 +17,11 @@ invariant_of-self-in-None g c =
     let raised = c.requires.raised in
     sound-put g.K.KeyTrait.MAXIMUM_SIZE n (n + c.args.more) None
     (f c.in_ok-leaf-in-None.leaf) w c.args.value tt (omega (arith, raised)) (
-      g.met.K.KeyTrait.admitted c.args.key.now,
-      omega (arith, c.length_at-length.ensures, c.length_at-length.type_inv),
+      (
+        g.met.K.KeyTrait.admitted c.args.key.now,
+        omega (arith, c.length_at-length.ensures, c.length_at-length.type_inv),
+      ),
+      subst (All (λ b. b < 256)) c.as_ref.ensures c.read_bytes.ensures,
     )
     (subst (IsPutIn w c.args.value None) (sym c.in_ok-leaf-in-None.ensures.leaf)
     (leaf-put w c.args.value))
@@ -33,8 +37,11 @@ invariant_of-self-in-Some g c =
     c.self.invariant in
     sound-put g.K.KeyTrait.MAXIMUM_SIZE n (n + c.args.more) (Some (f c.in-Some.root))
     (f c.insert_below.new.at) w c.args.value sound (omega (arith, raised)) (
-      g.met.K.KeyTrait.admitted c.args.key.now,
-      omega (arith, c.length_at-length.ensures, c.length_at-length.type_inv),
+      (
+        g.met.K.KeyTrait.admitted c.args.key.now,
+        omega (arith, c.length_at-length.ensures, c.length_at-length.type_inv),
+      ),
+      subst (All (λ b. b < 256)) c.as_ref.ensures c.read_bytes.ensures,
     )
     (root-put w c.args.value (f c.in-Some.root)
     (f c.insert_below.new.at) c.in_ok-old-in-Some.ensures.puts.0)

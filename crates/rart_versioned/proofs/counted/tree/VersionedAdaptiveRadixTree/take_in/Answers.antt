@@ -17,7 +17,7 @@ use Rattle.rart_versioned.proofs.counted.tree.VersionedAdaptiveRadixTree.take_in
 
 pub returns-in_default-clause-changes : goal.returns-in_default-clause-changes
 returns-in_default-clause-changes g c =
-    let w = g.K.KeyTrait.bytes c.args.key.now in
+    let w = c.args.key.now in
     let none : value_at c.args.self.now w ≡ None =
     rw (← c.self.view_is, c.in_default.is) (get-found None w tt) in
     let absent = absent-changes c.args.self.now w c.args.more none in
@@ -39,12 +39,11 @@ remove_below-requires-clause-lengths g c =
 pub returns-in_err-removed-clause-present : goal.returns-in_err-removed-clause-present
 returns-in_err-removed-clause-present g c =
     let f = pointer_shape g.K.PartialType.Partial.bytes in
-    let w = g.K.KeyTrait.bytes c.args.key.now in
+    let w = c.args.key.now in
     let before = option_map f c.self.inside.root in
     let tree = tree-in g.K.KeyTrait.MAXIMUM_SIZE c.self.inside.version before c.self.invariant in
-    let value_is : found (f c.in-Some.root) c.as_ref.result.now ≡ value_at c.args.self.now w =
-    ap (found (f c.in-Some.root)) c.as_ref.ensures
-    ∙ ap (λ o. found_in (option_map f o) w) (sym c.in-Some.is) ∙ sym (get-found before w tree)
+    let value_is : found (f c.in-Some.root) w ≡ value_at c.args.self.now w =
+    ap (λ o. found_in (option_map f o) w) (sym c.in-Some.is) ∙ sym (get-found before w tree)
     ∙ ap (λ (v : Version g.row.V.Denot). value_at v w) c.self.view_is in
     on-any c.from_residual.result
     (sym (ap is_some value_is) ∙ c.in_err-removed.ensures.present)
@@ -53,24 +52,22 @@ pub returns-in_err-removed-clause-absent_makes_none :
     goal.returns-in_err-removed-clause-absent_makes_none
 returns-in_err-removed-clause-absent_makes_none g c none =
     let f = pointer_shape g.K.PartialType.Partial.bytes in
-    let w = g.K.KeyTrait.bytes c.args.key.now in
+    let w = c.args.key.now in
     let before = option_map f c.self.inside.root in
     let tree = tree-in g.K.KeyTrait.MAXIMUM_SIZE c.self.inside.version before c.self.invariant in
-    let value_is : found (f c.in-Some.root) c.as_ref.result.now ≡ value_at c.args.self.now w =
-    ap (found (f c.in-Some.root)) c.as_ref.ensures
-    ∙ ap (λ o. found_in (option_map f o) w) (sym c.in-Some.is) ∙ sym (get-found before w tree)
+    let value_is : found (f c.in-Some.root) w ≡ value_at c.args.self.now w =
+    ap (λ o. found_in (option_map f o) w) (sym c.in-Some.is) ∙ sym (get-found before w tree)
     ∙ ap (λ (v : Version g.row.V.Denot). value_at v w) c.self.view_is in
     c.remove_below.ensures.absent_makes_none (value_is ∙ none)
 
 pub returns-then-is_none-clause-changes : goal.returns-then-is_none-clause-changes
 returns-then-is_none-clause-changes g c =
     let f = pointer_shape g.K.PartialType.Partial.bytes in
-    let w = g.K.KeyTrait.bytes c.args.key.now in
+    let w = c.args.key.now in
     let before = option_map f c.self.inside.root in
     let tree = tree-in g.K.KeyTrait.MAXIMUM_SIZE c.self.inside.version before c.self.invariant in
-    let value_is : found (f c.in-Some.root) c.as_ref.result.now ≡ value_at c.args.self.now w =
-    ap (found (f c.in-Some.root)) c.as_ref.ensures
-    ∙ ap (λ o. found_in (option_map f o) w) (sym c.in-Some.is) ∙ sym (get-found before w tree)
+    let value_is : found (f c.in-Some.root) w ≡ value_at c.args.self.now w =
+    ap (λ o. found_in (option_map f o) w) (sym c.in-Some.is) ∙ sym (get-found before w tree)
     ∙ ap (λ (v : Version g.row.V.Denot). value_at v w) c.self.view_is in
     let gone = none-is c.in_ok-removed.removed.value c.if-is_none.ensures in
     let none = sym c.in_ok-removed.ensures.value ∙ gone in
@@ -88,28 +85,25 @@ returns-then-is_none-clause-changes g c =
 pub returns-then-is_none-clause-counted : goal.returns-then-is_none-clause-counted
 returns-then-is_none-clause-counted g c =
     let f = pointer_shape g.K.PartialType.Partial.bytes in
-    let w = g.K.KeyTrait.bytes c.args.key.now in
-    let most : path_bound (f c.in-Some.root) c.as_ref.result.now ≤ length w + 1 =
-    subst (λ (k : List ℕ). path_bound (f c.in-Some.root) c.as_ref.result.now ≤ length k + 1)
-    c.as_ref.ensures (path-most (f c.in-Some.root) c.as_ref.result.now) in
+    let w = c.args.key.now in
+    let most = path-most (f c.in-Some.root) w in
     counts-most c.remove_below.ensures.counted (omega (arith, most)) most
 
 pub returns-clause-absent_makes_none : goal.returns-clause-absent_makes_none
 returns-clause-absent_makes_none g c none =
     let f = pointer_shape g.K.PartialType.Partial.bytes in
-    let w = g.K.KeyTrait.bytes c.args.key.now in
+    let w = c.args.key.now in
     let before = option_map f c.self.inside.root in
     let tree = tree-in g.K.KeyTrait.MAXIMUM_SIZE c.self.inside.version before c.self.invariant in
-    let value_is : found (f c.in-Some.root) c.as_ref.result.now ≡ value_at c.args.self.now w =
-    ap (found (f c.in-Some.root)) c.as_ref.ensures
-    ∙ ap (λ o. found_in (option_map f o) w) (sym c.in-Some.is) ∙ sym (get-found before w tree)
+    let value_is : found (f c.in-Some.root) w ≡ value_at c.args.self.now w =
+    ap (λ o. found_in (option_map f o) w) (sym c.in-Some.is) ∙ sym (get-found before w tree)
     ∙ ap (λ (v : Version g.row.V.Denot). value_at v w) c.self.view_is in
     c.remove_below.ensures.absent_makes_none (value_is ∙ none)
 
 pub invariant_of-self-2 : goal.invariant_of-self-2
 invariant_of-self-2 g c =
     let f = pointer_shape g.K.PartialType.Partial.bytes in
-    let w = g.K.KeyTrait.bytes c.args.key.now in
+    let w = c.args.key.now in
     let before = option_map f c.self.inside.root in
     let tree = tree-in g.K.KeyTrait.MAXIMUM_SIZE c.self.inside.version before c.self.invariant in
     let after = option_map f c.if-removed.self-inside.root in
@@ -123,7 +117,6 @@ invariant_of-self-2 g c =
           ∙ ap (λ t. kept t (f c.remove_below.new.root)) (sym b.if-removed.false)
     ] in
     let at_root : IsTakenOr left w (f c.in-Some.root) (f c.remove_below.new.root) =
-    subst (λ k. IsTakenOr left k (f c.in-Some.root) (f c.remove_below.new.root)) c.as_ref.ensures
     c.in_ok-removed.ensures.taken in
     let taken : IsTakenIn w before after =
     subst (λ o. IsTakenIn w (option_map f o) after) (sym c.in-Some.is)
@@ -135,7 +128,7 @@ invariant_of-self-2 g c =
 pub returns-clause-changes : goal.returns-clause-changes
 returns-clause-changes g c =
     let f = pointer_shape g.K.PartialType.Partial.bytes in
-    let w = g.K.KeyTrait.bytes c.args.key.now in
+    let w = c.args.key.now in
     let before = option_map f c.self.inside.root in
     let tree = tree-in g.K.KeyTrait.MAXIMUM_SIZE c.self.inside.version before c.self.invariant in
     let after = option_map f c.if-removed.self-inside.root in
@@ -149,14 +142,13 @@ returns-clause-changes g c =
           ∙ ap (λ t. kept t (f c.remove_below.new.root)) (sym b.if-removed.false)
     ] in
     let at_root : IsTakenOr left w (f c.in-Some.root) (f c.remove_below.new.root) =
-    subst (λ k. IsTakenOr left k (f c.in-Some.root) (f c.remove_below.new.root)) c.as_ref.ensures
     c.in_ok-removed.ensures.taken in
     let taken : IsTakenIn w before after =
     subst (λ o. IsTakenIn w (option_map f o) after) (sym c.in-Some.is)
     (root-taken w (f c.in-Some.root)
     (f c.remove_below.new.root) left after at_root root_is) in
     let value_is =
-    c.in_ok-removed.ensures.value ∙ ap (found (f c.in-Some.root)) c.as_ref.ensures
+    c.in_ok-removed.ensures.value
     ∙ ap (λ o. found_in (option_map f o) w) (sym c.in-Some.is) ∙ sym (get-found before w tree)
     ∙ ap (λ (v : Version g.row.V.Denot). value_at v w) c.self.view_is in (
       value_is,
@@ -170,17 +162,13 @@ returns-clause-changes g c =
 pub returns-in_err-removed-clause-counted : goal.returns-in_err-removed-clause-counted
 returns-in_err-removed-clause-counted g c =
     let f = pointer_shape g.K.PartialType.Partial.bytes in
-    let w = g.K.KeyTrait.bytes c.args.key.now in
-    let most : path_bound (f c.in-Some.root) c.as_ref.result.now ≤ length w + 1 =
-    subst (λ (k : List ℕ). path_bound (f c.in-Some.root) c.as_ref.result.now ≤ length k + 1)
-    c.as_ref.ensures (path-most (f c.in-Some.root) c.as_ref.result.now) in
+    let w = c.args.key.now in
+    let most = path-most (f c.in-Some.root) w in
     counts-most c.remove_below.ensures.counted (omega (arith, most)) most
 
 pub returns-clause-counted : goal.returns-clause-counted
 returns-clause-counted g c =
     let f = pointer_shape g.K.PartialType.Partial.bytes in
-    let w = g.K.KeyTrait.bytes c.args.key.now in
-    let most : path_bound (f c.in-Some.root) c.as_ref.result.now ≤ length w + 1 =
-    subst (λ (k : List ℕ). path_bound (f c.in-Some.root) c.as_ref.result.now ≤ length k + 1)
-    c.as_ref.ensures (path-most (f c.in-Some.root) c.as_ref.result.now) in
+    let w = c.args.key.now in
+    let most = path-most (f c.in-Some.root) w in
     counts-most c.remove_below.ensures.counted (omega (arith, most)) most

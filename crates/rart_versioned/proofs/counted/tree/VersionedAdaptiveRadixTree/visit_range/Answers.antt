@@ -1,4 +1,4 @@
-use Rattle.std.proofs.Common.{ℕ, List, arith, sym, ap, subst, ◌∙◌}
+use Rattle.std.proofs.Common.{ℕ, List, length, rules, arith, sym, ap, subst, ◌∙◌}
 use Rattle.std.proofs.Math.Nat.{le_refl}
 use Rattle.std.specs.Range.Bound.{bound_map}
 use Rattle.rart_maps.specs.FoundLaws.{KeysAscend}
@@ -6,6 +6,7 @@ use Rattle.rart_maps.specs.Visits.{ByView, Visits, Visitable}
 use Rattle.rart_maps.proofs.RangeLemmas.{up_to, from-ascends, within-from}
 use Rattle.rart_maps.proofs.VisitLemmas.{up_to-start, visits-refused}
 use Rattle.rart_shape.proofs.CountingLemmas.{counts-most}
+use Rattle.rart_versioned.proofs.VisitLemmas.{OnOk-weaker}
 use Rattle.rart_versioned.proofs.counted.tree.VersionedAdaptiveRadixTree.visit_range.Goals as goal
 
 pub returns-in_err-walk : goal.returns-in_err-walk
@@ -15,6 +16,8 @@ returns-in_err-walk g c =
       visits = visits-refused g.F.FnMut ByView c.from_residual.result
           c.from_residual.ensures.0 (_, start);
       counted = counts-most c.walk_from.ensures.counted (omega arith) (le_refl 0);
+      entered = c.walk_from.ensures.entered;
+      each = let refused = c.from_residual.ensures.0 in search (rules, refused);
     }
 
 pub visit_views_up_to-requires-clause-ascend : goal.visit_views_up_to-requires-clause-ascend
@@ -58,4 +61,11 @@ returns g c =
         made_grows = omega (arith, way_kept, visit_kept);
         made_at_most = omega (arith, way_made, visit_made);
       };
+      entered = λ keyed. let first = c.in_ok-walk.ensures.entered keyed in
+          omega (arith, first, visit_grows);
+      each =
+          let hand = c.in_ok-walk.ensures.at_hand in
+          let long = ap length same in
+          OnOk-weaker c.visit_views_up_to.result (λ least. omega (arith, least, hand, long))
+          c.visit_views_up_to.ensures.least;
     }

@@ -9,7 +9,7 @@ use Rattle.rart_maps.specs.Pairs.{pairs}
 use Rattle.rart_node.specs.NodeShapes.{pointer_shape}
 use Rattle.rart_versioned.specs.IteratorFields.{AreAdmitted}
 use Rattle.rart_versioned.proofs.IterationLemmas.{content-admitted, no-pairs, root-sound, root-pairs, root-short}
-use Rattle.rart_versioned.proofs.VisitLemmas.{root-range}
+use Rattle.rart_versioned.proofs.VisitLemmas.{none-keyed, root-range}
 use Rattle.rart_versioned.proofs.counted.tree.VersionedAdaptiveRadixTree.walk_from.Goals as goal
 
 pub returns-in-None-clause-pairs : goal.returns-in-None-clause-pairs
@@ -66,3 +66,9 @@ returns-in-Some-clause-few g c =
     let within = root-range shape most c.self.inside.version c.self.inside.root c.args.self.now
     c.self.invariant c.self.view_is c.in-Some.root c.in-Some.is low in
     IfOk-weaker c.from.result _ _ (λ walk end high. within high _ end) c.from.ensures.places
+
+pub returns-in-None-clause-entered : goal.returns-in-None-clause-entered
+returns-in-None-clause-entered g c keyed =
+    absurd (none-keyed (pointer_shape g.K.PartialType.Partial.bytes) g.K.KeyTrait.MAXIMUM_SIZE
+    c.self.inside.version c.self.inside.root c.args.self.now c.self.invariant c.self.view_is
+    c.in-None.is keyed)

@@ -6,7 +6,7 @@ use Rattle.rart_below.specs.Bytes.{IsAdmitted, begins}
 use Rattle.rart_maps.specs.Pairs.{pairs}
 use Rattle.rart_node.specs.NodeShapes.{pointer_shape}
 use Rattle.rart_versioned.specs.IteratorFields.{AreAdmitted}
-use Rattle.rart_versioned.proofs.VisitLemmas.{root-reach, root-scan}
+use Rattle.rart_versioned.proofs.VisitLemmas.{none-keyed, root-reach, root-scan, root-under}
 use Rattle.rart_versioned.proofs.IterationLemmas.{content-admitted, no-pairs, root-sound, root-pairs, root-short}
 use Rattle.rart_versioned.proofs.counted.tree.VersionedAdaptiveRadixTree.walk_under.Goals as goal
 
@@ -69,3 +69,16 @@ returns-in-Some-clause-few g c =
     c.self.inside.root c.args.self.now c.self.invariant c.self.view_is
     c.in-Some.root c.in-Some.is c.args.prefix.now in
     IfOk-weaker c.under.result _ _ (λ walk most. within _ most) c.under.ensures.nodes
+
+pub returns-in-None-clause-entered : goal.returns-in-None-clause-entered
+returns-in-None-clause-entered g c keyed =
+    absurd (none-keyed (pointer_shape g.K.PartialType.Partial.bytes) g.K.KeyTrait.MAXIMUM_SIZE
+    c.self.inside.version c.self.inside.root c.args.self.now c.self.invariant c.self.view_is
+    c.in-None.is keyed)
+
+pub returns-in-Some-clause-few_up_to : goal.returns-in-Some-clause-few_up_to
+returns-in-Some-clause-few_up_to g c =
+    let within = root-under (pointer_shape g.K.PartialType.Partial.bytes) g.K.KeyTrait.MAXIMUM_SIZE
+    c.self.inside.version c.self.inside.root c.args.self.now c.self.invariant c.self.view_is
+    c.in-Some.root c.in-Some.is c.args.prefix.now in
+    IfOk-weaker c.under.result _ _ (λ walk end high. within high _ end) c.under.ensures.places

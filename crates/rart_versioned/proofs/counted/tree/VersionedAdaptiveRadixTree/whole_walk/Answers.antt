@@ -3,7 +3,7 @@ use Rattle.std.proofs.lemmas.Result.{IfOk-weaker}
 use Rattle.rart_node.specs.NodeShapes.{pointer_shape}
 use Rattle.rart_versioned.specs.IteratorFields.{AreAdmitted}
 use Rattle.rart_versioned.proofs.IterationLemmas.{content-admitted, no-pairs, root-sound, root-pairs, root-short}
-use Rattle.rart_versioned.proofs.VisitLemmas.{none-walk, root-walk, some-node}
+use Rattle.rart_versioned.proofs.VisitLemmas.{none-keyed, none-walk, root-walk, some-node}
 use Rattle.rart_versioned.proofs.counted.tree.VersionedAdaptiveRadixTree.whole_walk.Goals as goal
 
 pub returns-in-None-clause-pairs : goal.returns-in-None-clause-pairs
@@ -77,3 +77,9 @@ returns-in-Some-clause-counted g c =
       made_grows = omega (arith, made);
       made_at_most = omega (arith, made);
     }
+
+pub returns-in-None-clause-entered : goal.returns-in-None-clause-entered
+returns-in-None-clause-entered g c keyed =
+    absurd (none-keyed (pointer_shape g.K.PartialType.Partial.bytes) g.K.KeyTrait.MAXIMUM_SIZE
+    c.self.inside.version c.self.inside.root c.args.self.now c.self.invariant c.self.view_is
+    c.in-None.is keyed)

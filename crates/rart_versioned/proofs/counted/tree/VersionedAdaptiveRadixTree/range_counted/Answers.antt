@@ -4,7 +4,7 @@ use Rattle.rart_maps.specs.FoundLaws.{KeysAscend}
 use Rattle.rart_maps.specs.Pairs.{pairs}
 use Rattle.rart_maps.proofs.RangeLemmas.{from, from-ascends, within-from}
 use Rattle.rart_versioned.specs.IteratorFields.{up_to}
-use Rattle.rart_versioned.proofs.counted.tree.VersionedAdaptiveRadixTree.range.Goals as goal
+use Rattle.rart_versioned.proofs.counted.tree.VersionedAdaptiveRadixTree.range_counted.Goals as goal
 
 pub invariant_of-result : goal.invariant_of-result
 invariant_of-result g c =
@@ -18,8 +18,8 @@ invariant_of-result g c =
           (sym c.in_ok-walk.ensures.pairs) (from-ascends c.args.self.now.content low);
     }
 
-pub returns : goal.returns
-returns g c =
+pub returns-clause-pairs : goal.returns-clause-pairs
+returns-clause-pairs g c =
     let bytes = g.K.KeyTrait.bytes in
     let low = bound_map bytes c.args.range.0 in
     let high = bound_map bytes c.args.range.1 in

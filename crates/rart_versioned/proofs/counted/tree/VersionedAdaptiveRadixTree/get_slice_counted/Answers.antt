@@ -8,12 +8,12 @@ use Rattle.rart_maps.specs.Versions.{has_no_key}
 use Rattle.rart_shape.proofs.CountingLemmas.{counts-most, path-most}
 use Rattle.rart_versioned.proofs.MapLemmas.{get-found}
 use Rattle.rart_versioned.proofs.SoundLemmas.{value-in, no-key}
-use Rattle.rart_versioned.proofs.counted.tree.VersionedAdaptiveRadixTree.get_k_counted.Goals as goal
+use Rattle.rart_versioned.proofs.counted.tree.VersionedAdaptiveRadixTree.get_slice_counted.Goals as goal
 
 pub returns-in-None-clause-value : goal.returns-in-None-clause-value
 returns-in-None-clause-value g c =
     rw (← c.self.view_is, c.in-None.is)
-    (sym (get-found None (g.K.KeyTrait.bytes c.args.key.now) tt))
+    (sym (get-found None c.args.key.now tt))
 
 pub returns-in-None-clause-entered : goal.returns-in-None-clause-entered
 returns-in-None-clause-entered g c keyed =
@@ -24,17 +24,13 @@ returns-in-None-clause-entered g c keyed =
 pub returns-in-Some-clause-value : goal.returns-in-Some-clause-value
 returns-in-Some-clause-value g c =
     let f = pointer_shape g.K.PartialType.Partial.bytes in
-    let w = g.K.KeyTrait.bytes c.args.key.now in
+    let w = c.args.key.now in
     let o = option_map f c.self.inside.root in
     rw (← c.self.view_is) (c.get_below.ensures.value
-    ∙ ap (found (f c.in-Some.root)) c.as_ref.ensures
     ∙ sym (value-in g.K.KeyTrait.MAXIMUM_SIZE c.self.inside.version o c.self.inside.version w
     c.self.invariant ∙ ap (λ z. found_in (option_map f z) w) c.in-Some.is))
 
 pub returns-in-Some-clause-counted : goal.returns-in-Some-clause-counted
 returns-in-Some-clause-counted g c =
     let s = pointer_shape g.K.PartialType.Partial.bytes c.in-Some.root in
-    let most : path_bound s c.as_ref.result.now ≤ length (g.K.KeyTrait.bytes c.args.key.now) + 1 =
-    subst (λ (k : List ℕ). path_bound s c.as_ref.result.now ≤ length k + 1) c.as_ref.ensures
-    (path-most s c.as_ref.result.now) in
-    counts-most c.get_below.ensures.counted most (omega arith)
+    counts-most c.get_below.ensures.counted (path-most s c.args.key.now) (omega arith)

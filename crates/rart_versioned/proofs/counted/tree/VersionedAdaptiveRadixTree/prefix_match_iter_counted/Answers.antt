@@ -7,7 +7,7 @@ use Rattle.rart_node.specs.NodeShapes.{pointer_shape}
 use Rattle.rart_versioned.specs.IteratorFields.{matches_below}
 use Rattle.rart_versioned.proofs.IterationLemmas.{content-pairs}
 use Rattle.rart_versioned.proofs.ProbeLemmas.{matches-all}
-use Rattle.rart_versioned.proofs.counted.tree.VersionedAdaptiveRadixTree.prefix_match_iter.Goals as goal
+use Rattle.rart_versioned.proofs.counted.tree.VersionedAdaptiveRadixTree.prefix_match_iter_counted.Goals as goal
 
 -- what is seen through a reference, if there is one
 seen-through : {A B : Type 0} (f : A → B) (o : Option (Bor A)) →
@@ -15,8 +15,8 @@ seen-through : {A B : Type 0} (f : A → B) (o : Option (Bor A)) →
 seen-through f None = refl
 seen-through f (Some at) = refl
 
-pub returns : goal.returns
-returns g c =
+pub returns-clause-pairs : goal.returns-clause-pairs
+returns-clause-pairs g c =
     let shape = pointer_shape g.K.PartialType.Partial.bytes in
     let probe = g.K.KeyTrait.bytes c.args.probe in
     let test = λ (pair : List ℕ × g.row.V.Denot). begins pair.0 probe in

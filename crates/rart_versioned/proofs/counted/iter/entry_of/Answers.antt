@@ -4,10 +4,10 @@ use Rattle.std.specs.Option.{option_copied}
 use Rattle.rart_node.specs.NodeShapes.{node_shape, pointer_shape}
 use Rattle.rart_node.specs.Shape.{Shape, prefix_of, value_of, children_of, width_of}
 use Rattle.rart_versioned.proofs.IterationLemmas.{lone-pair}
-use Rattle.rart_versioned.proofs.plain.iter.entry_of.Goals as goal
+use Rattle.rart_versioned.proofs.counted.iter.entry_of.Goals as goal
 
-pub returns : goal.returns
-returns g c =
+pub returns-clause-pair : goal.returns-clause-pair
+returns-clause-pair g c =
     let s = pointer_shape g.P.Partial.bytes c.args.root.now in
     let opened = node_shape g.P.Partial.bytes c.open-node.result.now in
     let same = c.open-node.ensures.shown in

@@ -1,0 +1,124 @@
+// Ported from rart 0.11.0 (Apache-2.0), and rewritten.
+//! The pairs of a tree, in the order of their keys: all of them, or those under a prefix. What
+//! their iterator is, and how it is made.
+ghost use Rattle.std.specs.Prelude.{◌≡◌, ◌+◌, ◌<◌, [], ◌∷◌, Some, false, IfSome, IfOk, length};
+ghost use Rattle.rart_maps.specs.Pairs.{pairs, under};
+ghost use Rattle.rart_maps.specs.Versions.{has_no_key};
+ghost use Rattle.rart_node.specs.Counts.{CountsUpTo};
+ghost use Rattle.rart_node.specs.NodeShapes.{pointer_shape};
+ghost use Rattle.rart_shape.specs.Trees.{pairs_of};
+ghost use Rattle.rart_versioned.specs.Entries.{HasKeys, pairs_to_come};
+
+use crate::counted::tree::VersionedAdaptiveRadixTree;
+use rart_below::{KeyTrait, Partial};
+use rart_node::{NodeRef, Work};
+use rart_walks::{KeyTrail, Walk};
+use std::alloc::{AllocError, Global};
+use std::marker::{Model, PhantomData};
+
+/// The pairs that are still to come.
+#[derive(Drop)]
+pub(crate) enum Entries<'a, P: Partial, V> {
+    /// None: of a tree without a key, or behind the one.
+    Empty,
+    /// One: of a root without children.
+    Entry(&'a [u8], &'a V),
+    /// That of the node where the walk starts, if it has a value, and then those of its children.
+    Walk(Walk<'a, P, V, KeyTrail>),
+}
+
+/// The pairs of a tree, or of a part of it, in the order of their keys.
+///
+/// Contracts see the pairs that are still to come, or `None` behind the end and behind a refusal.
+#[derive(Drop)]
+pub struct VersionedIter<'a, K: KeyTrait, P: Partial, V> {
+    pub(crate) alloc: Global,
+    pub(crate) entries: Option<Entries<'a, P, V>>,
+    key: PhantomData<K>,
+}
+
+impl<'a, K: KeyTrait, P: Partial, V> Model for VersionedIter<'a, K, P, V> {
+    ghost use Rattle.std.specs.Prelude.{List, ℕ, Option, IfSome};
+    ghost use Rattle.rart_versioned.specs.Entries.{HasKeys, entries_left};
+
+    ghost Value = { Option (List (List ℕ × V)) };
+
+    ghost view = { λ iter. entries_left P.bytes iter.entries };
+
+    ghost invariant = { λ iter. IfSome iter.entries (HasKeys P.bytes K.MAXIMUM_SIZE) };
+}
+
+/// The pair of a root without children. It enters the root.
+fn entry_of<'a, P: Partial, V: Drop>(
+    root: &'a NodeRef<P, V>,
+    work: &mut Work,
+) -> Option<(&'a [u8], &'a V)>
+    ensures pair { IfSome result (λ entry. pairs_of (pointer_shape P.bytes root.now)
+        ≡ (entry.0.now, entry.1.now) ∷ []) }
+    ensures work { work.new ≡ record work.old { entered = work.old.entered + 1 } }
+{
+    let node = root.open(work);
+    if !node.is_leaf() {
+        return None;
+    }
+    let value = node.value()?;
+    Some((node.prefix().as_ref(), value))
+}
+
+impl<K: KeyTrait, V: Clone + Drop> VersionedAdaptiveRadixTree<K, V> {
+    /// As `iter`, with the nodes entered for its start counted into `work`: the root once or twice,
+    /// where there is one.
+    pub(crate) fn iter_counted(
+        &self,
+        work: &mut Work,
+    ) -> Result<VersionedIter<'_, K, K::PartialType, V>, AllocError>
+        ensures pairs { IfOk result (λ iter. iter ≡ Some (pairs self.now.content)) }
+        ensures counted { CountsUpTo 2 0 work.old work.new }
+        ensures entered { has_no_key self.now ≡ false → work.old.entered < work.new.entered }
+    {
+        let entries = self.entries(work)?;
+        Ok(VersionedIter {
+            alloc: self.alloc,
+            entries: Some(entries),
+            key: PhantomData,
+        })
+    }
+
+    /// All pairs.
+    fn entries(&self, work: &mut Work) -> Result<Entries<'_, K::PartialType, V>, AllocError>
+        ensures keys { IfOk result (HasKeys K.PartialType.bytes K.MAXIMUM_SIZE) }
+        ensures pairs { IfOk result (λ entries. pairs_to_come K.PartialType.bytes entries
+            ≡ pairs self.now.content) }
+        ensures counted { CountsUpTo 2 0 work.old work.new }
+        ensures entered { has_no_key self.now ≡ false → work.old.entered < work.new.entered }
+    {
+        let Some(root) = &self.root else {
+            return Ok(Entries::Empty);
+        };
+        if let Some((bytes, value)) = entry_of(root, work) {
+            return Ok(Entries::Entry(bytes, value));
+        }
+        let walk = self.whole_walk(work)?;
+        Ok(Entries::Walk(walk))
+    }
+
+    /// As `prefix_iter_k`, with the nodes entered for its start counted into `work`: at most one
+    /// more than the prefix has bytes, and at least one where there is a key in the map.
+    pub(crate) fn prefix_iter_k_counted(
+        &self,
+        prefix: &K,
+        work: &mut Work,
+    ) -> Result<VersionedIter<'_, K, K::PartialType, V>, AllocError>
+        ensures pairs { IfOk result (λ iter. iter
+            ≡ Some (under self.now.content (K.bytes prefix.now))) }
+        ensures counted { CountsUpTo (length (K.bytes prefix.now) + 1) 0 work.old work.new }
+        ensures entered { has_no_key self.now ≡ false → work.old.entered < work.new.entered }
+    {
+        let walk = self.walk_under(prefix.as_ref(), work)?;
+        Ok(VersionedIter {
+            alloc: self.alloc,
+            entries: Some(Entries::Walk(walk)),
+            key: PhantomData,
+        })
+    }
+}

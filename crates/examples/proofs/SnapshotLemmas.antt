@@ -1,5 +1,5 @@
--- What the commands of `snapshots` are replied, and how many replies there are.
-use Rattle.std.proofs.Common.{◌≡◌, ◌≢◌, ℕ, suc, List, [], ◌∷◌, length, refl, ap, ◌∙◌, subst, ⊎_elim, cond, arith}
+-- What the commands of `snapshots` are replied.
+use Rattle.std.proofs.Common.{◌≡◌, ◌≢◌, ℕ, List, [], ◌∷◌, ap, ◌∙◌, subst, cond, arith}
 use Rattle.std.specs.Prelude.{Some, slice_get, All}
 use Rattle.std.specs.FinMap as finite
 use Rattle.std.specs.Ordering.{is_eq}
@@ -11,21 +11,10 @@ use Rattle.rart_family.specs.declared.family.command.Command.{Command}
 use Rattle.rart_family.specs.declared.family.command.Command.TheVariants.{New, Snapshot, Insert, Get}
 use Rattle.rart_family.specs.Replies.{Reply, Value, NoMemory}
 use Rattle.rart_family.specs.Families.{Family, reply_to, after}
-use Rattle.rart_family.specs.Runs.{Step, Run}
+use Rattle.rart_family.specs.Runs.{Run}
+use Rattle.rart_family.proofs.LawLemmas.{own_replies}
 
 module _ {K V : Type 0} (bytes : K → List ℕ) where
-  -- A run has one reply a command.
-  pub one_each : (old new : Family V) (cs : List (Command K V)) (rs : List (Reply V))
-      → Run bytes old cs rs new → length rs ≡ length cs
-  one_each old new [] [] run = refl
-  one_each old new (c ∷ cs) (r ∷ rs) run = ap suc (one_each run.0 new cs rs run.2)
-  one_each old new [] (r ∷ rs) run = absurd run
-  one_each old new (c ∷ cs) [] run = absurd run
-
-  own : (f new : Family V) (c : Command K V) (r : Reply V) → Step bytes f c r new → r ≢ NoMemory
-      → (r ≡ reply_to bytes f c) × (new ≡ after bytes f c)
-  own f new c r step told = ⊎_elim (λ own. own) (λ want. absurd (told want.0)) step
-
   abbrev pub commands : K → K → K → V → V → List (Command K V)
   commands a b d first second =
       New ∷ Insert 0 a first ∷ Snapshot 0 ∷ Insert 0 b second ∷ Get 1 d ∷ []
@@ -48,6 +37,7 @@ module _ {K V : Type 0} (bytes : K → List ℕ) where
         → Run bytes [] (commands a b d first second) rs new → All (λ r. r ≢ NoMemory) rs
         → slice_get rs 4 ≡ Some (Value (Some first))
     snapshot_replies (r0 ∷ r1 ∷ r2 ∷ r3 ∷ r4 ∷ []) new run told =
+        let own = own_replies K V bytes in
         let own0 = own [] run.0 New r0 run.1 (told 0 r0 (omega arith)) in
         let own1 = own run.0 run.2.0 (Insert 0 a first) r1 run.2.1 (told 1 r0 (omega arith)) in
         let own2 = own run.2.0 run.2.2.0 (Snapshot 0) r2 run.2.2.1 (told 2 r0 (omega arith)) in

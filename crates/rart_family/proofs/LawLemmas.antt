@@ -5,10 +5,10 @@ use Rattle.std.specs.Prelude.{Option, Some, None, slice_get, slice_set}
 use Rattle.rart_maps.specs.Versions.{Version, with_rise}
 use Rattle.rart_family.specs.declared.family.command.Command.{Command}
 use Rattle.rart_family.specs.declared.family.command.Command.TheVariants.{New, NewAt, Snapshot, Duplicate, Discard, Version as NumberOf, IsEmpty, Get, GetMut, Insert, Replace, Remove, Delete, Update, TryUpdate, Iter, Values as ValuesOf, Range, Prefix, Matches, MatchesEach, Views, PrefixViews, RangeViews, PrefixValues, Until, Intersect, IntersectViews, IntersectValues, IntersectCount, Flatten, Longest}
-use Rattle.rart_family.specs.Replies.{Reply, NoRoom}
+use Rattle.rart_family.specs.Replies.{Reply, NoRoom, NoMemory}
 use Rattle.rart_family.specs.Families.{Family, Outcome, call_outcome, placement, meet_outcome, change_outcome, version_at, after}
 use Rattle.rart_family.specs.Runs.{Step, Run}
-use Rattle.rart_family.specs.Laws.{place_changed, StepsAreIsolated, PlacesStay, RepliesFixSteps, RepliesFixRuns, NoReplyIsWant}
+use Rattle.rart_family.specs.Laws.{place_changed, StepsAreIsolated, PlacesStay, RepliesFixSteps, RepliesFixRuns, StepsReplyTheirOwn, RunsReplyToEach, NoReplyIsWant}
 use Rattle.rart_family.proofs.RunLemmas.{is_no_memory, reply_is_no_want, step_next}
 
 get-push : {A : Type 0} (xs : List A) (x : A) (p : ℕ) → p < length xs
@@ -156,6 +156,15 @@ module _ (K V : Type 0) (bytes : K → List ℕ) where
       (steps_fixed old again.0 run.0 c r again.1 run.1) again.2)
   runs_fixed old new other [] (r ∷ rs) run again = absurd run
   runs_fixed old new other (c ∷ cs) [] run again = absurd run
+
+  pub own_replies : StepsReplyTheirOwn K V bytes
+  own_replies old new c r step other = ⊎_elim (λ own. own) (λ want. absurd (other want.0)) step
+
+  pub one_each : RunsReplyToEach K V bytes
+  one_each old new [] [] run = refl
+  one_each old new (c ∷ cs) (r ∷ rs) run = ap suc (one_each run.0 new cs rs run.2)
+  one_each old new [] (r ∷ rs) run = absurd run
+  one_each old new (c ∷ cs) [] run = absurd run
 
   pub no_want : NoReplyIsWant K V bytes
   no_want f c is_want = let h = sym (reply_is_no_want bytes f c) ∙ ap is_no_memory is_want in cc

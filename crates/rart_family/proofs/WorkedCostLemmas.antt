@@ -10,7 +10,7 @@ use Rattle.rart_maps.proofs.PairLawLemmas.{shared_is_empty}
 use Rattle.rart_family.proofs.WorkedRunLemmas.{abc_alone, abc-left}
 use Rattle.rart_maps.proofs.MapLemmas.{maps, sets}
 use Rattle.rart_family.specs.Families.{Family}
-use Rattle.rart_family.specs.WorkedCosts.{RefusedMemoryIsARun, SnapshotCosts, ChangesApartCost, CloneCosts, ReplacementsCost, AbsentRemovalCosts, DeletionCosts, FailedUpdateCosts, DiscardedPlaceCosts, WrittenAndInsertedCosts, RoomForOneCosts, RoomForTwoCosts, InsertionByUpdateCosts, WrittenAndRemovedCosts, RefusedMemoryCosts, NumbersOfRemovalsCost, UpdatesOfAnAbsentKeyCost, ListsCost, VisitsCost, FlatteningCosts, IntersectionsCost, IntersectionAfterDeletionCosts, EmptyIntersectionsCost, BeginningsCost, LostPlacesCost, LongestMatchesCost}
+use Rattle.rart_family.specs.WorkedCosts.{RefusedMemoryIsARun, SnapshotCosts, ChangesApartCost, CloneCosts, ReplacementsCost, AbsentRemovalCosts, DeletionCosts, FailedUpdateCosts, DiscardedPlaceCosts, WrittenAndInsertedCosts, RoomForOneCosts, RoomForTwoCosts, InsertionByUpdateCosts, WrittenAndRemovedCosts, RefusedMemoryCosts, NumbersOfRemovalsCost, UpdatesOfAnAbsentKeyCost, ListsCost, VisitsCost, FlatteningCosts, IntersectionsCost, IntersectionAfterDeletionCosts, EmptyIntersectionsCost, BeginningsCost, LostPlacesCost, LongestMatchesCost, SecondValueCosts, AbsentDeletionCosts, DiscardingCosts, GreatestNumberCosts, GreatestNumberWithAKeyCosts, SettingsCost, RemovalsCost, LastSnapshotCosts, VacantSlotCosts, PrefixCosts, MatchesCost, BoundsCost, OneKeyCosts, RefusalsCost}
 
 pub snapshot_costs : SnapshotCosts
 snapshot_costs = simp gets refl
@@ -179,3 +179,45 @@ lost_places_cost = simp (gets, one-meets_five, five-meets_five) refl
 
 pub longest_matches_cost : LongestMatchesCost
 longest_matches_cost = simp gets refl
+
+pub second_value_costs : SecondValueCosts
+second_value_costs = simp gets refl
+
+pub absent_deletion_costs : AbsentDeletionCosts
+absent_deletion_costs = simp gets refl
+
+pub discarding_costs : DiscardingCosts
+discarding_costs = refl
+
+pub greatest_number_costs : GreatestNumberCosts
+greatest_number_costs = refl
+
+pub greatest_number_with_a_key_costs : GreatestNumberWithAKeyCosts
+greatest_number_with_a_key_costs = simp gets refl
+
+pub settings_cost : SettingsCost
+settings_cost = simp gets refl
+
+pub removals_cost : RemovalsCost
+removals_cost = simp gets refl
+
+pub last_snapshot_costs : LastSnapshotCosts
+last_snapshot_costs = refl
+
+pub vacant_slot_costs : VacantSlotCosts
+vacant_slot_costs = simp gets refl
+
+pub prefix_costs : PrefixCosts
+prefix_costs = simp gets refl
+
+pub matches_cost : MatchesCost
+matches_cost = simp gets refl
+
+pub bounds_cost : BoundsCost
+bounds_cost = simp gets refl
+
+pub one_key_costs : OneKeyCosts
+one_key_costs = simp gets refl
+
+pub refusals_cost : RefusalsCost
+refusals_cost = refl

@@ -3,7 +3,7 @@ use Rattle.std.proofs.Common.{◌≡◌, ℕ, true, false, cond, refl, sym, ap, 
 use Rattle.std.specs.Prelude.{Some, None, codes}
 use Rattle.std.specs.FinMap as finite
 use Rattle.std.specs.FinMap.{gets}
-use Rattle.rart_family.specs.WorkedRuns.{SnapshotKeepsItsValue, ChangesStayApart, CloneKeepsNumber, ReplacementGivesOldValue, AbsentKeyStaysAbsent, DeletionIsNotSeenInSnapshot, FailedUpdateKeepsValue, DiscardedPlaceIsNotUsedAgain, AnswerOutweighsWrite, RoomIsAsked, RoomTwoIsAsked, InsertionByUpdateTakesOne, RemovalOutweighsWrite, RemovalsRaiseNumber, UpdatesOfAnAbsentKey, ListsAreOfOneVersion, VisitsAreCountedFromOne, FlatteningLeavesItsVersion, IntersectionHasKeysOfBoth, DeletedKeyIsInNoIntersection, EmptyVersionMeetsNothing, BeginningIsNoKeyOfBoth, IntersectionNeedsBothVersions, LongestMatchIsAlone}
+use Rattle.rart_family.specs.WorkedRuns.{SnapshotKeepsItsValue, ChangesStayApart, CloneKeepsNumber, ReplacementGivesOldValue, AbsentKeyStaysAbsent, DeletionIsNotSeenInSnapshot, FailedUpdateKeepsValue, DiscardedPlaceIsNotUsedAgain, AnswerOutweighsWrite, RoomIsAsked, RoomTwoIsAsked, InsertionByUpdateTakesOne, RemovalOutweighsWrite, RemovalsRaiseNumber, UpdatesOfAnAbsentKey, ListsAreOfOneVersion, VisitsAreCountedFromOne, FlatteningLeavesItsVersion, IntersectionHasKeysOfBoth, DeletedKeyIsInNoIntersection, EmptyVersionMeetsNothing, BeginningIsNoKeyOfBoth, IntersectionNeedsBothVersions, LongestMatchIsAlone, SecondValueStays, AbsentKeyIsNotDeleted, PlacesAreDiscardedOnce, GreatestNumberHasNoRoom, GreatestNumberKeepsItsKeys, SettingsTakeTheLastRoom, RemovalsTakeTheLastRoom, SnapshotTakesTheLastRoom, VacantSlotTakesNoWrite, PrefixIsAmongItsKeys, ProbeIsAmongItsMatches, BoundsAreIncludedOrNot, OneKeyIsListed, RefusalsComeInOrder, VacantSlotKeepsItsValue}
 use Rattle.std.specs.Cmp.{IsTotalOrder, Equal-is}
 use Rattle.std.specs.Cmp.Lexicographic.{nat_list_cmp_total}
 use Rattle.std.specs.Ordering.{eq_by_cmp}
@@ -107,3 +107,49 @@ intersection_needs_both_versions = simp maps refl
 
 pub longest_match_is_alone : LongestMatchIsAlone
 longest_match_is_alone = simp maps refl
+
+pub second_value_stays : SecondValueStays
+second_value_stays = simp gets refl
+
+pub absent_key_is_not_deleted : AbsentKeyIsNotDeleted
+absent_key_is_not_deleted = simp gets refl
+
+pub places_are_discarded_once : PlacesAreDiscardedOnce
+places_are_discarded_once = simp gets refl
+
+pub greatest_number_has_no_room : GreatestNumberHasNoRoom
+greatest_number_has_no_room = refl
+
+pub greatest_number_keeps_its_keys : GreatestNumberKeepsItsKeys
+greatest_number_keeps_its_keys = simp gets refl
+
+pub settings_take_the_last_room : SettingsTakeTheLastRoom
+settings_take_the_last_room = simp gets refl
+
+pub removals_take_the_last_room : RemovalsTakeTheLastRoom
+removals_take_the_last_room = simp gets refl
+
+pub snapshot_takes_the_last_room : SnapshotTakesTheLastRoom
+snapshot_takes_the_last_room = refl
+
+pub vacant_slot_takes_no_write : VacantSlotTakesNoWrite
+vacant_slot_takes_no_write = simp gets refl
+
+pub prefix_is_among_its_keys : PrefixIsAmongItsKeys
+prefix_is_among_its_keys = simp maps refl
+
+pub probe_is_among_its_matches : ProbeIsAmongItsMatches
+probe_is_among_its_matches = simp maps refl
+
+pub bounds_are_included_or_not : BoundsAreIncludedOrNot
+bounds_are_included_or_not = simp maps refl
+
+pub one_key_is_listed : OneKeyIsListed
+one_key_is_listed = simp maps refl
+
+pub refusals_come_in_order : RefusalsComeInOrder
+refusals_come_in_order = refl
+
+pub vacant_slot_keeps_its_value : VacantSlotKeepsItsValue
+vacant_slot_keeps_its_value =
+    (simp gets refl, simp gets refl, simp gets refl, simp gets refl)

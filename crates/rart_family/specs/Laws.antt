@@ -5,8 +5,9 @@ use Rattle.rart_family.specs.declared.family.command.Command.{Command}
 use Rattle.rart_family.specs.declared.family.command.Command.TheVariants.{Discard, Version as NumberOf, IsEmpty, Get, GetMut, Insert, Replace, Remove, Delete, Update, TryUpdate, Iter, Values as ValuesOf, Range, Prefix, Matches, MatchesEach, Views, PrefixViews, RangeViews, PrefixValues, Until, Intersect, IntersectViews, IntersectValues, IntersectCount, Flatten, Longest}
 use Rattle.rart_maps.specs.Versions.{has_key}
 use Rattle.rart_family.specs.Replies.{Reply, Pairs, ValuePairs, NoVersion, NoRoom, NoMemory}
-use Rattle.rart_family.specs.Families.{Family, version_at, reply_to}
+use Rattle.rart_family.specs.Families.{Family, version_at, reply_to, after}
 use Rattle.rart_family.specs.Runs.{Step, Run}
+use Rattle.rart_family.specs.Updates.{Inserts}
 
 -- the one place, of those that are there, whose version a command may change
 abbrev pub place_changed : {K V : Type 0} → Command K V → Option ℕ
@@ -73,6 +74,19 @@ module _ (K V : Type 0) (bytes : K → List ℕ) where
   RepliesFixRuns = (old new other : Family V) (cs : List (Command K V)) (rs : List (Reply V))
       → Run bytes old cs rs new → Run bytes old cs rs other → new ≡ other
 
+  -- Where it is not want of memory, a step's reply is the command's own, and so is what it leaves.
+  abbrev pub StepsReplyTheirOwn : Type 0
+  StepsReplyTheirOwn =
+      (old new : Family V) (c : Command K V) (r : Reply V)
+      → Step bytes old c r new → r ≢ NoMemory
+      → (r ≡ reply_to bytes old c) × (new ≡ after bytes old c)
+
+  -- A run has one reply a command.
+  abbrev pub RunsReplyToEach : Type 0
+  RunsReplyToEach =
+      (old new : Family V) (cs : List (Command K V)) (rs : List (Reply V))
+      → Run bytes old cs rs new → length rs ≡ length cs
+
   -- Want of memory is no command's own reply.
   abbrev pub NoReplyIsWant : Type 0
   NoReplyIsWant = (f : Family V) (c : Command K V) → reply_to bytes f c ≢ NoMemory
@@ -81,8 +95,8 @@ module _ (K V : Type 0) (bytes : K → List ℕ) where
   abbrev pub LacksKey : Family V → ℕ → K → Type 0
   LacksKey f place key = IfSome (version_at f place) (λ v. has_key v (bytes key) ≡ false)
 
-  -- The command takes no memory: it looks at a version as a whole, drops it, or looks up or takes
-  -- out a key that the version lacks.
+  -- The command takes no memory: it looks at a version as a whole, drops it, looks up or takes out
+  -- a key that the version lacks, or updates one without a value to write or to insert.
   abbrev pub TakesNoMemory : Family V → Command K V → Type 0
   TakesNoMemory f (Discard place) = ⊤
   TakesNoMemory f (NumberOf place) = ⊤
@@ -91,6 +105,9 @@ module _ (K V : Type 0) (bytes : K → List ℕ) where
   TakesNoMemory f (Get place key) = LacksKey f place key
   TakesNoMemory f (Remove place key) = LacksKey f place key
   TakesNoMemory f (Delete place key) = LacksKey f place key
+  TakesNoMemory f (Update place key None answer) = LacksKey f place key × ¬ Inserts answer
+  TakesNoMemory f (TryUpdate place key None (Some answer)) =
+      LacksKey f place key × ¬ Inserts answer
   TakesNoMemory f c = ⊥
 
   -- No step replies want of memory to a command that takes none.

@@ -13,3 +13,4 @@ pub mod WorkedRuns
 pub use Rattle.rart_maps.specs.Versions
 pub use Rattle.rart_versioned.specs.Bytes
 pub use Rattle.rart_versioned.specs.Clones
+pub mod Updates

@@ -1,7 +1,7 @@
 -- Steps and runs: where a list of commands may lead a family, and what it may be replied.
 use Rattle.std.specs.Prelude.{◌≡◌, ℕ, Bool, true, false, List, [], ◌∷◌, None, ◌⊎◌, IsTrue}
 use Rattle.rart_family.specs.declared.family.command.Command.{Command}
-use Rattle.rart_family.specs.declared.family.command.Command.TheVariants.{Discard, Version as NumberOf, IsEmpty, Get, Remove, Delete, IntersectCount}
+use Rattle.rart_family.specs.declared.family.command.Command.TheVariants.{Discard, Version as NumberOf, IsEmpty, Get, Remove, Delete, Update, TryUpdate, IntersectCount}
 use Rattle.rart_family.specs.Replies.{Reply, Value, Flag, NoVersion, NoRoom, NoMemory}
 use Rattle.rart_family.specs.Families.{Family, reply_to, after}
 
@@ -16,6 +16,8 @@ may_want_memory (IntersectCount left right) r = false
 may_want_memory (Get place key) (Value None) = false
 may_want_memory (Remove place key) (Value None) = false
 may_want_memory (Delete place key) (Flag false) = false
+may_want_memory (Update place key None answer) (Flag false) = false
+may_want_memory (TryUpdate place key None answer) (Flag false) = false
 may_want_memory c r = true
 
 module _ {K V : Type 0} (bytes : K → List ℕ) where

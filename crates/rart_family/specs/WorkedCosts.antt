@@ -5,7 +5,7 @@ use Rattle.rart_family.specs.Replies.{Place, Flag, Value, NoVersion, NoMemory}
 use Rattle.rart_family.specs.Families.{Family}
 use Rattle.rart_family.specs.Runs.{Run}
 use Rattle.rart_family.specs.Costs.{read_cost, read_least, change_cost, change_least, touch_least}
-use Rattle.rart_family.specs.WorkedRuns.{WorkedRun, snapshot_of_a_value, changes_apart, clone_and_snapshot, replacements, removal_of_an_absent_key, deletion_beside_a_snapshot, failed_update, discarded_place, written_and_inserted, room_for_one, room_for_two, insertion_by_update, written_and_removed, numbers_of_removals, updates_of_an_absent_key, lists_of_two_versions, visits_of_a_version, flattened_version, keys_of_both, key_of_both_after_deletion, empty_beside_a_key, keys_that_begin_others, intersections_of_lost_places, longest_matches}
+use Rattle.rart_family.specs.WorkedRuns.{WorkedRun, snapshot_of_a_value, changes_apart, clone_and_snapshot, replacements, removal_of_an_absent_key, deletion_beside_a_snapshot, failed_update, discarded_place, written_and_inserted, room_for_one, room_for_two, insertion_by_update, written_and_removed, numbers_of_removals, updates_of_an_absent_key, lists_of_two_versions, visits_of_a_version, flattened_version, keys_of_both, key_of_both_after_deletion, empty_beside_a_key, keys_that_begin_others, intersections_of_lost_places, longest_matches, key_put_in_twice, deletion_of_an_absent_key, place_discarded_twice, changes_at_the_greatest_number, changes_of_a_key_at_the_greatest_number, settings_below_the_greatest_number, removals_below_the_greatest_number, snapshot_below_the_greatest_number, writes_to_a_vacant_slot, values_under_a_key, matches_of_a_key, bounds_at_keys, lists_of_one_key, refusals}
 
 -- The sums of a run: how many nodes it enters to read, makes to change and enters to change.
 pub record Sums : Type 0 where
@@ -134,6 +134,62 @@ LostPlacesCost = Costs intersections_of_lost_places 4 8 2 6 1
 -- A longest match costs nothing; four insertions, the first into a version without a key.
 abbrev pub LongestMatchesCost : Type 0
 LongestMatchesCost = Costs longest_matches 0 0 4 21 3
+
+-- The second insertion of a key enters a node.
+abbrev pub SecondValueCosts : Type 0
+SecondValueCosts = Costs key_put_in_twice 1 2 2 6 1
+
+-- A deletion enters a node, though its key is absent.
+abbrev pub AbsentDeletionCosts : Type 0
+AbsentDeletionCosts = Costs deletion_of_an_absent_key 1 2 1 7 1
+
+-- To make and discard versions costs nothing.
+abbrev pub DiscardingCosts : Type 0
+DiscardingCosts = Costs place_discarded_twice 0 0 0 0 0
+
+-- What lacks room costs nothing, whatever it asks for.
+abbrev pub GreatestNumberCosts : Type 0
+GreatestNumberCosts = Costs changes_at_the_greatest_number 0 0 0 0 0
+
+-- so where the key is there, beside an insertion and a lookup
+abbrev pub GreatestNumberWithAKeyCosts : Type 0
+GreatestNumberWithAKeyCosts = Costs changes_of_a_key_at_the_greatest_number 1 2 1 3 0
+
+-- Four changes, the first of a version without a key.
+abbrev pub SettingsCost : Type 0
+SettingsCost = Costs settings_below_the_greatest_number 0 0 3 12 3
+
+-- so here, of which three need not make a node
+abbrev pub RemovalsCost : Type 0
+RemovalsCost = Costs removals_below_the_greatest_number 0 0 1 12 3
+
+-- Snapshots cost nothing.
+abbrev pub LastSnapshotCosts : Type 0
+LastSnapshotCosts = Costs snapshot_below_the_greatest_number 0 0 0 0 0
+
+-- Three updates, two of them of an absent key, and two lookups.
+abbrev pub VacantSlotCosts : Type 0
+VacantSlotCosts = Costs writes_to_a_vacant_slot 2 4 1 12 3
+
+-- Visits cost nothing beside five insertions.
+abbrev pub PrefixCosts : Type 0
+PrefixCosts = Costs values_under_a_key 0 0 5 17 4
+
+-- so do matches
+abbrev pub MatchesCost : Type 0
+MatchesCost = Costs matches_of_a_key 0 0 5 17 4
+
+-- and ranges, beside three
+abbrev pub BoundsCost : Type 0
+BoundsCost = Costs bounds_at_keys 0 0 3 9 2
+
+-- and lists, beside one.
+abbrev pub OneKeyCosts : Type 0
+OneKeyCosts = Costs lists_of_one_key 0 0 1 3 0
+
+-- What lacks a version or room costs nothing, whatever it asks for.
+abbrev pub RefusalsCost : Type 0
+RefusalsCost = Costs refusals 0 0 0 0 0
 
 -- What is refused for memory leaves the family; and then there is no version at place 1.
 abbrev pub refused_memory : WorkedRun

@@ -1,9 +1,12 @@
 -- Worked runs: commands on a family without a place, and their replies where no memory is refused.
-use Rattle.std.specs.Prelude.{◌≡◌, ℕ, true, false, List, [], ◌∷◌, Some, None, codes}
+use Rattle.std.specs.Prelude.{◌≡◌, ℕ, true, false, List, [], ◌∷◌, Some, None, Ok, codes}
 use Rattle.std.specs.declared.ops.Bound.TheVariants.{Included, Excluded, Unbounded}
 use Rattle.rart_versioned.specs.SlotUpdate.TheVariants.{Keep, Insert as Put, Remove as TakeOut}
 use Rattle.rart_family.specs.declared.family.command.Command.{Command}
 use Rattle.rart_family.specs.declared.family.command.Command.TheVariants.{New, NewAt, Snapshot, Duplicate, Discard, Version as NumberOf, IsEmpty, Get, GetMut, Insert, Replace, Remove, Delete, Update, TryUpdate, Iter, Values as ValuesOf, Range, Prefix, Matches, MatchesEach, Views, PrefixViews, RangeViews, PrefixValues, Until, Intersect, IntersectViews, IntersectValues, IntersectCount, Flatten, Longest}
+use Rattle.rart_family.specs.declared.family.command.Failure.{Failure}
+use Rattle.rart_maps.specs.Versions.{Version, empty_at, with_key}
+use Rattle.rart_maps.specs.Changes.{slot_of, slot_update, slot_attempt}
 use Rattle.rart_family.specs.Replies.{Reply, Place, Discarded, Number, Flag, Value, Entries, Values, Stopped, Pairs, ValuePairs, Count, Failed, NoVersion, NoRoom}
 use Rattle.rart_family.specs.Families.{Family, reply_to, after}
 
@@ -336,3 +339,207 @@ longest_matches = (
 -- The longest key that begins the probe is given alone, which is the empty one where no other does.
 abbrev pub LongestMatchIsAlone : Type 0
 LongestMatchIsAlone = IsReplied longest_matches
+
+abbrev pub key_put_in_twice : WorkedRun
+key_put_in_twice = (
+  New ∷ Insert 0 (codes "a") 1 ∷ Insert 0 (codes "a") 2 ∷ Get 0 (codes "a") ∷ NumberOf 0 ∷ [],
+  Place 0 ∷ Flag false ∷ Flag true ∷ Value (Some 2) ∷ Number 2 ∷ [],
+)
+
+-- A key put in twice has its second value, and the number is raised twice.
+abbrev pub SecondValueStays : Type 0
+SecondValueStays = IsReplied key_put_in_twice
+
+abbrev pub deletion_of_an_absent_key : WorkedRun
+deletion_of_an_absent_key = (
+  New ∷ Insert 0 (codes "d") 1 ∷ Delete 0 (codes "da") ∷ NumberOf 0 ∷ Get 0 (codes "d") ∷ [],
+  Place 0 ∷ Flag false ∷ Flag false ∷ Number 1 ∷ Value (Some 1) ∷ [],
+)
+
+-- To delete a key that is not there changes nothing, not even the number.
+abbrev pub AbsentKeyIsNotDeleted : Type 0
+AbsentKeyIsNotDeleted = IsReplied deletion_of_an_absent_key
+
+abbrev pub place_discarded_twice : WorkedRun
+place_discarded_twice = (
+  New ∷ New ∷ Discard 0 ∷ Discard 0 ∷ Discard 2 ∷ IsEmpty 1 ∷ New ∷ [],
+  Place 0 ∷ Place 1 ∷ Discarded ∷ NoVersion ∷ NoVersion ∷ Flag true ∷ Place 2 ∷ [],
+)
+
+-- A place can be discarded once.
+abbrev pub PlacesAreDiscardedOnce : Type 0
+PlacesAreDiscardedOnce = IsReplied place_discarded_twice
+
+abbrev pub changes_at_the_greatest_number : WorkedRun
+changes_at_the_greatest_number = (
+  NewAt 18446744073709551615 ∷ GetMut 0 (codes "a") 2 ∷ Insert 0 (codes "a") 2 ∷
+      Replace 0 (codes "a") 2 ∷ Remove 0 (codes "a") ∷ Delete 0 (codes "a") ∷
+      Update 0 (codes "a") None Keep ∷ TryUpdate 0 (codes "a") None None ∷ Snapshot 0 ∷
+      NumberOf 0 ∷ Duplicate 0 ∷ [],
+  Place 0 ∷ NoRoom ∷ NoRoom ∷ NoRoom ∷ NoRoom ∷ NoRoom ∷ NoRoom ∷ NoRoom ∷ NoRoom ∷
+      Number 18446744073709551615 ∷ Place 1 ∷ [],
+)
+
+-- At the greatest number each change is refused, though its key is absent.
+abbrev pub GreatestNumberHasNoRoom : Type 0
+GreatestNumberHasNoRoom = IsReplied changes_at_the_greatest_number
+
+abbrev pub changes_of_a_key_at_the_greatest_number : WorkedRun
+changes_of_a_key_at_the_greatest_number = (
+  NewAt 18446744073709551614 ∷ Insert 0 (codes "a") 1 ∷ GetMut 0 (codes "a") 2 ∷
+      Insert 0 (codes "a") 2 ∷ Replace 0 (codes "a") 2 ∷ Remove 0 (codes "a") ∷
+      Delete 0 (codes "a") ∷ Update 0 (codes "a") (Some 2) Keep ∷
+      TryUpdate 0 (codes "a") None (Some Keep) ∷ Get 0 (codes "a") ∷ [],
+  Place 0 ∷ Flag false ∷ NoRoom ∷ NoRoom ∷ NoRoom ∷ NoRoom ∷ NoRoom ∷ NoRoom ∷ NoRoom ∷
+      Value (Some 1) ∷ [],
+)
+
+-- and so where the key is there.
+abbrev pub GreatestNumberKeepsItsKeys : Type 0
+GreatestNumberKeepsItsKeys = IsReplied changes_of_a_key_at_the_greatest_number
+
+abbrev pub settings_below_the_greatest_number : WorkedRun
+settings_below_the_greatest_number = (
+  NewAt 18446744073709551613 ∷ Insert 0 (codes "a") 1 ∷ Duplicate 0 ∷ Duplicate 0 ∷
+      GetMut 0 (codes "a") 2 ∷ Insert 1 (codes "a") 2 ∷ Replace 2 (codes "a") 2 ∷ NumberOf 0 ∷
+      NumberOf 1 ∷ NumberOf 2 ∷ [],
+  Place 0 ∷ Flag false ∷ Place 1 ∷ Place 2 ∷ Flag true ∷ Flag true ∷ Value (Some 1) ∷
+      Number 18446744073709551615 ∷ Number 18446744073709551615 ∷
+      Number 18446744073709551615 ∷ [],
+)
+
+-- One below the greatest number a change that sets a value takes the last room.
+abbrev pub SettingsTakeTheLastRoom : Type 0
+SettingsTakeTheLastRoom = IsReplied settings_below_the_greatest_number
+
+abbrev pub removals_below_the_greatest_number : WorkedRun
+removals_below_the_greatest_number = (
+  NewAt 18446744073709551613 ∷ Insert 0 (codes "a") 1 ∷ Duplicate 0 ∷ Duplicate 0 ∷
+      Remove 0 (codes "a") ∷ Delete 1 (codes "a") ∷ Update 2 (codes "a") None TakeOut ∷
+      NumberOf 0 ∷ NumberOf 1 ∷ NumberOf 2 ∷ [],
+  Place 0 ∷ Flag false ∷ Place 1 ∷ Place 2 ∷ Value (Some 1) ∷ Flag true ∷ Flag true ∷
+      Number 18446744073709551615 ∷ Number 18446744073709551615 ∷
+      Number 18446744073709551615 ∷ [],
+)
+
+-- and so does one that takes a key out.
+abbrev pub RemovalsTakeTheLastRoom : Type 0
+RemovalsTakeTheLastRoom = IsReplied removals_below_the_greatest_number
+
+abbrev pub snapshot_below_the_greatest_number : WorkedRun
+snapshot_below_the_greatest_number = (
+  NewAt 18446744073709551614 ∷ TryUpdate 0 (codes "a") None (Some (Put 1)) ∷ Snapshot 0 ∷
+      NumberOf 1 ∷ Snapshot 1 ∷ [],
+  Place 0 ∷ NoRoom ∷ Place 1 ∷ Number 18446744073709551615 ∷ NoRoom ∷ [],
+)
+
+-- A snapshot takes it too, and room for two is not there.
+abbrev pub SnapshotTakesTheLastRoom : Type 0
+SnapshotTakesTheLastRoom = IsReplied snapshot_below_the_greatest_number
+
+abbrev pub writes_to_a_vacant_slot : WorkedRun
+writes_to_a_vacant_slot = (
+  New ∷ Insert 0 (codes "a") 1 ∷ Update 0 (codes "b") (Some 9) Keep ∷
+      TryUpdate 0 (codes "b") (Some 9) (Some Keep) ∷ NumberOf 0 ∷ Get 0 (codes "b") ∷
+      Update 0 (codes "a") (Some 9) Keep ∷ Get 0 (codes "a") ∷ NumberOf 0 ∷ [],
+  Place 0 ∷ Flag false ∷ Flag false ∷ Flag false ∷ Number 1 ∷ Value None ∷ Flag true ∷
+      Value (Some 9) ∷ Number 2 ∷ [],
+)
+
+-- Nothing is written into the slot of an absent key, and to keep it sets none.
+abbrev pub VacantSlotTakesNoWrite : Type 0
+VacantSlotTakesNoWrite = IsReplied writes_to_a_vacant_slot
+
+-- A slot that a callback leaves vacant and keeps: a key that is there keeps its value, and the
+-- number is raised; an absent one stays absent.
+abbrev pub VacantSlotKeepsItsValue : Type 0
+VacantSlotKeepsItsValue =
+    let one : Version ℕ = with_key (empty_at 0) (codes "a") 1 1 in
+    let kept : Version ℕ = with_key one (codes "a") 1 1 in
+    (slot_update one (codes "a") (slot_of None) Keep ≡ (true, kept))
+    × (slot_update one (codes "b") (slot_of None) Keep ≡ (false, one))
+    × (slot_attempt {E = Failure} one (codes "a") (slot_of None) (Ok Keep) ≡ (Ok true, kept))
+    × (slot_attempt {E = Failure} one (codes "b") (slot_of None) (Ok Keep) ≡ (Ok false, one))
+
+abbrev pub values_under_a_key : WorkedRun
+values_under_a_key = (
+  New ∷ Insert 0 (codes "o") 9 ∷ Insert 0 (codes "p") 0 ∷ Insert 0 (codes "pa") 1 ∷
+      Insert 0 (codes "pb") 2 ∷ Insert 0 (codes "q") 8 ∷ PrefixValues 0 (codes "p") ∷
+      PrefixValues 0 (codes "pa") ∷ PrefixValues 0 (codes "r") ∷ PrefixValues 0 [] ∷
+      Until 0 (codes "p") 2 true ∷ [],
+  Place 0 ∷ Flag false ∷ Flag false ∷ Flag false ∷ Flag false ∷ Flag false ∷
+      Values (0 ∷ 1 ∷ 2 ∷ []) ∷ Values (1 ∷ []) ∷ Values [] ∷
+      Values (9 ∷ 0 ∷ 1 ∷ 2 ∷ 8 ∷ []) ∷ Stopped (0 ∷ 1 ∷ []) true ∷ [],
+)
+
+-- A prefix has the values of the keys that it begins, its own among them, and of no other.
+abbrev pub PrefixIsAmongItsKeys : Type 0
+PrefixIsAmongItsKeys = IsReplied values_under_a_key
+
+abbrev pub matches_of_a_key : WorkedRun
+matches_of_a_key = (
+  New ∷ Insert 0 (codes "a") 1 ∷ Insert 0 (codes "ab") 2 ∷ Insert 0 (codes "abc") 3 ∷
+      Insert 0 (codes "b") 4 ∷ Matches 0 (codes "ab") ∷ MatchesEach 0 (codes "ab") ∷
+      Longest 0 (codes "ab") ∷ Matches 0 [] ∷ Insert 0 [] 0 ∷ Matches 0 [] ∷ [],
+  Place 0 ∷ Flag false ∷ Flag false ∷ Flag false ∷ Flag false ∷
+      Entries ((codes "a", 1) ∷ (codes "ab", 2) ∷ []) ∷
+      Entries ((codes "a", 1) ∷ (codes "ab", 2) ∷ []) ∷ Entries ((codes "ab", 2) ∷ []) ∷
+      Entries [] ∷ Flag false ∷ Entries (([], 0) ∷ []) ∷ [],
+)
+
+-- A probe that is a key is the last one that begins it.
+abbrev pub ProbeIsAmongItsMatches : Type 0
+ProbeIsAmongItsMatches = IsReplied matches_of_a_key
+
+abbrev pub bounds_at_keys : WorkedRun
+bounds_at_keys = (
+  New ∷ Insert 0 (codes "a") 1 ∷ Insert 0 (codes "b") 2 ∷ Insert 0 (codes "c") 3 ∷
+      Range 0 (Included (codes "a")) (Excluded (codes "c")) ∷
+      Range 0 (Excluded (codes "a")) (Included (codes "c")) ∷
+      Range 0 (Included (codes "b")) (Included (codes "b")) ∷
+      Range 0 (Included (codes "b")) (Excluded (codes "b")) ∷
+      Range 0 (Excluded (codes "b")) (Included (codes "b")) ∷
+      Range 0 (Included (codes "c")) (Included (codes "a")) ∷
+      RangeViews 0 (Included (codes "c")) Unbounded ∷
+      RangeViews 0 Unbounded (Excluded (codes "a")) ∷ [],
+  Place 0 ∷ Flag false ∷ Flag false ∷ Flag false ∷
+      Entries ((codes "a", 1) ∷ (codes "b", 2) ∷ []) ∷
+      Entries ((codes "b", 2) ∷ (codes "c", 3) ∷ []) ∷ Entries ((codes "b", 2) ∷ []) ∷
+      Entries [] ∷ Entries [] ∷ Entries [] ∷ Entries ((codes "c", 3) ∷ []) ∷ Entries [] ∷ [],
+)
+
+-- A key at a bound is within it where the bound is included.
+abbrev pub BoundsAreIncludedOrNot : Type 0
+BoundsAreIncludedOrNot = IsReplied bounds_at_keys
+
+abbrev pub lists_of_one_key : WorkedRun
+lists_of_one_key = (
+  New ∷ Insert 0 (codes "k") 7 ∷ Flatten 0 ∷ ValuesOf 0 ∷ Iter 0 ∷ Views 0 ∷ [],
+  Place 0 ∷ Flag false ∷ Entries ((codes "k", 7) ∷ []) ∷ Values (7 ∷ []) ∷
+      Entries ((codes "k", 7) ∷ []) ∷ Entries ((codes "k", 7) ∷ []) ∷ [],
+)
+
+-- One key is listed alone.
+abbrev pub OneKeyIsListed : Type 0
+OneKeyIsListed = IsReplied lists_of_one_key
+
+abbrev pub refusals : WorkedRun
+refusals = (
+  Get 0 (codes "a") ∷ Intersect 0 0 ∷ IntersectViews 0 0 ∷ IntersectValues 0 0 ∷
+      IntersectCount 0 0 ∷ GetMut 0 (codes "a") 1 ∷ Insert 0 (codes "a") 1 ∷
+      Replace 0 (codes "a") 1 ∷ Remove 0 (codes "a") ∷ Delete 0 (codes "a") ∷
+      Update 0 (codes "a") None (Put 1) ∷ TryUpdate 0 (codes "a") None None ∷
+      NewAt 18446744073709551615 ∷ GetMut 0 (codes "a") 1 ∷ Insert 0 (codes "a") 1 ∷
+      Replace 0 (codes "a") 1 ∷ Remove 0 (codes "a") ∷ Delete 0 (codes "a") ∷
+      Update 0 (codes "a") None (Put 1) ∷ TryUpdate 0 (codes "a") None None ∷ Snapshot 0 ∷
+      Intersect 0 1 ∷ IntersectCount 1 0 ∷ Discard 0 ∷ Get 0 (codes "a") ∷
+      Remove 0 (codes "a") ∷ [],
+  NoVersion ∷ NoVersion ∷ NoVersion ∷ NoVersion ∷ NoVersion ∷ NoVersion ∷ NoVersion ∷
+      NoVersion ∷ NoVersion ∷ NoVersion ∷ NoVersion ∷ NoVersion ∷ Place 0 ∷ NoRoom ∷ NoRoom ∷
+      NoRoom ∷ NoRoom ∷ NoRoom ∷ NoRoom ∷ NoRoom ∷ NoRoom ∷ NoVersion ∷ NoVersion ∷ Discarded ∷
+      NoVersion ∷ NoVersion ∷ [],
+)
+
+-- Where a version is lacking that is replied first, and then where room is.
+abbrev pub RefusalsComeInOrder : Type 0
+RefusalsComeInOrder = IsReplied refusals

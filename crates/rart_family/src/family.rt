@@ -128,13 +128,22 @@ impl<K: KeyTrait, V: Clone + Drop> Family<K, V> {
     {
         let mut replies = Vec::with_capacity(self.alloc, commands.len())?;
         for command in commands {
-            let reply = self.step(command, reads, changes);
+            let reply = self.reply(command, reads, changes);
             replies.push_reserved(reply);
         }
         Ok(replies)
     }
 
-    fn step(&mut self, command: &Command<K, V>, reads: &mut Work, changes: &mut Work) -> Reply<K, V>
+    /// Does one command, and answers its reply: that of a run of this command alone.
+    ///
+    /// `reads` and `changes` count as in `run`. No memory is taken for the reply's own place, so
+    /// `NoMemory` comes only where the command takes some.
+    pub fn reply(
+        &mut self,
+        command: &Command<K, V>,
+        reads: &mut Work,
+        changes: &mut Work,
+    ) -> Reply<K, V>
         requires clones { ClonesEqual V.is_clone }
         ensures step { Step K.bytes self.old command.now (reply_value K.bytes result) self.new }
         ensures reads { CountsReads K.bytes self.old command.now

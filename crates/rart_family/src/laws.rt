@@ -1,7 +1,7 @@
 //! What the definitions of families mean: laws, each the contract of a function that does nothing.
-ghost use Rattle.rart_family.specs.Laws.{StepsAreIsolated, PlacesStay, RepliesFixSteps, RepliesFixRuns, NoReplyIsWant, NoWantWithoutMemory, NoWantBeforeLack, ReadsLeaveFamily, VisitorsReplyAsIterators, IntersectionsSwap};
-ghost use Rattle.rart_family.specs.WorkedCosts.{RefusedMemoryIsARun, SnapshotCosts, ChangesApartCost, CloneCosts, ReplacementsCost, AbsentRemovalCosts, DeletionCosts, FailedUpdateCosts, DiscardedPlaceCosts, WrittenAndInsertedCosts, RoomForOneCosts, RoomForTwoCosts, InsertionByUpdateCosts, WrittenAndRemovedCosts, NumbersOfRemovalsCost, UpdatesOfAnAbsentKeyCost, ListsCost, VisitsCost, FlatteningCosts, IntersectionsCost, IntersectionAfterDeletionCosts, EmptyIntersectionsCost, BeginningsCost, LostPlacesCost, LongestMatchesCost, RefusedMemoryCosts};
-ghost use Rattle.rart_family.specs.WorkedRuns.{SnapshotKeepsItsValue, ChangesStayApart, CloneKeepsNumber, ReplacementGivesOldValue, AbsentKeyStaysAbsent, DeletionIsNotSeenInSnapshot, FailedUpdateKeepsValue, DiscardedPlaceIsNotUsedAgain, AnswerOutweighsWrite, RoomIsAsked, RoomTwoIsAsked, InsertionByUpdateTakesOne, RemovalOutweighsWrite, RemovalsRaiseNumber, UpdatesOfAnAbsentKey, ListsAreOfOneVersion, VisitsAreCountedFromOne, FlatteningLeavesItsVersion, IntersectionHasKeysOfBoth, DeletedKeyIsInNoIntersection, EmptyVersionMeetsNothing, BeginningIsNoKeyOfBoth, IntersectionNeedsBothVersions, LongestMatchIsAlone};
+ghost use Rattle.rart_family.specs.Laws.{StepsAreIsolated, PlacesStay, RepliesFixSteps, RepliesFixRuns, StepsReplyTheirOwn, RunsReplyToEach, NoReplyIsWant, NoWantWithoutMemory, NoWantBeforeLack, ReadsLeaveFamily, VisitorsReplyAsIterators, IntersectionsSwap};
+ghost use Rattle.rart_family.specs.WorkedCosts.{RefusedMemoryIsARun, SnapshotCosts, ChangesApartCost, CloneCosts, ReplacementsCost, AbsentRemovalCosts, DeletionCosts, FailedUpdateCosts, DiscardedPlaceCosts, WrittenAndInsertedCosts, RoomForOneCosts, RoomForTwoCosts, InsertionByUpdateCosts, WrittenAndRemovedCosts, NumbersOfRemovalsCost, UpdatesOfAnAbsentKeyCost, ListsCost, VisitsCost, FlatteningCosts, IntersectionsCost, IntersectionAfterDeletionCosts, EmptyIntersectionsCost, BeginningsCost, LostPlacesCost, LongestMatchesCost, SecondValueCosts, AbsentDeletionCosts, DiscardingCosts, GreatestNumberCosts, GreatestNumberWithAKeyCosts, SettingsCost, RemovalsCost, LastSnapshotCosts, VacantSlotCosts, PrefixCosts, MatchesCost, BoundsCost, OneKeyCosts, RefusalsCost, RefusedMemoryCosts};
+ghost use Rattle.rart_family.specs.WorkedRuns.{SnapshotKeepsItsValue, ChangesStayApart, CloneKeepsNumber, ReplacementGivesOldValue, AbsentKeyStaysAbsent, DeletionIsNotSeenInSnapshot, FailedUpdateKeepsValue, DiscardedPlaceIsNotUsedAgain, AnswerOutweighsWrite, RoomIsAsked, RoomTwoIsAsked, InsertionByUpdateTakesOne, RemovalOutweighsWrite, RemovalsRaiseNumber, UpdatesOfAnAbsentKey, ListsAreOfOneVersion, VisitsAreCountedFromOne, FlatteningLeavesItsVersion, IntersectionHasKeysOfBoth, DeletedKeyIsInNoIntersection, EmptyVersionMeetsNothing, BeginningIsNoKeyOfBoth, IntersectionNeedsBothVersions, LongestMatchIsAlone, SecondValueStays, AbsentKeyIsNotDeleted, PlacesAreDiscardedOnce, GreatestNumberHasNoRoom, GreatestNumberKeepsItsKeys, SettingsTakeTheLastRoom, RemovalsTakeTheLastRoom, SnapshotTakesTheLastRoom, VacantSlotTakesNoWrite, PrefixIsAmongItsKeys, ProbeIsAmongItsMatches, BoundsAreIncludedOrNot, OneKeyIsListed, RefusalsComeInOrder, VacantSlotKeepsItsValue};
 
 use rart_versioned::KeyTrait;
 
@@ -20,6 +20,14 @@ pub fn replies_fix_families<K: KeyTrait, V>()
     ensures run { RepliesFixRuns K V K.bytes }
 {}
 
+#[tactic(auto, using(crate::proofs::LawLemmas::own_replies, crate::proofs::LawLemmas::one_each))]
+/// Where it is not want of memory, a step's reply is the command's own, and so is what it leaves. A
+/// run has one reply a command.
+pub fn replies_are_the_commands_own<K: KeyTrait, V>()
+    ensures step { StepsReplyTheirOwn K V K.bytes }
+    ensures each { RunsReplyToEach K V K.bytes }
+{}
+
 #[tactic(auto, using(crate::proofs::LawLemmas::no_want))]
 /// Want of memory is no command's own reply.
 pub fn no_reply_is_want<K: KeyTrait, V>()
@@ -27,8 +35,8 @@ pub fn no_reply_is_want<K: KeyTrait, V>()
 {}
 
 #[tactic(auto, using(crate::proofs::WantLemmas::no_want_without_memory, crate::proofs::WantLemmas::no_want_before_lack))]
-/// No step replies want of memory to a command that takes none, as a lookup of an absent key, nor
-/// where a version or room is lacking.
+/// No step replies want of memory to a command that takes none, as a lookup of an absent key or an
+/// update that writes and inserts nothing there, nor where a version or room is lacking.
 pub fn want_of_memory_is_bounded<K: KeyTrait, V>()
     ensures without_memory { NoWantWithoutMemory K V K.bytes }
     ensures before_lack { NoWantBeforeLack K V K.bytes }
@@ -74,6 +82,21 @@ pub fn worked_runs()
     ensures beginning_is_no_key_of_both { BeginningIsNoKeyOfBoth }
     ensures intersection_needs_both_versions { IntersectionNeedsBothVersions }
     ensures longest_match_is_alone { LongestMatchIsAlone }
+    ensures second_value_stays { SecondValueStays }
+    ensures absent_key_is_not_deleted { AbsentKeyIsNotDeleted }
+    ensures places_are_discarded_once { PlacesAreDiscardedOnce }
+    ensures greatest_number_has_no_room { GreatestNumberHasNoRoom }
+    ensures greatest_number_keeps_its_keys { GreatestNumberKeepsItsKeys }
+    ensures settings_take_the_last_room { SettingsTakeTheLastRoom }
+    ensures removals_take_the_last_room { RemovalsTakeTheLastRoom }
+    ensures snapshot_takes_the_last_room { SnapshotTakesTheLastRoom }
+    ensures vacant_slot_takes_no_write { VacantSlotTakesNoWrite }
+    ensures prefix_is_among_its_keys { PrefixIsAmongItsKeys }
+    ensures probe_is_among_its_matches { ProbeIsAmongItsMatches }
+    ensures bounds_are_included_or_not { BoundsAreIncludedOrNot }
+    ensures one_key_is_listed { OneKeyIsListed }
+    ensures refusals_come_in_order { RefusalsComeInOrder }
+    ensures vacant_slot_keeps_its_value { VacantSlotKeepsItsValue }
 {}
 
 /// What the worked runs cost, found by hand; and a run in which memory is refused.
@@ -102,6 +125,20 @@ pub fn worked_costs()
     ensures beginnings_cost { BeginningsCost }
     ensures lost_places_cost { LostPlacesCost }
     ensures longest_matches_cost { LongestMatchesCost }
+    ensures second_value_costs { SecondValueCosts }
+    ensures absent_deletion_costs { AbsentDeletionCosts }
+    ensures discarding_costs { DiscardingCosts }
+    ensures greatest_number_costs { GreatestNumberCosts }
+    ensures greatest_number_with_a_key_costs { GreatestNumberWithAKeyCosts }
+    ensures settings_cost { SettingsCost }
+    ensures removals_cost { RemovalsCost }
+    ensures last_snapshot_costs { LastSnapshotCosts }
+    ensures vacant_slot_costs { VacantSlotCosts }
+    ensures prefix_costs { PrefixCosts }
+    ensures matches_cost { MatchesCost }
+    ensures bounds_cost { BoundsCost }
+    ensures one_key_costs { OneKeyCosts }
+    ensures refusals_cost { RefusalsCost }
     ensures refused_memory_costs { RefusedMemoryCosts }
     ensures refused_memory_is_a_run { RefusedMemoryIsARun }
 {}

@@ -1,5 +1,5 @@
 // Commands that update the slot of a key by a callback.
-ghost use Rattle.std.specs.Prelude.{◌≡◌, IfOk, IsSomeAnd, option_map};
+ghost use Rattle.std.specs.Prelude.{◌≡◌, IfOk, IfSome, IsSome, IsSomeAnd, OnErr, Some};
 ghost use Rattle.rart_versioned.specs.Clones.{ClonesEqual};
 ghost use Rattle.rart_maps.specs.Versions.{HasRoom, value_at};
 ghost use Rattle.rart_maps.specs.Changes.{slot_of, slot_update, slot_attempt};
@@ -8,6 +8,7 @@ ghost use Rattle.rart_family.specs.Attempts.{Tries, reply_or_want};
 ghost use Rattle.rart_family.specs.Costs.{CountsChanges};
 ghost use Rattle.rart_family.specs.Families.{version_at, value_after_write, callback_answer};
 ghost use Rattle.rart_family.specs.PlaceChanges.{ChangesAt, CountsChangeAt};
+ghost use Rattle.rart_family.specs.Updates.{Inserts, IsThereOrSet};
 ghost use Rattle.rart_family.specs.declared.family.command.Command.TheVariants.{Update, TryUpdate};
 
 use super::{Failure, Family, Reply};
@@ -70,7 +71,8 @@ impl<K: KeyTrait, V: Clone + Drop> Family<K, V> {
 
 fn write_copy<V: Clone + Drop>(write: &Option<V>) -> Result<Option<V>, AllocError>
     requires clones { ClonesEqual V.is_clone }
-    ensures { IfOk result (λ copy. copy ≡ write.now) }
+    ensures copy { IfOk result (λ copy. copy ≡ write.now) }
+    ensures refused { OnErr result (IsSome write.now) }
 {
     match write {
         Some(value) => Ok(Some(value.clone()?)),
@@ -80,7 +82,8 @@ fn write_copy<V: Clone + Drop>(write: &Option<V>) -> Result<Option<V>, AllocErro
 
 fn answer_copy<V: Clone + Drop>(answer: &SlotUpdate<V>) -> Result<SlotUpdate<V>, AllocError>
     requires clones { ClonesEqual V.is_clone }
-    ensures { IfOk result (λ copy. copy ≡ answer.now) }
+    ensures copy { IfOk result (λ copy. copy ≡ answer.now) }
+    ensures refused { OnErr result (Inserts answer.now) }
 {
     match answer {
         SlotUpdate::Keep => Ok(SlotUpdate::Keep),
@@ -114,6 +117,8 @@ fn update_at<K: KeyTrait, V: Clone + Drop>(
         slot_update v (K.bytes key.now)
         (slot_of (value_after_write (value_at v (K.bytes key.now)) write))
         answer) }
+    ensures refused { OnErr result (IfSome (version_at versions.old place) (λ v.
+        IsThereOrSet v (K.bytes key.now) (Some answer))) }
     ensures counted { CountsChangeAt (touch_bound (K.bytes key.now)) versions.old place
         (K.bytes key.now) changes.old changes.new }
 {
@@ -144,6 +149,8 @@ fn try_update_at<K: KeyTrait, V: Clone + Drop>(
         slot_attempt v (K.bytes key.now)
         (slot_of (value_after_write (value_at v (K.bytes key.now)) write))
         (callback_answer answer)) }
+    ensures refused { OnErr result (IfSome (version_at versions.old place) (λ v.
+        IsThereOrSet v (K.bytes key.now) answer)) }
     ensures counted { CountsChangeAt (touch_bound (K.bytes key.now)) versions.old place
         (K.bytes key.now) changes.old changes.new }
 {

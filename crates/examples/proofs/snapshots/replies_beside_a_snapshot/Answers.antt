@@ -3,7 +3,8 @@ use Rattle.std.specs.Prelude.{map}
 use Rattle.std.proofs.lemmas.Result.{IfOk-weaker}
 use Rattle.std.proofs.lemmas.List.{length-map}
 use Rattle.rart_family.specs.Replies.{reply_value}
-use Rattle.examples.proofs.SnapshotLemmas.{commands, one_each, run_of, snapshot_replies}
+use Rattle.rart_family.proofs.LawLemmas.{one_each}
+use Rattle.examples.proofs.SnapshotLemmas.{commands, run_of, snapshot_replies}
 use Rattle.examples.proofs.snapshots.replies_beside_a_snapshot.Goals as goal
 
 pub returns : goal.returns
@@ -28,7 +29,7 @@ returns g c =
     record {
       one_each = IfOk-weaker c.run.result _ _
           (λ replies run. sym (length-map replies.items see)
-          ∙ one_each bytes [] c.run.new.self told (map see replies.items)
+          ∙ one_each g.row.K.Denot g.row.V.Denot bytes [] c.run.new.self told (map see replies.items)
           (run_of bytes _ _ _ told (map see replies.items) c.new-family.ensures given run))
           c.run.ensures.run;
       snapshot_keeps_value = IfOk-weaker c.run.result _ _

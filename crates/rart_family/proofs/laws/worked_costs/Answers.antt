@@ -1,4 +1,4 @@
-use Rattle.rart_family.proofs.WorkedCostLemmas.{snapshot_costs, changes_apart_cost, clone_costs, replacements_cost, absent_removal_costs, deletion_costs, failed_update_costs, discarded_place_costs, written_and_inserted_costs, room_for_one_costs, room_for_two_costs, insertion_by_update_costs, written_and_removed_costs, refused_memory_costs, refused_memory_is_a_run, numbers_of_removals_cost, updates_of_an_absent_key_cost, lists_cost, visits_cost, flattening_costs, intersections_cost, intersection_after_deletion_costs, empty_intersections_cost, beginnings_cost, lost_places_cost, longest_matches_cost}
+use Rattle.rart_family.proofs.WorkedCostLemmas.{snapshot_costs, changes_apart_cost, clone_costs, replacements_cost, absent_removal_costs, deletion_costs, failed_update_costs, discarded_place_costs, written_and_inserted_costs, room_for_one_costs, room_for_two_costs, insertion_by_update_costs, written_and_removed_costs, refused_memory_costs, refused_memory_is_a_run, numbers_of_removals_cost, updates_of_an_absent_key_cost, lists_cost, visits_cost, flattening_costs, intersections_cost, intersection_after_deletion_costs, empty_intersections_cost, beginnings_cost, lost_places_cost, longest_matches_cost, second_value_costs, absent_deletion_costs, discarding_costs, greatest_number_costs, greatest_number_with_a_key_costs, settings_cost, removals_cost, last_snapshot_costs, vacant_slot_costs, prefix_costs, matches_cost, bounds_cost, one_key_costs, refusals_cost}
 use Rattle.rart_family.proofs.laws.worked_costs.Goals as goal
 
 pub returns-clause-snapshot_costs : goal.returns-clause-snapshot_costs
@@ -79,3 +79,46 @@ returns-clause-lost_places_cost c = lost_places_cost
 
 pub returns-clause-longest_matches_cost : goal.returns-clause-longest_matches_cost
 returns-clause-longest_matches_cost c = longest_matches_cost
+
+pub returns-clause-second_value_costs : goal.returns-clause-second_value_costs
+returns-clause-second_value_costs c = second_value_costs
+
+pub returns-clause-absent_deletion_costs : goal.returns-clause-absent_deletion_costs
+returns-clause-absent_deletion_costs c = absent_deletion_costs
+
+pub returns-clause-discarding_costs : goal.returns-clause-discarding_costs
+returns-clause-discarding_costs c = discarding_costs
+
+pub returns-clause-vacant_slot_costs : goal.returns-clause-vacant_slot_costs
+returns-clause-vacant_slot_costs c = vacant_slot_costs
+
+pub returns-clause-prefix_costs : goal.returns-clause-prefix_costs
+returns-clause-prefix_costs c = prefix_costs
+
+pub returns-clause-matches_cost : goal.returns-clause-matches_cost
+returns-clause-matches_cost c = matches_cost
+
+pub returns-clause-bounds_cost : goal.returns-clause-bounds_cost
+returns-clause-bounds_cost c = bounds_cost
+
+pub returns-clause-one_key_costs : goal.returns-clause-one_key_costs
+returns-clause-one_key_costs c = one_key_costs
+
+pub returns-clause-refusals_cost : goal.returns-clause-refusals_cost
+returns-clause-refusals_cost c = refusals_cost
+
+pub returns-clause-greatest_number_costs : goal.returns-clause-greatest_number_costs
+returns-clause-greatest_number_costs c = greatest_number_costs
+
+pub returns-clause-greatest_number_with_a_key_costs
+    : goal.returns-clause-greatest_number_with_a_key_costs
+returns-clause-greatest_number_with_a_key_costs c = greatest_number_with_a_key_costs
+
+pub returns-clause-settings_cost : goal.returns-clause-settings_cost
+returns-clause-settings_cost c = settings_cost
+
+pub returns-clause-removals_cost : goal.returns-clause-removals_cost
+returns-clause-removals_cost c = removals_cost
+
+pub returns-clause-last_snapshot_costs : goal.returns-clause-last_snapshot_costs
+returns-clause-last_snapshot_costs c = last_snapshot_costs

@@ -1,4 +1,4 @@
-use Rattle.rart_family.proofs.WorkedRunLemmas.{snapshot_keeps_its_value, changes_stay_apart, clone_keeps_number, replacement_gives_old_value, absent_key_stays_absent, deletion_is_not_seen_in_snapshot, failed_update_keeps_value, discarded_place_is_not_used_again, answer_outweighs_write, room_is_asked, room_two_is_asked, insertion_by_update_takes_one, removal_outweighs_write, removals_raise_number, updates_of_an_absent_key, lists_are_of_one_version, visits_are_counted_from_one, flattening_leaves_its_version, intersection_has_keys_of_both, deleted_key_is_in_no_intersection, empty_version_meets_nothing, beginning_is_no_key_of_both, intersection_needs_both_versions, longest_match_is_alone}
+use Rattle.rart_family.proofs.WorkedRunLemmas.{snapshot_keeps_its_value, changes_stay_apart, clone_keeps_number, replacement_gives_old_value, absent_key_stays_absent, deletion_is_not_seen_in_snapshot, failed_update_keeps_value, discarded_place_is_not_used_again, answer_outweighs_write, room_is_asked, room_two_is_asked, insertion_by_update_takes_one, removal_outweighs_write, removals_raise_number, updates_of_an_absent_key, lists_are_of_one_version, visits_are_counted_from_one, flattening_leaves_its_version, intersection_has_keys_of_both, deleted_key_is_in_no_intersection, empty_version_meets_nothing, beginning_is_no_key_of_both, intersection_needs_both_versions, longest_match_is_alone, second_value_stays, absent_key_is_not_deleted, places_are_discarded_once, greatest_number_has_no_room, greatest_number_keeps_its_keys, settings_take_the_last_room, removals_take_the_last_room, snapshot_takes_the_last_room, vacant_slot_takes_no_write, prefix_is_among_its_keys, probe_is_among_its_matches, bounds_are_included_or_not, one_key_is_listed, refusals_come_in_order, vacant_slot_keeps_its_value}
 use Rattle.rart_family.proofs.laws.worked_runs.Goals as goal
 
 pub returns-clause-snapshot_keeps_its_value : goal.returns-clause-snapshot_keeps_its_value
@@ -77,3 +77,49 @@ returns-clause-intersection_needs_both_versions c = intersection_needs_both_vers
 
 pub returns-clause-longest_match_is_alone : goal.returns-clause-longest_match_is_alone
 returns-clause-longest_match_is_alone c = longest_match_is_alone
+
+pub returns-clause-second_value_stays : goal.returns-clause-second_value_stays
+returns-clause-second_value_stays c = second_value_stays
+
+pub returns-clause-absent_key_is_not_deleted : goal.returns-clause-absent_key_is_not_deleted
+returns-clause-absent_key_is_not_deleted c = absent_key_is_not_deleted
+
+pub returns-clause-places_are_discarded_once : goal.returns-clause-places_are_discarded_once
+returns-clause-places_are_discarded_once c = places_are_discarded_once
+
+pub returns-clause-vacant_slot_takes_no_write : goal.returns-clause-vacant_slot_takes_no_write
+returns-clause-vacant_slot_takes_no_write c = vacant_slot_takes_no_write
+
+pub returns-clause-prefix_is_among_its_keys : goal.returns-clause-prefix_is_among_its_keys
+returns-clause-prefix_is_among_its_keys c = prefix_is_among_its_keys
+
+pub returns-clause-probe_is_among_its_matches : goal.returns-clause-probe_is_among_its_matches
+returns-clause-probe_is_among_its_matches c = probe_is_among_its_matches
+
+pub returns-clause-bounds_are_included_or_not : goal.returns-clause-bounds_are_included_or_not
+returns-clause-bounds_are_included_or_not c = bounds_are_included_or_not
+
+pub returns-clause-one_key_is_listed : goal.returns-clause-one_key_is_listed
+returns-clause-one_key_is_listed c = one_key_is_listed
+
+pub returns-clause-refusals_come_in_order : goal.returns-clause-refusals_come_in_order
+returns-clause-refusals_come_in_order c = refusals_come_in_order
+
+pub returns-clause-vacant_slot_keeps_its_value : goal.returns-clause-vacant_slot_keeps_its_value
+returns-clause-vacant_slot_keeps_its_value c = vacant_slot_keeps_its_value
+
+pub returns-clause-greatest_number_has_no_room : goal.returns-clause-greatest_number_has_no_room
+returns-clause-greatest_number_has_no_room c = greatest_number_has_no_room
+
+pub returns-clause-greatest_number_keeps_its_keys
+    : goal.returns-clause-greatest_number_keeps_its_keys
+returns-clause-greatest_number_keeps_its_keys c = greatest_number_keeps_its_keys
+
+pub returns-clause-settings_take_the_last_room : goal.returns-clause-settings_take_the_last_room
+returns-clause-settings_take_the_last_room c = settings_take_the_last_room
+
+pub returns-clause-removals_take_the_last_room : goal.returns-clause-removals_take_the_last_room
+returns-clause-removals_take_the_last_room c = removals_take_the_last_room
+
+pub returns-clause-snapshot_takes_the_last_room : goal.returns-clause-snapshot_takes_the_last_room
+returns-clause-snapshot_takes_the_last_room c = snapshot_takes_the_last_room

@@ -16,15 +16,15 @@ loop-command-preserved g c =
     let mid = c.loop-command.self in
     let done = take i items in
     let so_far = map see c.loop-command.replies.items in
-    let reply = see c.step-reply.result in
+    let reply = see c.reply-reply.result in
     let before = c.loop-command.invariant in
     let commands : take (i + 1) items ≡ done ++ item ∷ [] =
     take_more items i item c.loop-command-test.true
     ∙ ap (λ x. done ++ x ∷ []) (sym c.command-item.is) in
     let replies : map see c.push_reserved.new.self.items ≡ so_far ++ reply ∷ [] =
-    ap (map see) {y = c.loop-command.replies.items ++ c.step-reply.result ∷ []}
+    ap (map see) {y = c.loop-command.replies.items ++ c.reply-reply.result ∷ []}
     c.push_reserved.ensures.items ∙ map-append see c.loop-command.replies.items
-    (c.step-reply.result ∷ []) in
+    (c.reply-reply.result ∷ []) in
     let more = λ (cost : _). along_more bytes cost old mid done so_far item reply before.run in
     let read_most = more (read_cost_of bytes) in
     let read_few = more (read_least_of bytes) in
@@ -34,46 +34,46 @@ loop-command-preserved g c =
     record {
       run =
           rw (commands, replies) (run_more bytes old mid _ done so_far item reply before.run
-          c.step-reply.ensures.step);
+          c.reply-reply.ensures.step);
       reads = rw (commands, replies) (record {
         entered_at_least =
             rw read_few (omega (
               arith,
               before.reads.entered_at_least,
-              c.step-reply.ensures.reads.entered_at_least,
+              c.reply-reply.ensures.reads.entered_at_least,
             ));
         entered_at_most =
             rw read_most (omega (
               arith,
               before.reads.entered_at_most,
-              c.step-reply.ensures.reads.entered_at_most,
+              c.reply-reply.ensures.reads.entered_at_most,
             ));
-        made_as_before = c.step-reply.ensures.reads.made_as_before ∙ before.reads.made_as_before;
+        made_as_before = c.reply-reply.ensures.reads.made_as_before ∙ before.reads.made_as_before;
       });
       changes = rw (commands, replies) (record {
         made_at_least =
             rw change_few (omega (
               arith,
               before.changes.made_at_least,
-              c.step-reply.ensures.changes.made_at_least,
+              c.reply-reply.ensures.changes.made_at_least,
             ));
         made_at_most =
             rw change_most (omega (
               arith,
               before.changes.made_at_most,
-              c.step-reply.ensures.changes.made_at_most,
+              c.reply-reply.ensures.changes.made_at_most,
             ));
         entered_at_least =
             rw touch_few (omega (
               arith,
               before.changes.entered_at_least,
-              c.step-reply.ensures.changes.entered_at_least,
+              c.reply-reply.ensures.changes.entered_at_least,
             ));
         entered_at_most =
             rw change_most (omega (
               arith,
               before.changes.entered_at_most,
-              c.step-reply.ensures.changes.entered_at_most,
+              c.reply-reply.ensures.changes.entered_at_most,
             ));
       });
       count = search rules;

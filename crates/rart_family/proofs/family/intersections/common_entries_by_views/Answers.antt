@@ -11,14 +11,16 @@ intersect_lending_with_counted-requires g c =
     let most = g.K.KeyTrait.MAXIMUM_SIZE in
     let one = c.args.one.now in
     let other = c.args.other.now in
-    record {
-      visitable = callable_each _ _ _ _ _ (λ entry there f shown shows.
+    -- (for whatever lifetimes the closure is handed on with)
+    λ k. (
+      (refl, tt),
+      callable_each _ _ _ _ _ (λ entry there f shown shows.
           let clones = c.requires.clones in
           let admitted : IsAdmitted most (length shown.0) =
           subst (λ key. IsAdmitted most (length key)) (sym shows.0)
           (common-admitted one other most c.version-number.ensures.lengths entry there) in
-          search rules);
-    }
+          search rules),
+    )
 
 pub returns-clause-entries : goal.returns-clause-entries
 returns-clause-entries g c =

@@ -379,7 +379,7 @@ gives_at : (old : Family ℕ) (line : List ℕ) → Finds Said (IsLineOf line) �
 gives_at old line (inl found) = (
   reply_line (reply_to (λ key. key) old found.0),
   after (λ key. key) old found.0,
-  inr (found.0, reply_to (λ key. key) old found.0, found.1, inl (inl (refl, refl)), refl),
+  inr (found.0, reply_to (λ key. key) old found.0, found.1, inl (refl, refl), refl),
 )
 gives_at old line (inr bad) = (bad_line, old, inl (bad, refl, refl))
 

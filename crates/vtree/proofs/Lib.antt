@@ -5,6 +5,8 @@ pub mod PutLemmas
 pub mod SessionLemmas
 pub mod OneCommand
 pub mod OwnLineLemmas
+pub mod GoodWordLemmas
+pub mod OwnWordLemmas
 pub mod LineSplitLemmas
 pub mod FoundWordLemmas
 pub mod FoundLineLemmas
@@ -15,3 +17,4 @@ pub mod WorkedRunLemmas
 pub mod ReplyTextLemmas
 pub mod StepLemmas
 pub mod ServeLemmas
+pub mod ServingLawLemmas

@@ -124,7 +124,7 @@ number_word n h = (
 pub key_is_word : (key : List ℕ) → IsKeyText key → IsWord (key_word key)
 key_is_word key h = ((refl, graphic_no_space key h.1), omega (arith, h.0))
 
-own_numerals : IsNumeralModel (λ ds. all_ascii_digits ds ≡ true) (value_from 0)
+pub own_numerals : IsNumeralModel (λ ds. all_ascii_digits ds ≡ true) (value_from 0)
 own_numerals = numerals_by_fold _ (search rules) value_from (search rules)
 
 pub number_is : (n : ℕ) → Fits n → IsNumber (decimal n) n

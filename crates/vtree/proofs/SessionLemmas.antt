@@ -322,19 +322,15 @@ is_line session line text said e reading short says =
     let kept = kept_line session line reading short in
     (kept.1, subst (λ (s : List ℕ). Says said (words s)) (e ∙ kept.0) says)
 
-pub commands_none : {C E : Type 0} (view : C → Said) (line : List ℕ)
-    (answer : Option (Result C E)) → answer ≡ None → IsBad line → Commands view line answer
+pub commands_none : {C : Type 0} (view : C → Said) (line : List ℕ) (answer : Option C) →
+    answer ≡ None → IsBad line → Commands view line answer
 commands_none view line None h bad = bad
 commands_none view line (Some made) h bad = absurd (cc)
 
--- the command with keys of its own, or that they were refused
-pub command_made : {C E : Type 0} (view : C → Said) (line : List ℕ) (made : Result C E)
-    (said : Said) → IfOk made (λ command. view command ≡ said) → IsLineOf line said →
-    MatchResult made (λ command. IsLineOf line (view command))
-    (λ _. (other : Said) × IsLineOf line other)
-command_made view line (Ok command) said same is =
-    subst (λ (s : Said). IsLineOf line s) (sym same) is
-command_made view line (Err e) said same is = (said, is)
+-- the command with keys of its own
+pub command_made : {C : Type 0} (view : C → Said) (line : List ℕ) (made : C) (said : Said) →
+    view made ≡ said → IsLineOf line said → IsLineOf line (view made)
+command_made view line made said same is = subst (λ (s : Said). IsLineOf line s) (sym same) is
 
 -- a good line's reply is its text
 pub ends_good : (line : List ℕ) (old new : Session) (said : Said) (reply : Reply ℕ) →

@@ -2,6 +2,7 @@
 use Rattle.std.proofs.Common.{inl, inr, ◌≡◌, ◌≢◌, ℕ, List, [], ◌∷◌, refl, sym, ◌∙◌, ap, subst}
 use Rattle.rart_family.specs.Replies.{Reply, NoMemory}
 use Rattle.rart_family.specs.Families.{Family, reply_to, after}
+use Rattle.rart_family.proofs.LawLemmas.{own_replies}
 use Rattle.vtree.specs.Grammar.{Said}
 use Rattle.vtree.specs.ReplyTexts.{reply_line}
 use Rattle.vtree.specs.Transcript.{Replies, LineGives, Transcript}
@@ -13,9 +14,8 @@ use Rattle.vtree.proofs.OwnLineLemmas.{own_line}
 pub own_reply : (old new : Family ℕ) (command : Said) (reply : Reply ℕ) →
     Replies old command reply new → reply ≢ NoMemory →
     (reply ≡ reply_to (λ key. key) old command) × (new ≡ after (λ key. key) old command)
-own_reply old new command reply (inl (inl own)) other = own
-own_reply old new command reply (inl (inr want)) other = absurd (other want.0)
-own_reply old new command reply (inr want) other = absurd (other want.0)
+own_reply old new command reply step other =
+    own_replies (List ℕ) ℕ (λ key. key) old new command reply step other
 
 pub line_agrees : (old one other : Family ℕ) (line text next : List ℕ) →
     LineGives old line text one → LineGives old line next other → text ≢ reply_line NoMemory →
@@ -51,7 +51,7 @@ pub own_replies_are_transcripts : OwnRepliesAreTranscripts
 own_replies_are_transcripts old [] h = refl
 own_replies_are_transcripts old (c ∷ cs) h = (
   after (λ key. key) old c,
-  inr (c, reply_to (λ key. key) old c, own_line c h.0, inl (inl (refl, refl)), refl),
+  inr (c, reply_to (λ key. key) old c, own_line c h.0, inl (refl, refl), refl),
   own_replies_are_transcripts (after (λ key. key) old c) cs h.1,
 )
 

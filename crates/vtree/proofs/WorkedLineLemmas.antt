@@ -1,7 +1,7 @@
 -- The worked lines, by computation.
 use Rattle.std.proofs.Common.{◌≡◌, ℕ, ◌<◌, List, [], ◌∷◌, ◌++◌, length, refl, sym, ◌∙◌, ap, subst, arith, true, false}
 use Rattle.std.proofs.lemmas.List.Elements.{All-head}
-use Rattle.std.specs.Prelude.{codes, Some, None}
+use Rattle.std.specs.Prelude.{codes, Option, Some, None}
 use Rattle.std.specs.declared.ops.Bound.{Bound}
 use Rattle.std.specs.declared.ops.Bound.TheVariants.{Included, Excluded, Unbounded}
 use Rattle.rart_versioned.specs.SlotUpdate.{SlotUpdate}
@@ -9,9 +9,9 @@ use Rattle.rart_versioned.specs.SlotUpdate.TheVariants as slot
 use Rattle.std.specs.List.{AllPass}
 use Rattle.std.specs.Char.{is_ascii_graphic}
 use Rattle.std.specs.Fmt.{digits}
-use Rattle.rart_family.specs.declared.family.command.Command.TheVariants.{New, NewAt, Version, Get, Update, TryUpdate, Range, RangeViews, Until}
+use Rattle.rart_family.specs.declared.family.command.Command.TheVariants.{New, NewAt, Version, Get, Insert, Update, TryUpdate, Range, RangeViews, Until}
 use Rattle.vtree.specs.Lines.{number_of}
-use Rattle.vtree.specs.Grammar.{Said, IsLineOf, IsKey, IsNumber, IsBound, IsAnswer}
+use Rattle.vtree.specs.Grammar.{Said, IsLineOf, IsKey, IsNumber, IsBound, IsAnswer, IsWrite}
 use Rattle.vtree.specs.Shapes.{name_of}
 use Rattle.vtree.specs.WorkedLines.{WorkedNumbers, WorkedSplits, WorkedBadLines, WorkedTexts}
 use Rattle.vtree.proofs.WordLemmas.{says_name}
@@ -88,7 +88,7 @@ bad_6 (Version a) h = absurd h.1
 bad_6 command h = absurd (alike_names (codes "version") (codes "version") (name_of command) refl
     (says_name command (codes "version") (codes "0" ∷ [] ∷ []) h.1))
 
-bad_7 : (command : Said) → IsLineOf (codes "new-at 18446744073709551616") command → ⊥
+pub bad_7 : (command : Said) → IsLineOf (codes "new-at 18446744073709551616") command → ⊥
 bad_7 (NewAt a) h = no_number (codes "18446744073709551616") a refl h.1.1
 bad_7 command h = absurd (alike_names (codes "new-at") (codes "new-at") (name_of command) refl
     (says_name command (codes "new-at") (codes "18446744073709551616" ∷ []) h.1))
@@ -189,6 +189,123 @@ bad_18 command h = absurd (alike_names (codes "range-views") (codes "range-views
     (name_of command) refl (says_name command (codes "range-views")
     (codes "0" ∷ codes "x'abcdefghijklmnopq" ∷ codes "-" ∷ []) h.1))
 
+-- no word is no write, and no bound
+empty_no_write : {P : Type 0} (write : Option ℕ) → IsWrite [] write → P
+empty_no_write None h = not_alike [] [] _ refl h (λ never. never)
+empty_no_write (Some n) h = no_number [] n refl h
+
+empty_no_bound : {P : Type 0} (bound : Bound (List ℕ)) → IsBound [] bound → P
+empty_no_bound (Included key) h = absurd (omega (arith, ap length h.0))
+empty_no_bound (Excluded key) h = absurd (omega (arith, ap length h.0))
+empty_no_bound Unbounded h = absurd (omega (arith, ap length h))
+
+-- another word is no answer
+kept_no_answer : {P : Type 0} (a : SlotUpdate ℕ) → IsAnswer a (codes "kept" ∷ []) → P
+kept_no_answer slot.Keep h = not_alike (codes "kept") (codes "kept") _ refl h (λ never. never)
+kept_no_answer slot.Remove h = not_alike (codes "kept") (codes "kept") _ refl h (λ never. never)
+kept_no_answer (slot.Insert n) h = absurd h
+
+bad_19 : (command : Said) → IsLineOf (codes "update 0 'a  keep") command → ⊥
+bad_19 (Update a k w answer) h = empty_no_write w h.1.3
+bad_19 command h = absurd (alike_names (codes "update") (codes "update") (name_of command) refl
+    (says_name command (codes "update") (codes "0" ∷ codes "'a" ∷ [] ∷ codes "keep" ∷ []) h.1))
+
+bad_20 : (command : Said) → IsLineOf (codes "range 0  -") command → ⊥
+bad_20 (Range a lo hi) h = empty_no_bound lo h.1.2
+bad_20 command h = absurd (alike_names (codes "range") (codes "range") (name_of command) refl
+    (says_name command (codes "range") (codes "0" ∷ [] ∷ codes "-" ∷ []) h.1))
+
+bad_21 : (command : Said) → IsLineOf (codes "until 0 'a 1 keep") command → ⊥
+bad_21 (Until a k n false) h = not_alike (codes "keep") (codes "keep") _ refl h.1.4 (λ never. never)
+bad_21 (Until a k n true) h = not_alike (codes "keep") (codes "keep") _ refl h.1.4 (λ never. never)
+bad_21 command h = absurd (alike_names (codes "until") (codes "until") (name_of command) refl
+    (says_name command (codes "until")
+    (codes "0" ∷ codes "'a" ∷ codes "1" ∷ codes "keep" ∷ []) h.1))
+
+bad_22 : (command : Said) → IsLineOf (codes "update 0 'a - kept") command → ⊥
+bad_22 (Update a k w answer) h = kept_no_answer answer h.1.4
+bad_22 command h = absurd (alike_names (codes "update") (codes "update") (name_of command) refl
+    (says_name command (codes "update") (codes "0" ∷ codes "'a" ∷ codes "-" ∷ codes "kept" ∷ []) h.1))
+
+bad_23 : (command : Said) → IsLineOf (codes "get 0 '" ++ 9 ∷ []) command → ⊥
+bad_23 (Get a key) h = not_graphic 9 key refl h.1.2
+bad_23 command h = absurd (alike_names (codes "get") (codes "get") (name_of command) refl
+    (says_name command (codes "get") (codes "0" ∷ (39 ∷ 9 ∷ []) ∷ []) h.1))
+
+bad_24 : (command : Said) → IsLineOf (codes "get 0 '" ++ 13 ∷ []) command → ⊥
+bad_24 (Get a key) h = not_graphic 13 key refl h.1.2
+bad_24 command h = absurd (alike_names (codes "get") (codes "get") (name_of command) refl
+    (says_name command (codes "get") (codes "0" ∷ (39 ∷ 13 ∷ []) ∷ []) h.1))
+
+-- a sign alone is no bound
+included_no_bound : {P : Type 0} (bound : Bound (List ℕ)) → IsBound (codes "i-") bound → P
+included_no_bound (Included key) h =
+    first_differs (codes "-") (codes "-") _ refl (ap behind_first h.0) (λ e. omega (arith, e))
+included_no_bound (Excluded key) h =
+    first_differs (codes "i-") (codes "i-") _ refl h.0 (λ e. omega (arith, e))
+included_no_bound Unbounded h =
+    first_differs (codes "i-") (codes "i-") _ refl h (λ e. omega (arith, e))
+
+excluded_no_bound : {P : Type 0} (bound : Bound (List ℕ)) → IsBound (codes "x-") bound → P
+excluded_no_bound (Included key) h =
+    first_differs (codes "x-") (codes "x-") _ refl h.0 (λ e. omega (arith, e))
+excluded_no_bound (Excluded key) h =
+    first_differs (codes "-") (codes "-") _ refl (ap behind_first h.0) (λ e. omega (arith, e))
+excluded_no_bound Unbounded h =
+    first_differs (codes "x-") (codes "x-") _ refl h (λ e. omega (arith, e))
+
+bad_25 : (command : Said) → IsLineOf (codes "range 0 i- -") command → ⊥
+bad_25 (Range a lo hi) h = included_no_bound lo h.1.2
+bad_25 command h = absurd (alike_names (codes "range") (codes "range") (name_of command) refl
+    (says_name command (codes "range") (codes "0" ∷ codes "i-" ∷ codes "-" ∷ []) h.1))
+
+bad_26 : (command : Said) → IsLineOf (codes "range 0 - x-") command → ⊥
+bad_26 (Range a lo hi) h = excluded_no_bound hi h.1.3
+bad_26 command h = absurd (alike_names (codes "range") (codes "range") (name_of command) refl
+    (says_name command (codes "range") (codes "0" ∷ codes "-" ∷ codes "x-" ∷ []) h.1))
+
+bad_27 : (command : Said) → IsLineOf (codes "update 0 'a") command → ⊥
+bad_27 (Update a k w answer) h = absurd h.1
+bad_27 command h = absurd (alike_names (codes "update") (codes "update") (name_of command) refl
+    (says_name command (codes "update") (codes "0" ∷ codes "'a" ∷ []) h.1))
+
+bad_28 : (command : Said) → IsLineOf (codes "try-update 0 'a") command → ⊥
+bad_28 (TryUpdate a k w answer) h = absurd h.1
+bad_28 command h = absurd (alike_names (codes "try-update") (codes "try-update")
+    (name_of command) refl
+    (says_name command (codes "try-update") (codes "0" ∷ codes "'a" ∷ []) h.1))
+
+bad_29 : (command : Said) → IsLineOf (codes "// new") command → ⊥
+bad_29 New h = absurd h.1
+bad_29 command h = absurd (alike_names (codes "//") (codes "//") (name_of command) refl
+    (says_name command (codes "//") (codes "new" ∷ []) h.1))
+
+bad_30 : (command : Said) → IsLineOf (codes
+    "try-update 00000000000000000000 'abcdefghijklmnop 18446744073709551615 insert 18446744073709551614 1")
+    command → ⊥
+bad_30 (TryUpdate a k w None) h = absurd h.1.4
+bad_30 (TryUpdate a k w (Some answer)) h = three_no_answer answer (codes "insert")
+    (codes "18446744073709551614") (codes "1") h.1.4
+bad_30 command h = absurd (alike_names (codes "try-update") (codes "try-update")
+    (name_of command) refl (says_name command (codes "try-update")
+    (codes "00000000000000000000" ∷ codes "'abcdefghijklmnop" ∷ codes "18446744073709551615"
+    ∷ codes "insert" ∷ codes "18446744073709551614" ∷ codes "1" ∷ []) h.1))
+
+-- lines of worked runs
+pub bad_insertion : (command : Said) → IsLineOf (codes "insert 0 a 1") command → ⊥
+bad_insertion (Insert a key v) h =
+    first_differs (codes "a") (codes "a") _ refl h.1.2.0 (λ e. omega (arith, e))
+bad_insertion command h = absurd (alike_names (codes "insert") (codes "insert")
+    (name_of command) refl
+    (says_name command (codes "insert") (codes "0" ∷ codes "a" ∷ codes "1" ∷ []) h.1))
+
+pub bad_long_key : (command : Said) → IsLineOf (codes "insert 0 'abcdefghijklmnopq 2") command → ⊥
+bad_long_key (Insert a key v) h =
+    absurd (omega (arith, h.1.2.1.0, ap length (ap behind_first h.1.2.0)))
+bad_long_key command h = absurd (alike_names (codes "insert") (codes "insert")
+    (name_of command) refl (says_name command (codes "insert")
+    (codes "0" ∷ codes "'abcdefghijklmnopq" ∷ codes "2" ∷ []) h.1))
+
 pub worked_bad_lines : WorkedBadLines
 worked_bad_lines = (
   bad_0,
@@ -210,6 +327,18 @@ worked_bad_lines = (
   bad_16,
   bad_17,
   bad_18,
+  bad_19,
+  bad_20,
+  bad_21,
+  bad_22,
+  bad_23,
+  bad_24,
+  bad_25,
+  bad_26,
+  bad_27,
+  bad_28,
+  bad_29,
+  bad_30,
 )
 
 -- worked numbers, splits, bad lines and texts

@@ -1,27 +1,30 @@
 -- The worked runs, by computation.
 use Rattle.std.proofs.Common.{inl, inr, ◌≡◌, ◌≢◌, ℕ, List, [], ◌∷◌, ◌++◌, length, refl, sym, ◌∙◌, ap, subst, arith}
 use Rattle.std.proofs.lemmas.List.{length-replicate}
-use Rattle.std.specs.Prelude.{codes, map}
+use Rattle.std.specs.Prelude.{codes, map, Some}
 use Rattle.std.specs.List.{concat}
+use Rattle.std.specs.FinMap as finite
 use Rattle.std.specs.FinMap.{gets}
 use Rattle.std.specs.Fmt.{digits}
-use Rattle.rart_family.specs.declared.family.command.Command.TheVariants.{New, Snapshot, Version, Get, Insert}
-use Rattle.rart_family.specs.Replies.{NoMemory}
+use Rattle.rart_versioned.specs.SlotUpdate.TheVariants as slot
+use Rattle.rart_maps.proofs.MapLemmas.{maps}
+use Rattle.rart_family.specs.declared.family.command.Command.TheVariants.{New, NewAt, Snapshot, Duplicate, Version, Get, Insert, Delete, Update, TryUpdate, Iter}
+use Rattle.rart_family.specs.Replies.{Entries, NoMemory}
 use Rattle.rart_family.specs.Families.{Family, reply_to, after}
 use Rattle.vtree.specs.declared.served.Served.{Served}
 use Rattle.vtree.specs.declared.served.Served.TheVariants.{Clean, BadLine}
 use Rattle.vtree.specs.Lines.{lines_of}
-use Rattle.vtree.specs.Grammar.{Said, IsLineOf, IsBad}
+use Rattle.vtree.specs.Grammar.{Said, IsKeyText, IsLineOf, IsBad}
 use Rattle.vtree.specs.ReplyTexts.{reply_line, bad_line}
 use Rattle.vtree.specs.OwnLines.{line_of, CanStand}
 use Rattle.vtree.specs.Laws.{own_texts, own_family, Each, NoneRefused}
 use Rattle.vtree.specs.Transcript.{LineGives, Transcript, HasBad, Tells}
-use Rattle.vtree.specs.WorkedRuns.{RunsTo, first_lines, first_replies, FirstRun, long_line, WorkedRuns}
+use Rattle.vtree.specs.WorkedRuns.{RunsTo, first_lines, first_replies, FirstRun, long_line, bad_lines, bad_replies, long_key_lines, long_key_replies, great_number_lines, great_number_replies, WorkedRuns}
 use Rattle.vtree.proofs.OneCommand.{Alike, alike_names}
 use Rattle.vtree.proofs.OwnLineLemmas.{own_line}
 use Rattle.vtree.proofs.TranscriptLemmas.{transcripts_agree, own_replies_are_transcripts}
 use Rattle.vtree.proofs.WorkedCommandLemmas.{key_text_is}
-use Rattle.vtree.proofs.WorkedLineLemmas.{bad_0, bad_3, bad_4, bad_5}
+use Rattle.vtree.proofs.WorkedLineLemmas.{bad_0, bad_3, bad_4, bad_5, bad_7, bad_insertion, bad_long_key}
 
 -- lines tell one thing alone
 tell_once : (lines : List (List ℕ)) (one other : Served) → Tells one lines → Tells other lines →
@@ -126,7 +129,7 @@ good_gives : (old : Family ℕ) (line : List ℕ) (command : Said) (text : List 
     IsLineOf line command → reply_line (reply_to (λ key. key) old command) ≡ text →
     LineGives old line text (after (λ key. key) old command)
 good_gives old line command text is e =
-    inr (command, reply_to (λ key. key) old command, is, inl (inl (refl, refl)), sym e)
+    inr (command, reply_to (λ key. key) old command, is, inl (refl, refl), sym e)
 
 bad_gives : (old : Family ℕ) (line : List ℕ) → IsBad line → LineGives old line bad_line old
 bad_gives old line is = inl (is, refl, refl)
@@ -200,8 +203,264 @@ long_run = runs_to (long_line ++ codes "\nnew\n") BadLine (codes "bad line\nat 0
     ([], bad_gives [] long_line bad_long, (made, new_gives, refl))
     (bad_clear, (at_clear, tt)) refl (inl bad_long)
 
+-- ---- a bad key, no word, and a place that isn't there
+
+lost_gives : LineGives made (codes "get 7 'a") (codes "no version\n") made
+lost_gives = good_gives made (codes "get 7 'a") (Get 7 (codes "a")) (codes "no version\n")
+    (omega arith, (refl, refl, (refl, key_text_is (codes "a") (omega arith) refl))) refl
+
+bad_run : RunsTo bad_lines BadLine bad_replies
+bad_run = runs_to bad_lines BadLine bad_replies
+    (codes "at 0\n" ∷ bad_line ∷ bad_line ∷ codes "no version\n" ∷ []) made (
+      made,
+      new_gives,
+      (
+        made,
+        bad_gives made (codes "insert 0 a 1") bad_insertion,
+        (made, bad_gives made [] bad_0, (made, lost_gives, refl)),
+      ),
+    ) (
+      at_clear,
+      (bad_clear, (bad_clear, (other (codes "no version\n") (λ never. never), tt))),
+    )
+    refl (inr (inl bad_insertion))
+
+-- ---- keys of 16, 17 and no bytes
+
+abbrev pub longest_key : List ℕ
+longest_key = codes "abcdefghijklmnop"
+
+abbrev pub with_longest : Family ℕ
+with_longest = after (λ key. key) made (Insert 0 longest_key 1)
+
+abbrev pub with_both : Family ℕ
+with_both = after (λ key. key) with_longest (Insert 0 [] 3)
+
+longest_gives : LineGives made (codes "insert 0 'abcdefghijklmnop 1") (codes "false\n") with_longest
+longest_gives = good_gives made (codes "insert 0 'abcdefghijklmnop 1") (Insert 0 longest_key 1)
+    (codes "false\n")
+    (omega arith, (refl, refl, (refl, key_text_is longest_key (omega arith) refl), refl))
+    (simp gets refl)
+
+found_gives : LineGives with_longest (codes "get 0 'abcdefghijklmnop") (codes "some 1\n")
+    with_longest
+unfolding digits
+found_gives = good_gives with_longest (codes "get 0 'abcdefghijklmnop") (Get 0 longest_key)
+    (codes "some 1\n")
+    (omega arith, (refl, refl, (refl, key_text_is longest_key (omega arith) refl))) (simp gets refl)
+
+shortest_gives : LineGives with_longest (codes "insert 0 ' 3") (codes "false\n") with_both
+shortest_gives = good_gives with_longest (codes "insert 0 ' 3") (Insert 0 [] 3) (codes "false\n")
+    (omega arith, (refl, refl, (refl, key_text_is [] (omega arith) refl), refl)) (simp gets refl)
+
+abbrev pub both : List (List ℕ × ℕ)
+both = ([], 3) ∷ (longest_key, 1) ∷ []
+
+both_entries : reply_to (λ key. key) with_both (Iter 0) ≡ Entries both
+both_entries = simp maps refl
+
+both_text : reply_line (Entries both) ≡ codes "entries ' 3 'abcdefghijklmnop 1\n"
+unfolding digits
+both_text = refl
+
+both_give : LineGives with_both (codes "iter 0") (codes "entries ' 3 'abcdefghijklmnop 1\n")
+    with_both
+both_give = good_gives with_both (codes "iter 0") (Iter 0)
+    (codes "entries ' 3 'abcdefghijklmnop 1\n") (omega arith, (refl, refl))
+    (ap reply_line both_entries ∙ both_text)
+
+long_key_run : RunsTo long_key_lines BadLine long_key_replies
+long_key_run = runs_to long_key_lines BadLine long_key_replies
+    (codes "at 0\n" ∷ codes "false\n" ∷ bad_line ∷ codes "some 1\n" ∷ codes "false\n"
+    ∷ codes "entries ' 3 'abcdefghijklmnop 1\n" ∷ []) with_both (
+      made,
+      new_gives,
+      (
+        with_longest,
+        longest_gives,
+        (
+          with_longest,
+          bad_gives with_longest (codes "insert 0 'abcdefghijklmnopq 2") bad_long_key,
+          (with_longest, found_gives, (with_both, shortest_gives, (with_both, both_give, refl))),
+        ),
+      ),
+    ) (
+      at_clear,
+      (
+        other (codes "false\n") (λ never. never),
+        (
+          bad_clear,
+          (
+            other (codes "some 1\n") (λ never. never),
+            (
+              other (codes "false\n") (λ never. never),
+              (other (codes "entries ' 3 'abcdefghijklmnop 1\n") (λ never. never), tt),
+            ),
+          ),
+        ),
+      ),
+    )
+    refl (inr (inr (inl bad_long_key)))
+
+-- ---- the greatest numbers
+
+abbrev pub great : Family ℕ
+great = after (λ key. key) [] (NewAt 18446744073709551613)
+
+abbrev pub great_with_1 : Family ℕ
+great_with_1 = after (λ key. key) great (Insert 0 (codes "a") 1)
+
+abbrev pub great_with_2 : Family ℕ
+great_with_2 = Some (record {
+  content = finite.insert (finite.insert finite.empty (codes "a") 1) (codes "a") 2;
+  number = 18446744073709551615;
+}) ∷ []
+
+is_updated : after (λ key. key) great_with_1 (Update 0 (codes "a") (Some 2) slot.Keep)
+    ≡ great_with_2
+is_updated = simp gets refl
+
+abbrev pub great_twice : Family ℕ
+great_twice = after (λ key. key) great_with_2 (Duplicate 0)
+
+a_is_key : IsKeyText (codes "a")
+a_is_key = key_text_is (codes "a") (omega arith) refl
+
+great_gives : LineGives [] (codes "new-at 18446744073709551613") (codes "at 0\n") great
+unfolding digits
+great_gives = good_gives [] (codes "new-at 18446744073709551613") (NewAt 18446744073709551613)
+    (codes "at 0\n") (omega arith, (refl, refl)) refl
+
+first_value_gives : LineGives great (codes "insert 0 'a 1") (codes "false\n") great_with_1
+first_value_gives = good_gives great (codes "insert 0 'a 1") (Insert 0 (codes "a") 1)
+    (codes "false\n") (omega arith, (refl, refl, (refl, a_is_key), refl)) (simp gets refl)
+
+no_room_for_two : LineGives great_with_1 (codes "try-update 0 'a 2 keep") (codes "no room\n")
+    great_with_1
+no_room_for_two = good_gives great_with_1 (codes "try-update 0 'a 2 keep")
+    (TryUpdate 0 (codes "a") (Some 2) (Some slot.Keep)) (codes "no room\n")
+    (omega arith, (refl, refl, (refl, a_is_key), refl, refl)) refl
+
+great_version_gives : LineGives great_with_1 (codes "version 0")
+    (codes "version 18446744073709551614\n") great_with_1
+unfolding digits
+great_version_gives = good_gives great_with_1 (codes "version 0") (Version 0)
+    (codes "version 18446744073709551614\n") (omega arith, (refl, refl)) refl
+
+second_value_gives : LineGives great_with_1 (codes "update 0 'a 2 keep") (codes "true\n")
+    great_with_2
+second_value_gives =
+    subst (λ (f : Family ℕ). LineGives great_with_1 (codes "update 0 'a 2 keep") (codes "true\n") f)
+    is_updated (good_gives great_with_1 (codes "update 0 'a 2 keep")
+    (Update 0 (codes "a") (Some 2) slot.Keep) (codes "true\n")
+    (omega arith, (refl, refl, (refl, a_is_key), refl, refl)) (simp gets refl))
+
+no_room_for_update : LineGives great_with_2 (codes "update 0 'a 3 keep") (codes "no room\n")
+    great_with_2
+no_room_for_update = good_gives great_with_2 (codes "update 0 'a 3 keep")
+    (Update 0 (codes "a") (Some 3) slot.Keep) (codes "no room\n")
+    (omega arith, (refl, refl, (refl, a_is_key), refl, refl)) refl
+
+no_room_for_deletion : LineGives great_with_2 (codes "delete 0 'x") (codes "no room\n")
+    great_with_2
+no_room_for_deletion = good_gives great_with_2 (codes "delete 0 'x") (Delete 0 (codes "x"))
+    (codes "no room\n")
+    (omega arith, (refl, refl, (refl, key_text_is (codes "x") (omega arith) refl))) refl
+
+clone_gives : LineGives great_with_2 (codes "clone 0") (codes "at 1\n") great_twice
+unfolding digits
+clone_gives = good_gives great_with_2 (codes "clone 0") (Duplicate 0) (codes "at 1\n")
+    (omega arith, (refl, refl)) refl
+
+clone_value_gives : LineGives great_twice (codes "get 1 'a") (codes "some 2\n") great_twice
+unfolding digits
+clone_value_gives = good_gives great_twice (codes "get 1 'a") (Get 1 (codes "a"))
+    (codes "some 2\n") (omega arith, (refl, refl, (refl, a_is_key))) (simp gets refl)
+
+great_number_run : RunsTo great_number_lines BadLine great_number_replies
+great_number_run = runs_to great_number_lines BadLine great_number_replies
+    (codes "at 0\n" ∷ codes "false\n" ∷ codes "no room\n"
+    ∷ codes "version 18446744073709551614\n" ∷ codes "true\n" ∷ codes "no room\n"
+    ∷ codes "no room\n" ∷ codes "at 1\n" ∷ codes "some 2\n" ∷ bad_line ∷ []) great_twice (
+      great,
+      great_gives,
+      (
+        great_with_1,
+        first_value_gives,
+        (
+          great_with_1,
+          no_room_for_two,
+          (
+            great_with_1,
+            great_version_gives,
+            (
+              great_with_2,
+              second_value_gives,
+              (
+                great_with_2,
+                no_room_for_update,
+                (
+                  great_with_2,
+                  no_room_for_deletion,
+                  (
+                    great_twice,
+                    clone_gives,
+                    (
+                      great_twice,
+                      clone_value_gives,
+                      (
+                        great_twice,
+                        bad_gives great_twice (codes "new-at 18446744073709551616") bad_7,
+                        refl,
+                      ),
+                    ),
+                  ),
+                ),
+              ),
+            ),
+          ),
+        ),
+      ),
+    ) (
+      at_clear,
+      (
+        other (codes "false\n") (λ never. never),
+        (
+          other (codes "no room\n") (λ never. never),
+          (
+            other (codes "version 18446744073709551614\n") (λ never. never),
+            (
+              other (codes "true\n") (λ never. never),
+              (
+                other (codes "no room\n") (λ never. never),
+                (
+                  other (codes "no room\n") (λ never. never),
+                  (
+                    other (codes "at 1\n") (λ never. never),
+                    (other (codes "some 2\n") (λ never. never), (bad_clear, tt)),
+                  ),
+                ),
+              ),
+            ),
+          ),
+        ),
+      ),
+    )
+    refl (inr (inr (inr (inr (inr (inr (inr (inr (inr (inl bad_7))))))))))
+
 pub worked_runs : WorkedRuns
-worked_runs = (no_run, open_run, mixed_run, empty_run, return_run, spaces_run, long_run)
+worked_runs = (
+  no_run,
+  open_run,
+  mixed_run,
+  empty_run,
+  return_run,
+  spaces_run,
+  long_run,
+  bad_run,
+  long_key_run,
+  great_number_run,
+)
 
 -- worked inputs
 pub ruleset runs = (first_run, worked_runs)

@@ -1,5 +1,5 @@
 -- Laws that show what the definitions of lines, replies and transcripts mean.
-use Rattle.std.specs.Prelude.{◌≡◌, ◌≢◌, ℕ, List, [], ◌∷◌, ◌++◌, codes, map, true, false, Some, ⊤}
+use Rattle.std.specs.Prelude.{◌≡◌, ◌≢◌, ◌≤◌, ◌⊎◌, ℕ, List, [], ◌∷◌, ◌++◌, length, replicate, codes, decimal, map, true, false, Some, ⊤}
 use Rattle.std.specs.List.{AllPass}
 use Rattle.std.specs.Char.{is_ascii_graphic}
 use Rattle.rart_family.specs.Replies.{Reply, Place, Number, Value, Entries, Values, Stopped, Pairs, ValuePairs, Count, Failed, NoMemory}
@@ -8,7 +8,7 @@ use Rattle.vtree.specs.Lines.{lines_of}
 use Rattle.vtree.specs.Grammar.{Said, Says, IsLineOf, IsBad}
 use Rattle.vtree.specs.ReplyTexts.{reply_line, bad_line}
 use Rattle.vtree.specs.Transcript.{LineGives, Transcript}
-use Rattle.vtree.specs.OwnLines.{line_of, CanStand, Fits}
+use Rattle.vtree.specs.OwnLines.{own_words, line_of, CanStand, Fits}
 
 -- No words are two commands.
 abbrev pub WordsAreOneCommand : Type 0
@@ -21,6 +21,32 @@ OwnLinesAreRead =
     (command : Said) → CanStand command
     → IsLineOf (line_of command) command
     × ((other : Said) → IsLineOf (line_of command) other → other ≡ command)
+
+-- A word is this one; or this one is a number, and zeros stand before it, to at most 20 digits.
+abbrev pub IsOwnWord : List ℕ → List ℕ → Type 0
+IsOwnWord own word =
+    (word ≡ own)
+    ⊎ ((number : ℕ) × (zeros : ℕ) × Fits number
+    × (own ≡ decimal number) × (word ≡ replicate zeros 48 ++ own) × (length word ≤ 20))
+
+-- Words are these, one by one.
+abbrev pub AreOwnWords : List (List ℕ) → List (List ℕ) → Type 0
+AreOwnWords [] [] = ⊤
+AreOwnWords (own ∷ owns) (word ∷ words) = IsOwnWord own word × AreOwnWords owns words
+AreOwnWords owns words = ⊥
+
+-- The words of a good line are its command's own, but that zeros may stand before numbers; and the
+-- command can stand in a line.
+abbrev pub GoodWordsAreOwn : Type 0
+GoodWordsAreOwn =
+    (words : List (List ℕ)) (command : Said) → Says command words
+    → CanStand command × AreOwnWords (own_words command) words
+
+-- Such words of a command that can stand in a line are read as it.
+abbrev pub OwnWordsAreGood : Type 0
+OwnWordsAreGood =
+    (words : List (List ℕ)) (command : Said) → CanStand command
+    → AreOwnWords (own_words command) words → Says command words
 
 -- the bytes of a text are no line feed
 abbrev pub HasNoFeed : List ℕ → Type 0

@@ -11,3 +11,4 @@ pub mod Laws
 pub mod WorkedCommandLines
 pub mod WorkedLines
 pub mod WorkedRuns
+pub mod ServingLaws

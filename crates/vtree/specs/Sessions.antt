@@ -1,8 +1,7 @@
 -- What a session has done with the bytes that it took.
-use Rattle.std.specs.Prelude.{◌≡◌, ℕ, ◌-◌, ◌^◌, List, [], ◌∷◌, ◌++◌, ◌⊎◌, length, take, min, Option, Some, Result, MatchOption, MatchResult}
+use Rattle.std.specs.Prelude.{◌≡◌, ℕ, ◌-◌, ◌^◌, List, [], ◌∷◌, ◌++◌, ◌⊎◌, length, take, min, Option, Result, MatchOption, MatchResult}
 use Rattle.std.specs.List.{concat}
 use Rattle.std.specs.Io.KnownBytes.{Appends}
-use Rattle.rart_family.specs.Replies.{Reply}
 use Rattle.rart_family.specs.Families.{Family}
 use Rattle.vtree.specs.declared.session.Session.{Session}
 use Rattle.vtree.specs.declared.served.Served.{Served}
@@ -10,7 +9,7 @@ use Rattle.vtree.specs.declared.served.Served.TheVariants.{BadLine}
 use Rattle.vtree.specs.Lines.{lines_of, onto_line}
 use Rattle.vtree.specs.Grammar.{Said, IsLineOf, IsBad}
 use Rattle.vtree.specs.Writing.{Writes}
-use Rattle.vtree.specs.Transcript.{Replies, BadGives, GoodGives, Transcript, Tells, Serves, Stops, Gains}
+use Rattle.vtree.specs.Transcript.{BadGives, GoodGives, Transcript, Tells, Serves, Stops, Gains}
 
 -- These bytes of a line are read.
 pub record IsReading (session : Session) (front : List ℕ) : Type 0 where
@@ -30,19 +29,10 @@ EndsLine old new result before behind =
     (line : List ℕ) → IsReading old line
     → (text : List ℕ) × Ends line old new text × Writes result before behind text
 
--- A line's command, whose keys may be refused; none where the line is a bad one.
-abbrev pub Commands : {C E : Type 0} → (C → Said) → List ℕ → Option (Result C E) → Type 0
+-- A line's command; none where the line is a bad one.
+abbrev pub Commands : {C : Type 0} → (C → Said) → List ℕ → Option C → Type 0
 Commands view line answer =
-    MatchOption answer (IsBad line)
-    (λ made. MatchResult made (λ command. IsLineOf line (view command))
-    (λ _. (said : Said) × IsLineOf line said))
-
--- The reply to a line's command, whose keys may have been refused.
-abbrev pub GivesReply : {C E : Type 0} → (C → Said) → Result C E → List ℕ → Family ℕ → Reply ℕ →
-    Family ℕ → Type 0
-GivesReply view made line old reply new =
-    Commands view line (Some made)
-    → (said : Said) × IsLineOf line said × Replies old said reply new
+    MatchOption answer (IsBad line) (λ command. IsLineOf line (view command))
 
 -- bytes that go onto the first line
 abbrev pub onto : List ℕ → List (List ℕ) → List (List ℕ)

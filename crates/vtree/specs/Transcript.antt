@@ -2,7 +2,7 @@
 use Rattle.std.specs.Prelude.{◌≡◌, ℕ, List, [], ◌∷◌, ◌++◌, ◌⊎◌, Option}
 use Rattle.std.specs.List.{concat}
 use Rattle.std.specs.Io.KnownBytes.{Appends}
-use Rattle.rart_family.specs.Replies.{Reply, NoMemory}
+use Rattle.rart_family.specs.Replies.{Reply}
 use Rattle.rart_family.specs.Families.{Family}
 use Rattle.rart_family.specs.Runs.{Step}
 use Rattle.vtree.specs.declared.served.Served.{Served}
@@ -12,11 +12,9 @@ use Rattle.vtree.specs.declared.served.ServeError.TheVariants.{Read, Write, Memo
 use Rattle.vtree.specs.Grammar.{Said, IsLineOf, IsBad}
 use Rattle.vtree.specs.ReplyTexts.{reply_line, bad_line}
 
--- A command's reply is one that a step of the family allows; or `NoMemory`, the family as before,
--- where memory was refused before the step.
+-- A command's reply is one that a step of the family allows.
 abbrev pub Replies : Family ℕ → Said → Reply ℕ → Family ℕ → Type 0
-Replies old command reply new =
-    Step (λ key. key) old command reply new ⊎ ((reply ≡ NoMemory) × (new ≡ old))
+Replies old command reply new = Step (λ key. key) old command reply new
 
 -- a bad line says so, and changes nothing
 abbrev pub BadGives : Family ℕ → List ℕ → List ℕ → Family ℕ → Type 0

@@ -32,8 +32,10 @@ WorkedSplits =
 
 -- Bad lines: an empty line, a word too many, a word too few, no such word, a carriage return, two
 -- spaces, a space at the end, 2^64, 21 digits, keys for bounds, a key without its apostrophe, a
--- visit that failed, an update that fails, seven words, a byte 127 in a key, a byte 233 in a key,
--- and keys of 17 bytes: one alone, and one of a bound of each kind.
+-- visit that failed, an update that fails, seven words, bytes 127, 233, 9 and 13 in a key, keys of 17
+-- bytes, one alone, and one of a bound of each kind; no word for a write, a bound that is no word,
+-- and other words for an end and an answer; bounds that lack their key, updates that lack what is
+-- written and answered, a comment, and the longest good line with a word behind it.
 abbrev pub WorkedBadLines : Type 0
 WorkedBadLines =
     IsBad []
@@ -55,6 +57,19 @@ WorkedBadLines =
     × IsBad (codes "get 0 'abcdefghijklmnopq")
     × IsBad (codes "range 0 - i'abcdefghijklmnopq")
     × IsBad (codes "range-views 0 x'abcdefghijklmnopq -")
+    × IsBad (codes "update 0 'a  keep")
+    × IsBad (codes "range 0  -")
+    × IsBad (codes "until 0 'a 1 keep")
+    × IsBad (codes "update 0 'a - kept")
+    × IsBad (codes "get 0 '" ++ 9 ∷ [])
+    × IsBad (codes "get 0 '" ++ 13 ∷ [])
+    × IsBad (codes "range 0 i- -")
+    × IsBad (codes "range 0 - x-")
+    × IsBad (codes "update 0 'a")
+    × IsBad (codes "try-update 0 'a")
+    × IsBad (codes "// new")
+    × IsBad (codes
+    "try-update 00000000000000000000 'abcdefghijklmnop 18446744073709551615 insert 18446744073709551614 1")
 
 -- Texts of replies, each kind of them, and the text of a bad line.
 abbrev pub WorkedTexts : Type 0

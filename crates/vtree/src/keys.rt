@@ -1,24 +1,22 @@
 //! Commands whose keys are held inline.
-ghost use Rattle.std.specs.Prelude.{◌≡◌, ◌≤◌, length, IfOk};
+ghost use Rattle.std.specs.Prelude.{◌≡◌, ◌≤◌, length};
 ghost use Rattle.std.specs.Range.Bound.{bound_map, MatchBound};
 ghost use Rattle.vtree.specs.Reading.{by_bytes, KeysFit, BoundFits};
 
 use crate::line::SaidCommand;
 use rart_family::{ArrayKey, Command, KeyTrait};
-use std::alloc::{AllocError, Global};
+use std::alloc::Global;
 use std::ops::Bound;
 
 /// A command as the program has it: keys of at most 16 bytes, and numbers for values.
 pub type LineCommand = Command<ArrayKey<16>, u64>;
 
-/// The command with keys of its own. No memory is taken where keys are held inline; where it was
-/// refused after all, there is no command.
-pub fn with_keys(alloc: Global, said: SaidCommand<'_>) -> Result<LineCommand, AllocError>
+/// The command with keys of its own, which are held inline.
+pub fn with_keys(alloc: Global, said: SaidCommand<'_>) -> LineCommand
     requires fit { KeysFit (by_bytes (λ key. key.now) said) }
-    ensures { IfOk result (λ command.
-        by_bytes (λ key. key.bytes.items) command ≡ by_bytes (λ key. key.now) said.entry) }
+    ensures { by_bytes (λ key. key.bytes.items) result ≡ by_bytes (λ key. key.now) said.entry }
 {
-    Ok(match said {
+    match said {
         Command::New => Command::New,
         Command::NewAt { number } => Command::NewAt { number },
         Command::Snapshot { place } => Command::Snapshot { place },
@@ -28,30 +26,30 @@ pub fn with_keys(alloc: Global, said: SaidCommand<'_>) -> Result<LineCommand, Al
         Command::IsEmpty { place } => Command::IsEmpty { place },
         Command::Get { place, key } => Command::Get {
             place,
-            key: inline(alloc, key)?,
+            key: inline(alloc, key),
         },
         Command::GetMut { place, key, value } => Command::GetMut {
             place,
-            key: inline(alloc, key)?,
+            key: inline(alloc, key),
             value,
         },
         Command::Insert { place, key, value } => Command::Insert {
             place,
-            key: inline(alloc, key)?,
+            key: inline(alloc, key),
             value,
         },
         Command::Replace { place, key, value } => Command::Replace {
             place,
-            key: inline(alloc, key)?,
+            key: inline(alloc, key),
             value,
         },
         Command::Remove { place, key } => Command::Remove {
             place,
-            key: inline(alloc, key)?,
+            key: inline(alloc, key),
         },
         Command::Delete { place, key } => Command::Delete {
             place,
-            key: inline(alloc, key)?,
+            key: inline(alloc, key),
         },
         Command::Update {
             place,
@@ -60,7 +58,7 @@ pub fn with_keys(alloc: Global, said: SaidCommand<'_>) -> Result<LineCommand, Al
             answer,
         } => Command::Update {
             place,
-            key: inline(alloc, key)?,
+            key: inline(alloc, key),
             write,
             answer,
         },
@@ -71,7 +69,7 @@ pub fn with_keys(alloc: Global, said: SaidCommand<'_>) -> Result<LineCommand, Al
             answer,
         } => Command::TryUpdate {
             place,
-            key: inline(alloc, key)?,
+            key: inline(alloc, key),
             write,
             answer,
         },
@@ -79,34 +77,34 @@ pub fn with_keys(alloc: Global, said: SaidCommand<'_>) -> Result<LineCommand, Al
         Command::Values { place } => Command::Values { place },
         Command::Range { place, lo, hi } => Command::Range {
             place,
-            lo: inline_bound(alloc, lo)?,
-            hi: inline_bound(alloc, hi)?,
+            lo: inline_bound(alloc, lo),
+            hi: inline_bound(alloc, hi),
         },
         Command::Prefix { place, prefix } => Command::Prefix {
             place,
-            prefix: inline(alloc, prefix)?,
+            prefix: inline(alloc, prefix),
         },
         Command::Matches { place, key } => Command::Matches {
             place,
-            key: inline(alloc, key)?,
+            key: inline(alloc, key),
         },
         Command::MatchesEach { place, key } => Command::MatchesEach {
             place,
-            key: inline(alloc, key)?,
+            key: inline(alloc, key),
         },
         Command::Views { place } => Command::Views { place },
         Command::PrefixViews { place, prefix } => Command::PrefixViews {
             place,
-            prefix: inline(alloc, prefix)?,
+            prefix: inline(alloc, prefix),
         },
         Command::RangeViews { place, lo, hi } => Command::RangeViews {
             place,
-            lo: inline_bound(alloc, lo)?,
-            hi: inline_bound(alloc, hi)?,
+            lo: inline_bound(alloc, lo),
+            hi: inline_bound(alloc, hi),
         },
         Command::PrefixValues { place, prefix } => Command::PrefixValues {
             place,
-            prefix: inline(alloc, prefix)?,
+            prefix: inline(alloc, prefix),
         },
         Command::Until {
             place,
@@ -115,7 +113,7 @@ pub fn with_keys(alloc: Global, said: SaidCommand<'_>) -> Result<LineCommand, Al
             fails,
         } => Command::Until {
             place,
-            prefix: inline(alloc, prefix)?,
+            prefix: inline(alloc, prefix),
             visits,
             fails,
         },
@@ -126,26 +124,28 @@ pub fn with_keys(alloc: Global, said: SaidCommand<'_>) -> Result<LineCommand, Al
         Command::Flatten { place } => Command::Flatten { place },
         Command::Longest { place, key } => Command::Longest {
             place,
-            key: inline(alloc, key)?,
+            key: inline(alloc, key),
         },
-    })
+    }
 }
 
-fn inline(alloc: Global, key: &[u8]) -> Result<ArrayKey<16>, AllocError>
+fn inline(alloc: Global, key: &[u8]) -> ArrayKey<16>
     requires { length key.now ≤ 16 }
-    ensures { IfOk result (λ made. made.bytes.items ≡ key.now) }
+    ensures { result.bytes.items ≡ key.now }
 {
-    ArrayKey::new_from_slice(alloc, key)
+    match ArrayKey::new_from_slice(alloc, key) {
+        Ok(made) => made,
+        Err(_) => unreachable!(),
+    }
 }
 
-fn inline_bound(alloc: Global, bound: Bound<&[u8]>) -> Result<Bound<ArrayKey<16>>, AllocError>
+fn inline_bound(alloc: Global, bound: Bound<&[u8]>) -> Bound<ArrayKey<16>>
     requires { BoundFits (bound_map (λ key. key.now) bound) }
-    ensures { IfOk result (λ made.
-        bound_map (λ key. key.bytes.items) made ≡ bound_map (λ key. key.now) bound.entry) }
+    ensures { bound_map (λ key. key.bytes.items) result ≡ bound_map (λ key. key.now) bound.entry }
 {
-    Ok(match bound {
-        Bound::Included(key) => Bound::Included(inline(alloc, key)?),
-        Bound::Excluded(key) => Bound::Excluded(inline(alloc, key)?),
+    match bound {
+        Bound::Included(key) => Bound::Included(inline(alloc, key)),
+        Bound::Excluded(key) => Bound::Excluded(inline(alloc, key)),
         Bound::Unbounded => Bound::Unbounded,
-    })
+    }
 }

@@ -1,15 +1,23 @@
 //! What the definitions of lines, replies and transcripts mean: laws, each the contract of a
 //! function that does nothing.
+ghost use Rattle.vtree.specs.ServingLaws.{InputIsRead, RefusalsChangeNothing, RefusalsAreOfMemory, WritingIsBehind, WholeLinesAreWritten, FailedReadsLeaveABeginning, FailedWritesLeaveABeginning, ReadingTakesNoMemory};
 ghost use Rattle.vtree.specs.WorkedLines.{WorkedNumbers, WorkedSplits, WorkedBadLines, WorkedTexts};
 ghost use Rattle.vtree.specs.WorkedCommandLines.{WorkedChangeLines, WorkedReadLines, WorkedWalkLines, WorkedIntersectionLines};
 ghost use Rattle.vtree.specs.WorkedRuns.{FirstRun, WorkedRuns};
-ghost use Rattle.vtree.specs.Laws.{WordsAreOneCommand, OwnLinesAreRead, TranscriptsAgree, BadLinesChangeNothing, OwnRepliesAreTranscripts, EachLineGives, LinesAreRead, TextsAreLines, BadTextIsNoReply, TextsTell, TellingFixesText};
+ghost use Rattle.vtree.specs.Laws.{WordsAreOneCommand, OwnLinesAreRead, GoodWordsAreOwn, OwnWordsAreGood, TranscriptsAgree, BadLinesChangeNothing, OwnRepliesAreTranscripts, EachLineGives, LinesAreRead, TextsAreLines, BadTextIsNoReply, TextsTell, TellingFixesText};
 
 #[tactic(auto, using(crate::proofs::OwnLineLemmas::lines))]
 /// No words are two commands, and a command's own line is that command and no other.
 pub fn lines_are_one_command()
     ensures words { WordsAreOneCommand }
     ensures own { OwnLinesAreRead }
+{}
+
+/// Words are read as a command exactly where it can stand in a line and they are its own, but that
+/// zeros may stand before numbers.
+pub fn good_words_are_own()
+    ensures own { GoodWordsAreOwn }
+    ensures good { OwnWordsAreGood }
 {}
 
 #[tactic(auto, using(crate::proofs::LineSplitLemmas::lines_are_read))]
@@ -69,4 +77,22 @@ pub fn texts_tell_replies()
     ensures bad { BadTextIsNoReply }
     ensures tell { TextsTell }
     ensures fixed { TellingFixesText }
+{}
+
+/// Only a command that takes memory, and lacks neither a version nor room, is replied `no memory`.
+pub fn refusals_are_of_memory()
+    ensures { RefusalsAreOfMemory }
+{}
+
+#[tactic(auto, using(crate::proofs::ServingLawLemmas::ends))]
+/// What is left where an input ends, and where its serving ends early: a beginning of what the
+/// whole one writes, unless memory is refused; and whole lines, unless writing failed.
+pub fn early_ends_leave_a_beginning()
+    ensures input { InputIsRead }
+    ensures refusals { RefusalsChangeNothing }
+    ensures writing { WritingIsBehind }
+    ensures whole { WholeLinesAreWritten }
+    ensures reads { FailedReadsLeaveABeginning }
+    ensures writes { FailedWritesLeaveABeginning }
+    ensures memory { ReadingTakesNoMemory }
 {}

@@ -13,6 +13,7 @@ mod reply;
 mod served;
 mod server;
 mod session;
+mod slice;
 mod status;
 #[cfg(test)]
 mod tests;

@@ -1,12 +1,12 @@
 //! The program's engine: lines are read, their commands are run, and replies are written.
-ghost use Rattle.std.specs.Prelude.{◌≡◌, ◌≢◌, ℕ, List, ◌++◌, IfOk, IfErr, OnErr, IfSome};
+ghost use Rattle.std.specs.Prelude.{◌≢◌, IfOk, IfErr, IfSome};
 ghost use Rattle.vtree.specs.declared.served.ServeError.TheVariants.{Memory};
-ghost use Rattle.vtree.specs.Lines.{lines_of, input_lines};
-ghost use Rattle.vtree.specs.Transcript.{Serves, Stops, EndsBy, Gains};
+ghost use Rattle.vtree.specs.Lines.{input_lines};
+ghost use Rattle.vtree.specs.Transcript.{Serves, EndsBy, Gains};
 
 use crate::served::{ServeError, Served};
 use crate::session::Session;
-use std::alloc::{AllocError, Global};
+use std::alloc::Global;
 use std::io::{Read, Write};
 
 /// Reads lines to the end of input, runs the command of each on one family, and writes its reply
@@ -40,29 +40,4 @@ pub fn serve<R: Read + Drop, W: Write>(
         session.take(byte, writer)?;
     }
     Ok(session.finish(writer)?)
-}
-
-/// Serves an input that is in memory, and appends what is written to a vector: given these bytes,
-/// those bytes.
-///
-/// `Err` comes where memory for the output was refused: the texts of some first lines are appended
-/// then, and of the next one's a beginning.
-pub fn serve_slice(alloc: Global, input: &[u8], output: &mut Vec<u8>) -> Result<Served, AllocError>
-    ensures ok { IfOk result (λ served. (written : List ℕ)
-        × (output.new.items ≡ output.old.items ++ written)
-        × Serves (lines_of input.now) served written) }
-    ensures err { OnErr result ((written : List ℕ)
-        × (output.new.items ≡ output.old.items ++ written)
-        × Stops (lines_of input.now) written) }
-{
-    let mut session = Session::new(alloc);
-    for byte in input {
-        if session.take(*byte, output).is_err() {
-            return Err(AllocError);
-        }
-    }
-    match session.finish(output) {
-        Ok(served) => Ok(served),
-        Err(_) => Err(AllocError),
-    }
 }

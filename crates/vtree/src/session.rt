@@ -3,7 +3,7 @@ ghost use Rattle.std.specs.Prelude.{◌≡◌, ℕ, List, [], ◌∷◌, ◌++�
 ghost use Rattle.rart_family.specs.Replies.{reply_value};
 ghost use Rattle.vtree.specs.Reading.{by_bytes};
 ghost use Rattle.vtree.specs.Transcript.{Replies};
-ghost use Rattle.vtree.specs.Sessions.{IsReading, EndsLine, Commands, GivesReply, Serving, Takes, Finishes};
+ghost use Rattle.vtree.specs.Sessions.{IsReading, EndsLine, Commands, Serving, Takes, Finishes};
 
 use crate::keys::{LineCommand, with_keys};
 use crate::line::parse;
@@ -12,7 +12,7 @@ use crate::reply::write_reply;
 use crate::served::Served;
 use arrayvec::ArrayVec;
 use rart_family::{ArrayKey, Family, Reply, Work};
-use std::alloc::{AllocError, Global};
+use std::alloc::Global;
 use std::io::Write;
 
 // The greatest length of a good line, without its line feed.
@@ -91,8 +91,8 @@ impl Session {
         self.line.clear();
         self.length = 0;
         match command {
-            Some(made) => {
-                let reply = self.reply_to(made);
+            Some(command) => {
+                let reply = self.reply_to(&command);
                 write_reply(&reply, writer)
             }
             None => {
@@ -103,7 +103,7 @@ impl Session {
     }
 
     // The command of the line that is read.
-    fn command(&self) -> Option<Result<LineCommand, AllocError>>
+    fn command(&self) -> Option<LineCommand>
         ensures { (line : List ℕ) → IsReading self.now line
             → Commands (by_bytes (λ key. key.bytes.items)) line result }
     {
@@ -114,32 +114,14 @@ impl Session {
         Some(with_keys(self.alloc, said))
     }
 
-    // Runs a command, unless its keys were refused.
-    fn reply_to(&mut self, made: Result<LineCommand, AllocError>) -> LineReply
-        ensures reply { (line : List ℕ) → GivesReply (by_bytes (λ key. key.bytes.items)) made line
-            self.old.family (reply_value (λ key. key.bytes.items) result) self.new.family }
-        ensures length { self.new.length ≡ self.old.length }
-        ensures line { self.new.line ≡ self.old.line }
-        ensures served { self.new.served ≡ self.old.served }
-    {
-        match made {
-            Ok(command) => self.run(command),
-            Err(AllocError) => Reply::NoMemory,
-        }
-    }
-
-    fn run(&mut self, command: LineCommand) -> LineReply
-        ensures reply { Replies self.old.family (by_bytes (λ key. key.bytes.items) command)
+    fn reply_to(&mut self, command: &LineCommand) -> LineReply
+        ensures reply { Replies self.old.family (by_bytes (λ key. key.bytes.items) command.now)
             (reply_value (λ key. key.bytes.items) result) self.new.family }
         ensures length { self.new.length ≡ self.old.length }
         ensures line { self.new.line ≡ self.old.line }
         ensures served { self.new.served ≡ self.old.served }
     {
-        let mut reads = Work::new();
-        let mut changes = Work::new();
-        match self.family.run(&[command], &mut reads, &mut changes) {
-            Ok(mut replies) => replies.pop().unwrap_or(Reply::NoMemory),
-            Err(AllocError) => Reply::NoMemory,
-        }
+        self.family
+            .reply(command, &mut Work::new(), &mut Work::new())
     }
 }

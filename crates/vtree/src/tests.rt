@@ -1,9 +1,10 @@
-// What no clause says: the lines of the program, and that calls succeed where there is memory.
+// What no clause says: that calls succeed where there is memory, and what is written when.
 
 mod changes;
 mod families;
 mod intersections;
 mod lines;
+mod lists;
 mod models;
 mod refusals;
 mod replies;
@@ -14,12 +15,13 @@ mod walks;
 
 use crate::served::Served;
 use crate::server::serve;
+use crate::slice::serve_slice;
 use std::alloc::Global;
 use std::process::Abort;
 use std::test::Fail;
 
 // Serves lines that are parted by ` / ` here, each with its line feed, and compares what is written
-// with the replies, which are parted so too.
+// with the replies, which are parted so too; and so from a slice.
 fn assert_served(
     rt: &impl Abort,
     alloc: Global,
@@ -33,6 +35,12 @@ fn assert_served(
     let wanted = text_of(alloc, replies)?;
     assert_eq!(rt; str::from_utf8(&output)?, wanted.as_str());
     assert_eq!(rt; answer, served);
+    let mut appended = Vec::new(alloc);
+    assert_eq!(rt;
+        serve_slice(alloc, input.as_bytes(), &mut appended)?,
+        served
+    );
+    assert_eq!(rt; appended, output);
     Ok(())
 }
 

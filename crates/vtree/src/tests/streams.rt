@@ -1,7 +1,10 @@
 // A reader and a writer that fail.
 use crate::served::{ServeError, Served};
 use crate::server::serve;
+use std::alloc::{AllocError, Global};
+use std::cell::Cell;
 use std::io::{self, Read, Write};
+use std::rc::Rc;
 use std::test::Fail;
 
 // Gives one byte a call, and fails at its end.
@@ -80,6 +83,135 @@ fn interrupted_write_is_tried_again(rt: HostRuntime) -> Result<(), Fail> {
         b"at 0\nbad line\nentries\n".as_slice()
     );
     assert!(rt; served == Ok(Served::BadLine));
+    Ok(())
+}
+
+// Two hundred insertions and a list of all, and what they are replied. The list has 2,008 bytes,
+// more than a page holds.
+fn long_list(alloc: Global) -> Result<(String, String), AllocError> {
+    let mut lines = String::from_str(alloc, "new\n")?;
+    let mut replies = String::from_str(alloc, "at 0\n")?;
+    let mut list = String::from_str(alloc, "entries")?;
+    for number in 100..300 {
+        lines.push_str(&format!(in alloc; "insert 0 'k{number} {number}\n")?)?;
+        replies.push_str("false\n")?;
+        list.push_str(&format!(in alloc; " 'k{number} {number}")?)?;
+    }
+    lines.push_str("iter 0\n")?;
+    replies.push_str(&list)?;
+    replies.push_str("\n")?;
+    Ok((lines, replies))
+}
+
+#[test]
+fn long_list_is_written_through_interruptions(rt: HostRuntime) -> Result<(), Fail> {
+    let (lines, replies) = long_list(rt.alloc())?;
+    assert_eq!(rt; replies.len(), 3213);
+    let mut writer = InterruptedWriter {
+        taken: Vec::new(rt.alloc()),
+        was_interrupted: false,
+    };
+    let served = serve(rt.alloc(), lines.as_bytes(), &mut writer);
+    assert!(rt; writer.taken.as_slice() == replies.as_bytes());
+    assert!(rt; served == Ok(Served::Clean));
+    Ok(())
+}
+
+// The list begins behind 1,205 bytes, and its first page has 1,017 to 1,024.
+#[test]
+fn long_list_is_written_up_to_a_failure(rt: HostRuntime) -> Result<(), Fail> {
+    let (lines, replies) = long_list(rt.alloc())?;
+    for most in [1205, 1206, 2221, 2222, 2223, 2228, 2229, 2230, 3212, 3213] {
+        let mut writer = FailingWriter {
+            taken: Vec::new(rt.alloc()),
+            most,
+        };
+        let served = serve(rt.alloc(), lines.as_bytes(), &mut writer);
+        let wanted = replies.as_bytes().get(..most).unwrap_or(&[]);
+        assert!(rt; writer.taken.as_slice() == wanted, "at {most}");
+        let wanted = if most < 3213 {
+            Err(ServeError::Write)
+        } else {
+            Ok(Served::Clean)
+        };
+        assert!(rt; served == wanted, "at {most}");
+    }
+    Ok(())
+}
+
+// How many lines a writer was given, which its reader sees.
+#[derive(Drop)]
+struct Answered {
+    lines: Cell<usize>,
+}
+
+#[derive(Drop)]
+struct CountingWriter {
+    answered: Rc<Answered>,
+}
+
+impl Write for CountingWriter {
+    fn write(&mut self, bytes: &[u8]) -> io::Result<usize> {
+        let mut lines = self.answered.lines.get();
+        for byte in bytes {
+            if *byte == b'\n' {
+                lines = lines.saturating_add(1);
+            }
+        }
+        self.answered.lines.set(lines);
+        Ok(bytes.len())
+    }
+
+    fn flush(&mut self) -> io::Result<()> {
+        Ok(())
+    }
+}
+
+// Gives one byte a call, and fails where a line is asked for before all lines before it are
+// answered.
+#[derive(Drop)]
+struct WaitingReader {
+    bytes: &'static [u8],
+    given: usize,
+    answered: Rc<Answered>,
+}
+
+impl Read for WaitingReader {
+    fn read(&mut self, buffer: &mut [u8]) -> io::Result<usize> {
+        if self.answered.lines.get() < self.given {
+            return Err(io::Error::from(io::ErrorKind::Other));
+        }
+        if self.bytes.is_empty() || buffer.is_empty() {
+            return Ok(0);
+        }
+        buffer[0] = self.bytes[0];
+        if self.bytes[0] == b'\n' {
+            self.given = self.given.saturating_add(1);
+        }
+        self.bytes = &self.bytes[1..];
+        Ok(1)
+    }
+}
+
+#[test]
+fn each_line_is_answered_before_the_next_is_read(rt: HostRuntime) -> Result<(), Fail> {
+    let answered = Rc::new(
+        rt.alloc(),
+        Answered {
+            lines: Cell::new(0),
+        },
+    )?;
+    let reader = WaitingReader {
+        bytes: LINES.as_bytes(),
+        given: 0,
+        answered: answered.clone()?,
+    };
+    let mut writer = CountingWriter {
+        answered: answered.clone()?,
+    };
+    let served = serve(rt.alloc(), reader, &mut writer);
+    assert!(rt; served == Ok(Served::Clean));
+    assert_eq!(rt; answered.lines.get(), 20);
     Ok(())
 }
 

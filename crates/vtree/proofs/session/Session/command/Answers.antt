@@ -1,3 +1,4 @@
+use Rattle.vtree.specs.Reading.{by_bytes}
 use Rattle.vtree.proofs.SessionLemmas.{no_line, is_line, commands_none, command_made}
 use Rattle.vtree.proofs.session.Session.command.Goals as goal
 
@@ -9,6 +10,7 @@ returns-in_err-said c = λ line reading.
 
 pub returns : goal.returns
 returns c = λ line reading.
-    command_made _ line c.with_keys.result _ c.with_keys.ensures
+    command_made (by_bytes (λ key. key.bytes.items)) line c.with_keys.result _
+    c.with_keys.ensures
     (is_line c.args.self.now line c.deref.result.now _ c.deref.ensures.0 reading
     c.if-self-gt-LONGEST.false c.in_ok-said.ensures)

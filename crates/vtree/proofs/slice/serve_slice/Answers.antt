@@ -1,6 +1,6 @@
 use Rattle.std.proofs.Common.{sym}
 use Rattle.vtree.proofs.ServeLemmas.{taken_ok, taken_err, slice_byte, slice_stops, slice_serves, slice_last}
-use Rattle.vtree.proofs.server.serve_slice.Goals as goal
+use Rattle.vtree.proofs.slice.serve_slice.Goals as goal
 
 pub returns-then-is_err-clause-err : goal.returns-then-is_err-clause-err
 returns-then-is_err-clause-err c =

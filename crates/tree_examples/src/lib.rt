@@ -1,9 +1,10 @@
 //! What a caller of the tree writes and proves, from the public contracts of `rart_versioned`
 //! alone.
-//! `docs/USING.md` shows these functions.
+//! `docs/USING.md` shows some of these functions.
 #![tactic(auto)]
 
 pub mod clients;
+pub mod counting;
 pub mod listing;
 pub mod meeting;
 pub mod prices;

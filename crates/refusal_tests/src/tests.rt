@@ -5,7 +5,9 @@
 mod answer;
 mod changes;
 mod fragile;
+mod iterators;
 mod lists;
+mod long_lists;
 mod memoryless;
 mod order;
 mod places;

@@ -1,4 +1,8 @@
 // Keys on the heap, longer than any inline.
+ghost use Rattle.std.specs.Prelude.{IsTrue};
+ghost use Rattle.std.specs.Iterator.{IsFinite};
+ghost use Rattle.rart_maps.specs.Versions.{HasRoom};
+
 use crate::tests::interpreter::Answer::*;
 use crate::tests::interpreter::Call::*;
 use crate::tests::interpreter::Change::*;
@@ -6,6 +10,7 @@ use crate::tests::interpreter::Walk::*;
 use crate::tests::interpreter::{Pair, Row, Step, assert_steps_on};
 use rart_versioned::{KeyTrait, VectorKey, VersionedAdaptiveRadixTree};
 use std::alloc::{AllocError, Global};
+use std::ops::Bound;
 use std::process::Abort;
 use std::test::Fail;
 
@@ -79,23 +84,66 @@ fn long_keys(alloc: Global) -> Result<VersionedAdaptiveRadixTree<VectorKey, u64>
     Ok(tree)
 }
 
-// What comes are the pairs from the first on, as far as memory goes. Where it is refused on the
-// way, that is told once, and nothing follows.
-#[test]
-fn iterator_gives_a_beginning_and_then_tells_a_refusal(rt: HostRuntime) -> Result<(), Fail> {
-    let tree = long_keys(rt.alloc())?;
-    let mut items = tree.iter()?;
-    for (bytes, number) in IN_ORDER {
-        match items.next() {
-            Some(Ok((key, value))) => {
+// What an iterator gives are these pairs, and nothing follows.
+fn assert_gives<'a, I: Iterator<Item = Result<(VectorKey, &'a u64), AllocError>>>(
+    rt: &impl Abort,
+    items: I,
+    wanted: &[Pair],
+)
+    requires can { I.can_next items }
+    requires ends { IsFinite (I.remaining items) }
+{
+    let mut left = wanted.iter();
+    for item in items {
+        match (item, left.next()) {
+            (Ok((key, value)), Some((bytes, number))) => {
                 assert_eq!(rt; key.as_ref(), *bytes);
                 assert_eq!(rt; *value, *number);
             }
-            Some(Err(_refused)) => break,
-            None => assert!(rt; false),
+            _ => assert!(rt; false),
         }
     }
-    assert!(rt; items.next().is_none());
-    assert!(rt; items.next().is_none());
+    assert!(rt; left.next().is_none());
+}
+
+#[test]
+fn iterators_give_long_keys(rt: HostRuntime) -> Result<(), Fail> {
+    let tree = long_keys(rt.alloc())?;
+    assert_gives(&rt, tree.iter()?, IN_ORDER);
+    let all = tree.range((Bound::Unbounded, Bound::Unbounded))?;
+    assert_gives(&rt, all, IN_ORDER);
+    Ok(())
+}
+
+#[test]
+fn iterators_along_long_keys_give_them(rt: HostRuntime) -> Result<(), Fail> {
+    let tree = long_keys(rt.alloc())?;
+    let under = tree.prefix_iter(VectorKey::new_from_slice(rt.alloc(), SHORTER)?)?;
+    assert_gives(&rt, under, &[(FIRST, 1), (SECOND, 2)]);
+    let matches = tree.prefix_match_iter(VectorKey::new_from_slice(rt.alloc(), FIRST)?)?;
+    assert_gives(&rt, matches, &[(b"", 3), (FIRST, 1)]);
+    Ok(())
+}
+
+fn has_room(tree: &VersionedAdaptiveRadixTree<VectorKey, u64>) -> bool
+    ensures { IsTrue result → HasRoom tree.now 1 }
+{
+    tree.version() < u64::MAX
+}
+
+// Keys that begin each other, so that a walk over them has as many nodes open at a time.
+#[test]
+fn values_of_keys_that_begin_each_other_come_in_order(rt: HostRuntime) -> Result<(), Fail> {
+    let mut tree = VersionedAdaptiveRadixTree::new(rt.alloc());
+    for len in 0..12_usize {
+        assert!(rt; has_room(&tree));
+        let key = VectorKey::new_from_slice(rt.alloc(), &SHORTER[..len])?;
+        tree.insert(key, len as u64)?;
+    }
+    let mut numbers = 0..12_u64;
+    for value in tree.values_iter()? {
+        assert_eq!(rt; numbers.next(), Some(*value?));
+    }
+    assert!(rt; numbers.next().is_none());
     Ok(())
 }

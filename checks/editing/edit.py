@@ -125,14 +125,17 @@ def _names(edit, before, known):
 
 def name_of(file, place, function, known):
     """The prover's name of a function, of those that it knows; None where that is not one name. Of
-    a program, which leaves no list of its functions, those that stand in no impl have a name."""
+    a program, which leaves no list of its functions, those have a name that stand in no impl, or in
+    one of a type that has no parameters and that is no trait's."""
     module = module_of(file)
     module += [it[it.index("mod") + 1] for it in place[:-2] if "mod" in it]
     if not function.owner:
         wanted = "::".join([*module, function.name])
         return wanted if known is None or wanted in known else None
     if known is None:
-        return None
+        kind, of, *more = function.owner
+        is_plain = kind == "impl" and more == ["{"]
+        return "::".join([*module, of, function.name]) if is_plain else None
     owner = re.compile(_owner_pattern(function.owner))
     found = [it for it in known if it.rpartition("::")[2] == function.name and "::fn::" not in it]
     found = [it for it in found if owner.fullmatch(it.split("::")[-2] if "::" in it else "")]

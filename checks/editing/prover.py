@@ -22,6 +22,8 @@ CHECKED = re.compile(r"checked (\S+), \d+ of \d+")
 OWN_GOAL = re.compile(r"`search` did not prove|does not cover|has an `ensures\*`")
 # What stands in for proofs.
 ASSUMED = "pub assumed : {A : Type 2} → A\nassumed = ?\n"
+# The pages of one function's proof.
+OF_A_FUNCTION = ("Answers", "Invariants", "Proof")
 # What a function's proof stands on, where that is not proved.
 STANDS_ON = re.compile(r"`Rattle\.(\w+)\.proofs\.([^`]+)`")
 
@@ -160,6 +162,14 @@ def own_reason(crate, name, why):
         if OWN_GOAL.search(part) or is_own and "which antt refuses" in part:
             return part
     return None
+
+
+def refused_pages(crate, why):
+    """The lemma pages on which a function stands and that are refused, by what the prover said."""
+    places = [it[2] for it in STANDS_ON.finditer(why) if it[1] == crate.name]
+    pages = {it.rpartition(".")[0] for it in places if "which antt refuses" in why}
+    pages -= {it for it in pages if it.rpartition(".")[2] in OF_A_FUNCTION}
+    return {f"proofs/{it.replace('.', '/')}.antt" for it in pages}
 
 
 def was_killed(said):

@@ -14,7 +14,7 @@ import re
 import threading
 
 from .edit import Edit, name_of
-from .prover import Room, own_reason, was_killed, words
+from .prover import Room, own_reason, refused_pages, was_killed, words
 from .repository import functions_of, module_of
 from .source import sources_of
 
@@ -28,6 +28,8 @@ UNREAD = re.compile(
 )
 # How it notes, at a line of a function's body, what it did not prove there.
 NOTED = re.compile(r"note: (?:\./)?src/\S+: it is not proved that ")
+# What a function calls that the prover counts as not proved, since it waits for a hole.
+CALLED = re.compile(r"it calls `([^`]+)`, which is not proved")
 # The place in a file that the prover speaks of.
 PLACE = re.compile(r"(?:note: )?(?:\./)?(\S+?\.(?:rt|antt)):(\d+):\d+: ")
 HINT = re.compile(r"(?m)^# refused at: (\S+)$")
@@ -91,8 +93,10 @@ class CrateTrial:
 
     def __init__(self, repository, built, crate, log=None):
         self.repository, self.built, self.crate, self.log = repository, built, crate, log
-        self.known = functions_of(built, crate.name)
         self.before = sources_of(crate)
+        self.known = functions_of(built, crate.name)
+        if crate.is_program:
+            self.known = tuple(name for name, _ in self._named())
         self.recursive = self._recursive()
         self.controls = self._controls()
         self.command = words(repository, built, crate)
@@ -211,12 +215,18 @@ class CrateTrial:
             told, reason = self._told(name, said), own_reason(self.crate, name, why)
             if reason:
                 return told or f"{name}: {reason[:160]}"
-            if told and not told.startswith("(") and not why.strip(" :;"):
-                # (nothing that it calls is to blame)
+            if told and not told.startswith("(") and not self._blames(why, verdicts):
                 return told
             if noted and not self._has_proof_by_hand(name):
                 return noted[0].removeprefix("note: ")[:160]
         return None
+
+    def _blames(self, why, verdicts):
+        """Whether something that a function calls may be to blame for what isn't proved of it. What
+        only waits for a hole is not: its contract stands."""
+        called = [CALLED.fullmatch(it) for it in filter(None, why.strip(" :;").split("; "))]
+        names = [it and it[1].removeprefix(f"{self.crate.name}::") for it in called]
+        return any(verdicts.get(it, ("",))[0] != "depends on a hole" for it in names)
 
     def _has_proof_by_hand(self, name):
         return os.path.isfile(f"{self.crate.folder}/proofs/{name.replace('::', '/')}/Proof.antt")
@@ -271,7 +281,17 @@ class CrateTrial:
         stated = (it.removeprefix("./") for it in said.lines if ": error: `" in it)
         stated = next((it for it in stated if it.startswith(tuple(edit.texts))), None)
         edit = dataclasses.replace(edit, names=hints)
-        return self._refusal(edit, verdicts, said) or stated and stated[:160], said.taken
+        why = self._refusal(edit, verdicts, said) or self._told_of_page(hints, verdicts, said)
+        return why or stated and stated[:160], said.taken
+
+    def _told_of_page(self, laws, verdicts, said):
+        """The first error of a lemma page on which one of these laws stands. No hole stands in a
+        lemma page: what is refused there is refused in the crate as well."""
+        whys = [verdicts[law][1] for law in laws if law in verdicts]
+        pages = [page for why in whys for page in refused_pages(self.crate, why)]
+        errors = (it.removeprefix("./") for it in said.lines if ": error" in it)
+        told = ((PLACE.match(it), it) for it in errors if not NAMES.search(it))
+        return next((it[:160] for at, it in told if at and at[1] in pages), None)
 
     def _unproved(self, said):
         """What a check of the whole crate tells of a goal that is not proved: the first error that

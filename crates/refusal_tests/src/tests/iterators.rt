@@ -1,5 +1,6 @@
-// An iterator whose memory is refused on its way gives a beginning of its list, tells that once, and
-// is over. `checks/refusals` looks for what these tests print: that each was refused on its way.
+// An iterator whose memory is refused on its way gives a beginning of its list, tells that once,
+// and is over. `checks/refusals` looks for what these tests print: that each of the five was
+// refused on its way.
 ghost use Rattle.std.specs.Prelude.{IsTrue};
 ghost use Rattle.std.specs.Iterator.{IsFinite};
 ghost use Rattle.rart_maps.specs.Versions.{HasRoom};

@@ -1,17 +1,15 @@
 -- Sets of bytes in four words of 64 bits.
-use Rattle.std.proofs.Common.{◌≡◌, ◌<◌, ◌≤◌, ◌≢◌, inl, inr, ℕ, zero, suc, length, ◌+◌, ◌*◌, ◌/◌, ◌%◌, ◌^◌, w64, Bool, true, false, List, [], ◌∷◌, take, drop, cond, refl, ap, sym, ◌∙◌, arith, get_or, get_or-set_same, get_or-set_other, set, Option, None, Some}
+use Rattle.std.proofs.Common.{◌≡◌, ◌<◌, ◌≤◌, ◌≢◌, inl, inr, ℕ, zero, suc, length, ◌+◌, ◌*◌, ◌/◌, ◌%◌, ◌^◌, w64, Bool, true, false, List, [], ◌∷◌, take, cond, refl, ap, sym, ◌∙◌, arith, get_or, get_or-set_same, get_or-set_other, set, Option, None, Some}
 use Rattle.std.specs.Prelude.{◌==◌, ◌&&◌, ◌||◌, not, nat_lt, if◌then◌else◌, bit_and, bit_or, is_some, min}
 use Rattle.std.specs.Cmp.{unsigned_tied}
 use Rattle.std.specs.Int.{bit_at, bit_not, trailing_zeros}
 use Rattle.std.proofs.lemmas.Bool.{cases_eq, cases_lt, eq-eqb, ne_eqb, false≢true, lt-ltb}
-use Rattle.std.proofs.lemmas.List.{get_or_past, get_or-take, get_or-drop}
+use Rattle.std.proofs.lemmas.List.{get_or_past}
 use Rattle.std.proofs.lemmas.Nat.Bits.{bit_at-lt, bit_at-zero, bit_at_and, bit_at_set_same, bit_at_set_other, bit_at_clear_same, bit_at_clear_other, bit_at-trailing_zeros}
 use Rattle.rart_below.specs.ByteSets.{has_bit}
 use Rattle.rart_below.specs.Children.{child_at}
-use Rattle.rart_below.specs.Layouts.{one_if_some, marks_of, slot_children, named_slots, keyed_children, is_filled}
-use Rattle.rart_below.proofs.DirectMappingLemmas.{child_at-place}
+use Rattle.rart_below.specs.Layouts.{slot_children, named_slots, keyed_children, is_filled}
 use Rattle.rart_below.proofs.IndexedMappingLemmas.{IsKept, child_at-named, held_once, absent_past}
-use Rattle.rart_below.proofs.MarkLemmas.{bit_at-marks}
 
 -- A word has no bit where it is 0.
 pub no-word : (words : List ℕ) (byte : ℕ) → get_or words (byte / 64) 0 ≡ 0

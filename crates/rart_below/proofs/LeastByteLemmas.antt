@@ -1,5 +1,5 @@
 -- The least number from a first one on at which a test holds, found by words of 64 bits.
-use Rattle.std.proofs.Common.{◌≡◌, ◌<◌, ◌≤◌, inl, inr, ℕ, zero, suc, ◌+◌, ◌-◌, ◌*◌, ◌/◌, ◌%◌, ◌^◌, w64, Bool, true, false, List, refl, ap, sym, ◌∙◌, subst, arith, get_or, Option, None, Some}
+use Rattle.std.proofs.Common.{◌≡◌, ◌<◌, ◌≤◌, inl, inr, ℕ, ◌+◌, ◌-◌, ◌*◌, ◌/◌, ◌%◌, ◌^◌, w64, Bool, true, false, List, refl, ap, sym, ◌∙◌, arith, get_or, Option, None, Some}
 use Rattle.std.specs.Prelude.{◌==◌, is_some}
 use Rattle.std.specs.Int.{bit_at, trailing_zeros}
 use Rattle.std.proofs.Math.Nat.{div-div-eq-div-mul}

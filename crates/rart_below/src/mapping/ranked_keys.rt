@@ -13,7 +13,8 @@ const GREATEST: u8 = 255;
 #[derive(Drop)]
 pub(crate) struct RankedKeys<const WIDTH: usize> {
     bytes: [u8; WIDTH],
-    len: usize,
+    // There are 256 bytes, and so no more keys: this width keeps a mapping of 4 in a block of 80.
+    len: u16,
 }
 
 impl<const WIDTH: usize> Model for RankedKeys<WIDTH> {
@@ -48,7 +49,7 @@ fn rank_in<const WIDTH: usize>(bytes: &[u8; WIDTH], byte: u8) -> usize
 fn rank_past(keys: &[u8], from: usize) -> usize
     requires { 255 < from }
     ensures value { result ≡ rank from keys.now }
-    ensures fits { result ≤ length keys.now }
+    ensures all { result ≡ length keys.now }
 {
     keys.len()
 }
@@ -90,7 +91,17 @@ impl<const WIDTH: usize> RankedKeys<WIDTH> {
         ensures value { result ≡ length self.now.items }
         ensures fits { result ≤ WIDTH }
     {
-        self.len
+        usize::from(self.len)
+    }
+
+    /// The number of ranked keys, of which there are no more than bytes.
+    #[inline]
+    pub(crate) fn count(&self) -> usize
+        requires { (byte : ℕ) → rank byte self.now.items ≤ byte }
+        ensures value { result ≡ length self.now.items }
+        ensures few { result ≤ 256 }
+    {
+        rank_past(self.as_slice(), 256)
     }
 
     /// The keys.
@@ -99,7 +110,7 @@ impl<const WIDTH: usize> RankedKeys<WIDTH> {
         ensures value { result.now ≡ self.now.items }
         ensures fits { length result.now ≤ WIDTH }
     {
-        &self.bytes[..self.len]
+        &self.bytes[..usize::from(self.len)]
     }
 
     /// How many of the keys are below the byte.
@@ -144,10 +155,11 @@ impl<const WIDTH: usize> RankedKeys<WIDTH> {
     pub(crate) fn insert(&mut self, place: usize, byte: u8)
         requires within { place ≤ length self.old.items }
         requires room { length self.old.items < WIDTH }
+        requires few { length self.old.items ≤ 256 }
         ensures items { self.new.items ≡ insert self.old.items place byte }
         ensures len { length self.new.items ≡ length self.old.items + 1 }
     {
-        insert_byte(&mut self.bytes, place, self.len, byte);
+        insert_byte(&mut self.bytes, place, usize::from(self.len), byte);
         self.len += 1;
     }
 
@@ -157,7 +169,7 @@ impl<const WIDTH: usize> RankedKeys<WIDTH> {
         ensures items { self.new.items ≡ remove self.old.items place }
         ensures len { length self.new.items + 1 ≡ length self.old.items }
     {
-        remove_byte(&mut self.bytes, place, self.len);
+        remove_byte(&mut self.bytes, place, usize::from(self.len));
         self.len -= 1;
     }
 

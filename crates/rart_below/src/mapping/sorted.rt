@@ -85,7 +85,7 @@ impl<C: Drop, const WIDTH: usize> NodeMapping<C> for SortedKeyedMapping<C, WIDTH
 
     fn add_child(&mut self, byte: u8, child: C) {
         let place = self.keys.rank_of(byte);
-        let len = self.keys.len();
+        let len = self.keys.count();
         self.keys.insert(place, byte);
         insert_slot(&mut self.children.slots, place, len, child);
     }

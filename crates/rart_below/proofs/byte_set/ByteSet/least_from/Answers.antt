@@ -1,4 +1,4 @@
-use Rattle.std.proofs.Common.{◌≡◌, ◌<◌, ℕ, ◌/◌, ◌%◌, ◌^◌, get_or, refl, arith}
+use Rattle.std.proofs.Common.{◌<◌, ◌/◌, ◌%◌, ◌^◌, get_or, refl, arith}
 use Rattle.std.proofs.Math.Nat.{div-le_self}
 use Rattle.rart_below.specs.ByteSets.{has_byte}
 use Rattle.rart_below.proofs.LeastByteLemmas.{word-bits, none-here, least-here, none_to, least_to}

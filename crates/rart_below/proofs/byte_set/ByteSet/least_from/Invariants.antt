@@ -1,4 +1,4 @@
-use Rattle.std.proofs.Common.{ℕ, ◌-◌}
+use Rattle.std.proofs.Common.{◌-◌}
 use Rattle.rart_below.specs.ByteSets.{has_byte}
 use Rattle.rart_below.proofs.LeastByteLemmas.{HasNoneTo}
 use Rattle.rart_below.proofs.byte_set.ByteSet.least_from.Given as goal

@@ -1,4 +1,4 @@
-use Rattle.std.proofs.Common.{ℕ, inl, inr, ap, sym, ◌∙◌}
+use Rattle.std.proofs.Common.{inl, inr, ap, sym, ◌∙◌}
 use Rattle.std.specs.Prelude.{is_some}
 use Rattle.std.proofs.lemmas.Bool.{cases_lt}
 use Rattle.rart_below.specs.ByteSets.{has_byte}

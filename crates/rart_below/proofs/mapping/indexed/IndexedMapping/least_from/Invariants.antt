@@ -1,4 +1,4 @@
-use Rattle.std.proofs.Common.{ℕ, ◌-◌}
+use Rattle.std.proofs.Common.{◌-◌}
 use Rattle.std.specs.Prelude.{is_some}
 use Rattle.rart_below.specs.Children.{child_at}
 use Rattle.rart_below.specs.IndexedMapping.{indexed_children}

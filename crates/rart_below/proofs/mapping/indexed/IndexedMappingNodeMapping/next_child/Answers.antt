@@ -1,4 +1,4 @@
-use Rattle.std.proofs.Common.{◌≡◌, ◌<◌, ◌+◌, ℕ, ap, arith, refl, sym, ◌∙◌, subst, option_copied}
+use Rattle.std.proofs.Common.{◌<◌, ◌+◌, ℕ, ap, arith, refl, sym, ◌∙◌, subst, option_copied}
 use Rattle.std.specs.Prelude.{is_some}
 use Rattle.rart_below.specs.Children.{child_at, children_from, TakesFirst}
 use Rattle.rart_below.specs.IndexedMapping.{indexed_children}

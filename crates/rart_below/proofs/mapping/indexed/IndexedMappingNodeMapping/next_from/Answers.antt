@@ -1,4 +1,4 @@
-use Rattle.std.proofs.Common.{◌<◌, ℕ, ap, arith, refl, sym, ◌∙◌, option_copied}
+use Rattle.std.proofs.Common.{◌<◌, ap, arith, refl, sym, ◌∙◌, option_copied}
 use Rattle.std.specs.Prelude.{is_some}
 use Rattle.std.proofs.lemmas.Option.{none-some}
 use Rattle.rart_below.specs.Children.{child_at}

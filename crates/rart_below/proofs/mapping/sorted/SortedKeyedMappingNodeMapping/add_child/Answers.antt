@@ -6,6 +6,13 @@ pub rank_of-place-requires : goal.rank_of-place-requires
 rank_of-place-requires g c =
     (search rules, rank-in_order g.row.WIDTH c.args.byte c.args.self.now.keys.items c.args.self.now.children.slots c.requires.order)
 
+pub count-len-requires : goal.count-len-requires
+count-len-requires g c = (
+  search rules,
+  λ byte. rank-in_order g.row.WIDTH byte c.args.self.now.keys.items c.args.self.now.children.slots
+      c.requires.order,
+)
+
 pub insert-requires : goal.insert-requires
 insert-requires g c =
     let kept =
@@ -33,7 +40,7 @@ returns-clause-order g c =
     omega (arith, length-kept _ _ _ kept, c.requires.room) in
     let place = c.rank_of-place.ensures.value in
     (added _ c.args.byte c.args.child _ _ _ _ _ _ kept c.requires.absent c.insert.ensures.len room
-    place c.len-len.ensures.value c.insert.ensures.items c.insert_slot.ensures).0
+    place c.count-len.ensures.value c.insert.ensures.items c.insert_slot.ensures).0
 
 pub returns-clause-children : goal.returns-clause-children
 returns-clause-children g c =
@@ -44,4 +51,4 @@ returns-clause-children g c =
     omega (arith, length-kept _ _ _ kept, c.requires.room) in
     let place = c.rank_of-place.ensures.value in
     (added _ c.args.byte c.args.child _ _ _ _ _ _ kept c.requires.absent c.insert.ensures.len room
-    place c.len-len.ensures.value c.insert.ensures.items c.insert_slot.ensures).1
+    place c.count-len.ensures.value c.insert.ensures.items c.insert_slot.ensures).1

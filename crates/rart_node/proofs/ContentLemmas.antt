@@ -9,8 +9,9 @@ use Rattle.rart_below.specs.Mapped.{length-map_children}
 use Rattle.rart_below.specs.Layouts.{entry_copied}
 use Rattle.rart_node.specs.declared.node.VersionedNode.{VersionedNode, out-VersionedNode, roll-VersionedNode}
 use Rattle.rart_node.specs.declared.node_ref.NodeRef.{NodeRef}
-use Rattle.rart_node.specs.Contents.{Content, content_shape, Holds}
-use Rattle.rart_node.specs.Shape.{Shape, node, node_of, prefix_of, value_of, width_of, children_of, with_children, with_replaced, with_deleted, with_added, widened, widenings, is_full_at, entries_of-forest_of, IsAscending, IsFull, IsFullAt}
+use Rattle.rart_node.specs.declared.held.Held.{Held}
+use Rattle.rart_node.specs.Contents.{Content, content_shape, held_value, Holds}
+use Rattle.rart_node.specs.Shape.{Shape, node, node_of, prefix_of, value_of, width_of, children_of, with_children, with_value, with_replaced, with_deleted, with_added, widened, widenings, is_full_at, entries_of-forest_of, IsAscending, IsFull, IsFullAt}
 use Rattle.rart_node.specs.NodeShapes.{node_shape, pointer_shape, entry_shape, shapes_of_content, node_of_content, node_shape_roll, node_shape_out, if_in_order}
 use Rattle.rart_node.proofs.ChildMapLemmas.{child_at-map_children, with_child-map_children, without_child-map_children, children_from-map_children, first_of-map_children, takes-map_children}
 
@@ -134,7 +135,7 @@ module _ {P V : Type 0} (bytes : P → List ℕ) where
       node_shape-with_content =
           let layer = out-VersionedNode P V n in
           node_shape_roll bytes (record layer { content = content })
-          ∙ ap (λ h. node_of_content bytes (bytes layer.prefix) layer.value
+          ∙ ap (λ h. node_of_content bytes (bytes layer.prefix) (held_value layer.value)
           (shapes_of_content bytes h)) holds
           ∙ ap (λ s. node_of (prefix_of s) (value_of s) width
           (map_children (pointer_shape bytes) entries)) (sym (node_shape_out bytes n))
@@ -177,9 +178,34 @@ module _ {P V : Type 0} (bytes : P → List ℕ) where
     node_shape-content_shape content same =
         let layer = out-VersionedNode P V n in
         node_shape_roll bytes (record layer { content = content })
-        ∙ ap (λ h. node_of_content bytes (bytes layer.prefix) layer.value
+        ∙ ap (λ h. node_of_content bytes (bytes layer.prefix) (held_value layer.value)
         (shapes_of_content bytes h)) same
         ∙ sym (node_shape_out bytes n)
+
+    -- ---- with another value
+    module _ (held : Held V) where
+      abbrev with_held : VersionedNode P V
+      with_held = roll-VersionedNode P V (record (out-VersionedNode P V n) { value = held })
+
+      node_shape-with_held : (value : Option V) → held_value held ≡ value
+          → node_shape bytes with_held
+          ≡ node_of_content bytes (bytes (out-VersionedNode P V n).prefix) value
+          (shapes_of_content bytes (content_shape content_of))
+      node_shape-with_held value is =
+          let layer = out-VersionedNode P V n in
+          node_shape_roll bytes (record layer { value = held })
+          ∙ ap (λ v. node_of_content bytes (bytes layer.prefix) v
+          (shapes_of_content bytes (content_shape layer.content))) is
+
+      pub node_shape-held : (value : Option V) → held_value held ≡ value
+          → node_shape bytes with_held ≡ with_value value (node_shape bytes n)
+      node_shape-held value is =
+          node_shape-with_held value is ∙ ap (with_value value) (sym (node_shape_out bytes n))
+
+      -- the value that the node's own shows
+      pub node_shape-same_held : held_value held ≡ held_value (out-VersionedNode P V n).value
+          → node_shape bytes with_held ≡ node_shape bytes n
+      node_shape-same_held same = node_shape-with_held _ same ∙ sym (node_shape_out bytes n)
 
     pub node_shape-replaced : (content : Content (NodeRef P V)) (byte : ℕ) (child : NodeRef P V)
         → IsAscending (node_shape bytes n)
@@ -217,6 +243,10 @@ module _ {P V : Type 0} (bytes : P → List ℕ) where
         ∙ (λ i. cond (is_full_at (width-node_shape i) (length-node_shape order i)) 1 0)
 
   -- ---- what is found by reference
+  pub now-copied_mut : (o : Option (MutBor V)) → option_map (λ it. it.now) o ≡ option_copied_mut o
+  now-copied_mut None = refl
+  now-copied_mut (Some it) = refl
+
   pub pointer_shape-copied : (o : Option (Bor (NodeRef P V)))
       → option_map (λ child. pointer_shape bytes child.now) o
       ≡ option_map (pointer_shape bytes) (option_copied o)

@@ -21,25 +21,25 @@ module _ {C : Type 0} where
   -- a content never has more children than its width
   pub fits : (content : Content C) → (content_shape content).in_order ≡ true
       → length (content_shape content).children ≤ (content_shape content).width
-  fits Leaf order = omega arith
-  fits (Node4 mapping) order = sorted-fits mapping.value order
-  fits (Node16 mapping) order = sorted-fits mapping.boxed.value order
-  fits (Node48 mapping) order = indexed-fits mapping.boxed.value order
-  fits (Node256 mapping) order = direct-fits mapping.boxed.value order
+  fits (Leaf upper) order = omega arith
+  fits (Node4 upper mapping) order = sorted-fits mapping.value order
+  fits (Node16 upper mapping) order = sorted-fits mapping.boxed.value order
+  fits (Node48 upper mapping) order = indexed-fits mapping.boxed.value order
+  fits (Node256 upper mapping) order = direct-fits mapping.boxed.value order
 
   -- a byte that is absent has room once a full content is widened
   pub room : (content : Content C) (byte : ℕ) (child : C) → (content_shape content).in_order ≡ true
       → byte < 256 → child_at byte (content_shape content).children ≡ None
       → length (content_shape content).children
       < widened (content_shape content).width (length (content_shape content).children)
-  room Leaf byte child order small absent = lit< tt
-  room (Node4 mapping) byte child order small absent =
+  room (Leaf upper) byte child order small absent = lit< tt
+  room (Node4 upper mapping) byte child order small absent =
       next_has_room 4 16 _ (sorted-fits mapping.value order) (lit< tt)
-  room (Node16 mapping) byte child order small absent =
+  room (Node16 upper mapping) byte child order small absent =
       next_has_room 16 48 _ (sorted-fits mapping.boxed.value order) (lit< tt)
-  room (Node48 mapping) byte child order small absent =
+  room (Node48 upper mapping) byte child order small absent =
       next_has_room 48 256 _ (indexed-fits mapping.boxed.value order) (lit< tt)
-  room (Node256 mapping) byte child order small absent =
+  room (Node256 upper mapping) byte child order small absent =
       let m = mapping.boxed.value in
       let kept = kept_from_order m.children.slots m.count m.bytes order in
       let less = room_for_one byte child m.children.slots m.count m.bytes kept small absent in

@@ -59,20 +59,20 @@ pub ruleset room_left = (few_children, inner_room)
 
 module _ {C : Type 0} where
   width-content_shape : (content : Content C) → IsWidth (content_shape content).width
-  width-content_shape Leaf = inl refl
-  width-content_shape (Node4 mapping) = inr (inl refl)
-  width-content_shape (Node16 mapping) = inr (inr (inl refl))
-  width-content_shape (Node48 mapping) = inr (inr (inr (inl refl)))
-  width-content_shape (Node256 mapping) = inr (inr (inr (inr refl)))
+  width-content_shape (Leaf upper) = inl refl
+  width-content_shape (Node4 upper mapping) = inr (inl refl)
+  width-content_shape (Node16 upper mapping) = inr (inr (inl refl))
+  width-content_shape (Node48 upper mapping) = inr (inr (inr (inl refl)))
+  width-content_shape (Node256 upper mapping) = inr (inr (inr (inr refl)))
 
   -- a content whose lists are out of step has room for two children
   two-fit : (content : Content C) → (content_shape content).in_order ≡ false
       → 2 ≤ (content_shape content).width
-  two-fit Leaf out_of_step = cc
-  two-fit (Node4 mapping) out_of_step = lit≤ tt
-  two-fit (Node16 mapping) out_of_step = lit≤ tt
-  two-fit (Node48 mapping) out_of_step = lit≤ tt
-  two-fit (Node256 mapping) out_of_step = lit≤ tt
+  two-fit (Leaf upper) out_of_step = cc
+  two-fit (Node4 upper mapping) out_of_step = lit≤ tt
+  two-fit (Node16 upper mapping) out_of_step = lit≤ tt
+  two-fit (Node48 upper mapping) out_of_step = lit≤ tt
+  two-fit (Node256 upper mapping) out_of_step = lit≤ tt
 
 module _ {P V : Type 0} (bytes : P → List ℕ) where
   -- also where the lists are out of step: two children are shown then

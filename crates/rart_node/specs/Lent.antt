@@ -11,7 +11,9 @@ use Rattle.rart_below.specs.contracts.mapping.indexed.IndexedMapping as indexed
 use Rattle.rart_below.specs.contracts.mapping.direct.DirectMapping as direct
 use Rattle.rart_node.specs.contracts.content.Layout as layout
 use Rattle.rart_node.specs.contracts.wide_box.WideBox as wide_box
-use Rattle.rart_node.specs.Contents.{Content, content_shape, Holds}
+use Rattle.rart_node.specs.contracts.held.Held as held
+use Rattle.rart_node.specs.declared.held.Held.{Held}
+use Rattle.rart_node.specs.Contents.{Content, content_shape, held_value, Holds}
 use Rattle.rart_node.specs.contracts.node.VersionedNode as node
 use Rattle.rart_node.specs.contracts.node_ref.NodeRef as pointer
 use Rattle.rart_node.specs.declared.node.VersionedNode.{VersionedNode}
@@ -27,6 +29,13 @@ content_row C = layout.the_row
     (wide_box.the_row (sorted.the_row C (number 16)) C)
     (wide_box.the_row (indexed.the_row C) C)
     (wide_box.the_row (direct.the_row C) C)
+
+-- The value is as it was left behind the result, and where there is none nothing has changed.
+abbrev pub LendsHeld : (V : RattleType) → MutBor (Held V.Denot) → Option (MutBor V.Denot) → Fml
+LendsHeld V lender result =
+    LendsSo (held.the_row V) V lender result
+    (λ after left. OnSome result (held_value after ≡ Some left))
+    (λ after. held_value after ≡ held_value lender.now)
 
 module _ (P V : RattleType) where
   abbrev Pointer : Type 0

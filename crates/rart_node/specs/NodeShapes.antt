@@ -8,7 +8,7 @@ use Rattle.rart_node.specs.declared.node_ref.NodeRef.{NodeRef, out-NodeRef, roll
 use Rattle.rart_node.specs.declared.node.VersionedNode.TheOpen.{NodeRef-F, VersionedNode-F}
 use Rattle.rart_node.specs.declared.node.VersionedNode.TheFolds.{fold-VersionedNode, fold-NodeRef, fold-roll-VersionedNode, fold_out-VersionedNode, fold-roll-NodeRef, fold_out-NodeRef}
 use Rattle.rart_node.specs.Shape.{Shape, node_of, bare, node}
-use Rattle.rart_node.specs.Contents.{Content, ContentShape, content_shape}
+use Rattle.rart_node.specs.Contents.{Content, ContentShape, content_shape, held_value}
 use Rattle.rart_below.specs.declared.mapping.sorted.SortedKeyedMapping.{SortedKeyedMapping}
 use Rattle.rart_below.specs.declared.mapping.indexed.IndexedMapping.{IndexedMapping}
 use Rattle.rart_below.specs.declared.mapping.direct.DirectMapping.{DirectMapping}
@@ -78,7 +78,7 @@ module _ {A B : Type 0} (f : A → B) (g : Option A → Option B) (none : g None
 module _ {P V : Type 0} (bytes : P → List ℕ) where
   abbrev node_step : VersionedNode-F P V (Shape V) (Shape V) → Shape V
   node_step layer =
-      node_of (bytes layer.prefix) layer.value (content_shape layer.content).width
+      node_of (bytes layer.prefix) (held_value layer.value) (content_shape layer.content).width
       (if_in_order (content_shape layer.content).in_order (content_shape layer.content).children)
 
   abbrev pointer_step : NodeRef-F P V (Shape V) (Shape V) → Shape V
@@ -113,41 +113,41 @@ module _ {P V : Type 0} (bytes : P → List ℕ) where
   node_shape_roll_at : (layer : VersionedNode-F P V (VersionedNode P V) (NodeRef P V))
       (content : Content (NodeRef P V))
       → node_shape (roll-VersionedNode P V (record layer { content = content }))
-      ≡ node_of_content (bytes layer.prefix) layer.value (shapes_of_content (content_shape content))
+      ≡ node_of_content (bytes layer.prefix) (held_value layer.value) (shapes_of_content (content_shape content))
   unfolding node_shape pointer_shape
-  node_shape_roll_at layer Leaf =
+  node_shape_roll_at layer (Leaf upper) =
       fold-roll-VersionedNode P V (Shape V) (Shape V) node_step pointer_step
-      (record layer { content = Leaf })
-  node_shape_roll_at layer (Node4 mapping) =
+      (record layer { content = Leaf upper })
+  node_shape_roll_at layer (Node4 upper mapping) =
       fold-roll-VersionedNode P V (Shape V) (Shape V) node_step pointer_step
-      (record layer { content = Node4 mapping })
-      ∙ ap (node_of_content (bytes layer.prefix) layer.value)
+      (record layer { content = Node4 upper mapping })
+      ∙ ap (node_of_content (bytes layer.prefix) (held_value layer.value))
       (content_of_sorted pointer_shape _ refl (λ child. refl) mapping.value _ refl refl)
-  node_shape_roll_at layer (Node16 mapping) =
+  node_shape_roll_at layer (Node16 upper mapping) =
       fold-roll-VersionedNode P V (Shape V) (Shape V) node_step pointer_step
-      (record layer { content = Node16 mapping })
-      ∙ ap (node_of_content (bytes layer.prefix) layer.value)
+      (record layer { content = Node16 upper mapping })
+      ∙ ap (node_of_content (bytes layer.prefix) (held_value layer.value))
       (content_of_sorted pointer_shape _ refl (λ child. refl) mapping.boxed.value _ refl refl)
-  node_shape_roll_at layer (Node48 mapping) =
+  node_shape_roll_at layer (Node48 upper mapping) =
       fold-roll-VersionedNode P V (Shape V) (Shape V) node_step pointer_step
-      (record layer { content = Node48 mapping })
-      ∙ ap (node_of_content (bytes layer.prefix) layer.value)
+      (record layer { content = Node48 upper mapping })
+      ∙ ap (node_of_content (bytes layer.prefix) (held_value layer.value))
       (content_of_indexed pointer_shape _ refl (λ child. refl) mapping.boxed.value _ refl refl refl)
-  node_shape_roll_at layer (Node256 mapping) =
+  node_shape_roll_at layer (Node256 upper mapping) =
       fold-roll-VersionedNode P V (Shape V) (Shape V) node_step pointer_step
-      (record layer { content = Node256 mapping })
-      ∙ ap (node_of_content (bytes layer.prefix) layer.value)
+      (record layer { content = Node256 upper mapping })
+      ∙ ap (node_of_content (bytes layer.prefix) (held_value layer.value))
       (content_of_direct pointer_shape _ refl (λ child. refl) mapping.boxed.value _ refl refl refl)
 
   pub node_shape_roll : (layer : VersionedNode-F P V (VersionedNode P V) (NodeRef P V))
       → node_shape (roll-VersionedNode P V layer)
-      ≡ node_of_content (bytes layer.prefix) layer.value
+      ≡ node_of_content (bytes layer.prefix) (held_value layer.value)
       (shapes_of_content (content_shape layer.content))
   node_shape_roll layer = node_shape_roll_at layer layer.content
 
   pub node_shape_out : (n : VersionedNode P V)
       → let layer = out-VersionedNode P V n in
-      node_shape n ≡ node_of_content (bytes layer.prefix) layer.value
+      node_shape n ≡ node_of_content (bytes layer.prefix) (held_value layer.value)
       (shapes_of_content (content_shape layer.content))
   unfolding node_shape pointer_shape
   node_shape_out n =

@@ -21,13 +21,16 @@ use std::alloc::{AllocError, Global};
 ///
 /// The mappings are parameters, so that the type does not lead back to itself and a proof sees a
 /// `match` on it as on any other.
+///
+/// Beside it stands the upper half of the number that its node was made with, where an enum has
+/// room of its own.
 #[derive(Drop)]
 pub(crate) enum Layout<M4, M16, M48, M256> {
-    Leaf,
-    Node4(M4),
-    Node16(M16),
-    Node48(M48),
-    Node256(M256),
+    Leaf(u32),
+    Node4(u32, M4),
+    Node16(u32, M16),
+    Node48(u32, M48),
+    Node256(u32, M256),
 }
 
 /// What a node keeps its children in.
@@ -41,15 +44,25 @@ pub(crate) type Content<P, V> = Layout<
 impl<P: Partial, V: Drop> Content<P, V> {
     ghost use Rattle.rart_node.specs.Lent.{LendsContentChild};
 
+    pub(crate) fn upper(&self) -> u32 {
+        match self {
+            Layout::Leaf(upper) => *upper,
+            Layout::Node4(upper, _) => *upper,
+            Layout::Node16(upper, _) => *upper,
+            Layout::Node48(upper, _) => *upper,
+            Layout::Node256(upper, _) => *upper,
+        }
+    }
+
     pub(crate) fn width(&self) -> usize
         ensures { result ≡ (content_shape self.now).width }
     {
         match self {
-            Layout::Leaf => 0,
-            Layout::Node4(_) => 4,
-            Layout::Node16(_) => 16,
-            Layout::Node48(_) => 48,
-            Layout::Node256(_) => 256,
+            Layout::Leaf(_) => 0,
+            Layout::Node4(_, _) => 4,
+            Layout::Node16(_, _) => 16,
+            Layout::Node48(_, _) => 48,
+            Layout::Node256(_, _) => 256,
         }
     }
 
@@ -58,11 +71,11 @@ impl<P: Partial, V: Drop> Content<P, V> {
         ensures { result ≡ length (content_shape self.now).children }
     {
         match self {
-            Layout::Leaf => 0,
-            Layout::Node4(mapping) => mapping.num_children(),
-            Layout::Node16(mapping) => mapping.boxed.num_children(),
-            Layout::Node48(mapping) => mapping.boxed.num_children(),
-            Layout::Node256(mapping) => mapping.boxed.num_children(),
+            Layout::Leaf(_) => 0,
+            Layout::Node4(_, mapping) => mapping.num_children(),
+            Layout::Node16(_, mapping) => mapping.boxed.num_children(),
+            Layout::Node48(_, mapping) => mapping.boxed.num_children(),
+            Layout::Node256(_, mapping) => mapping.boxed.num_children(),
         }
     }
 
@@ -71,11 +84,11 @@ impl<P: Partial, V: Drop> Content<P, V> {
         ensures { option_copied result ≡ child_at byte (content_shape self.now).children }
     {
         match self {
-            Layout::Leaf => None,
-            Layout::Node4(mapping) => mapping.seek_child(byte),
-            Layout::Node16(mapping) => mapping.boxed.seek_child(byte),
-            Layout::Node48(mapping) => mapping.boxed.seek_child(byte),
-            Layout::Node256(mapping) => mapping.boxed.seek_child(byte),
+            Layout::Leaf(_) => None,
+            Layout::Node4(_, mapping) => mapping.seek_child(byte),
+            Layout::Node16(_, mapping) => mapping.boxed.seek_child(byte),
+            Layout::Node48(_, mapping) => mapping.boxed.seek_child(byte),
+            Layout::Node256(_, mapping) => mapping.boxed.seek_child(byte),
         }
     }
 
@@ -86,11 +99,11 @@ impl<P: Partial, V: Drop> Content<P, V> {
         ensures value { option_copied_mut result ≡ child_at byte (content_shape self.old).children }
     {
         match self {
-            Layout::Leaf => None,
-            Layout::Node4(mapping) => mapping.seek_child_mut(byte),
-            Layout::Node16(mapping) => mapping.boxed.seek_child_mut(byte),
-            Layout::Node48(mapping) => mapping.boxed.seek_child_mut(byte),
-            Layout::Node256(mapping) => mapping.boxed.seek_child_mut(byte),
+            Layout::Leaf(_) => None,
+            Layout::Node4(_, mapping) => mapping.seek_child_mut(byte),
+            Layout::Node16(_, mapping) => mapping.boxed.seek_child_mut(byte),
+            Layout::Node48(_, mapping) => mapping.boxed.seek_child_mut(byte),
+            Layout::Node256(_, mapping) => mapping.boxed.seek_child_mut(byte),
         }
     }
 
@@ -101,11 +114,11 @@ impl<P: Partial, V: Drop> Content<P, V> {
             (children_from from (content_shape self.now).children) }
     {
         match self {
-            Layout::Leaf => None,
-            Layout::Node4(mapping) => mapping.next_from(from),
-            Layout::Node16(mapping) => mapping.boxed.next_from(from),
-            Layout::Node48(mapping) => mapping.boxed.next_from(from),
-            Layout::Node256(mapping) => mapping.boxed.next_from(from),
+            Layout::Leaf(_) => None,
+            Layout::Node4(_, mapping) => mapping.next_from(from),
+            Layout::Node16(_, mapping) => mapping.boxed.next_from(from),
+            Layout::Node48(_, mapping) => mapping.boxed.next_from(from),
+            Layout::Node256(_, mapping) => mapping.boxed.next_from(from),
         }
     }
 
@@ -117,11 +130,11 @@ impl<P: Partial, V: Drop> Content<P, V> {
             (option_copied result) (children_from from.new (content_shape self.now).children) }
     {
         match self {
-            Layout::Leaf => None,
-            Layout::Node4(mapping) => mapping.next_child(from),
-            Layout::Node16(mapping) => mapping.boxed.next_child(from),
-            Layout::Node48(mapping) => mapping.boxed.next_child(from),
-            Layout::Node256(mapping) => mapping.boxed.next_child(from),
+            Layout::Leaf(_) => None,
+            Layout::Node4(_, mapping) => mapping.next_child(from),
+            Layout::Node16(_, mapping) => mapping.boxed.next_child(from),
+            Layout::Node48(_, mapping) => mapping.boxed.next_child(from),
+            Layout::Node256(_, mapping) => mapping.boxed.next_child(from),
         }
     }
 
@@ -132,11 +145,11 @@ impl<P: Partial, V: Drop> Content<P, V> {
         ensures { AreBytesOf result (content_shape self.now).children }
     {
         match self {
-            Layout::Leaf => ByteSet::new(),
-            Layout::Node4(mapping) => mapping.bytes(),
-            Layout::Node16(mapping) => mapping.boxed.bytes(),
-            Layout::Node48(mapping) => mapping.boxed.bytes(),
-            Layout::Node256(mapping) => mapping.boxed.bytes(),
+            Layout::Leaf(_) => ByteSet::new(),
+            Layout::Node4(_, mapping) => mapping.bytes(),
+            Layout::Node16(_, mapping) => mapping.boxed.bytes(),
+            Layout::Node48(_, mapping) => mapping.boxed.bytes(),
+            Layout::Node256(_, mapping) => mapping.boxed.bytes(),
         }
     }
 
@@ -149,11 +162,11 @@ impl<P: Partial, V: Drop> Content<P, V> {
             (with_child byte child (content_shape self.old).children) }
     {
         match self {
-            Layout::Leaf => unreachable!(),
-            Layout::Node4(mapping) => mapping.add_child(byte, child),
-            Layout::Node16(mapping) => mapping.boxed.add_child(byte, child),
-            Layout::Node48(mapping) => mapping.boxed.add_child(byte, child),
-            Layout::Node256(mapping) => mapping.boxed.add_child(byte, child),
+            Layout::Leaf(_) => unreachable!(),
+            Layout::Node4(_, mapping) => mapping.add_child(byte, child),
+            Layout::Node16(_, mapping) => mapping.boxed.add_child(byte, child),
+            Layout::Node48(_, mapping) => mapping.boxed.add_child(byte, child),
+            Layout::Node256(_, mapping) => mapping.boxed.add_child(byte, child),
         }
     }
 
@@ -166,11 +179,11 @@ impl<P: Partial, V: Drop> Content<P, V> {
         ensures replaced { Some result ≡ child_at byte (content_shape self.old).children }
     {
         match self {
-            Layout::Leaf => unreachable!(),
-            Layout::Node4(mapping) => mapping.replace_child(byte, child),
-            Layout::Node16(mapping) => mapping.boxed.replace_child(byte, child),
-            Layout::Node48(mapping) => mapping.boxed.replace_child(byte, child),
-            Layout::Node256(mapping) => mapping.boxed.replace_child(byte, child),
+            Layout::Leaf(_) => unreachable!(),
+            Layout::Node4(_, mapping) => mapping.replace_child(byte, child),
+            Layout::Node16(_, mapping) => mapping.boxed.replace_child(byte, child),
+            Layout::Node48(_, mapping) => mapping.boxed.replace_child(byte, child),
+            Layout::Node256(_, mapping) => mapping.boxed.replace_child(byte, child),
         }
     }
 
@@ -182,11 +195,11 @@ impl<P: Partial, V: Drop> Content<P, V> {
         ensures deleted { result ≡ child_at byte (content_shape self.old).children }
     {
         match self {
-            Layout::Leaf => None,
-            Layout::Node4(mapping) => mapping.delete_child(byte),
-            Layout::Node16(mapping) => mapping.boxed.delete_child(byte),
-            Layout::Node48(mapping) => mapping.boxed.delete_child(byte),
-            Layout::Node256(mapping) => mapping.boxed.delete_child(byte),
+            Layout::Leaf(_) => None,
+            Layout::Node4(_, mapping) => mapping.delete_child(byte),
+            Layout::Node16(_, mapping) => mapping.boxed.delete_child(byte),
+            Layout::Node48(_, mapping) => mapping.boxed.delete_child(byte),
+            Layout::Node256(_, mapping) => mapping.boxed.delete_child(byte),
         }
     }
 
@@ -245,23 +258,25 @@ impl<P: Partial, V: Drop> Content<P, V> {
         ensures refused { OnErr result (self.new ≡ self.old) }
     {
         match self {
-            Layout::Leaf => *self = Layout::Node4(Box::new(alloc, SortedKeyedMapping::new())?),
-            Layout::Node4(mapping) => {
+            Layout::Leaf(upper) => {
+                *self = Layout::Node4(*upper, Box::new(alloc, SortedKeyedMapping::new())?);
+            }
+            Layout::Node4(upper, mapping) => {
                 let mut wider = Box::new(alloc, SortedKeyedMapping::new())?;
                 mapping.move_into(&mut *wider);
-                *self = Layout::Node16(WideBox::new(wider));
+                *self = Layout::Node16(*upper, WideBox::new(wider));
             }
-            Layout::Node16(mapping) => {
+            Layout::Node16(upper, mapping) => {
                 let mut wider = Box::new(alloc, IndexedMapping::new())?;
                 mapping.boxed.move_into(&mut *wider);
-                *self = Layout::Node48(WideBox::new(wider));
+                *self = Layout::Node48(*upper, WideBox::new(wider));
             }
-            Layout::Node48(mapping) => {
+            Layout::Node48(upper, mapping) => {
                 let mut wider = Box::new(alloc, DirectMapping::new())?;
                 mapping.boxed.move_into(&mut *wider);
-                *self = Layout::Node256(WideBox::new(wider));
+                *self = Layout::Node256(*upper, WideBox::new(wider));
             }
-            Layout::Node256(_) => unreachable!(),
+            Layout::Node256(_, _) => unreachable!(),
         }
         Ok(())
     }
@@ -270,17 +285,23 @@ impl<P: Partial, V: Drop> Content<P, V> {
 impl<P: Partial, V: Drop> Content<P, V> {
     ghost use Rattle.rart_node.specs.NodeShapes.{shapes_of_content};
 
-    /// The same children at the same width: a copy of each pointer.
-    pub(crate) fn copy(&self) -> Result<Content<P, V>, AllocError>
+    /// The same children at the same width, a copy of each pointer, for a node of another number.
+    pub(crate) fn copy(&self, upper: u32) -> Result<Content<P, V>, AllocError>
         ensures { IfOk result (λ copy. shapes_of_content P.bytes (content_shape copy)
             ≡ shapes_of_content P.bytes (content_shape self.now)) }
     {
         match self {
-            Layout::Leaf => Ok(Layout::Leaf),
-            Layout::Node4(mapping) => Ok(Layout::Node4(mapping.clone()?)),
-            Layout::Node16(mapping) => Ok(Layout::Node16(WideBox::new(mapping.boxed.clone()?))),
-            Layout::Node48(mapping) => Ok(Layout::Node48(WideBox::new(mapping.boxed.clone()?))),
-            Layout::Node256(mapping) => Ok(Layout::Node256(WideBox::new(mapping.boxed.clone()?))),
+            Layout::Leaf(_) => Ok(Layout::Leaf(upper)),
+            Layout::Node4(_, mapping) => Ok(Layout::Node4(upper, mapping.clone()?)),
+            Layout::Node16(_, mapping) => {
+                Ok(Layout::Node16(upper, WideBox::new(mapping.boxed.clone()?)))
+            }
+            Layout::Node48(_, mapping) => {
+                Ok(Layout::Node48(upper, WideBox::new(mapping.boxed.clone()?)))
+            }
+            Layout::Node256(_, mapping) => {
+                Ok(Layout::Node256(upper, WideBox::new(mapping.boxed.clone()?)))
+            }
         }
     }
 }

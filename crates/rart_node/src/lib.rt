@@ -8,6 +8,7 @@
 
 mod content;
 mod grow_error;
+mod held;
 pub mod laws;
 mod node;
 mod node_iter;

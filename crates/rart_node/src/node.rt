@@ -9,6 +9,7 @@ ghost use Rattle.rart_node.specs.Shape.{node_of, prefix_of, value_of, width_of, 
 
 use crate::content::{Content, Layout};
 use crate::grow_error::GrowError;
+use crate::held::Held;
 use crate::node_iter::VersionedNodeIter;
 use crate::node_ref::NodeRef;
 use crate::work::Work;
@@ -23,10 +24,18 @@ use std::alloc::{AllocError, Global};
 #[cycle(node)]
 pub struct VersionedNode<P, V> {
     prefix: P,
-    value: Option<V>,
-    version: u64,
+    value: Held<V>,
     alloc: Global,
     content: Content<P, V>,
+}
+
+// The halves of a number that a node is made with.
+fn lower_half(version: u64) -> u32 {
+    (version & u64::from(u32::MAX)) as u32
+}
+
+fn upper_half(version: u64) -> u32 {
+    (version >> 32) as u32
 }
 
 /// Written out, so that a crate that drops a node proves nothing of what it is made of. Inlined, it
@@ -38,7 +47,6 @@ impl<P: Drop, V: Drop> Drop for VersionedNode<P, V> {
         let VersionedNode {
             prefix: _,
             value: _,
-            version: _,
             alloc: _,
             content: _,
         } = self;
@@ -60,10 +68,9 @@ impl<P: Partial, V: Drop> VersionedNode<P, V> {
     {
         VersionedNode {
             prefix,
-            value: Some(value),
-            version,
+            value: Held::Occupied(lower_half(version), value),
             alloc,
-            content: Layout::Leaf,
+            content: Layout::Leaf(upper_half(version)),
         }
     }
 
@@ -78,11 +85,18 @@ impl<P: Partial, V: Drop> VersionedNode<P, V> {
     {
         Ok(VersionedNode {
             prefix,
-            value: None,
-            version,
+            value: Held::Vacant(lower_half(version)),
             alloc,
-            content: Layout::Node4(Box::new(alloc, SortedKeyedMapping::new())?),
+            content: Layout::Node4(
+                upper_half(version),
+                Box::new(alloc, SortedKeyedMapping::new())?,
+            ),
         })
+    }
+
+    // The number that the node was made with.
+    fn version(&self) -> u64 {
+        u64::from(self.content.upper()) << 32 | u64::from(self.value.lower())
     }
 
     /// Whether the width is none.
@@ -291,14 +305,12 @@ impl<P: Partial, V: Drop> VersionedNode<P, V> {
         let VersionedNode {
             prefix: _,
             value,
-            version,
             alloc,
             content,
         } = self;
         VersionedNode {
             prefix,
             value, // stays
-            version,
             alloc,
             content,
         }
@@ -347,7 +359,7 @@ impl<P: Partial, V: Clone + Drop> VersionedNode<P, V> {
             256 => return Err(GrowError::Widest),
             _ => {}
         }
-        let mut content = self.content.copy()?;
+        let mut content = self.content.copy(upper_half(new_version))?;
         content.widen(alloc)?;
         let prefix = self.prefix.copy(alloc)?;
         Ok(self.copy_with(alloc, new_version, prefix, content)?)
@@ -394,7 +406,7 @@ impl<P: Partial, V: Clone + Drop> VersionedNode<P, V> {
             → node_shape P.bytes copy
             ≡ with_prefix (P.bytes prefix) (node_shape P.bytes self.now)) }
     {
-        let content = self.content.copy()?;
+        let content = self.content.copy(upper_half(new_version))?;
         self.copy_with(alloc, new_version, prefix, content)
     }
 
@@ -411,11 +423,10 @@ impl<P: Partial, V: Clone + Drop> VersionedNode<P, V> {
             (value_of (node_shape P.bytes self.now))
             (shapes_of_content P.bytes (content_shape content))) }
     {
-        let value = clone_of(&self.value)?;
+        let value = self.value.copy(lower_half(new_version))?;
         Ok(VersionedNode {
             prefix,
             value,
-            version: new_version,
             alloc,
             content,
         })
@@ -429,15 +440,6 @@ impl<P: Partial, V: Clone + Drop> Clone for VersionedNode<P, V> {
     ghost is_clone = { λ node copy. ClonesEqual V.is_clone → SameShape P.bytes copy node };
 
     fn clone(&self) -> Result<VersionedNode<P, V>, AllocError> {
-        self.cow_clone_inner(self.alloc, self.version)
-    }
-}
-
-fn clone_of<V: Clone>(value: &Option<V>) -> Result<Option<V>, AllocError>
-    ensures { IfOk result (λ copy. ClonesEqual V.is_clone → copy ≡ value.now) }
-{
-    match value {
-        None => Ok(None),
-        Some(value) => Ok(Some(value.clone()?)),
+        self.cow_clone_inner(self.alloc, self.version())
     }
 }

@@ -1,7 +1,5 @@
 use Rattle.std.proofs.Common.{ap, sym, ◌∙◌}
 use Rattle.std.specs.Prelude.{is_some}
-use Rattle.rart_below.specs.Children.{child_at}
-use Rattle.rart_node.specs.Contents.{content_shape}
 use Rattle.rart_node.specs.NodeShapes.{pointer_shape}
 use Rattle.rart_node.proofs.ContentLemmas.{child_at-node_shape}
 use Rattle.rart_node.proofs.ChildMapLemmas.{is_some-mapped}

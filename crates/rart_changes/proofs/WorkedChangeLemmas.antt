@@ -3,8 +3,8 @@ use Rattle.std.proofs.Common.{refl, ap, ◌∙◌}
 use Rattle.std.specs.Prelude.{codes}
 use Rattle.std.specs.FinMap as finite
 use Rattle.rart_maps.proofs.MapLemmas.{maps}
-use Rattle.rart_changes.specs.ChangeLists.{patched}
-use Rattle.rart_changes.specs.WorkedChanges.{other, ChangesOfFour, PatchOfAnother, ConflictOfOne}
+use Rattle.rart_changes.specs.ChangeLists.{effects, patched}
+use Rattle.rart_changes.specs.WorkedChanges.{after, other, ChangesOfFour, PatchOfAnother, EffectsOnTwo, ConflictOfOne}
 
 pub changes_of_four : ChangesOfFour
 changes_of_four = simp maps refl
@@ -19,6 +19,12 @@ patch_of_another = (
       ∙ simp maps refl,
   ap (λ cs. finite.get (patched other cs) (codes "c")) changes_of_four
       ∙ simp maps refl,
+)
+
+pub effects_on_two : EffectsOnTwo
+effects_on_two = (
+  ap (effects other) changes_of_four ∙ simp maps refl,
+  ap (effects after) changes_of_four ∙ simp maps refl,
 )
 
 pub conflict_of_one : ConflictOfOne

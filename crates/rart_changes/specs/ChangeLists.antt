@@ -1,6 +1,6 @@
 -- What changed from one map to another, and what changes make of a map.
-use Rattle.std.specs.Prelude.{ℕ, List, [], ◌∷◌, ◌++◌, Option, Some, None, Bool, true, false, not, if◌then◌else◌}
-use Rattle.std.specs.List.{filter_map}
+use Rattle.std.specs.Prelude.{ℕ, List, [], ◌∷◌, ◌++◌, Option, Some, None, Bool, true, false, not, ◌||◌, is_some, if◌then◌else◌}
+use Rattle.std.specs.List.{count_by, filter_map}
 use Rattle.std.specs.FinMap as finite
 use Rattle.rart_maps.specs.Lookups.{with_value}
 use Rattle.rart_maps.specs.Pairs.{pairs}
@@ -19,6 +19,14 @@ module _ {V : Type 0} where
   abbrev pub patched : Map V → List (Change V) → Map V
   patched m [] = m
   patched m (change ∷ changes) = patched (with_value m change.0 change.2) changes
+
+  -- whether making it changes the map: it sets its key, or takes out one that is there
+  abbrev pub takes_effect : Map V → Change V → Bool
+  takes_effect m change = is_some change.2 || finite.contains_key m change.0
+
+  -- how many of them do, where no key comes twice
+  abbrev pub effects : Map V → List (Change V) → ℕ
+  effects m changes = count_by (takes_effect m) changes
 
   -- the pairs of both maps, the old one's where a key is in both
   abbrev pub joined : Map V → Map V → Map V

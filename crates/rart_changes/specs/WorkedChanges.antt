@@ -2,7 +2,7 @@
 use Rattle.std.specs.Prelude.{◌≡◌, ◌==◌, ℕ, [], ◌∷◌, Some, None, codes}
 use Rattle.std.specs.FinMap as finite
 use Rattle.rart_maps.specs.Versions.{Map}
-use Rattle.rart_changes.specs.ChangeLists.{patched, changes}
+use Rattle.rart_changes.specs.ChangeLists.{changes, effects, patched}
 use Rattle.rart_changes.specs.Merges.{conflicts}
 
 abbrev pub before : Map ℕ
@@ -26,6 +26,11 @@ patch = patched other (changes (λ x y. x == y) before after)
 abbrev pub PatchOfAnother : Type 0
 PatchOfAnother = (finite.get patch (codes "a") ≡ None) × (finite.get patch (codes "b") ≡ Some 6)
     × (finite.get patch (codes "bc") ≡ Some 4) × (finite.get patch (codes "c") ≡ Some 5)
+
+-- "a" is to go, which is in the one map and not in the other.
+abbrev pub EffectsOnTwo : Type 0
+EffectsOnTwo = (effects other (changes (λ x y. x == y) before after) ≡ 3)
+    × (effects after (changes (λ x y. x == y) before after) ≡ 2)
 
 -- Both changed "bc", and not to the same.
 abbrev pub ConflictOfOne : Type 0

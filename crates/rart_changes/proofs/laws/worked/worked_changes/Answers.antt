@@ -1,11 +1,14 @@
 use Rattle.rart_changes.proofs.laws.worked.worked_changes.Goals as goal
-use Rattle.rart_changes.proofs.WorkedChangeLemmas.{changes_of_four, patch_of_another, conflict_of_one}
+use Rattle.rart_changes.proofs.WorkedChangeLemmas.{changes_of_four, patch_of_another, effects_on_two, conflict_of_one}
 
 pub returns-clause-changes : goal.returns-clause-changes
 returns-clause-changes c = changes_of_four
 
 pub returns-clause-patch : goal.returns-clause-patch
 returns-clause-patch c = patch_of_another
+
+pub returns-clause-effects : goal.returns-clause-effects
+returns-clause-effects c = effects_on_two
 
 pub returns-clause-conflicts : goal.returns-clause-conflicts
 returns-clause-conflicts c = conflict_of_one

@@ -4,3 +4,4 @@ pub mod KeyLemmas
 pub mod RebaseLemmas
 pub mod ShowLemmas
 pub mod TrackingLemmas
+pub mod UpdateLemmas

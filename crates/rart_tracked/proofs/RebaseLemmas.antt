@@ -1,22 +1,32 @@
 -- Making changes one after the other.
-use Rattle.std.proofs.Common.{◌≡◌, inr, ℕ, List, [], ◌∷◌, ◌++◌, Bool, Option, Some, None, cond, true, false, is_some, length, map, refl, sym, ap, subst, ◌∙◌, arith}
+use Rattle.std.proofs.Common.{◌≡◌, ◌+◌, ◌≤◌, ⊎_elim, inr, ℕ, List, [], ◌∷◌, ◌++◌, Bool, Option, Some, None, cond, true, false, is_some, length, map, refl, sym, ap, subst, ◌∙◌, arith}
 use Rattle.std.specs.FinMap as finite
-use Rattle.std.specs.Prelude.{Contains}
+use Rattle.std.specs.List.{cons_option}
+use Rattle.std.specs.Option.{unwrap_or}
+use Rattle.std.specs.Prelude.{Contains, ◌||◌}
 use Rattle.std.specs.Ordering.{eq_by_cmp}
 use Rattle.std.proofs.lemmas.Bool.{false≢true}
 use Rattle.std.proofs.lemmas.List.{length-map}
+use Rattle.std.proofs.lemmas.List.Sums.{count_by-le-length, sum_by-append, sum_by-cons}
 use Rattle.std.proofs.lemmas.Cmp.{nat_list_cmp_total}
+use Rattle.std.proofs.lemmas.List.Kept.{AllPairs-cons}
 use Rattle.rart_below.specs.Bytes.{byte_order}
 use Rattle.rart_maps.specs.Lookups.{with_value}
 use Rattle.rart_maps.specs.Pairs.{Strings, pairs}
 use Rattle.rart_maps.specs.Versions.{Map, has_key, without_key}
-use Rattle.rart_maps.proofs.FoundLemmas.{Contains-pairs}
-use Rattle.rart_maps.proofs.OrderLemmas.{byte_order-IsAntisymmetric}
+use Rattle.rart_maps.specs.FoundLaws.{KeysAscend}
+use Rattle.rart_maps.specs.Order.{IsBefore}
+use Rattle.rart_maps.proofs.ElementLemmas.{All-from_contains, AllPairs-first, AllPairs-rest, Contains-filter_map, Contains-map, Contains-here, Contains-later, Contains-cases, Contains-nil}
+use Rattle.rart_maps.proofs.FoundLemmas.{Contains-pairs, pairs_ascend_by_key}
+use Rattle.rart_maps.proofs.OrderLemmas.{IsBefore-itself, byte_order-IsAntisymmetric}
 use Rattle.rart_maps.proofs.PointLemmas.{map-contains}
 use Rattle.rart_maps.proofs.VersionLemmas.{same_key}
-use Rattle.rart_changes.specs.ChangeLists.{Change, patched}
+use Rattle.rart_changes.specs.ChangeLists.{Change, change_of, differ, effects, patched, takes_effect}
+use Rattle.rart_changes.proofs.ChangeLemmas.{KeysAscend-kept, change_of-is, filter_map-all, patched-elsewhere}
+use Rattle.rart_tracked.specs.ChangeVisits.{changes_at}
 use Rattle.rart_tracked.specs.Rebasing.{IsSetTo}
 use Rattle.rart_tracked.specs.Tracking.{Tracking, after_insertion, after_removal, is_in, listed, no_key, touching}
+use Rattle.rart_tracked.proofs.ShowLemmas.{change-there, changes_at-cons, no-change-there}
 use Rattle.rart_tracked.proofs.TrackingLemmas.{in-with}
 
 module _ {V : Type 0} where
@@ -49,7 +59,7 @@ module _ {V : Type 0} where
       (subst (λ z. IsSetTo t w (Some z) (after_insertion t w y)) same (record {
         base = refl;
         content = refl;
-        number = omega arith;
+        number = refl;
         touched = in-with t.touched w;
       }))
 
@@ -59,14 +69,14 @@ module _ {V : Type 0} where
       record {
         base = refl;
         content = refl;
-        number = omega arith;
+        number = let one = ap {B = ℕ} (λ there. cond there 1 0) is in omega (arith, one);
         touched = in-with t.touched w;
       }
   deleted t w false is =
       record {
         base = refl;
         content = sym (removed-absent t.current.content w is);
-        number = omega arith;
+        number = let none = ap {B = ℕ} (λ there. cond there 1 0) is in omega (arith, none);
         touched = λ q there. inr there;
       }
 
@@ -93,3 +103,105 @@ listed-in keys q there =
 pub nothing-in : (q : List ℕ) → is_in no_key q ≡ true → ⊥
 nothing-in q there =
     false≢true (ap is_some (sym (finite.get-empty byte_order q)) ∙ there)
+
+-- ---- how many changes take effect
+
+Contains-one : (w v : List ℕ) → Contains (w ∷ []) v → v ≡ w
+Contains-one w v there =
+    ⊎_elim (λ is. sym is) (λ later. absurd (Contains-nil v later)) (Contains-cases w [] v there)
+
+effects-append : {V : Type 0} (m : Map V) (xs ys : List (Change V))
+    → effects m (xs ++ ys) ≡ effects m xs + effects m ys
+effects-append m xs ys = sum_by-append (λ c. cond (takes_effect m c) 1 0) xs ys
+
+module _ {V : Type 0} (same : V → V → Bool) (old new : Map V) where
+  abbrev at : List (List ℕ) → List (Change V)
+  at ws = changes_at same old new ws
+
+  -- A change at some keys is of one of them.
+  changes_at-of : (ws : List (List ℕ)) (c : Change V) → Contains (at ws) c → Contains ws c.0
+  changes_at-of ws c there =
+      let found = (Contains-filter_map (λ w. change_of same w (finite.get old w) (finite.get new w))
+      ws c).0 there in
+      subst (Contains ws) (ap (λ d. d.0) (sym (change_of-is same found.0 (finite.get old found.0)
+      (finite.get new found.0) c found.2).0)) found.1
+
+  -- The changes of other keys take effect on a map as they do once the change at this one is made.
+  effects-later : (m : Map V) (w : List ℕ) (rest : List (List ℕ)) (cs : List (Change V))
+      → ((v : List ℕ) → Contains rest v → v ≡ w → ⊥)
+      → ((c : Change V) → Contains cs c → Contains rest c.0)
+      → effects (patched m (at (w ∷ []))) cs ≡ effects m cs
+  effects-later m w rest [] apart among = refl
+  effects-later m w rest (c ∷ cs) apart among =
+      let other = patched-elsewhere (at (w ∷ [])) m c.0 (λ d there is.
+      apart c.0 (among c (Contains-here c cs))
+      (is ∙ Contains-one w d.0 (changes_at-of (w ∷ []) d there))) in
+      let later = effects-later m w rest cs apart
+      (λ d there. among d (Contains-later c cs d there)) in
+      sum_by-cons (λ d. cond (takes_effect (patched m (at (w ∷ []))) d) 1 0) c cs
+      ∙ (λ i. cond (is_some c.2 || is_some (other i)) 1 0 + later i)
+      ∙ sym (sum_by-cons (λ d. cond (takes_effect m d) 1 0) c cs)
+
+  -- What is left of ascending keys, once the first one's change is made.
+  pub effects-next : (m : Map V) (w : List ℕ) (rest : List (List ℕ))
+      → ((v : List ℕ) → Contains rest v → IsBefore w v)
+      → effects m (at (w ∷ rest))
+      ≡ effects m (at (w ∷ [])) + effects (patched m (at (w ∷ []))) (at rest)
+  effects-next m w rest before =
+      ap (effects m) (changes_at-cons same old new w rest)
+      ∙ effects-append m (at (w ∷ [])) (at rest)
+      ∙ ap (λ n. effects m (at (w ∷ [])) + n)
+      (sym (effects-later m w rest (at rest)
+      (λ v there is. IsBefore-itself w (subst (IsBefore w) is (before v there)))
+      (λ c there. changes_at-of rest c there)))
+
+-- At one key a change takes effect where it sets it, or takes it out where it is there.
+pub effects-there : {V : Type 0} (same : V → V → Bool) (old new m : Map V) (w : List ℕ)
+    (x y : Option V) → finite.get old w ≡ x → finite.get new w ≡ y → differ same x y ≡ true
+    → effects m (changes_at same old new (w ∷ []))
+    ≡ cond (is_some y || finite.contains_key m w) 1 0
+effects-there same old new m w x y before after apart =
+    ap (effects m) (change-there same old new w x y before after apart)
+    ∙ sum_by-cons (λ d. cond (takes_effect m d) 1 0) (w, x, y) []
+    ∙ plus-none (cond (is_some y || finite.contains_key m w) 1 0)
+  where
+    plus-none : (n : ℕ) → n + 0 ≡ n
+    plus-none n = omega arith
+
+pub no-effects-there : {V : Type 0} (same : V → V → Bool) (old new m : Map V) (w : List ℕ)
+    (x y : Option V) → finite.get old w ≡ x → finite.get new w ≡ y → differ same x y ≡ false
+    → effects m (changes_at same old new (w ∷ [])) ≡ 0
+no-effects-there same old new m w x y before after alike =
+    ap (effects m) (no-change-there same old new w x y before after alike)
+
+-- At one key at most one does.
+pub effects-one : {V : Type 0} (same : V → V → Bool) (old new m : Map V) (w : List ℕ)
+    → effects m (changes_at same old new (w ∷ [])) ≤ 1
+effects-one same old new m w =
+    let few = count_by-le-length (takes_effect m) (changes_at same old new (w ∷ [])) in
+    let one : length (changes_at same old new (w ∷ [])) ≤ 1 =
+    elim (change_of same w (finite.get old w) (finite.get new w))
+    as (λ found. length (cons_option found []) ≤ 1) [
+      | None ↦ omega arith
+      | Some c ↦ omega arith
+    ] in
+    omega (arith, few, one)
+
+-- The keys of a set ascend.
+pub listed-ascends : (keys : Strings) → KeysAscend (λ w. w) (listed keys)
+listed-ascends keys =
+    subst (KeysAscend (λ w. w)) (filter_map-all (λ (pair : List ℕ × Unit {0}). pair.0) (pairs keys))
+    (KeysAscend-kept (λ (pair : List ℕ × Unit {0}). pair.0) (λ (w : List ℕ). w)
+    (λ pair. Some pair.0) (λ pair w is. sym (ap (λ o. unwrap_or o w) is)) (pairs keys)
+    (pairs_ascend_by_key (Unit {0}) keys))
+
+-- Elements ascend by their keys where these, listed, ascend.
+pub KeysAscend-of : {A : Type 0} (key : A → List ℕ) (xs : List A) → KeysAscend (λ w. w) (map key xs)
+    → KeysAscend key xs
+KeysAscend-of key [] ascends = λ i j d less below. absurd (omega (arith, below))
+KeysAscend-of key (x ∷ xs) ascends =
+    AllPairs-cons (λ a b. IsBefore (key a) (key b)) x xs
+    (All-from_contains (λ e. IsBefore (key x) (key e)) xs
+    (λ e there. AllPairs-first (λ v w. IsBefore v w) (key x) (map key xs) ascends (key e)
+    (Contains-map key xs e there)))
+    (KeysAscend-of key xs (AllPairs-rest (λ v w. IsBefore v w) (key x) (map key xs) ascends))

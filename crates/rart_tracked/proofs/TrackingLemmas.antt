@@ -89,20 +89,29 @@ module _ {V : Type 0} where
       ap (λ (u : Version V). u.number) is
       ∙ ap (λ t. (cond t (without_key v w 1) v).number) there
 
-  -- A change of one key that touches it.
-  pub keeps-touched : {base now after : Version V} {touched marked : Version (Unit {0})}
+  -- A change of one key that touches it, and raises the number.
+  pub keeps-raised : {base now after : Version V} {touched marked : Version (Unit {0})}
       (w : List ℕ) (value : Option V) → Keeps base now touched → Sets now after w value
       → marked.content ≡ with_string touched.content w
       → marked.number ≤ touched.number + 1 → marked.number ≡ finite.len marked.content
-      → after.number ≡ now.number + 1 → Keeps base after marked
-  keeps-touched {base} {now} {after} {touched} {marked} w value keeps sets keys more counted
-      number =
+      → now.number + 1 ≤ after.number → Keeps base after marked
+  keeps-raised {base} {now} {after} {touched} {marked} w value keeps sets keys more counted
+      raised =
       let few = keeps.few in
       record {
         tracked = λ q not.
             let apart = not-in-with touched.content w q
             (ap (λ (s : Strings). is_in s q) (sym keys) ∙ not) in
             sets.1 q apart.0 ∙ keeps.tracked q apart.1;
-        few = omega (arith, few, more, number);
+        few = omega (arith, few, more, raised);
         counted = counted;
       }
+
+  -- The same of one that raises it by one.
+  pub keeps-touched : {base now after : Version V} {touched marked : Version (Unit {0})}
+      (w : List ℕ) (value : Option V) → Keeps base now touched → Sets now after w value
+      → marked.content ≡ with_string touched.content w
+      → marked.number ≤ touched.number + 1 → marked.number ≡ finite.len marked.content
+      → after.number ≡ now.number + 1 → Keeps base after marked
+  keeps-touched w value keeps sets keys more counted number =
+      keeps-raised w value keeps sets keys more counted (omega (arith, number))

@@ -4,3 +4,4 @@ pub mod KeptKeys
 pub mod Rebasing
 pub mod Shown
 pub mod Tracking
+pub mod Updating

@@ -47,6 +47,15 @@ module _ {V : Type 0} where
   abbrev pub touching : Tracking V → List ℕ → Version V → Tracking V
   touching t w v = record { base = t.base; current = v; touched = with_string t.touched w }
 
+  -- with this version now, and a key touched where it is told to be
+  abbrev pub updated : Tracking V → List ℕ → Bool → Version V → Tracking V
+  updated t w is_touched v =
+      record {
+        base = t.base;
+        current = v;
+        touched = if is_touched then with_string t.touched w else t.touched;
+      }
+
   -- The call answers so and leaves the tracked version so. Refused, it leaves it as it was.
   abbrev pub Leaves : {A E : Type 0} → Result A E → Tracking V → Tracking V → A × Tracking V
       → Type 0

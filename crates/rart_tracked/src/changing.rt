@@ -4,8 +4,9 @@ ghost use Rattle.rart_below.specs.Clones.{ClonesEqual};
 ghost use Rattle.rart_maps.specs.Versions.{HasRoom};
 ghost use Rattle.rart_tracked.specs.Tracking.{Leaves, insertion, replacement, removal, deletion, tracking_from};
 
-use crate::tracked::{TrackedTree, marked, no_keys};
+use crate::tracked::{TrackedTree, no_keys};
 use rart_below::KeyTrait;
+use rart_versioned::Work;
 use std::alloc::AllocError;
 
 impl<K: KeyTrait, V: Clone + Drop> TrackedTree<K, V> {
@@ -34,10 +35,7 @@ impl<K: KeyTrait, V: Clone + Drop> TrackedTree<K, V> {
         requires room { HasRoom self.old.current 1 }
         ensures { Leaves result self.old self.new (replacement self.old (K.bytes key.now) value) }
     {
-        let touched = marked(&self.touched, key)?;
-        let replaced = self.current.insert_and_replace_k(key, value)?;
-        self.touched = touched;
-        Ok(replaced)
+        self.insert_and_replace_k_counted(key, value, &mut Work::new())
     }
 
     /// As `insert_and_replace_k`, the key by value.
@@ -57,13 +55,7 @@ impl<K: KeyTrait, V: Clone + Drop> TrackedTree<K, V> {
         requires room { HasRoom self.old.current 1 }
         ensures { Leaves result self.old self.new (removal self.old (K.bytes key.now)) }
     {
-        if self.current.get_k(key).is_none() {
-            return Ok(None);
-        }
-        let touched = marked(&self.touched, key)?;
-        let removed = self.current.remove_k(key)?;
-        self.touched = touched;
-        Ok(removed)
+        self.remove_k_counted(key, &mut Work::new())
     }
 
     /// As `remove_k`, the key by value.

@@ -4,12 +4,14 @@
 
 mod changing;
 mod conflicts;
+mod counting;
 mod keys;
 mod listing;
 mod rebasing;
 mod showing;
 mod tracked;
 mod trying;
+mod updating;
 
 pub use listing::KeyChange;
 pub use tracked::TrackedTree;

@@ -1,10 +1,11 @@
 //! The same changes, made on another base.
-ghost use Rattle.std.specs.Prelude.{◌≡◌, ◌+◌, ◌≤◌, ◌⊎◌, List, ℕ, [], ◌∷◌, length, map, Contains, IsTrue, OnOk, OnErr};
+ghost use Rattle.std.specs.Prelude.{◌≡◌, ◌+◌, ◌⊎◌, List, ℕ, [], ◌∷◌, length, map, Contains, IsTrue, OnOk, OnErr};
 ghost use Rattle.std.specs.Option.{option_copied};
 ghost use Rattle.std.specs.FinMap as finite;
 ghost use Rattle.rart_below.specs.Clones.{ClonesEqual};
 ghost use Rattle.rart_maps.specs.Versions.{HasRoom};
-ghost use Rattle.rart_changes.specs.ChangeLists.{changes, patched};
+ghost use Rattle.rart_changes.specs.ChangeLists.{changes, effects, patched};
+ghost use Rattle.rart_maps.specs.FoundLaws.{KeysAscend};
 ghost use Rattle.rart_tracked.specs.ChangeVisits.{changes_at};
 ghost use Rattle.rart_tracked.specs.Rebasing.{IsSetTo, IsWithin};
 ghost use Rattle.rart_tracked.specs.Tracking.{is_in};
@@ -19,7 +20,9 @@ use std::alloc::AllocError;
 impl<K: KeyTrait, V: Clone + Drop + Eq> TrackedTree<K, V> {
     /// Takes another version as base, and makes the changes on it: the current version is then that
     /// one with each key that changed here as it is here. Where that one changed the key too, which
-    /// `conflicts_with` tells, its value is lost. No other key is touched then than before.
+    /// `conflicts_with` tells, its value is lost. No other key is touched then than before. Its
+    /// number is that one's, and one greater for each key that is set, or taken out where that one
+    /// has it.
     ///
     /// It asks for room for as many changes as keys are touched. Refused for memory, all is as
     /// before.
@@ -28,6 +31,9 @@ impl<K: KeyTrait, V: Clone + Drop + Eq> TrackedTree<K, V> {
         requires room { HasRoom onto.now (finite.len self.old.touched) }
         ensures base { OnOk result (self.new.base ≡ onto.now) }
         ensures current { OnOk result (self.new.current.content ≡ patched onto.now.content
+            (changes V.eq self.old.base.content self.old.current.content)) }
+        ensures number { OnOk result (self.new.current.number ≡ onto.now.number
+            + effects onto.now.content
             (changes V.eq self.old.base.content self.old.current.content)) }
         ensures touched { OnOk result (IsWithin self.new.touched self.old.touched) }
         ensures refused { OnErr result (self.new ≡ self.old) }
@@ -48,8 +54,12 @@ impl<K: KeyTrait, V: Clone + Drop + Eq> TrackedTree<K, V> {
     ) -> Result<(), AllocError>
         requires clones { ClonesEqual V.is_clone }
         requires room { HasRoom self.old.current (length keys.items) }
+        requires ascending { KeysAscend K.bytes keys.items }
         ensures base { OnOk result (self.new.base ≡ self.old.base) }
         ensures current { OnOk result (self.new.current.content ≡ patched self.old.current.content
+            (changes_at V.eq old.now.content new.now.content (map K.bytes keys.items))) }
+        ensures number { OnOk result (self.new.current.number ≡ self.old.current.number
+            + effects self.old.current.content
             (changes_at V.eq old.now.content new.now.content (map K.bytes keys.items))) }
         ensures touched { OnOk result ((q : List ℕ) → IsTrue (is_in self.new.touched q)
             → Contains (map K.bytes keys.items) q ⊎ IsTrue (is_in self.old.touched q)) }
@@ -72,7 +82,9 @@ impl<K: KeyTrait, V: Clone + Drop + Eq> TrackedTree<K, V> {
         ensures base { OnOk result (self.new.base ≡ self.old.base) }
         ensures current { OnOk result (self.new.current.content ≡ patched self.old.current.content
             (changes_at V.eq old.now.content new.now.content (K.bytes key ∷ []))) }
-        ensures number { OnOk result (self.new.current.number ≤ self.old.current.number + 1) }
+        ensures number { OnOk result (self.new.current.number ≡ self.old.current.number
+            + effects self.old.current.content
+            (changes_at V.eq old.now.content new.now.content (K.bytes key ∷ []))) }
         ensures touched { OnOk result ((q : List ℕ) → IsTrue (is_in self.new.touched q)
             → (q ≡ K.bytes key) ⊎ IsTrue (is_in self.old.touched q)) }
     {

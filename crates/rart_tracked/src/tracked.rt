@@ -1,12 +1,14 @@
 //! The tracked version itself: how it begins, and what is read off it.
-ghost use Rattle.std.specs.Prelude.{◌≡◌, ◌+◌, ◌≤◌, ◌<◌, false, IfOk, OnOk, OnErr};
+ghost use Rattle.std.specs.Prelude.{◌≡◌, ◌+◌, ◌*◌, ◌≤◌, ◌<◌, false, IfOk, OnOk, OnErr};
 ghost use Rattle.std.specs.FinMap as finite;
 ghost use Rattle.std.specs.Option.{option_copied};
+ghost use Rattle.rart_maps.specs.Bounds.{change_bound, lookup_bound};
 ghost use Rattle.rart_maps.specs.Versions.{HasRoom, empty_at, value_at};
 ghost use Rattle.rart_tracked.specs.Tracking.{IsTracked, is_in, tracking_from, with_string};
+ghost use Rattle.rart_versioned.specs.Counts.{CountsUpTo};
 
 use rart_below::KeyTrait;
-use rart_versioned::VersionedAdaptiveRadixTree;
+use rart_versioned::{VersionedAdaptiveRadixTree, Work};
 use std::alloc::{AllocError, Global};
 use std::marker::Model;
 
@@ -84,6 +86,15 @@ impl<K: KeyTrait, V: Clone + Drop> TrackedTree<K, V> {
         self.current.get_k(key)
     }
 
+    /// As `get_k`, with the nodes entered counted into `work`: at most one more than the key has
+    /// bytes.
+    pub fn get_k_counted(&self, key: &K, work: &mut Work) -> Option<&V>
+        ensures value { option_copied result ≡ value_at self.now.current (K.bytes key.now) }
+        ensures counted { CountsUpTo (lookup_bound (K.bytes key.now)) 0 work.old work.new }
+    {
+        self.current.get_k_counted(key, work)
+    }
+
     /// As `get_k`, the key by value.
     pub fn get(&self, key: K) -> Option<&V>
         ensures { option_copied result ≡ value_at self.now.current (K.bytes key) }
@@ -116,11 +127,12 @@ pub(crate) fn no_keys<K: KeyTrait>(alloc: Global) -> VersionedAdaptiveRadixTree<
     VersionedAdaptiveRadixTree::new(alloc)
 }
 
-/// These keys and one more, where the number of the tree is how many there are. Refused for memory,
-/// there are none.
+/// These keys and one more, where the number of the tree is how many there are. The key is looked
+/// up, and put in where it is absent. Refused for memory, there are none.
 pub(crate) fn marked<K: KeyTrait>(
     touched: &VersionedAdaptiveRadixTree<K, ()>,
     key: &K,
+    work: &mut Work,
 ) -> Result<VersionedAdaptiveRadixTree<K, ()>, AllocError>
     requires room { HasRoom touched.now 1 }
     requires counted { touched.now.number ≡ finite.len touched.now.content }
@@ -128,10 +140,12 @@ pub(crate) fn marked<K: KeyTrait>(
         ≡ with_string touched.now.content (K.bytes key.now)) }
     ensures number { IfOk result (λ marked. marked.number ≤ touched.now.number + 1) }
     ensures counted { IfOk result (λ marked. marked.number ≡ finite.len marked.content) }
+    ensures work { CountsUpTo (2 * lookup_bound (K.bytes key.now)) (change_bound (K.bytes key.now))
+        work.old work.new }
 {
     let mut marked = touched.clone()?;
-    if marked.get_k(key).is_none() {
-        marked.insert_k(key, ())?;
+    if marked.get_k_counted(key, work).is_none() {
+        marked.insert_k_counted(key, (), work)?;
     }
     Ok(marked)
 }

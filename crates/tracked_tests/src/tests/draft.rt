@@ -1,6 +1,6 @@
 //! A tracked version that tables of steps are run on.
 use rart_tracked::TrackedTree;
-use rart_versioned::{KeyTrait, VectorKey, VersionedAdaptiveRadixTree};
+use rart_versioned::{KeyTrait, Refusal, Slot, SlotUpdate, VectorKey, VersionedAdaptiveRadixTree};
 use std::alloc::{AllocError, Global};
 use std::process::Abort;
 use std::test::Fail;
@@ -15,9 +15,28 @@ pub type Change = (&'static [u8], Option<u64>, Option<u64>);
 /// theirs.
 pub type Conflict = (&'static [u8], Option<u64>, Option<u64>, Option<u64>);
 
+/// What a callback does with the slot that it is lent.
+#[derive(Clone, Copy)]
+pub enum Told {
+    /// It leaves this value in an occupied slot.
+    Leave(u64),
+    /// This value is to be stored.
+    Store(u64),
+    /// The key is to be taken out.
+    Remove,
+}
+
 /// A step of a table.
 #[derive(Clone, Copy)]
 pub enum Step {
+    /// An update by this answer says whether the key was there or is now.
+    Update(&'static [u8], Told, bool),
+    /// The same of a callback that may fail, and doesn't.
+    Try(&'static [u8], Told, bool),
+    /// The callback fails.
+    TryInVain(&'static [u8]),
+    /// The number is this.
+    Number(u64),
     /// The key is set to a value, and this one is replaced.
     Set(&'static [u8], u64, Option<u64>),
     /// The key is taken out, and this is its value.
@@ -85,6 +104,13 @@ fn take(alloc: Global, tracked: &mut Tracked, step: Step) -> Result<bool, AllocE
         Step::Shows(wanted) => Ok(lists(tracked, wanted)? && shows(tracked, wanted)?),
         Step::Meets(pairs, wanted) => meets(tracked, &tree_of(alloc, pairs)?, wanted),
         Step::Rebase(pairs) => rebase(tracked, &tree_of(alloc, pairs)?),
+        Step::Update(bytes, told, wanted) => update(alloc, tracked, bytes, told, wanted),
+        Step::Try(bytes, told, wanted) => {
+            let answer = try_update(alloc, tracked, bytes, Ok(told))?;
+            Ok(answer == Some(wanted))
+        }
+        Step::TryInVain(bytes) => Ok(try_update(alloc, tracked, bytes, Err(7))?.is_none()),
+        Step::Number(wanted) => Ok(tracked.current().version() == wanted),
         Step::Has(bytes, value, is_touched) => {
             let key = key_of(alloc, bytes)?;
             Ok(tracked.get_k(&key).copied() == value && tracked.is_touched(&key) == is_touched)
@@ -117,6 +143,56 @@ fn take_out(
     }
     let removed = tracked.remove(key_of(alloc, bytes)?)?;
     Ok(removed == wanted)
+}
+
+fn tell(slot: &mut Slot<u64>, told: Told) -> SlotUpdate<u64> {
+    match told {
+        Told::Leave(value) => {
+            if let Slot::Occupied(was) = slot {
+                *was = value;
+            }
+            SlotUpdate::Keep
+        }
+        Told::Store(value) => SlotUpdate::Insert(value),
+        Told::Remove => SlotUpdate::Remove,
+    }
+}
+
+fn update(
+    alloc: Global,
+    tracked: &mut Tracked,
+    bytes: &[u8],
+    told: Told,
+    wanted: bool,
+) -> Result<bool, AllocError> {
+    if tracked.current().version() == u64::MAX {
+        return Ok(false);
+    }
+    let key = key_of(alloc, bytes)?;
+    let is_there = tracked.update(key, |slot: &mut Slot<u64>| tell(slot, told))?;
+    Ok(is_there == wanted)
+}
+
+// The answer, or nothing where the callback failed with the error that was wanted of it.
+fn try_update(
+    alloc: Global,
+    tracked: &mut Tracked,
+    bytes: &[u8],
+    told: Result<Told, u64>,
+) -> Result<Option<bool>, AllocError> {
+    if tracked.current().version() >= u64::MAX - 1 {
+        return Err(AllocError);
+    }
+    let key = key_of(alloc, bytes)?;
+    let answer = tracked.try_update(key, |slot: &mut Slot<u64>| match told {
+        Ok(told) => Ok(tell(slot, told)),
+        Err(error) => Err(error),
+    });
+    match answer {
+        Ok(is_there) => Ok(Some(is_there)),
+        Err(Refusal::Callback(7)) => Ok(None),
+        Err(_) => Err(AllocError),
+    }
 }
 
 // Whether these are the changes that it lists.

@@ -1,5 +1,8 @@
 //! Tables of steps.
-use crate::tests::draft::Step::{Commit, Has, Meets, Rebase, Set, Shows, Take, Undo};
+use crate::tests::draft::Step::{
+    Commit, Has, Meets, Number, Rebase, Set, Shows, Take, Try, TryInVain, Undo, Update,
+};
+use crate::tests::draft::Told::{Leave, Remove, Store};
 use crate::tests::draft::{Pair, Step, assert_steps};
 use std::test::Fail;
 
@@ -127,9 +130,11 @@ fn conflicts_are_where_both_changed(rt: HostRuntime) -> Result<(), Fail> {
     assert_steps(&rt, rt.alloc(), FOUR, &steps)
 }
 
-// Ours on theirs: "b" is there already as ours has it.
+// Ours on theirs: "b" is there already as ours has it. Theirs has number 4, and all four changes
+// take effect.
 const REBASED: &[Step] = &[
     Rebase(THEIRS),
+    Number(8),
     Shows(&[
         (b"a", Some(1), None),
         (b"bc", Some(4), Some(7)),
@@ -146,4 +151,74 @@ fn changes_are_made_on_another_base(rt: HostRuntime) -> Result<(), Fail> {
     let mut steps = OURS.to_vec(rt.alloc())?;
     steps.extend_from_slice(REBASED)?;
     assert_steps(&rt, rt.alloc(), FOUR, &steps)
+}
+
+// On a map without "a", which ours takes out, three changes take effect.
+const REBASED_ON_NOTHING: &[Step] = &[
+    Rebase(&[]),
+    Number(3),
+    Has(b"a", None, false),
+    Shows(&[
+        (b"b", None, Some(6)),
+        (b"bc", None, Some(7)),
+        (b"c", None, Some(5)),
+    ]),
+];
+
+#[test]
+fn key_that_is_absent_already_is_not_taken_out(rt: HostRuntime) -> Result<(), Fail> {
+    let mut steps = OURS.to_vec(rt.alloc())?;
+    steps.extend_from_slice(REBASED_ON_NOTHING)?;
+    assert_steps(&rt, rt.alloc(), FOUR, &steps)
+}
+
+// Of "a", "b" and "bc", which are there at number 3, and of keys that are not.
+const UPDATED: &[Step] = &[
+    Update(b"a", Leave(5), true),
+    Update(b"x", Leave(5), false),
+    Update(b"y", Store(6), true),
+    Update(b"b", Remove, true),
+    Update(b"z", Remove, false),
+    Number(6),
+    Has(b"x", None, false),
+    Has(b"z", None, false),
+    Shows(&[
+        (b"a", Some(1), Some(5)),
+        (b"b", Some(2), None),
+        (b"y", None, Some(6)),
+    ]),
+    Update(b"bc", Leave(3), true),
+    Has(b"bc", Some(3), true),
+];
+
+#[test]
+fn updates_touch_what_was_there_or_is_now(rt: HostRuntime) -> Result<(), Fail> {
+    assert_steps(&rt, rt.alloc(), FOUR, UPDATED)
+}
+
+// A callback's error touches no key, and the number is two greater where the key is there.
+const TRIED: &[Step] = &[
+    TryInVain(b"a"),
+    Number(5),
+    Has(b"a", Some(1), false),
+    TryInVain(b"x"),
+    Number(5),
+    Has(b"x", None, false),
+    Try(b"x", Leave(5), false),
+    Try(b"a", Leave(5), true),
+    Number(6),
+    Try(b"b", Remove, true),
+    Number(8),
+    Try(b"x", Store(9), true),
+    Number(9),
+    Shows(&[
+        (b"a", Some(1), Some(5)),
+        (b"b", Some(2), None),
+        (b"x", None, Some(9)),
+    ]),
+];
+
+#[test]
+fn failed_updates_touch_nothing(rt: HostRuntime) -> Result<(), Fail> {
+    assert_steps(&rt, rt.alloc(), FOUR, TRIED)
 }

@@ -1,11 +1,12 @@
-use Rattle.std.proofs.Common.{sym, ap, subst, ◌∙◌, ⊎_elim, arith}
+use Rattle.std.proofs.Common.{◌+◌, sym, ap, subst, ◌∙◌, ⊎_elim, arith}
 use Rattle.std.specs.Prelude.{Contains}
 use Rattle.std.specs.FinMap as finite
-use Rattle.rart_changes.specs.ChangeLists.{changes, patched}
+use Rattle.rart_maps.specs.FoundLaws.{KeysAscend}
+use Rattle.rart_changes.specs.ChangeLists.{changes, effects, patched}
 use Rattle.rart_tracked.specs.ChangeVisits.{changes_at}
 use Rattle.rart_tracked.specs.Tracking.{is_in}
 use Rattle.rart_tracked.proofs.ChangesAtLemmas.{changes-at-touched}
-use Rattle.rart_tracked.proofs.RebaseLemmas.{keys-counted, listed-in, nothing-in}
+use Rattle.rart_tracked.proofs.RebaseLemmas.{KeysAscend-of, keys-counted, listed-ascends, listed-in, nothing-in}
 use Rattle.rart_tracked.proofs.tracked.TrackedTree.rebase.Goals as goal
 
 pub replay-requires-clause-room : goal.replay-requires-clause-room
@@ -16,6 +17,26 @@ replay-requires-clause-room g c =
     let few = ap (λ t. finite.len t.touched) c.self.view_is in
     let room = c.requires.room in
     omega (arith, number, count, few, room)
+
+pub replay-requires-clause-ascending : goal.replay-requires-clause-ascending
+replay-requires-clause-ascending g c =
+    KeysAscend-of g.K.KeyTrait.bytes c.in_ok-keys.keys.items
+    (subst (KeysAscend (λ w. w)) (sym c.in_ok-keys.ensures.keys)
+    (listed-ascends c.self.inside.touched.content))
+
+pub returns-clause-number : goal.returns-clause-number
+returns-clause-number g c =
+    let same = g.V.PartialEq.eq in
+    let inside = c.self.inside in
+    let all = ap (changes_at same inside.base.content inside.current.content)
+    c.in_ok-keys.ensures.keys
+    ∙ changes-at-touched same g.met.V.Eq.laws.refl inside.base.content inside.current.content
+    inside.touched.content c.self.invariant.tracked
+    ∙ ap (λ t. changes same t.base.content t.current.content) c.self.view_is in
+    ap (λ t. t.current.number) c.drop.view_is
+    ∙ c.in_ok-replay.ensures.number
+    ∙ (λ i. (c.in_ok-next.ensures i).current.number
+    + effects (c.in_ok-next.ensures i).current.content (all i))
 
 pub returns-clause-current : goal.returns-clause-current
 returns-clause-current g c =

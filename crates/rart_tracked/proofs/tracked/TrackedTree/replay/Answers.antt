@@ -1,10 +1,13 @@
-use Rattle.std.proofs.Common.{inl, inr, ⊎_elim, map, length, ◌∷◌, [], sym, ap, refl, subst, ◌∙◌, arith, rules}
+use Rattle.std.proofs.Common.{inl, inr, ⊎_elim, map, length, ◌+◌, ◌∷◌, [], sym, ap, refl, subst, ◌∙◌, arith, rules}
 use Rattle.std.specs.Prelude.{Contains}
 use Rattle.std.specs.Vec.Iter.{into_iter_items}
-use Rattle.rart_maps.proofs.ElementLemmas.{Contains-here, Contains-later}
-use Rattle.rart_changes.specs.ChangeLists.{patched}
+use Rattle.rart_maps.specs.FoundLaws.{KeysAscend}
+use Rattle.rart_maps.specs.Order.{IsBefore}
+use Rattle.rart_maps.proofs.ElementLemmas.{AllPairs-first, AllPairs-rest, Contains-here, Contains-later}
+use Rattle.rart_maps.proofs.PointLemmas.{map-contains}
+use Rattle.rart_changes.specs.ChangeLists.{effects, patched}
 use Rattle.rart_tracked.specs.ChangeVisits.{changes_at}
-use Rattle.rart_tracked.proofs.RebaseLemmas.{patched-append}
+use Rattle.rart_tracked.proofs.RebaseLemmas.{effects-next, effects-one, patched-append}
 use Rattle.rart_tracked.proofs.ShowLemmas.{changes_at-cons, nothing-left}
 use Rattle.rart_tracked.proofs.tracked.TrackedTree.replay.Goals as goal
 
@@ -20,6 +23,9 @@ loop-key-init g c =
       base = refl;
       current = ap (λ keys. patched c.args.self.now.current.content (at keys)) same;
       among = λ q there. subst (λ keys. Contains keys q) same there;
+      ascending = subst (KeysAscend bytes) (sym gives.0) c.requires.ascending;
+      number = ap (λ keys. c.args.self.now.current.number
+          + effects c.args.self.now.current.content (at keys)) same;
       touched = λ q there. inr there;
     }
 
@@ -47,9 +53,22 @@ loop-key-preserved g c =
     let room = before.room in
     let made = c.in_ok-replay_one.ensures in
     let number = made.number in
+    let content = c.loop-key.self.current.content in
+    let one = effects-one same old new content w in
+    let ascend = subst (KeysAscend bytes) steps.0 before.ascending in
+    let next = effects-next same old new content w rest (λ v there.
+    let found = map-contains bytes (into_iter_items c.next.new.self) v there in
+    subst (IsBefore w) found.2 (AllPairs-first (λ x y. IsBefore (bytes x) (bytes y)) c.in-Some.key
+    (into_iter_items c.next.new.self) ascend found.0 found.1)) in
+    let later = ap (λ m. effects m (at rest)) made.current in
+    let whole = ap (λ keys. effects content (at keys)) keys in
+    let was = before.number in
     record {
       count = omega (arith, more, count, counts);
-      room = omega (arith, more, room, number);
+      room = omega (arith, more, room, number, one);
+      ascending = AllPairs-rest (λ x y. IsBefore (bytes x) (bytes y)) c.in-Some.key
+          (into_iter_items c.next.new.self) ascend;
+      number = omega (arith, number, next, later, whole, was);
       base = made.base ∙ before.base;
       current = ap (λ m. patched m (at rest)) made.current
           ∙ sym (patched-append c.loop-key.self.current.content (at (w ∷ [])) (at rest))
@@ -76,6 +95,16 @@ returns-clause-current g c =
     let none = nothing-left _ (sym before.count ∙ c.in-None.ensures.steps.0) in
     sym (ap (λ items. patched c.loop-key.self.current.content (at (map bytes items))) none)
     ∙ before.current
+
+pub returns-clause-number : goal.returns-clause-number
+returns-clause-number g c =
+    let bytes = g.K.KeyTrait.bytes in
+    let at = changes_at g.V.PartialEq.eq c.args.old.now.content c.args.new.now.content in
+    let before = c.loop-key.invariant in
+    let none = nothing-left _ (sym before.count ∙ c.in-None.ensures.steps.0) in
+    let over = ap (λ items. effects c.loop-key.self.current.content (at (map bytes items))) none in
+    let was = before.number in
+    omega (arith, over, was)
 
 pub returns-clause-touched : goal.returns-clause-touched
 returns-clause-touched g c = c.loop-key.invariant.touched

@@ -1,7 +1,8 @@
 use Rattle.std.proofs.Common.{◌≡◌, ◌+◌, ◌<◌, ◌^◌, ◌⊎◌, ℕ, List, length, map}
 use Rattle.std.specs.Prelude.{Contains, IsTrue}
 use Rattle.std.specs.Vec.Iter.{into_iter_items, into_iter_len}
-use Rattle.rart_changes.specs.ChangeLists.{patched}
+use Rattle.rart_changes.specs.ChangeLists.{effects, patched}
+use Rattle.rart_maps.specs.FoundLaws.{KeysAscend}
 use Rattle.rart_tracked.specs.ChangeVisits.{changes_at}
 use Rattle.rart_tracked.specs.Tracking.{is_in}
 use Rattle.rart_tracked.proofs.tracked.TrackedTree.replay.Given as goal
@@ -19,6 +20,9 @@ invariant-loop-key g l =
       current : patched l.self.current.content (at (map bytes items))
           ≡ patched l.fn.self.current.content (at all);
       among : (q : List ℕ) → Contains (map bytes items) q → Contains all q;
+      ascending : KeysAscend bytes items;
+      number : l.self.current.number + effects l.self.current.content (at (map bytes items))
+          ≡ l.fn.self.current.number + effects l.fn.self.current.content (at all);
       touched : (q : List ℕ) → IsTrue (is_in l.self.touched q)
           → Contains all q ⊎ IsTrue (is_in l.fn.self.touched q);
     }

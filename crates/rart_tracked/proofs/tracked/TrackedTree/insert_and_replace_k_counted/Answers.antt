@@ -1,0 +1,14 @@
+use Rattle.std.proofs.Common.{Ok, ap}
+use Rattle.std.specs.declared.alloc.AllocError.{AllocError}
+use Rattle.rart_maps.proofs.LookupLemmas.{replacement-sets}
+use Rattle.rart_tracked.proofs.TrackingLemmas.{keeps-touched}
+use Rattle.rart_tracked.proofs.tracked.TrackedTree.insert_and_replace_k_counted.Goals as goal
+
+pub invariant_of-self-2 : goal.invariant_of-self-2
+invariant_of-self-2 g c =
+    let w = g.K.KeyTrait.bytes c.args.key.now in
+    let changes = c.in_ok-replaced.ensures.changes in
+    keeps-touched w _ c.self.invariant
+    (replacement-sets _ _ w {E = AllocError} _ (Ok _) changes) c.in_ok-touched.ensures.keys
+    c.in_ok-touched.ensures.number c.in_ok-touched.ensures.counted
+    (ap (λ v. v.number) changes.1)

@@ -1,0 +1,15 @@
+use Rattle.std.proofs.Common.{Ok, sym, ap, ◌∙◌, is_some}
+use Rattle.std.specs.declared.alloc.AllocError.{AllocError}
+use Rattle.rart_maps.proofs.LookupLemmas.{removal-sets}
+use Rattle.rart_tracked.proofs.TrackingLemmas.{copied-some, keeps-touched, removal-number}
+use Rattle.rart_tracked.proofs.tracked.TrackedTree.remove_k_counted.Goals as goal
+
+pub invariant_of-self-2 : goal.invariant_of-self-2
+invariant_of-self-2 g c =
+    let w = g.K.KeyTrait.bytes c.args.key.now in
+    let changes = c.in_ok-removed.ensures.changes in
+    let there = sym (ap is_some c.get_k_counted.ensures.value)
+    ∙ sym (copied-some c.get_k_counted.result) ∙ c.if-is_none.ensures in
+    keeps-touched w _ c.self.invariant (removal-sets _ _ w {E = AllocError} (Ok _) changes)
+    c.in_ok-touched.ensures.keys c.in_ok-touched.ensures.number c.in_ok-touched.ensures.counted
+    (removal-number c.self.inside.current c.remove_k_counted.new.self w there changes.1)

@@ -1,0 +1,6 @@
+pub mod EmptyLemmas
+pub mod Handles
+pub mod LengthLemmas
+pub mod Parts
+pub mod Pointers
+pub mod Steps

@@ -1,0 +1,8 @@
+use Rattle.std.proofs.Common.{◌∙◌, ap, sym}
+use Rattle.std.specs.FinMap as finite
+use Rattle.rart_c.proofs.EmptyLemmas.{no-length}
+use Rattle.rart_c.proofs.table.Table.new_at.Goals as goal
+
+pub invariant_of-result : goal.invariant_of-result
+invariant_of-result c =
+    sym (ap (λ v. finite.len v.content) c.new_at.ensures.empty ∙ no-length c.args.number)

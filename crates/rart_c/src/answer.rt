@@ -1,0 +1,50 @@
+//! The small numbers that exports answer, and what is told by them.
+ghost use Rattle.std.specs.Prelude.{◌≡◌};
+ghost use Rattle.rart_c.specs.Answers.{Tells, number_of};
+
+/// The call was done. Where it answers a value, there was one, and it is written.
+pub const DONE: u8 = 0;
+
+/// There is no such key, and nothing is written.
+pub const ABSENT: u8 = 1;
+
+/// The number is 2^64 - 1 and can't be raised. Nothing changed.
+pub const NO_ROOM: u8 = 2;
+
+/// Memory was refused. Nothing changed.
+pub const NO_MEMORY: u8 = 3;
+
+/// The buffer is too small for the key, whose length is written.
+pub const TOO_SMALL: u8 = 4;
+
+/// Why a call isn't done.
+#[derive(Drop)]
+pub(crate) enum Refusal {
+    NoRoom,
+    NoMemory,
+}
+
+impl Refusal {
+    /// The number that says so to C.
+    pub(crate) fn number(&self) -> u8
+        ensures { result ≡ number_of self.now }
+    {
+        match self {
+            Refusal::NoRoom => NO_ROOM,
+            Refusal::NoMemory => NO_MEMORY,
+        }
+    }
+}
+
+/// Tells a value that was found, or that there is none.
+pub(crate) fn tell(found: Option<u64>, value: &mut u64) -> u8
+    ensures { Tells found result value.old value.new }
+{
+    match found {
+        None => ABSENT,
+        Some(found) => {
+            *value = found;
+            DONE
+        }
+    }
+}

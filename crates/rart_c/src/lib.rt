@@ -1,0 +1,15 @@
+//! The versioned tree for C programs, and for Rust programs through C: byte strings to numbers.
+//!
+//! C holds a tree as a struct of one pointer. All zeros is the map without a key, its number 0, so
+//! no call makes a tree and none can fail to.
+#![tactic(auto)]
+
+mod answer;
+mod changing;
+mod handle;
+mod reading;
+mod table;
+#[cfg(test)]
+mod tests;
+mod unboxed;
+mod versions;

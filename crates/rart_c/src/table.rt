@@ -1,0 +1,158 @@
+//! The tree that a handle leads to, and how many keys it has.
+ghost use Rattle.std.specs.Prelude.{◌≡◌, length, IfOk, OnErr, IsSome, IsTrue, MatchResult};
+ghost use Rattle.std.specs.FinMap as finite;
+ghost use Rattle.rart_c.specs.Answers.{Explains};
+ghost use Rattle.rart_c.specs.Longest.{longest_length};
+ghost use Rattle.rart_maps.specs.Changes.{Changes, removal, replacement};
+ghost use Rattle.rart_maps.specs.Pairs.{common};
+ghost use Rattle.rart_maps.specs.Versions.{HasRoom, empty_at, has_key, value_at, with_rise};
+
+use crate::answer::Refusal;
+use rart_versioned::{KeyTrait, VectorKey, VersionedAdaptiveRadixTree};
+use std::alloc::{AllocError, Global};
+use std::marker::Model;
+
+/// A tree, and how many keys it has. Contracts see the version that the tree is.
+#[derive(Drop)]
+pub(crate) struct Table {
+    tree: VersionedAdaptiveRadixTree<VectorKey, u64>,
+    len: usize,
+}
+
+impl Model for Table {
+    ghost use Rattle.std.specs.Prelude.{◌≡◌, ℕ};
+    ghost use Rattle.std.specs.Coded.{coded_ℕ};
+    ghost use Rattle.std.specs.FinMap as finite;
+    ghost use Rattle.rart_maps.specs.Versions.{Version, version_code};
+
+    ghost Value = { Version ℕ };
+
+    ghost coded = { version_code coded_ℕ };
+
+    ghost view = { λ table. table.tree };
+
+    ghost invariant = { λ table. table.len ≡ finite.len table.tree.content };
+}
+
+impl Table {
+    /// A map without a key, with this number.
+    pub(crate) fn new_at(alloc: Global, number: u64) -> Table
+        ensures { result ≡ empty_at number }
+    {
+        Table {
+            tree: VersionedAdaptiveRadixTree::new_at(alloc, number),
+            len: 0,
+        }
+    }
+
+    pub(crate) fn version(&self) -> u64
+        ensures { result ≡ self.now.number }
+    {
+        self.tree.version()
+    }
+
+    pub(crate) fn len(&self) -> usize
+        ensures { result ≡ finite.len self.now.content }
+    {
+        self.len
+    }
+
+    /// The value of a key, if it is there.
+    pub(crate) fn get(&self, key: &[u8]) -> Option<u64>
+        ensures { result ≡ value_at self.now key.now }
+    {
+        self.tree.get_slice(key).copied()
+    }
+
+    /// How long the longest key is that begins the probe, and its value, if there is one.
+    pub(crate) fn longest(&self, probe: &[u8]) -> Option<(usize, u64)>
+        ensures { result ≡ longest_length self.now probe.now }
+    {
+        match self.tree.longest_slice(probe) {
+            None => None,
+            Some((len, value)) => Some((len, *value)),
+        }
+    }
+
+    /// How many keys both have.
+    pub(crate) fn common(&self, other: &Table) -> usize
+        ensures { result ≡ length (common self.now.content other.now.content) }
+    {
+        self.tree.intersect_count(&other.tree)
+    }
+
+    /// Sets a key to a value, and gives the value that was replaced.
+    pub(crate) fn insert(
+        &mut self,
+        alloc: Global,
+        key: &[u8],
+        value: u64,
+    ) -> Result<Option<u64>, Refusal>
+        ensures changes { Changes result self.old self.new (replacement self.old key.now value) }
+        ensures room { MatchResult result (λ _. HasRoom self.old 1) (Explains self.old) }
+    {
+        if self.tree.version() == u64::MAX {
+            return Err(Refusal::NoRoom);
+        }
+        let Ok(key) = VectorKey::new_from_slice(alloc, key) else {
+            return Err(Refusal::NoMemory);
+        };
+        let Ok(replaced) = self.tree.insert_and_replace_k(&key, value) else {
+            return Err(Refusal::NoMemory);
+        };
+        if replaced.is_none() {
+            self.len += 1;
+        }
+        Ok(replaced)
+    }
+
+    /// Takes a key out, and gives its value. Without the key nothing changes, and it isn't refused.
+    pub(crate) fn remove(&mut self, key: &[u8]) -> Result<Option<u64>, Refusal>
+        ensures changes { Changes result self.old self.new (removal self.old key.now) }
+        ensures room { MatchResult result
+            (λ found. IsSome found → HasRoom self.old 1) (Explains self.old) }
+        ensures present { OnErr result (IsTrue (has_key self.old key.now)) }
+    {
+        if self.tree.version() == u64::MAX {
+            return match self.tree.get_slice(key) {
+                None => Ok(None),
+                Some(_) => Err(Refusal::NoRoom),
+            };
+        }
+        let Ok(removed) = self.tree.remove_slice(key) else {
+            return Err(Refusal::NoMemory);
+        };
+        if removed.is_some() {
+            self.len -= 1;
+        }
+        Ok(removed)
+    }
+
+    /// The same map once more, its number one greater.
+    pub(crate) fn snapshot(&self) -> Result<Table, Refusal>
+        ensures copy { IfOk result (λ copy. copy ≡ with_rise self.now 1) }
+        ensures room { MatchResult result (λ _. HasRoom self.now 1) (Explains self.now) }
+    {
+        if self.tree.version() == u64::MAX {
+            return Err(Refusal::NoRoom);
+        }
+        match self.tree.snapshot() {
+            Ok(tree) => Ok(Table {
+                tree,
+                len: self.len,
+            }),
+            Err(_) => Err(Refusal::NoMemory),
+        }
+    }
+
+    /// The same map once more, its number too.
+    pub(crate) fn clone(&self) -> Result<Table, AllocError>
+        ensures { IfOk result (λ copy. copy ≡ self.now) }
+    {
+        let tree = self.tree.clone()?;
+        Ok(Table {
+            tree,
+            len: self.len,
+        })
+    }
+}

@@ -1,0 +1,93 @@
+//! What C calls to have one tree more.
+ghost use Rattle.std.specs.Prelude.{◌≡◌, ◌⊎◌, ◌↔◌, IfOk, MatchResult};
+ghost use Rattle.rart_c.specs.Answers.{Explains, IsRefused};
+ghost use Rattle.rart_c.specs.declared.answer.TheConstants.{NO_ROOM};
+ghost use Rattle.rart_maps.specs.Versions.{HasRoom, empty_at, with_rise};
+
+use crate::answer::{DONE, NO_MEMORY, Refusal};
+use crate::handle::RartTree;
+use crate::table::Table;
+use std::alloc::{AllocError, Global};
+
+/// Makes `copy` the same map, its number one greater, and frees what `copy` was. `NO_ROOM` says
+/// that the number can't be raised, `NO_MEMORY` that memory was refused: `copy` is as before then.
+#[unsafe(no_mangle)]
+pub extern "C" fn rart_snapshot(alloc: Global, tree: &mut RartTree, copy: &mut RartTree) -> u8
+    ensures done { IsRefused result
+        ⊎ ((result ≡ DONE) × (copy.new.shows ≡ with_rise tree.old.shows 1)) }
+    ensures refused { IsRefused result → copy.new.shows ≡ copy.old.shows }
+    ensures room { (result ≡ NO_ROOM) ↔ ¬ (HasRoom tree.old.shows 1) }
+    ensures same { tree.new.shows ≡ tree.old.shows }
+{
+    let Ok(table) = tree.take_or_make(alloc) else {
+        return NO_MEMORY;
+    };
+    let made = snapshot_of(alloc, &table);
+    *tree = RartTree::of(table);
+    match made {
+        Ok(made) => {
+            *copy = RartTree::of(made);
+            DONE
+        }
+        Err(refusal) => refusal.number(),
+    }
+}
+
+fn snapshot_of(alloc: Global, table: &Table) -> Result<Box<Table>, Refusal>
+    ensures copy { IfOk result (λ copy. copy.value ≡ with_rise table.now 1) }
+    ensures room { MatchResult result (λ _. HasRoom table.now 1) (Explains table.now) }
+{
+    let copy = table.snapshot()?;
+    match Box::new(alloc, copy) {
+        Ok(copy) => Ok(copy),
+        Err(_) => Err(Refusal::NoMemory),
+    }
+}
+
+/// Makes `copy` the same map, its number too, and frees what `copy` was. `NO_MEMORY` says that
+/// memory was refused: `copy` is as before then.
+#[unsafe(no_mangle)]
+pub extern "C" fn rart_clone(alloc: Global, tree: &mut RartTree, copy: &mut RartTree) -> u8
+    ensures done { (result ≡ NO_MEMORY)
+        ⊎ ((result ≡ DONE) × (copy.new.shows ≡ tree.old.shows)) }
+    ensures refused { result ≡ NO_MEMORY → copy.new.shows ≡ copy.old.shows }
+    ensures same { tree.new.shows ≡ tree.old.shows }
+{
+    let Some(table) = tree.take(alloc) else {
+        *copy = RartTree::empty(alloc);
+        return DONE;
+    };
+    let made = clone_of(alloc, &table);
+    *tree = RartTree::of(table);
+    match made {
+        Ok(made) => {
+            *copy = RartTree::of(made);
+            DONE
+        }
+        Err(_) => NO_MEMORY,
+    }
+}
+
+fn clone_of(alloc: Global, table: &Table) -> Result<Box<Table>, AllocError>
+    ensures { IfOk result (λ copy. copy.value ≡ table.now) }
+{
+    let copy = table.clone()?;
+    Ok(Box::new(alloc, copy)?)
+}
+
+/// Frees what the tree leads to, and leaves it without a key, its number so great. `NO_MEMORY` says
+/// that memory was refused: it is as before then.
+#[unsafe(no_mangle)]
+pub extern "C" fn rart_new_at(alloc: Global, tree: &mut RartTree, number: u64) -> u8
+    ensures done { (result ≡ NO_MEMORY)
+        ⊎ ((result ≡ DONE) × (tree.new.shows ≡ empty_at number)) }
+    ensures refused { result ≡ NO_MEMORY → tree.new.shows ≡ tree.old.shows }
+{
+    match Box::new(alloc, Table::new_at(alloc, number)) {
+        Ok(table) => {
+            *tree = RartTree::of(table);
+            DONE
+        }
+        Err(_) => NO_MEMORY,
+    }
+}

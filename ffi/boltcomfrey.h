@@ -1,0 +1,108 @@
+// A versioned ordered map from byte strings to 64-bit numbers. A snapshot is a map of its own.
+//
+// Each function is proved to do what its comment says, and none panics. Written by ffi/generate.
+#ifndef BOLTCOMFREY_H
+#define BOLTCOMFREY_H
+
+#include <stdbool.h>
+#include <stddef.h>
+#include <stdint.h>
+
+#ifdef __cplusplus
+extern "C" {
+#endif
+
+// One version. All zeros is the map without a key, its number 0: `rart_tree tree = {0};` makes one,
+// and `rart_clear` frees it. Never copy one by hand: `rart_snapshot` and `rart_clone` do.
+typedef struct rart_tree {
+    void *at;
+} rart_tree;
+
+// Where the key of an entry ends among the bytes of its page, and its value.
+typedef struct rart_entry {
+    size_t end;
+    uint64_t value;
+} rart_entry;
+
+// What a call answers.
+typedef uint8_t rart_answer;
+enum {
+    // The call was done. Where it answers a value, there was one, and it is written.
+    RART_DONE = 0,
+    // There is no such key, and nothing is written.
+    RART_ABSENT = 1,
+    // The number is 2^64 - 1 and can't be raised. Nothing changed.
+    RART_NO_ROOM = 2,
+    // Memory was refused. Nothing changed.
+    RART_NO_MEMORY = 3,
+    // The buffer is too small for the key, whose length is written.
+    RART_TOO_SMALL = 4,
+};
+
+// What a caller owes to each call:
+// - a tree is all zeros, or as a call left it, and is copied nowhere;
+// - no pointer is null, also of no bytes, and no two of one call overlap;
+// - trees of which one was made from the other are used by one thread at a time;
+// - a key is at most some 2,000 bytes where a thread has 2 MiB of stack.
+
+// Makes copy the same map, its number one greater, and frees what copy was. RART_NO_ROOM says that
+// the number can't be raised, RART_NO_MEMORY that memory was refused: copy is as before then.
+rart_answer rart_snapshot(rart_tree *tree, rart_tree *copy);
+
+// Makes copy the same map, its number too, and frees what copy was. RART_NO_MEMORY says that memory
+// was refused: copy is as before then.
+rart_answer rart_clone(rart_tree *tree, rart_tree *copy);
+
+// Frees what the tree leads to, and leaves it without a key, its number so great. RART_NO_MEMORY
+// says that memory was refused: it is as before then.
+rart_answer rart_new_at(rart_tree *tree, uint64_t number);
+
+// The number.
+uint64_t rart_version(rart_tree *tree);
+
+// How many keys there are.
+size_t rart_len(rart_tree *tree);
+
+// Whether there is no key.
+bool rart_is_empty(rart_tree *tree);
+
+// Answers RART_DONE and writes the value of a key, or answers RART_ABSENT. It takes no memory.
+rart_answer rart_get(rart_tree *tree, const uint8_t *key, size_t key_len, uint64_t *value);
+
+// Answers RART_DONE and writes how long the longest key is that begins the probe, and its value, or
+// answers RART_ABSENT. It takes no memory.
+rart_answer rart_longest(
+    rart_tree *tree,
+    const uint8_t *probe,
+    size_t probe_len,
+    size_t *len,
+    uint64_t *value
+);
+
+// How many keys both trees have. It takes no memory.
+size_t rart_common(rart_tree *tree, rart_tree *other);
+
+// Frees what the tree leads to: it has no key then, and number 0.
+void rart_clear(rart_tree *tree);
+
+// Sets a key to a value, the number then one greater. Answers RART_DONE and writes the value that
+// was replaced, or answers RART_ABSENT where the key is new. RART_NO_ROOM says that the number
+// can't be raised, RART_NO_MEMORY that memory was refused: nothing changed then.
+rart_answer rart_insert(
+    rart_tree *tree,
+    const uint8_t *key,
+    size_t key_len,
+    uint64_t value,
+    uint64_t *replaced
+);
+
+// Takes a key out, the number then one greater. Answers RART_DONE and writes its value, or answers
+// RART_ABSENT, and then nothing changed. RART_NO_ROOM says that the key is there and the number
+// can't be raised, RART_NO_MEMORY that it is there and memory was refused: nothing changed then.
+rart_answer rart_remove(rart_tree *tree, const uint8_t *key, size_t key_len, uint64_t *value);
+
+#ifdef __cplusplus
+}
+#endif
+
+#endif

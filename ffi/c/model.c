@@ -1,0 +1,199 @@
+// Random calls on eight trees, each compared with tables. The first word is how many, 100,000
+// without it; the second refuses one request for memory in so many.
+#include "boltcomfrey.h"
+#include <stdio.h>
+#include <stdlib.h>
+#include <string.h>
+
+enum { TREES = 8, MOST_BYTES = 7, LETTERS = 4, KEYS = 21845 };
+
+static const uint8_t letters[LETTERS] = {0, 'a', 'b', 255};
+
+// A key: its bytes, and its number among all keys of at most seven of these letters.
+struct key {
+    uint8_t bytes[MOST_BYTES];
+    size_t len;
+    size_t number;
+};
+
+struct table {
+    bool has[KEYS];
+    uint64_t values[KEYS];
+    uint64_t number;
+    size_t len;
+};
+
+static rart_tree trees[TREES];
+static struct table tables[TREES];
+static unsigned long long refused;
+
+#define EXPECT(claim)                                                                              \
+    do {                                                                                           \
+        if (!(claim)) {                                                                            \
+            fprintf(stderr, "%s:%d: this is false: %s\n", __FILE__, __LINE__, #claim);             \
+            exit(1);                                                                               \
+        }                                                                                          \
+    } while (0)
+
+static uint64_t random_below(uint64_t most) {
+    static uint64_t state = 88172645463325252u;
+    state ^= state << 13;
+    state ^= state >> 7;
+    state ^= state << 17;
+    return state % most;
+}
+
+// The number of a key's first bytes: the empty key is 0, longer ones stand behind it by letters.
+static size_t number_of(const uint8_t *bytes, size_t len) {
+    size_t number = 0;
+    for (size_t at = 0; at < len; at++) {
+        size_t letter = 0;
+        while (letters[letter] != bytes[at]) {
+            letter++;
+        }
+        number = LETTERS * number + letter + 1;
+    }
+    return number;
+}
+
+static struct key random_key(void) {
+    struct key key = {.len = random_below(MOST_BYTES + 1)};
+    for (size_t at = 0; at < key.len; at++) {
+        key.bytes[at] = letters[random_below(LETTERS)];
+    }
+    key.number = number_of(key.bytes, key.len);
+    return key;
+}
+
+// Whether the answer says that memory was refused, and no such thing was asked for without words.
+static bool is_refused(rart_answer answer) {
+    refused += answer == RART_NO_MEMORY;
+    return answer == RART_NO_MEMORY;
+}
+
+static void insert(size_t at) {
+    struct key key = random_key();
+    struct table *table = &tables[at];
+    uint64_t value = random_below(1000), replaced = 0;
+    rart_answer answer = rart_insert(&trees[at], key.bytes, key.len, value, &replaced);
+    if (is_refused(answer)) {
+        return;
+    }
+    EXPECT(answer == (table->has[key.number] ? RART_DONE : RART_ABSENT));
+    EXPECT(!table->has[key.number] || replaced == table->values[key.number]);
+    table->len += !table->has[key.number];
+    table->number++;
+    table->has[key.number] = true;
+    table->values[key.number] = value;
+}
+
+static void take_out(size_t at) {
+    struct key key = random_key();
+    struct table *table = &tables[at];
+    uint64_t value = 0;
+    rart_answer answer = rart_remove(&trees[at], key.bytes, key.len, &value);
+    if (is_refused(answer)) {
+        EXPECT(table->has[key.number]);
+        return;
+    }
+    EXPECT(answer == (table->has[key.number] ? RART_DONE : RART_ABSENT));
+    if (answer == RART_DONE) {
+        EXPECT(value == table->values[key.number]);
+        table->has[key.number] = false;
+        table->number++;
+        table->len--;
+    }
+}
+
+static void copy(size_t at) {
+    size_t to = (at + 1 + random_below(TREES - 1)) % TREES;
+    bool is_snapshot = random_below(2) == 0;
+    rart_answer answer = is_snapshot ? rart_snapshot(&trees[at], &trees[to])
+                                     : rart_clone(&trees[at], &trees[to]);
+    if (is_refused(answer)) {
+        return;
+    }
+    EXPECT(answer == RART_DONE);
+    tables[to] = tables[at];
+    tables[to].number += is_snapshot;
+}
+
+// The longest key that begins the probe is there at one of its lengths, or at none.
+static void look_longest(size_t at, const struct key *probe) {
+    size_t len = 0;
+    uint64_t value = 0;
+    rart_answer answer = rart_longest(&trees[at], probe->bytes, probe->len, &len, &value);
+    size_t wanted = probe->len + 1;
+    while (wanted > 0 && !tables[at].has[number_of(probe->bytes, wanted - 1)]) {
+        wanted--;
+    }
+    EXPECT(answer == (wanted > 0 ? RART_DONE : RART_ABSENT));
+    EXPECT(wanted == 0 || len == wanted - 1);
+    EXPECT(wanted == 0 || value == tables[at].values[number_of(probe->bytes, len)]);
+}
+
+static void look(size_t at) {
+    struct key key = random_key();
+    uint64_t value = 0;
+    rart_answer answer = rart_get(&trees[at], key.bytes, key.len, &value);
+    EXPECT(answer == (tables[at].has[key.number] ? RART_DONE : RART_ABSENT));
+    EXPECT(answer == RART_ABSENT || value == tables[at].values[key.number]);
+    look_longest(at, &key);
+}
+
+static void count_common(size_t at) {
+    size_t other = (at + 1 + random_below(TREES - 1)) % TREES, wanted = 0;
+    for (size_t key = 0; key < KEYS; key++) {
+        wanted += tables[at].has[key] && tables[other].has[key];
+    }
+    EXPECT(rart_common(&trees[at], &trees[other]) == wanted);
+}
+
+static void step(size_t at) {
+    uint64_t what = random_below(200);
+    if (what < 2) {
+        copy(at);
+    } else if (what < 4) {
+        count_common(at);
+    } else if (what < 60) {
+        look(at);
+    } else if (what < 130) {
+        take_out(at);
+    } else {
+        insert(at);
+    }
+    EXPECT(rart_version(&trees[at]) == tables[at].number);
+    EXPECT(rart_len(&trees[at]) == tables[at].len);
+    EXPECT(rart_is_empty(&trees[at]) == (tables[at].len == 0));
+}
+
+// At the greatest number a change is refused, and changes nothing.
+static void run_out(void) {
+    rart_tree tree = {0}, other = {0};
+    uint64_t value = 0;
+    EXPECT(rart_new_at(&tree, UINT64_MAX) == RART_DONE);
+    EXPECT(rart_insert(&tree, letters, 1, 7, &value) == RART_NO_ROOM);
+    EXPECT(rart_remove(&tree, letters, 1, &value) == RART_ABSENT);
+    EXPECT(rart_snapshot(&tree, &other) == RART_NO_ROOM);
+    EXPECT(rart_version(&tree) == UINT64_MAX && rart_is_empty(&tree));
+    rart_clear(&tree);
+    EXPECT(rart_version(&tree) == 0);
+}
+
+void refuse_one_in(unsigned long long so_many);
+
+int main(int count, char **words) {
+    unsigned long long calls = count > 1 ? strtoull(words[1], NULL, 10) : 100000;
+    run_out();
+    refuse_one_in(count > 2 ? strtoull(words[2], NULL, 10) : 0);
+    for (unsigned long long call = 0; call < calls; call++) {
+        step(random_below(TREES));
+    }
+    refuse_one_in(0);
+    EXPECT((refused > 0) == (count > 2));
+    for (size_t at = 0; at < TREES; at++) {
+        rart_clear(&trees[at]);
+    }
+    printf("%llu calls from C are as the tables say, %llu refused\n", calls, refused);
+    return 0;
+}

@@ -1,0 +1,44 @@
+//! A price list with an undo: each change keeps the list before it.
+use boltcomfrey::{Refusal, VersionedMap};
+
+#[derive(Default)]
+struct Prices {
+    now: VersionedMap,
+    before: Vec<VersionedMap>,
+}
+
+impl Prices {
+    /// Sets a price. Refused, the list and its history are as before.
+    fn set(&mut self, name: &str, price: u64) -> Result<(), Refusal> {
+        let before = self.now.try_clone()?;
+        self.now.insert(name, price)?;
+        self.before.push(before);
+        Ok(())
+    }
+
+    /// Takes the last step back.
+    fn undo(&mut self) {
+        if let Some(before) = self.before.pop() {
+            self.now = before;
+        }
+    }
+
+    fn show(&self, name: &str) {
+        match self.now.get(name) {
+            Some(price) => println!("{name} is {price}"),
+            None => println!("{name} has no price"),
+        }
+    }
+}
+
+fn main() -> Result<(), Refusal> {
+    let mut prices = Prices::default();
+    prices.set("tea", 300)?;
+    prices.set("tea", 350)?;
+    prices.show("tea");
+    prices.undo();
+    prices.show("tea");
+    prices.undo();
+    prices.show("tea");
+    Ok(())
+}

@@ -1,0 +1,28 @@
+//! A versioned ordered map from byte strings to numbers, over a library whose every call is proved.
+//!
+//! A snapshot is a map of its own: what changes in one is never seen in the other, though both
+//! share the nodes that neither has changed.
+//!
+//! ```
+//! # use boltcomfrey::{Refusal, VersionedMap};
+//! let mut prices = VersionedMap::new();
+//! prices.insert("tea", 300)?;
+//! let yesterday = prices.snapshot()?;
+//! prices.insert("tea", 350)?;
+//! assert_eq!(yesterday.get("tea"), Some(300));
+//! assert_eq!(prices.get("tea"), Some(350));
+//! # Ok::<(), Refusal>(())
+//! ```
+//!
+//! Proved is what the exports do, as `boltcomfrey.h` says it. This crate round them is tested.
+#![warn(missing_docs)]
+
+mod error;
+mod map;
+mod raw;
+mod sys;
+
+pub use error::Refusal;
+#[cfg(feature = "refusals")]
+pub use sys::refusals;
+pub use map::VersionedMap;

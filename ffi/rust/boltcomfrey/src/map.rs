@@ -1,0 +1,225 @@
+use crate::error::Refusal;
+use crate::raw::Tree;
+
+/// A map from byte strings to numbers, of which snapshots change independently.
+///
+/// Reads take `&self` and change nothing. Neither `Send` nor `Sync`: maps share nodes.
+///
+/// ```compile_fail
+/// fn sends<T: Send>(_: T) {}
+/// sends(boltcomfrey::VersionedMap::new());
+/// ```
+///
+/// ```compile_fail
+/// fn shares<T: Sync>(_: T) {}
+/// shares(boltcomfrey::VersionedMap::new());
+/// ```
+#[derive(Default)]
+pub struct VersionedMap {
+    tree: Tree,
+}
+
+impl VersionedMap {
+    /// A map without a key, its number 0. It takes no memory.
+    ///
+    /// ```
+    /// # use boltcomfrey::VersionedMap;
+    /// const EMPTY: VersionedMap = VersionedMap::new();
+    /// assert!(EMPTY.is_empty());
+    /// ```
+    #[must_use]
+    pub const fn new() -> VersionedMap {
+        VersionedMap { tree: Tree::new() }
+    }
+
+    /// A map without a key, with this number.
+    ///
+    /// ```
+    /// # use boltcomfrey::VersionedMap;
+    /// assert_eq!(VersionedMap::with_number(7)?.version(), 7);
+    /// # Ok::<(), boltcomfrey::Refusal>(())
+    /// ```
+    pub fn with_number(number: u64) -> Result<VersionedMap, Refusal> {
+        let tree = Tree::with_number(number)?;
+        Ok(VersionedMap { tree })
+    }
+
+    /// The number: each change and each snapshot has raised it by one.
+    ///
+    /// ```
+    /// # use boltcomfrey::VersionedMap;
+    /// let mut prices = VersionedMap::new();
+    /// prices.insert(b"tea", 300)?;
+    /// assert_eq!(prices.version(), 1);
+    /// # Ok::<(), boltcomfrey::Refusal>(())
+    /// ```
+    #[must_use]
+    pub fn version(&self) -> u64 {
+        self.tree.version()
+    }
+
+    /// The number of keys, which is kept and not counted.
+    ///
+    /// ```
+    /// # use boltcomfrey::VersionedMap;
+    /// let mut prices = VersionedMap::new();
+    /// prices.insert(b"tea", 300)?;
+    /// assert_eq!(prices.len(), 1);
+    /// # Ok::<(), boltcomfrey::Refusal>(())
+    /// ```
+    #[must_use]
+    pub fn len(&self) -> usize {
+        self.tree.len()
+    }
+
+    /// Whether there is no key.
+    ///
+    /// ```
+    /// # use boltcomfrey::VersionedMap;
+    /// assert!(VersionedMap::new().is_empty());
+    /// ```
+    #[must_use]
+    pub fn is_empty(&self) -> bool {
+        self.len() == 0
+    }
+
+    /// The value of a key. It takes no memory.
+    ///
+    /// ```
+    /// # use boltcomfrey::VersionedMap;
+    /// let mut prices = VersionedMap::new();
+    /// prices.insert(b"tea", 300)?;
+    /// assert_eq!(prices.get(b"tea"), Some(300));
+    /// assert_eq!(prices.get("milk"), None);
+    /// # Ok::<(), boltcomfrey::Refusal>(())
+    /// ```
+    #[must_use]
+    pub fn get(&self, key: impl AsRef<[u8]>) -> Option<u64> {
+        self.tree.get(key.as_ref())
+    }
+
+    /// Whether a key is there. It takes no memory.
+    ///
+    /// ```
+    /// # use boltcomfrey::VersionedMap;
+    /// assert!(!VersionedMap::new().contains_key("tea"));
+    /// ```
+    #[must_use]
+    pub fn contains_key(&self, key: impl AsRef<[u8]>) -> bool {
+        self.get(key).is_some()
+    }
+
+    /// The length of the longest key that begins the probe, and its value. It takes no memory.
+    ///
+    /// ```
+    /// # use boltcomfrey::VersionedMap;
+    /// let mut routes = VersionedMap::new();
+    /// routes.insert("10.0", 1)?;
+    /// routes.insert("10.0.7", 2)?;
+    /// assert_eq!(routes.longest_prefix("10.0.3"), Some((4, 1)));
+    /// assert_eq!(routes.longest_prefix("192.168"), None);
+    /// # Ok::<(), boltcomfrey::Refusal>(())
+    /// ```
+    #[must_use]
+    pub fn longest_prefix(&self, probe: impl AsRef<[u8]>) -> Option<(usize, u64)> {
+        self.tree.longest_prefix(probe.as_ref())
+    }
+
+    /// How many keys both maps have, whatever their values. It takes no memory.
+    ///
+    /// ```
+    /// # use boltcomfrey::VersionedMap;
+    /// let mut prices = VersionedMap::new();
+    /// prices.insert("tea", 300)?;
+    /// let yesterday = prices.snapshot()?;
+    /// prices.insert("milk", 100)?;
+    /// assert_eq!(prices.common_count(&yesterday), 1);
+    /// # Ok::<(), boltcomfrey::Refusal>(())
+    /// ```
+    #[must_use]
+    pub fn common_count(&self, other: &VersionedMap) -> usize {
+        self.tree.common_count(&other.tree)
+    }
+
+    /// Sets a key to a value, and gives the value that was replaced. The number rises by one.
+    /// Refused, nothing has changed.
+    ///
+    /// ```
+    /// # use boltcomfrey::VersionedMap;
+    /// let mut prices = VersionedMap::new();
+    /// assert_eq!(prices.insert("tea", 300)?, None);
+    /// assert_eq!(prices.insert("tea", 350)?, Some(300));
+    /// # Ok::<(), boltcomfrey::Refusal>(())
+    /// ```
+    pub fn insert(
+        &mut self,
+        key: impl AsRef<[u8]>,
+        value: u64,
+    ) -> Result<Option<u64>, Refusal> {
+        self.tree.insert(key.as_ref(), value)
+    }
+
+    /// Takes a key out, and gives its value; the number rises by one then. Without the key nothing
+    /// changes. Refused, nothing has changed.
+    ///
+    /// ```
+    /// # use boltcomfrey::VersionedMap;
+    /// let mut prices = VersionedMap::new();
+    /// prices.insert("tea", 300)?;
+    /// assert_eq!(prices.remove("tea")?, Some(300));
+    /// assert_eq!(prices.remove("tea")?, None);
+    /// # Ok::<(), boltcomfrey::Refusal>(())
+    /// ```
+    pub fn remove(&mut self, key: impl AsRef<[u8]>) -> Result<Option<u64>, Refusal> {
+        self.tree.remove(key.as_ref())
+    }
+
+    /// The same map once more, its number one greater. No node is copied before one of both
+    /// changes.
+    ///
+    /// ```
+    /// # use boltcomfrey::VersionedMap;
+    /// let mut prices = VersionedMap::new();
+    /// prices.insert("tea", 300)?;
+    /// let yesterday = prices.snapshot()?;
+    /// prices.insert("tea", 350)?;
+    /// assert_eq!(yesterday.get("tea"), Some(300));
+    /// # Ok::<(), boltcomfrey::Refusal>(())
+    /// ```
+    pub fn snapshot(&self) -> Result<VersionedMap, Refusal> {
+        let tree = self.tree.snapshot()?;
+        Ok(VersionedMap { tree })
+    }
+
+    /// The same map once more, its number too. It is no `Clone`, since memory can be refused.
+    ///
+    /// ```
+    /// # use boltcomfrey::VersionedMap;
+    /// let prices = VersionedMap::with_number(7)?;
+    /// assert_eq!(prices.try_clone()?.version(), 7);
+    /// # Ok::<(), boltcomfrey::Refusal>(())
+    /// ```
+    pub fn try_clone(&self) -> Result<VersionedMap, Refusal> {
+        let tree = self.tree.try_clone()?;
+        Ok(VersionedMap { tree })
+    }
+
+    /// Sets each key to its value, in order. At a refusal those before it are set, and no other.
+    ///
+    /// ```
+    /// # use boltcomfrey::VersionedMap;
+    /// let mut prices = VersionedMap::new();
+    /// prices.try_extend([("tea", 300), ("milk", 100)])?;
+    /// assert_eq!(prices.len(), 2);
+    /// # Ok::<(), boltcomfrey::Refusal>(())
+    /// ```
+    pub fn try_extend<K: AsRef<[u8]>>(
+        &mut self,
+        pairs: impl IntoIterator<Item = (K, u64)>,
+    ) -> Result<(), Refusal> {
+        for (key, value) in pairs {
+            self.insert(key, value)?;
+        }
+        Ok(())
+    }
+}

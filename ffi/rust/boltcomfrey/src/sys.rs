@@ -1,0 +1,141 @@
+//! The border to the proved library: its exports, as `ffi/generate` reads them off its sources, and
+//! how it asks for memory.
+#![allow(dead_code)] // what stands here is all that there is
+
+use std::ffi::c_void;
+use std::ptr::null_mut;
+
+/// A tree as C holds it: null is the map without a key and number 0.
+#[repr(C)]
+pub struct RartTree {
+    pub at: *mut u8,
+}
+
+/// Where the key of an entry ends among the bytes of its page, and its value.
+#[repr(C)]
+#[derive(Clone, Copy, Default)]
+pub struct RartEntry {
+    pub end: usize,
+    pub value: u64,
+}
+
+pub const DONE: u8 = 0;
+pub const ABSENT: u8 = 1;
+pub const NO_ROOM: u8 = 2;
+pub const NO_MEMORY: u8 = 3;
+pub const TOO_SMALL: u8 = 4;
+
+unsafe extern "C" {
+    pub fn rart_snapshot(tree: *mut RartTree, copy: *mut RartTree) -> u8;
+    pub fn rart_clone(tree: *mut RartTree, copy: *mut RartTree) -> u8;
+    pub fn rart_new_at(tree: *mut RartTree, number: u64) -> u8;
+    pub fn rart_version(tree: *mut RartTree) -> u64;
+    pub fn rart_len(tree: *mut RartTree) -> usize;
+    pub fn rart_is_empty(tree: *mut RartTree) -> bool;
+    pub fn rart_get(tree: *mut RartTree, key: *const u8, key_len: usize, value: *mut u64) -> u8;
+    pub fn rart_longest(
+        tree: *mut RartTree,
+        probe: *const u8,
+        probe_len: usize,
+        len: *mut usize,
+        value: *mut u64,
+    ) -> u8;
+    pub fn rart_common(tree: *mut RartTree, other: *mut RartTree) -> usize;
+    pub fn rart_clear(tree: *mut RartTree);
+    pub fn rart_insert(
+        tree: *mut RartTree,
+        key: *const u8,
+        key_len: usize,
+        value: u64,
+        replaced: *mut u64,
+    ) -> u8;
+    pub fn rart_remove(tree: *mut RartTree, key: *const u8, key_len: usize, value: *mut u64) -> u8;
+}
+
+/// Whether memory is given, and where. The library asks for an alignment of 16 at most.
+#[repr(C)]
+pub struct Block {
+    is_given: usize,
+    at: *mut c_void,
+}
+
+impl Block {
+    const REFUSED: Block = Block {
+        is_given: 0,
+        at: null_mut(),
+    };
+
+    fn of(at: *mut c_void) -> Block {
+        Block {
+            is_given: usize::from(!at.is_null()),
+            at,
+        }
+    }
+}
+
+// The C library's, as in `ffi/c/heap.c`.
+unsafe extern "C" {
+    fn malloc(size: usize) -> *mut c_void;
+    fn realloc(at: *mut c_void, size: usize) -> *mut c_void;
+    fn free(at: *mut c_void);
+}
+
+#[unsafe(no_mangle)]
+extern "C" fn rattle_alloc(size: usize, align: usize) -> Block {
+    if is_refused() {
+        return Block::REFUSED;
+    }
+    // SAFETY: any number of bytes may be asked for.
+    Block::of(unsafe { malloc(if size == 0 { align } else { size }) })
+}
+
+#[unsafe(no_mangle)]
+unsafe extern "C" fn rattle_realloc(
+    at: *mut c_void,
+    _old_size: usize,
+    size: usize,
+    align: usize,
+) -> Block {
+    if is_refused() {
+        return Block::REFUSED;
+    }
+    // SAFETY: the library got this block here, and has not freed it.
+    Block::of(unsafe { realloc(at, if size == 0 { align } else { size }) })
+}
+
+#[unsafe(no_mangle)]
+unsafe extern "C" fn rattle_dealloc(at: *mut c_void) {
+    // SAFETY: the library got this block here, and uses it no more.
+    unsafe { free(at) }
+}
+
+#[cfg(not(feature = "refusals"))]
+fn is_refused() -> bool {
+    false
+}
+
+#[cfg(feature = "refusals")]
+fn is_refused() -> bool {
+    refusals::next()
+}
+
+/// For tests: one request for memory in so many is refused.
+#[cfg(feature = "refusals")]
+pub mod refusals {
+    use std::cell::Cell;
+
+    thread_local! {
+        static ONE_IN: Cell<u64> = const { Cell::new(0) };
+        static COUNT: Cell<u64> = const { Cell::new(0) };
+    }
+
+    /// Refuses one request in so many from here on, and none where the number is 0.
+    pub fn set(one_in: u64) {
+        ONE_IN.set(one_in);
+    }
+
+    pub(super) fn next() -> bool {
+        COUNT.set(COUNT.get() + 1);
+        ONE_IN.get() != 0 && COUNT.get() % ONE_IN.get() == 0
+    }
+}

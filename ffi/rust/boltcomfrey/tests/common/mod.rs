@@ -1,0 +1,140 @@
+//! Random calls on a few versions, beside a model of std's maps.
+use boltcomfrey::{Refusal, VersionedMap};
+use std::collections::BTreeMap;
+
+/// The generator xorshift64.
+struct Random(u64);
+
+impl Random {
+    fn below(&mut self, most: u64) -> u64 {
+        self.0 ^= self.0 << 13;
+        self.0 ^= self.0 >> 7;
+        self.0 ^= self.0 << 17;
+        self.0 % most
+    }
+
+    /// A key of at most seven bytes, of few that often begin one another.
+    fn key(&mut self) -> Vec<u8> {
+        let len = self.below(8);
+        (0..len).map(|_| [0, b'a', b'b', u8::MAX][self.below(4) as usize]).collect()
+    }
+}
+
+/// What a version should be.
+#[derive(Clone, Default)]
+struct Model {
+    pairs: BTreeMap<Vec<u8>, u64>,
+    number: u64,
+}
+
+impl Model {
+    fn longest_prefix(&self, probe: &[u8]) -> Option<(usize, u64)> {
+        let starts = (0..=probe.len()).rev();
+        starts.map(|len| &probe[..len]).find_map(|it| Some((it.len(), *self.pairs.get(it)?)))
+    }
+
+    fn common_count(&self, other: &Model) -> usize {
+        self.pairs.keys().filter(|it| other.pairs.contains_key(*it)).count()
+    }
+
+    fn insert(&mut self, key: &[u8], value: u64) -> Option<u64> {
+        self.number += 1;
+        self.pairs.insert(key.to_vec(), value)
+    }
+
+    fn remove(&mut self, key: &[u8]) -> Option<u64> {
+        let removed = self.pairs.remove(key)?;
+        self.number += 1;
+        Some(removed)
+    }
+
+    fn snapshot(&self) -> Model {
+        let mut copy = self.clone();
+        copy.number += 1;
+        copy
+    }
+}
+
+/// Versions, each beside its model, and how many calls were refused.
+pub struct Compared {
+    random: Random,
+    versions: Vec<(VersionedMap, Model)>,
+    pub refused: u64,
+}
+
+impl Compared {
+    pub fn new() -> Compared {
+        Compared {
+            random: Random(0x9e37_79b9_7f4a_7c15),
+            versions: vec![Default::default()],
+            refused: 0,
+        }
+    }
+
+    /// Makes a random call on a random version, and compares what it answers and what it leaves.
+    pub fn step(&mut self) {
+        let at = self.random.below(self.versions.len() as u64) as usize;
+        match self.random.below(200) {
+            0..2 => self.copy(at),
+            2..60 => self.read(at),
+            60..130 => self.remove(at),
+            _ => self.insert(at),
+        }
+        let (map, model) = &self.versions[at];
+        assert_eq!((map.version(), map.len()), (model.number, model.pairs.len()));
+    }
+
+    fn insert(&mut self, at: usize) {
+        let (key, value) = (self.random.key(), self.random.below(1000));
+        let (map, model) = &mut self.versions[at];
+        match map.insert(&key, value) {
+            Ok(replaced) => assert_eq!(replaced, model.insert(&key, value)),
+            Err(refusal) => self.note(refusal),
+        }
+    }
+
+    fn remove(&mut self, at: usize) {
+        let key = self.random.key();
+        let (map, model) = &mut self.versions[at];
+        match map.remove(&key) {
+            Ok(removed) => assert_eq!(removed, model.remove(&key)),
+            Err(refusal) => self.note(refusal),
+        }
+    }
+
+    /// Takes a snapshot or a clone, in place of another version where there are eight.
+    fn copy(&mut self, at: usize) {
+        let is_snapshot = self.random.below(2) == 0;
+        let (map, model) = &self.versions[at];
+        let copied = if is_snapshot {
+            map.snapshot().map(|it| (it, model.snapshot()))
+        } else {
+            map.try_clone().map(|it| (it, model.clone()))
+        };
+        match copied {
+            Ok(pair) if self.versions.len() < 8 => self.versions.push(pair),
+            Ok(pair) => self.versions[(at + 1) % 8] = pair,
+            Err(refusal) => self.note(refusal),
+        }
+    }
+
+    fn read(&mut self, at: usize) {
+        let (key, other) = (self.random.key(), self.random.below(self.versions.len() as u64));
+        let (map, model) = &self.versions[at];
+        assert_eq!(map.get(&key), model.pairs.get(&key).copied());
+        assert_eq!(map.contains_key(&key), model.pairs.contains_key(&key));
+        assert_eq!(map.longest_prefix(&key), model.longest_prefix(&key));
+        let (other, others) = &self.versions[other as usize];
+        assert_eq!(map.common_count(other), model.common_count(others));
+    }
+
+    fn note(&mut self, refusal: Refusal) {
+        assert_eq!(refusal, Refusal::NoMemory);
+        self.refused += 1;
+    }
+}
+
+/// How many calls to make: as many as CALLS says, else 100,000.
+pub fn calls() -> u64 {
+    std::env::var("CALLS").map_or(100_000, |it| it.parse().expect("CALLS is a number"))
+}

@@ -1,0 +1,11 @@
+//! Random calls, each compared with a model of std's maps.
+mod common;
+
+use common::{Compared, calls};
+
+#[test]
+fn answers_are_those_of_separate_maps() {
+    let mut compared = Compared::new();
+    (0..calls()).for_each(|_| compared.step());
+    assert_eq!(compared.refused, 0);
+}

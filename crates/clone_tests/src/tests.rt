@@ -5,7 +5,7 @@
 mod counted;
 
 use crate::tests::counted::{Clones, Counted};
-use rart_versioned::{ArrayKey, KeyTrait, VersionedAdaptiveRadixTree};
+use rart_versioned::{ArrayKey, KeyTrait, Slot, SlotUpdate, VersionedAdaptiveRadixTree};
 use std::alloc::{AllocError, Global};
 use std::process::Abort;
 use std::rc::Rc;
@@ -125,5 +125,26 @@ fn lending_clones_the_values_above_it_and_its_own(rt: HostRuntime) -> Result<(),
     assert_eq!(rt; clones.take(), 3, "a, ab and abc");
     lend(&rt, alloc, &mut other, b"abc")?;
     assert_eq!(rt; clones.take(), 0);
+    Ok(())
+}
+
+fn update(rt: &impl Abort, alloc: Global, tree: &mut Tree, bytes: &[u8]) -> Result<(), AllocError> {
+    let key = key(rt, alloc, bytes)?;
+    assert!(rt; tree.version() < u64::MAX);
+    let is_there = tree.update(key, |_slot: &mut Slot<Counted>| SlotUpdate::Keep)?;
+    assert!(rt; is_there);
+    Ok(())
+}
+
+#[test]
+fn update_clones_the_value_that_it_lends(rt: HostRuntime) -> Result<(), Fail> {
+    let alloc = rt.alloc();
+    let clones = Clones::new(alloc)?;
+    let mut tree = four_keys(&rt, alloc, &clones)?;
+    update(&rt, alloc, &mut tree, b"abc")?;
+    assert_eq!(rt; clones.take(), 1, "abc, into the slot");
+    let mut other = snapshot(&rt, &tree)?;
+    update(&rt, alloc, &mut other, b"abc")?;
+    assert_eq!(rt; clones.take(), 4, "a, ab, abc, and abc into the slot");
     Ok(())
 }

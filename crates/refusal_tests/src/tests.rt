@@ -12,5 +12,6 @@ mod memoryless;
 mod order;
 mod places;
 mod readings;
+mod requests;
 mod seen;
 mod trial;

@@ -2,6 +2,7 @@
 use super::assert_served;
 use crate::served::Served;
 use crate::server::serve;
+use crate::words::key_of;
 use std::test::Fail;
 
 #[test]
@@ -73,4 +74,12 @@ fn last_line_may_lack_its_line_feed(rt: HostRuntime) -> Result<(), Fail> {
     assert_eq!(rt; output.as_slice(), b"at 0\nversion 0\n".as_slice());
     assert_eq!(rt; served, Served::Clean);
     Ok(())
+}
+
+#[test]
+fn keys_are_of_the_94_graphic_bytes(rt: HostRuntime) {
+    for byte in 0..256usize {
+        let is_key = key_of(&[b'\'', byte as u8]).is_some();
+        assert_eq!(rt; is_key, 33 <= byte && byte <= 126, "at {byte}");
+    }
 }

@@ -86,6 +86,65 @@ fn interrupted_write_is_tried_again(rt: HostRuntime) -> Result<(), Fail> {
     Ok(())
 }
 
+// Is interrupted so many times before it takes what it is given.
+#[derive(Drop)]
+struct LateWriter {
+    taken: Vec<u8>,
+    interruptions: usize,
+}
+
+impl Write for LateWriter {
+    fn write(&mut self, bytes: &[u8]) -> io::Result<usize> {
+        if self.interruptions > 0 {
+            self.interruptions -= 1;
+            return Err(io::Error::from(io::ErrorKind::Interrupted));
+        }
+        self.taken.extend_from_slice(bytes)?;
+        Ok(bytes.len())
+    }
+
+    fn flush(&mut self) -> io::Result<()> {
+        Ok(())
+    }
+}
+
+#[test]
+fn write_is_tried_as_often_as_it_takes(rt: HostRuntime) -> Result<(), Fail> {
+    let mut writer = LateWriter {
+        taken: Vec::new(rt.alloc()),
+        interruptions: 10_000,
+    };
+    let served = serve(rt.alloc(), b"new\n".as_slice(), &mut writer);
+    assert_eq!(rt; writer.taken.as_slice(), b"at 0\n".as_slice());
+    assert!(rt; served == Ok(Served::Clean));
+    Ok(())
+}
+
+// Takes nothing, and does not say that it fails.
+#[derive(Drop)]
+struct FullWriter {
+    calls: usize,
+}
+
+impl Write for FullWriter {
+    fn write(&mut self, _bytes: &[u8]) -> io::Result<usize> {
+        self.calls = self.calls.saturating_add(1);
+        Ok(0)
+    }
+
+    fn flush(&mut self) -> io::Result<()> {
+        Ok(())
+    }
+}
+
+#[test]
+fn writer_that_takes_nothing_has_failed(rt: HostRuntime) {
+    let mut writer = FullWriter { calls: 0 };
+    let served = serve(rt.alloc(), b"new\n".as_slice(), &mut writer);
+    assert!(rt; served == Err(ServeError::Write));
+    assert_eq!(rt; writer.calls, 1);
+}
+
 // Two hundred insertions and a list of all, and what they are replied. The list has 2,008 bytes,
 // more than a page holds.
 fn long_list(alloc: Global) -> Result<(String, String), AllocError> {

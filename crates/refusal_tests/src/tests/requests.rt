@@ -1,0 +1,100 @@
+// Calls that take no memory make no request at all, also none whose refusal they would forget.
+// `checks/refusals` counts the requests of these two tests, which are to be as many.
+ghost use Rattle.std.specs.Prelude.{IsTrue};
+ghost use Rattle.rart_maps.specs.Versions.{HasRoom};
+
+use rart_family::{KeyTrait, Slot, SlotUpdate, VectorKey, VersionedAdaptiveRadixTree};
+use std::alloc::{AllocError, Global};
+use std::process::Abort;
+use std::test::Fail;
+
+type Tree = VersionedAdaptiveRadixTree<VectorKey, u64>;
+
+fn has_room(tree: &Tree) -> bool
+    ensures { IsTrue result → HasRoom tree.now 2 }
+{
+    tree.version() <= u64::MAX - 2
+}
+
+// A tree with two keys, one that is there, one that begins none and is begun by none, and one whose
+// first bytes are a key.
+#[derive(Drop)]
+struct Prepared {
+    tree: Tree,
+    present: VectorKey,
+    absent: VectorKey,
+    longer: VectorKey,
+}
+
+fn prepare(alloc: Global) -> Result<Prepared, AllocError> {
+    let mut tree = Tree::new(alloc);
+    for (number, bytes) in [b"tea".as_slice(), b"team".as_slice()].iter().enumerate() {
+        let key = VectorKey::new_from_slice(alloc, bytes)?;
+        if has_room(&tree) {
+            tree.insert(key, number as u64)?;
+        }
+    }
+    Ok(Prepared {
+        tree,
+        present: VectorKey::new_from_slice(alloc, b"tea")?,
+        absent: VectorKey::new_from_slice(alloc, b"milk")?,
+        longer: VectorKey::new_from_slice(alloc, b"teapot")?,
+    })
+}
+
+fn read(rt: &impl Abort, it: &Prepared) {
+    let mut sum = 0_u64;
+    assert_eq!(rt; it.tree.get_k(&it.present).copied(), Some(0));
+    assert_eq!(rt; it.tree.get_slice(b"team").copied(), Some(1));
+    assert!(rt; it.tree.longest_slice(b"teapot").is_some());
+    assert!(rt; matches!(it.tree.longest_prefix_match_k(&it.absent), Ok(None)));
+    it.tree.prefix_match_for_each_k(
+        &it.longer,
+        &mut |key: &[u8], _value: &u64| {
+            sum = sum.saturating_add(key.len() as u64);
+        },
+    );
+    assert_eq!(rt; sum, 3);
+    assert_eq!(rt; it.tree.intersect_count(&it.tree), 2);
+    it.tree.intersect_values_with(
+        &it.tree,
+        &mut |one: &u64, _other: &u64| {
+            sum = sum.saturating_add(*one);
+        },
+    );
+    assert_eq!(rt; sum, 4);
+}
+
+fn change_nothing(rt: &impl Abort, it: &mut Prepared) {
+    let keep = |_slot: &mut Slot<u64>| SlotUpdate::Keep;
+    assert!(rt; has_room(&it.tree));
+    assert!(rt; matches!(it.tree.get_mut_k(&it.absent), Ok(None)));
+    assert!(rt; has_room(&it.tree));
+    assert!(rt; it.tree.remove_k(&it.absent) == Ok(None));
+    assert!(rt; has_room(&it.tree));
+    assert!(rt; it.tree.remove_slice(b"te") == Ok(None));
+    assert!(rt; has_room(&it.tree));
+    assert!(rt; it.tree.delete_k(&it.absent) == Ok(false));
+    assert!(rt; has_room(&it.tree));
+    assert!(rt; it.tree.update_k(&it.absent, keep) == Ok(false));
+}
+
+#[test]
+fn memoryless_calls_are_made_once(rt: HostRuntime) -> Result<(), Fail> {
+    if let Ok(mut prepared) = prepare(rt.alloc()) {
+        read(&rt, &prepared);
+        change_nothing(&rt, &mut prepared);
+    }
+    Ok(())
+}
+
+#[test]
+fn memoryless_calls_are_made_twice(rt: HostRuntime) -> Result<(), Fail> {
+    if let Ok(mut prepared) = prepare(rt.alloc()) {
+        read(&rt, &prepared);
+        read(&rt, &prepared);
+        change_nothing(&rt, &mut prepared);
+        change_nothing(&rt, &mut prepared);
+    }
+    Ok(())
+}

@@ -60,6 +60,8 @@ def read(crate, file):
             if os.path.normpath(path) != path or not path.startswith(ROOMS):
                 raise BadEdit(f"it names no file below src, specs or proofs: {path}")
         elif word == "old":
+            if old:
+                raise BadEdit("an 'old:' stands before the one above has its 'new:'")
             old = rest
         elif word == "new":
             if not path or not old:
@@ -93,7 +95,7 @@ def find_bodies(edits, before, built):
     for edit in edits:
         edit.bodies = _bodies(edit, before, said[edit.file])
         known = functions_of(built, edit.crate.name)
-        edit.names = _names(edit, before, None if edit.crate.is_program else known)
+        edit.names = _names(edit, before, None if edit.crate.is_linked else known)
 
 
 def _bodies(edit, before, after):

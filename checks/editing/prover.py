@@ -48,6 +48,8 @@ def words(repository, built, crate):
     for it in repository.below(crate):
         found += ["-L", f"dependency={os.path.dirname(library(built, it.name))}"]
     found += ["--antt-project", f"{kit}/rattle/logic/antt-project.json"]
+    if crate.is_static:
+        found += ["--crate-type", "staticlib"]
     return [*found, "--logic-built", f"{kit}/logic_built", "--jobs", "1"]
 
 

@@ -28,7 +28,7 @@ class Digests:
         if ("whole", crate.name) not in self.seen:
             below = self.repository.below(crate)
             # (a program is checked with the code of all that it calls)
-            parts = [self._whole(it) if crate.is_program else self._stated(it) for it in below]
+            parts = [self._whole(it) if crate.is_linked else self._stated(it) for it in below]
             kit = toolchain()[1].encode()
             sums = [it.encode() for it in (self._whole(crate), *parts, self.judge)]
             self.seen["whole", crate.name] = _sum(kit, *sums)

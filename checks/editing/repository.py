@@ -23,6 +23,15 @@ class Crate:
     def is_program(self):
         return os.path.isfile(f"{self.folder}/src/main.rt")
 
+    @property
+    def is_static(self):
+        return "staticlib" in self.line.partition(":")[0].split()
+
+    @property
+    def is_linked(self):
+        """Whether all below it is linked into it, so that it leaves no library for others."""
+        return self.is_program or self.is_static
+
     def files(self, *parts):
         """The files of these parts of the crate, in order, by their path inside it."""
         found = []

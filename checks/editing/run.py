@@ -71,7 +71,7 @@ class Built:
         return {it for it in names if self._stands(names[it])}
 
     def _stands(self, crate):
-        return crate.is_program or os.path.isdir(library(self.folder, crate.name))
+        return crate.is_linked or os.path.isdir(library(self.folder, crate.name))
 
 
 class Edits:

@@ -95,7 +95,7 @@ class CrateTrial:
         self.repository, self.built, self.crate, self.log = repository, built, crate, log
         self.before = sources_of(crate)
         self.known = functions_of(built, crate.name)
-        if crate.is_program:
+        if crate.is_linked:
             self.known = tuple(name for name, _ in self._named())
         self.recursive = self._recursive()
         self.controls = self._controls()
@@ -104,7 +104,7 @@ class CrateTrial:
 
     def _named(self):
         """The functions of the crate that have a body and a name, outside of its tests."""
-        known = None if self.crate.is_program else self.known
+        known = None if self.crate.is_linked else self.known
         for file, source in self.before.items():
             if source is None or "tests" in module_of(file):
                 continue

@@ -2,6 +2,8 @@
 //! Whatever counts into a `Work` that it is handed, or counts nothing.
 
 mod change;
+mod diff;
+mod first;
 mod get_mut;
 mod insert;
 mod intersect;

@@ -1,3 +1,6 @@
 pub mod Answers
+pub mod Firsts
 pub mod Longest
 pub mod Owned
+pub mod Reads
+pub mod Shown

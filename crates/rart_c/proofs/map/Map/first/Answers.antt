@@ -1,0 +1,11 @@
+use Rattle.std.proofs.Common.{refl}
+use Rattle.std.specs.Range.Bound.{bound_map}
+use Rattle.rart_c.proofs.EmptyLemmas.{no-pair-from}
+use Rattle.rart_c.proofs.map.Map.first.Goals as goal
+
+pub returns-in-None : goal.returns-in-None
+returns-in-None g c = (
+  rw (← c.self.view_is, c.in-None.is)
+      (no-pair-from g.row.V.Denot (bound_map (λ low. low.now) c.args.low)),
+  refl,
+)

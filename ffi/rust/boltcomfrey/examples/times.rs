@@ -1,0 +1,140 @@
+//! Nanoseconds a call, beside std's `BTreeMap`: the least of some passes over random keys of 16
+//! bytes.
+//!
+//! cargo run --release --example times -- PASSES
+use boltcomfrey::VersionedMap;
+use std::collections::BTreeMap;
+use std::env;
+use std::hint::black_box;
+use std::time::Instant;
+
+type Key = [u8; 16];
+type Sorted = BTreeMap<Vec<u8>, u64>;
+
+/// Random numbers by xorshift, the same in every run.
+struct Numbers(u64);
+
+impl Numbers {
+    fn next(&mut self) -> u64 {
+        self.0 ^= self.0 << 13;
+        self.0 ^= self.0 >> 7;
+        self.0 ^= self.0 << 17;
+        self.0
+    }
+
+    fn keys(&mut self, count: usize) -> Vec<Key> {
+        let key = |numbers: &mut Numbers| {
+            let halves = u128::from(numbers.next()) << 64 | u128::from(numbers.next());
+            halves.to_be_bytes()
+        };
+        (0..count).map(|_| key(self)).collect()
+    }
+
+    /// The keys in another order.
+    fn shuffled(&mut self, keys: &[Key]) -> Vec<Key> {
+        let mut keys = keys.to_vec();
+        for place in (1..keys.len()).rev() {
+            keys.swap(place, (self.next() % (place as u64 + 1)) as usize);
+        }
+        keys
+    }
+}
+
+/// Nanoseconds a call, made once with each of the keys.
+fn timed<R>(keys: &[Key], mut call: impl FnMut(&Key) -> R) -> f64 {
+    let start = Instant::now();
+    for key in keys {
+        black_box(call(key));
+    }
+    start.elapsed().as_nanos() as f64 / keys.len() as f64
+}
+
+/// A name, the time of the library, that of std.
+type Row = (&'static str, f64, f64);
+
+fn row<R, S>(
+    name: &'static str,
+    keys: &[Key],
+    ours: impl FnMut(&Key) -> R,
+    theirs: impl FnMut(&Key) -> S,
+) -> Row {
+    (name, timed(keys, ours), timed(keys, theirs))
+}
+
+fn pass(count: usize, numbers: &mut Numbers) -> Vec<Row> {
+    let keys = numbers.keys(count);
+    let (asked, absent) = (numbers.shuffled(&keys), numbers.keys(count));
+    let (mut tree, mut map) = (VersionedMap::new(), Sorted::new());
+    let inserted = |tree: &VersionedMap, key: &Key| {
+        let mut copy = tree.snapshot()?;
+        copy.insert(key, 1)
+    };
+    let with = |map: &Sorted, key: &Key| {
+        let mut copy = map.clone();
+        copy.insert(key.to_vec(), 1)
+    };
+    vec![
+        row(
+            "insertion",
+            &keys,
+            |key| tree.insert(key, 1),
+            |key| map.insert(key.to_vec(), 1),
+        ),
+        row(
+            "lookup, found",
+            &asked,
+            |key| tree.get(key),
+            |key| map.get(&key[..]).copied(),
+        ),
+        row(
+            "lookup, absent",
+            &absent,
+            |key| tree.get(key),
+            |key| map.get(&key[..]).copied(),
+        ),
+        row(
+            "version, an empty call",
+            &keys,
+            |_| tree.version(),
+            |_| map.len(),
+        ),
+        row(
+            "copy, one insertion",
+            &absent[..1],
+            |key| inserted(&tree, key),
+            |key| with(&map, key),
+        ),
+        row(
+            "removal",
+            &asked,
+            |key| tree.remove(key),
+            |key| map.remove(&key[..]),
+        ),
+    ]
+}
+
+/// The least times of all passes, row by row.
+fn least(count: usize, passes: usize) -> Vec<Row> {
+    let mut numbers = Numbers(0x9E37_79B9_7F4A_7C15);
+    let mut least = pass(count, &mut numbers);
+    for _ in 1..passes {
+        for (row, other) in least.iter_mut().zip(pass(count, &mut numbers)) {
+            row.1 = row.1.min(other.1);
+            row.2 = row.2.min(other.2);
+        }
+    }
+    least
+}
+
+fn main() {
+    let passes = env::args()
+        .nth(1)
+        .and_then(|it| it.parse().ok())
+        .unwrap_or(6);
+    for count in [1_000, 100_000] {
+        println!("{count} keys: nanoseconds, those of BTreeMap, the ratio");
+        for (name, ours, theirs) in least(count, passes) {
+            println!("{name:28} {ours:9.1} {theirs:9.1} {:6.2}", ours / theirs);
+        }
+    }
+}

@@ -1,0 +1,9 @@
+use Rattle.std.proofs.Common.{map}
+use Rattle.rart_maps.specs.Iterations.{IsTakenFrom}
+use Rattle.rart_maps.specs.Pairs.{pairs}
+use Rattle.example_tree.specs.Listing.{line_of}
+use Rattle.example_tree.proofs.listing.list_into.Given as goal
+
+abbrev pub invariant-loop-item : goal.invariant-loop-item
+invariant-loop-item l =
+    IsTakenFrom (pairs l.list.content) (map line_of l.lines.items) l.item-iterator

@@ -1,9 +1,0 @@
-use Rattle.std.proofs.Common.{length}
-use Rattle.rart_walks.specs.WalkFields.{position, IsWalk}
-use Rattle.walk_tests.proofs.tests.values_left.Given as goal
-
-abbrev pub invariant-walking : goal.invariant-walking
-invariant-walking g l = IsWalk g.P.Partial.bytes g.T.Trail.holds g.T.Trail.greatest l.walk
-
-abbrev pub decreases-walking : goal.decreases-walking
-decreases-walking g l = length (position g.P.Partial.bytes l.walk).pairs

@@ -1,0 +1,19 @@
+use Rattle.std.proofs.Common.{ℕ, List}
+use Rattle.rart_node.specs.NodeShapes.{pointer_shape}
+use Rattle.rart_node.specs.Shape.{height}
+use Rattle.rart_seeking.specs.Starts.{StartAt, IsDeep, turn_shape}
+use Rattle.rart_seeking.proofs.StartLemmas.{IsSeekAt}
+use Rattle.rart_seeking.proofs.start.find_start.Given as goal
+
+abbrev pub invariant-down : goal.invariant-down
+invariant-down g l = record {
+  path : List ℕ;
+  ahead : List (List ℕ × g.row.V.Denot);
+  seek : IsSeekAt l.is_strict l.fn.low (pointer_shape g.P.Partial.bytes l.fn.root) l.fn.work
+      (pointer_shape g.P.Partial.bytes l.at) l.rest l.work path ahead;
+  turn : StartAt ahead (turn_shape g.P.Partial.bytes l.turn);
+  deep : IsDeep (turn_shape g.P.Partial.bytes l.turn);
+}
+
+abbrev pub decreases-down : goal.decreases-down
+decreases-down g l = height (pointer_shape g.P.Partial.bytes l.at)

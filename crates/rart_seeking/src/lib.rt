@@ -1,0 +1,75 @@
+// Ported from rart 0.11.0 (Apache-2.0), and rewritten.
+//! The way down a tree to the first of the pairs whose keys meet a lower bound.
+//!
+//! It takes no memory: the key is written, prefix by prefix, into room that the caller has.
+#![tactic(auto)]
+
+ghost use Rattle.std.specs.Prelude.{◌+◌, ◌<◌, ◌^◌, ◌-◌, Some, filter};
+ghost use Rattle.std.specs.Ordering.{as_partial_cmp};
+ghost use Rattle.std.specs.Range.Bound.{is_from_start, bound_map};
+ghost use Rattle.rart_below.specs.Bytes.{byte_order};
+ghost use Rattle.rart_node.specs.Counts.{CountsUpTo};
+ghost use Rattle.rart_node.specs.NodeShapes.{pointer_shape};
+ghost use Rattle.rart_seeking.specs.Firsts.{Finds, found_length};
+ghost use Rattle.rart_seeking.specs.Starts.{is_from};
+ghost use Rattle.rart_shape.specs.Trees.{IsTree, pairs_of, path_bound};
+ghost use Rattle.rart_walks.specs.Parts.{start_of};
+ghost use Rattle.rart_walks.specs.Walks.{AreShort};
+
+mod least;
+mod start;
+
+use least::least;
+use rart_below::Partial;
+use rart_node::{NodeRef, Work};
+use start::find_start;
+use std::ops::Bound;
+
+/// The first of the pairs below a pointer whose keys meet a lower bound: how many bytes its key
+/// has, and a reference to its value. `None` where there is none.
+///
+/// The key is written to the front of `room`, if it fits there; else what `room` has then is not
+/// told. Behind the key, and where there is none, it is as before. At most one node is entered for
+/// each byte of the bound and of the key, and one; and the first at least. It takes no memory.
+pub fn first_from<'a, P: Partial, V: Drop>(
+    root: &'a NodeRef<P, V>,
+    low: Bound<&[u8]>,
+    room: &mut [u8],
+    work: &mut Work,
+) -> Option<(usize, &'a V)>
+    requires tree { IsTree (pointer_shape P.bytes root.now) }
+    requires short { AreShort (Some (2 ^ 64 - 1)) (pairs_of (pointer_shape P.bytes root.now)) }
+    ensures first { Finds (filter (λ pair. is_from_start (as_partial_cmp byte_order)
+        (bound_map (λ low. low.now) low.entry) pair.0)
+        (pairs_of (pointer_shape P.bytes root.now))) result room.old room.new }
+    ensures counted { CountsUpTo (path_bound (pointer_shape P.bytes root.now)
+        (start_of (bound_map (λ low. low.now) low.entry)) + found_length result) 0
+        work.old work.new }
+    ensures entered { work.old.entered < work.new.entered }
+{
+    match low {
+        Bound::Included(low) => first_behind(root, low, false, room, work),
+        Bound::Excluded(low) => first_behind(root, low, true, room, work),
+        Bound::Unbounded => first_behind(root, &[], false, room, work),
+    }
+}
+
+// The first of the pairs from a string on, or behind it.
+fn first_behind<'a, P: Partial, V: Drop>(
+    root: &'a NodeRef<P, V>,
+    low: &[u8],
+    is_strict: bool,
+    room: &mut [u8],
+    work: &mut Work,
+) -> Option<(usize, &'a V)>
+    requires tree { IsTree (pointer_shape P.bytes root.now) }
+    requires short { AreShort (Some (2 ^ 64 - 1)) (pairs_of (pointer_shape P.bytes root.now)) }
+    ensures first { Finds (filter (λ pair. is_from is_strict low.now pair.0)
+        (pairs_of (pointer_shape P.bytes root.now))) result room.old room.new }
+    ensures counted { CountsUpTo (path_bound (pointer_shape P.bytes root.now) low.now
+        + found_length result) 0 work.old work.new }
+    ensures entered { work.old.entered < work.new.entered }
+{
+    let (path, start) = find_start(root, low, is_strict, work)?;
+    Some(least(start, path, room, work))
+}

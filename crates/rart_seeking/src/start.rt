@@ -1,0 +1,152 @@
+// Ported from rart 0.11.0 (Apache-2.0), and rewritten.
+//! The way down to the node below which the first of the pairs from a bound on stands.
+ghost use Rattle.std.specs.Prelude.{◌≡◌, ◌+◌, ◌-◌, ◌^◌, ◌<◌, ◌⊎◌, ◌++◌, List, ℕ, Some, filter, length, is_some, if◌then◌else◌};
+ghost use Rattle.std.specs.Option.{option_map};
+ghost use Rattle.rart_below.specs.Bytes.{common_length};
+ghost use Rattle.rart_below.specs.Children.{child_at, children_from};
+ghost use Rattle.rart_node.specs.Counts.{CountsUpTo};
+ghost use Rattle.rart_node.specs.NodeShapes.{node_shape, pointer_shape};
+ghost use Rattle.rart_node.specs.Shape.{IsAscending, prefix_of, children_of};
+ghost use Rattle.rart_node.specs.VersionedNodeIter.{children_left};
+ghost use Rattle.rart_seeking.specs.Starts.{StartAt, AreTurns, IsDeep, is_from, kept_part, start_length, start_shape, turn_shape};
+ghost use Rattle.rart_seeking.specs.declared.start.Kept.TheVariants.{Inside};
+ghost use Rattle.rart_shape.specs.Trees.{IsTree, pairs_of, path_bound};
+ghost use Rattle.rart_walks.specs.Frames.{behind_path, pairs_of_all};
+ghost use Rattle.rart_walks.specs.Walks.{AreShort};
+
+use rart_below::Partial;
+use rart_node::{NodeRef, VersionedNode, VersionedNodeIter, Work};
+use rart_shape::rest_of;
+
+// What of the pairs of a node, at which the way ends, is at or behind the bound.
+enum Kept {
+    All,
+    Inside,
+    Nothing,
+}
+
+/// The node, open, whose pairs are the first of those from a string on, or behind it, and the path
+/// to it. `None` where there is no such pair.
+pub(crate) fn find_start<'k, 'a, P: Partial, V: Drop>(
+    root: &'a NodeRef<P, V>,
+    low: &'k [u8],
+    is_strict: bool,
+    work: &mut Work,
+) -> Option<(&'k [u8], &'a VersionedNode<P, V>)>
+    requires tree { IsTree (pointer_shape P.bytes root.now) }
+    requires short { AreShort (Some (2 ^ 64 - 1)) (pairs_of (pointer_shape P.bytes root.now)) }
+    ensures start { StartAt (filter (λ pair. is_from is_strict low.now pair.0)
+        (pairs_of (pointer_shape P.bytes root.now))) (start_shape P.bytes result) }
+    ensures counted { CountsUpTo (path_bound (pointer_shape P.bytes root.now) low.now
+        + start_length (start_shape P.bytes result)) 0 work.old work.new }
+    ensures entered { work.old.entered < work.new.entered }
+{
+    let mut at = root;
+    let mut rest = low;
+    let mut turn = None;
+    'down: loop {
+        let node = at.open(work);
+        let common = node.prefix().prefix_length_slice(rest);
+        if common == rest.len() || common < node.prefix().len() {
+            return match kept_of(node, rest, common, is_strict) {
+                Kept::All => Some((&low[..low.len() - rest.len()], node)),
+                Kept::Inside => open_turn(turn_of(node.iter(), low, turn), work),
+                Kept::Nothing => open_turn(turn, work),
+            };
+        }
+        rest = rest_of(rest, common);
+        let (child, later) = around(node, rest[0]);
+        turn = turn_of(later, &low[..low.len() - rest.len()], turn);
+        at = match child {
+            Some(child) => child,
+            None => return open_turn(turn, work),
+        };
+    }
+}
+
+// Of a node, of whose prefix the string has not the whole, or has no more.
+fn kept_of<P: Partial, V: Drop>(
+    node: &VersionedNode<P, V>,
+    rest: &[u8],
+    common: usize,
+    is_strict: bool,
+) -> Kept
+    requires tree { IsTree (node_shape P.bytes node.now) }
+    requires common { common ≡ common_length (prefix_of (node_shape P.bytes node.now)) rest.now }
+    requires ends { (common ≡ length rest.now)
+        ⊎ (common < length (prefix_of (node_shape P.bytes node.now))) }
+    ensures kept { filter (λ pair. is_from is_strict rest.now pair.0)
+        (pairs_of (node_shape P.bytes node.now)) ≡ kept_part result (node_shape P.bytes node.now) }
+    ensures ended { result ≡ Inside → rest.now ≡ prefix_of (node_shape P.bytes node.now) }
+{
+    if common < rest.len() {
+        if rest[common] < node.prefix().at(common) {
+            return Kept::All;
+        }
+        return Kept::Nothing;
+    }
+    if !is_strict {
+        return Kept::All;
+    }
+    if common < node.prefix().len() {
+        return Kept::All;
+    }
+    Kept::Inside
+}
+
+// The child under a byte, and the children behind it.
+fn around<'a, P: Partial, V: Drop>(
+    node: &'a VersionedNode<P, V>,
+    byte: u8,
+) -> (Option<&'a NodeRef<P, V>>, VersionedNodeIter<'a, P, V>)
+    requires { IsAscending (node_shape P.bytes node.now) }
+    ensures child { option_map (λ child. pointer_shape P.bytes child.now) result.0
+        ≡ child_at byte (children_of (node_shape P.bytes node.now)) }
+    ensures later { children_left P.bytes result.1
+        ≡ children_from (byte + 1) (children_of (node_shape P.bytes node.now)) }
+{
+    let mut later = node.iter_from(byte);
+    match node.seek_child(byte) {
+        None => (None, later),
+        Some(child) => {
+            later.next();
+            (Some(child), later)
+        }
+    }
+}
+
+// The first of some children behind a path, or where there is none what is ahead of them.
+fn turn_of<'k, 'a, P: Partial, V: Drop>(
+    mut children: VersionedNodeIter<'a, P, V>,
+    path: &'k [u8],
+    turn: Option<(&'k [u8], &'a NodeRef<P, V>)>,
+) -> Option<(&'k [u8], &'a NodeRef<P, V>)>
+    ensures start { (ahead : List (List ℕ × V)) → StartAt ahead (turn_shape P.bytes turn.entry)
+        → AreTurns (children_left P.bytes children.entry)
+        → AreShort (Some (2 ^ 64 - 1))
+        (behind_path path.now (pairs_of_all (children_left P.bytes children.entry)))
+        → StartAt (behind_path path.now (pairs_of_all (children_left P.bytes children.entry))
+        ++ ahead) (turn_shape P.bytes result) }
+    ensures deep { IsDeep (turn_shape P.bytes turn.entry)
+        → AreTurns (children_left P.bytes children.entry)
+        → IsDeep (turn_shape P.bytes result) }
+{
+    match children.next_child() {
+        Some(child) => Some((path, child)),
+        None => turn,
+    }
+}
+
+// The node that a turn leads to, opened.
+fn open_turn<'k, 'a, P: Partial, V: Drop>(
+    turn: Option<(&'k [u8], &'a NodeRef<P, V>)>,
+    work: &mut Work,
+) -> Option<(&'k [u8], &'a VersionedNode<P, V>)>
+    ensures shown { start_shape P.bytes result ≡ turn_shape P.bytes turn.entry }
+    ensures entered { work.new.entered ≡ work.old.entered
+        + (if is_some (start_shape P.bytes result) then 1 else 0) }
+    ensures made { work.new.made ≡ work.old.made }
+{
+    let (path, child) = turn?;
+    Some((path, child.open(work)))
+}

@@ -1,0 +1,31 @@
+// Ported from rart 0.11.0 (Apache-2.0), and rewritten.
+//! The first of the pairs from a lower bound on, with no count.
+ghost use Rattle.std.specs.Range.Bound.{bound_map};
+ghost use Rattle.std.specs.declared.ops.Bound.TheVariants.{Unbounded};
+ghost use Rattle.rart_maps.specs.Pairs.{within};
+ghost use Rattle.rart_seeking.specs.Firsts.{Finds};
+
+use crate::counted::VersionedAdaptiveRadixTree;
+use rart_below::KeyTrait;
+use rart_node::Work;
+use std::ops::Bound;
+
+impl<K: KeyTrait, V: Clone + Drop> VersionedAdaptiveRadixTree<K, V> {
+    /// The first of the pairs whose keys meet a lower bound: how many bytes its key has, and a
+    /// reference to its value. `None` where there is none. It takes no memory. rart has no such
+    /// call.
+    ///
+    /// ```
+    /// let mut room = [0; 16];
+    /// let found = list.first_slice(Bound::Included(tea.as_ref()), &mut room);
+    /// ```
+    ///
+    /// The key is written to the front of `room`, if it fits there; else what `room` has then is
+    /// not told. Behind the key, and where there is none, `room` is as before.
+    pub fn first_slice(&self, low: Bound<&[u8]>, room: &mut [u8]) -> Option<(usize, &V)>
+        ensures { Finds (within self.now.content (bound_map (λ low. low.now) low.entry)
+            Unbounded) result room.old room.new }
+    {
+        self.first_slice_counted(low, room, &mut Work::new())
+    }
+}

@@ -79,6 +79,31 @@ rart_answer rart_longest(
     uint64_t *value
 );
 
+// Answers RART_DONE and writes the first key that is not before this one to the front of room, its
+// length and its value; behind the key room is as before. Where room is shorter than that key it
+// answers RART_TOO_SMALL and writes its length and no value; what room has then is not told. Where
+// there is none it answers RART_ABSENT and writes nothing. It takes no memory.
+rart_answer rart_seek(
+    rart_tree *tree,
+    const uint8_t *from,
+    size_t from_len,
+    uint8_t *room,
+    size_t room_len,
+    size_t *len,
+    uint64_t *value
+);
+
+// As rart_seek, of the keys behind this one.
+rart_answer rart_next(
+    rart_tree *tree,
+    const uint8_t *after,
+    size_t after_len,
+    uint8_t *room,
+    size_t room_len,
+    size_t *len,
+    uint64_t *value
+);
+
 // How many keys both trees have. It takes no memory.
 size_t rart_common(rart_tree *tree, rart_tree *other);
 

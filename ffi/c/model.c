@@ -132,6 +132,52 @@ static void look_longest(size_t at, const struct key *probe) {
     EXPECT(wanted == 0 || value == tables[at].values[number_of(probe->bytes, len)]);
 }
 
+// Whether the one key stands before the other, in the order of bytes.
+static bool is_before(const struct key *key, const struct key *other) {
+    size_t common = key->len < other->len ? key->len : other->len;
+    int order = memcmp(key->bytes, other->bytes, common);
+    return order < 0 || (order == 0 && key->len < other->len);
+}
+
+// Asks for the first key behind another, or at it, first with less room than it needs.
+static bool step_to(size_t at, const struct key *from, bool is_strict, struct key *found) {
+    size_t len = 99;
+    uint64_t value = 0;
+    rart_answer (*call)(rart_tree *, const uint8_t *, size_t, uint8_t *, size_t, size_t *,
+                        uint64_t *) = is_strict ? rart_next : rart_seek;
+    rart_answer answer = call(&trees[at], from->bytes, from->len, found->bytes, 0, &len, &value);
+    if (answer == RART_ABSENT) {
+        EXPECT(len == 99 && value == 0);
+        return false;
+    }
+    EXPECT(answer == RART_TOO_SMALL || (answer == RART_DONE && len == 0));
+    EXPECT(len <= MOST_BYTES);
+    answer = call(&trees[at], from->bytes, from->len, found->bytes, len, &found->len, &value);
+    EXPECT(answer == RART_DONE && found->len == len);
+    found->number = number_of(found->bytes, len);
+    EXPECT(tables[at].has[found->number] && value == tables[at].values[found->number]);
+    return true;
+}
+
+// A walk from key to key meets as many as there are, in order; and the first of them at or behind
+// another key is what is found from there.
+static void walk(size_t at) {
+    struct key probe = random_key(), sought = {0}, last = {0}, next = {0};
+    bool is_found = step_to(at, &probe, false, &sought), is_met = false;
+    size_t met = 0;
+    for (bool goes_on = step_to(at, &last, false, &next); goes_on;
+         goes_on = step_to(at, &last, true, &next)) {
+        EXPECT(met == 0 || is_before(&last, &next));
+        if (!is_met && !is_before(&next, &probe)) {
+            EXPECT(is_found && sought.number == next.number);
+            is_met = true;
+        }
+        last = next;
+        met++;
+    }
+    EXPECT(met == tables[at].len && is_met == is_found);
+}
+
 static void look(size_t at) {
     struct key key = random_key();
     uint64_t value = 0;
@@ -155,6 +201,8 @@ static void step(size_t at) {
         copy(at);
     } else if (what < 4) {
         count_common(at);
+    } else if (what < 5) {
+        walk(at);
     } else if (what < 60) {
         look(at);
     } else if (what < 130) {

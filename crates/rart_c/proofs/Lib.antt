@@ -1,4 +1,5 @@
 pub mod EmptyLemmas
+pub mod FirstLemmas
 pub mod Handles
 pub mod LengthLemmas
 pub mod Parts

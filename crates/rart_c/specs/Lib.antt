@@ -1,3 +1,4 @@
 pub mod Answers
+pub mod Firsts
 pub mod Longest
 pub mod Owned

@@ -1,6 +1,7 @@
 //! The small numbers that exports answer, and what is told by them.
-ghost use Rattle.std.specs.Prelude.{◌≡◌};
+ghost use Rattle.std.specs.Prelude.{◌≡◌, ℕ, List, length};
 ghost use Rattle.rart_c.specs.Answers.{Tells, number_of};
+ghost use Rattle.rart_c.specs.Firsts.{Gives, TellsFirst};
 
 /// The call was done. Where it answers a value, there was one, and it is written.
 pub const DONE: u8 = 0;
@@ -47,4 +48,26 @@ pub(crate) fn tell(found: Option<u64>, value: &mut u64) -> u8
             DONE
         }
     }
+}
+
+/// Tells the first of some pairs, as it was found with so much room, or that there is none.
+pub(crate) fn tell_first(
+    found: Option<(usize, u64)>,
+    room: usize,
+    len: &mut usize,
+    value: &mut u64,
+) -> u8
+    ensures { (pairs : List (List ℕ × ℕ)) (before after : List ℕ) → length before ≡ room
+        → Gives pairs found before after
+        → TellsFirst pairs result before after (len.old, value.old) (len.new, value.new) }
+{
+    let Some((found_len, found_value)) = found else {
+        return ABSENT;
+    };
+    *len = found_len;
+    if room < found_len {
+        return TOO_SMALL;
+    }
+    *value = found_value;
+    DONE
 }

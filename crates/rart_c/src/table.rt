@@ -1,16 +1,20 @@
 //! The tree that a handle leads to, and how many keys it has.
 ghost use Rattle.std.specs.Prelude.{◌≡◌, length, IfOk, OnErr, IsSome, IsTrue, MatchResult};
 ghost use Rattle.std.specs.FinMap as finite;
+ghost use Rattle.std.specs.Range.Bound.{bound_map};
+ghost use Rattle.std.specs.declared.ops.Bound.TheVariants.{Unbounded};
 ghost use Rattle.rart_c.specs.Answers.{Explains};
+ghost use Rattle.rart_c.specs.Firsts.{Gives};
 ghost use Rattle.rart_c.specs.Longest.{longest_length};
 ghost use Rattle.rart_maps.specs.Changes.{Changes, removal, replacement};
-ghost use Rattle.rart_maps.specs.Pairs.{common};
+ghost use Rattle.rart_maps.specs.Pairs.{common, within};
 ghost use Rattle.rart_maps.specs.Versions.{HasRoom, empty_at, has_key, value_at, with_rise};
 
 use crate::answer::Refusal;
 use rart_versioned::{KeyTrait, VectorKey, VersionedAdaptiveRadixTree};
 use std::alloc::{AllocError, Global};
 use std::marker::Model;
+use std::ops::Bound;
 
 /// A tree, and how many keys it has. Contracts see the version that the tree is.
 #[derive(Drop)]
@@ -69,6 +73,18 @@ impl Table {
         ensures { result ≡ longest_length self.now probe.now }
     {
         match self.tree.longest_slice(probe) {
+            None => None,
+            Some((len, value)) => Some((len, *value)),
+        }
+    }
+
+    /// The first of the pairs from a bound on, if there is one: how long its key is, which is
+    /// written to the front of `room`, if it fits there; and its value.
+    pub(crate) fn first(&self, low: Bound<&[u8]>, room: &mut [u8]) -> Option<(usize, u64)>
+        ensures { Gives (within self.now.content (bound_map (λ low. low.now) low.entry)
+            Unbounded) result room.old room.new }
+    {
+        match self.tree.first_slice(low, room) {
             None => None,
             Some((len, value)) => Some((len, *value)),
         }

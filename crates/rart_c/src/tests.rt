@@ -1,8 +1,11 @@
 //! Each export with ample memory, and each answer but `NO_MEMORY`.
-use crate::answer::{ABSENT, DONE, NO_ROOM};
+use crate::answer::{ABSENT, DONE, NO_ROOM, TOO_SMALL};
 use crate::changing::{rart_clear, rart_insert, rart_remove};
 use crate::handle::RartTree;
-use crate::reading::{rart_common, rart_get, rart_is_empty, rart_len, rart_longest, rart_version};
+use crate::reading::{
+    rart_common, rart_get, rart_is_empty, rart_len, rart_longest, rart_next, rart_seek,
+    rart_version,
+};
 use crate::versions::{rart_clone, rart_new_at, rart_snapshot};
 use std::test::Fail;
 
@@ -73,6 +76,46 @@ fn reads_are_answered(rt: HostRuntime) -> Result<(), Fail> {
         ABSENT
     );
     assert_eq!(rt; (len, value), (2, 7));
+    Ok(())
+}
+
+#[test]
+fn keys_are_found_in_order(rt: HostRuntime) -> Result<(), Fail> {
+    let alloc = rt.alloc();
+    let mut tree = RartTree::empty(alloc);
+    let mut room = *b"....";
+    let mut value = 0;
+    let mut len = 0;
+    assert_eq!(rt;
+        rart_seek(alloc, &mut tree, b"", &mut room, &mut len, &mut value),
+        ABSENT
+    );
+    assert_eq!(rt; rart_insert(alloc, &mut tree, b"ab", 7, &mut value), ABSENT);
+    assert_eq!(rt;
+        rart_insert(alloc, &mut tree, b"abcde", 8, &mut value),
+        ABSENT
+    );
+    assert_eq!(rt; rart_insert(alloc, &mut tree, b"b", 9, &mut value), ABSENT);
+    assert_eq!(rt;
+        rart_seek(alloc, &mut tree, b"ab", &mut room, &mut len, &mut value),
+        DONE
+    );
+    assert_eq!(rt; (&room, len, value), (b"ab..", 2, 7));
+    assert_eq!(rt;
+        rart_next(alloc, &mut tree, b"ab", &mut room, &mut len, &mut value),
+        TOO_SMALL
+    );
+    assert_eq!(rt; (len, value), (5, 7));
+    assert_eq!(rt;
+        rart_seek(alloc, &mut tree, b"abd", &mut room, &mut len, &mut value),
+        DONE
+    );
+    assert_eq!(rt; (room[0], len, value), (b'b', 1, 9));
+    assert_eq!(rt;
+        rart_next(alloc, &mut tree, b"b", &mut room, &mut len, &mut value),
+        ABSENT
+    );
+    assert_eq!(rt; (len, value), (1, 9));
     Ok(())
 }
 

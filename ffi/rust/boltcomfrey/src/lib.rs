@@ -18,11 +18,13 @@
 #![warn(missing_docs)]
 
 mod error;
+mod iter;
 mod map;
 mod raw;
 mod sys;
 
 pub use error::Refusal;
+pub use iter::Iter;
 #[cfg(feature = "refusals")]
 pub use sys::refusals;
 pub use map::VersionedMap;

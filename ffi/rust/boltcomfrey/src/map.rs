@@ -1,5 +1,8 @@
 use crate::error::Refusal;
+use crate::iter::Iter;
 use crate::raw::Tree;
+use std::fmt;
+use std::ops::{Bound, RangeBounds};
 
 /// A map from byte strings to numbers, of which snapshots change independently.
 ///
@@ -125,6 +128,52 @@ impl VersionedMap {
         self.tree.longest_prefix(probe.as_ref())
     }
 
+    /// The pairs in the order of their keys, each key a copy.
+    ///
+    /// ```
+    /// # use boltcomfrey::VersionedMap;
+    /// let mut prices = VersionedMap::new();
+    /// prices.try_extend([("tea", 300), ("milk", 100)])?;
+    /// let names: Vec<_> = prices.iter().map(|(name, _)| name).collect();
+    /// assert_eq!(names, [b"milk".to_vec(), b"tea".to_vec()]);
+    /// # Ok::<(), boltcomfrey::Refusal>(())
+    /// ```
+    #[must_use]
+    pub fn iter(&self) -> Iter<'_> {
+        Iter::new(&self.tree, Bound::Unbounded, Bound::Unbounded)
+    }
+
+    /// The pairs whose keys are in a range, in order. Bounds the other way round are no fault: no
+    /// key is between them.
+    ///
+    /// ```
+    /// # use boltcomfrey::VersionedMap;
+    /// let mut prices = VersionedMap::new();
+    /// prices.try_extend([("milk", 100), ("salt", 50), ("tea", 300)])?;
+    /// assert_eq!(prices.range("n"..).count(), 2);
+    /// assert_eq!(prices.range("milk".."tea").count(), 2);
+    /// # Ok::<(), boltcomfrey::Refusal>(())
+    /// ```
+    pub fn range<K: AsRef<[u8]>>(&self, range: impl RangeBounds<K>) -> Iter<'_> {
+        let low = range.start_bound().map(|it| it.as_ref().to_vec());
+        let high = range.end_bound().map(|it| it.as_ref().to_vec());
+        Iter::new(&self.tree, low, high)
+    }
+
+    /// The pairs whose keys a prefix begins, in order.
+    ///
+    /// ```
+    /// # use boltcomfrey::VersionedMap;
+    /// let mut prices = VersionedMap::new();
+    /// prices.try_extend([("tea", 300), ("teapot", 2000), ("tin", 80)])?;
+    /// assert_eq!(prices.prefix("tea").count(), 2);
+    /// # Ok::<(), boltcomfrey::Refusal>(())
+    /// ```
+    pub fn prefix(&self, prefix: impl AsRef<[u8]>) -> Iter<'_> {
+        let prefix = prefix.as_ref();
+        Iter::new(&self.tree, Bound::Included(prefix.to_vec()), behind_all(prefix))
+    }
+
     /// How many keys both maps have, whatever their values. It takes no memory.
     ///
     /// ```
@@ -221,5 +270,68 @@ impl VersionedMap {
             self.insert(key, value)?;
         }
         Ok(())
+    }
+}
+
+impl<'a> IntoIterator for &'a VersionedMap {
+    type Item = (Vec<u8>, u64);
+    type IntoIter = Iter<'a>;
+
+    fn into_iter(self) -> Iter<'a> {
+        self.iter()
+    }
+}
+
+/// The same keys with the same values, whatever the numbers.
+///
+/// ```
+/// # use boltcomfrey::VersionedMap;
+/// let mut prices = VersionedMap::new();
+/// prices.insert("tea", 300)?;
+/// assert_eq!(prices, prices.snapshot()?);
+/// # Ok::<(), boltcomfrey::Refusal>(())
+/// ```
+impl PartialEq for VersionedMap {
+    fn eq(&self, other: &VersionedMap) -> bool {
+        self.len() == other.len() && self.iter().eq(other)
+    }
+}
+
+impl Eq for VersionedMap {}
+
+/// The pairs, as std shows a map, each key as text with escapes.
+///
+/// ```
+/// # use boltcomfrey::VersionedMap;
+/// let mut prices = VersionedMap::new();
+/// prices.insert("tea", 300)?;
+/// assert_eq!(format!("{prices:?}"), r#"{"tea": 300}"#);
+/// # Ok::<(), boltcomfrey::Refusal>(())
+/// ```
+impl fmt::Debug for VersionedMap {
+    fn fmt(&self, f: &mut fmt::Formatter<'_>) -> fmt::Result {
+        let pairs = self.iter().map(|(key, value)| (Shown(key), value));
+        f.debug_map().entries(pairs).finish()
+    }
+}
+
+// A key as text.
+struct Shown(Vec<u8>);
+
+impl fmt::Debug for Shown {
+    fn fmt(&self, f: &mut fmt::Formatter<'_>) -> fmt::Result {
+        write!(f, "\"{}\"", self.0.escape_ascii())
+    }
+}
+
+// The upper bound of the keys that a prefix begins.
+fn behind_all(prefix: &[u8]) -> Bound<Vec<u8>> {
+    match prefix.iter().rposition(|it| *it != u8::MAX) {
+        None => Bound::Unbounded,
+        Some(last) => {
+            let mut behind = prefix[..=last].to_vec();
+            behind[last] += 1;
+            Bound::Excluded(behind)
+        }
     }
 }

@@ -1,7 +1,8 @@
 //! The proved calls as safe functions. All `unsafe` of this crate stands here and in `sys`.
 use crate::error::Refusal;
-use crate::sys::{self, ABSENT, DONE, NO_ROOM, RartTree};
+use crate::sys::{self, ABSENT, DONE, NO_ROOM, RartTree, TOO_SMALL};
 use std::cell::UnsafeCell;
+use std::ops::Bound;
 use std::ptr::{eq, null_mut};
 
 /// A tree of the library, and its owner.
@@ -54,6 +55,30 @@ impl Tree {
         let answer =
             unsafe { sys::rart_longest(self.handle.get(), at, room, &mut len, &mut value) };
         (answer == DONE).then_some((len, value))
+    }
+
+    /// The value of the first key that meets a bound, and that key in `room`, whatever stood there.
+    pub fn first(&self, low: Bound<&[u8]>, room: &mut Vec<u8>) -> Option<u64> {
+        let (from, is_strict) = match low {
+            Bound::Included(from) => (from, false),
+            Bound::Excluded(from) => (from, true),
+            Bound::Unbounded => (&[][..], false),
+        };
+        let call = if is_strict { sys::rart_next } else { sys::rart_seek };
+        let (mut len, mut value) = (0, 0);
+        room.resize(room.capacity(), 0);
+        loop {
+            let (at, end) = (room.as_mut_ptr(), room.len());
+            let key = (from.as_ptr(), from.len());
+            // SAFETY: as above; `room` and both numbers are this call's own.
+            let answer =
+                unsafe { call(self.handle.get(), key.0, key.1, at, end, &mut len, &mut value) };
+            if answer != TOO_SMALL {
+                room.truncate(len);
+                return (answer == DONE).then_some(value);
+            }
+            room.resize(len, 0);
+        }
     }
 
     pub fn common_count(&self, other: &Tree) -> usize {

@@ -40,6 +40,24 @@ unsafe extern "C" {
         len: *mut usize,
         value: *mut u64,
     ) -> u8;
+    pub fn rart_seek(
+        tree: *mut RartTree,
+        from: *const u8,
+        from_len: usize,
+        room: *mut u8,
+        room_len: usize,
+        len: *mut usize,
+        value: *mut u64,
+    ) -> u8;
+    pub fn rart_next(
+        tree: *mut RartTree,
+        after: *const u8,
+        after_len: usize,
+        room: *mut u8,
+        room_len: usize,
+        len: *mut usize,
+        value: *mut u64,
+    ) -> u8;
     pub fn rart_common(tree: *mut RartTree, other: *mut RartTree) -> usize;
     pub fn rart_clear(tree: *mut RartTree);
     pub fn rart_insert(

@@ -1,6 +1,7 @@
 //! Random calls on a few versions, beside a model of std's maps.
 use boltcomfrey::{Refusal, VersionedMap};
 use std::collections::BTreeMap;
+use std::ops::Bound::{Excluded, Unbounded};
 
 /// The generator xorshift64.
 struct Random(u64);
@@ -74,10 +75,11 @@ impl Compared {
     /// Makes a random call on a random version, and compares what it answers and what it leaves.
     pub fn step(&mut self) {
         let at = self.random.below(self.versions.len() as u64) as usize;
-        match self.random.below(200) {
-            0..2 => self.copy(at),
-            2..60 => self.read(at),
-            60..130 => self.remove(at),
+        match self.random.below(2000) {
+            0..20 => self.copy(at),
+            20 => self.walk(at),
+            21..600 => self.read(at),
+            600..1300 => self.remove(at),
             _ => self.insert(at),
         }
         let (map, model) = &self.versions[at];
@@ -124,14 +126,37 @@ impl Compared {
         assert_eq!(map.get(&key), model.pairs.get(&key).copied());
         assert_eq!(map.contains_key(&key), model.pairs.contains_key(&key));
         assert_eq!(map.longest_prefix(&key), model.longest_prefix(&key));
+        let first = model.pairs.range(key.clone()..).next();
+        assert_eq!(map.range(key.clone()..).next(), first.map(owned));
+        let next = model.pairs.range((Excluded(key.clone()), Unbounded)).next();
+        assert_eq!(map.range((Excluded(key.clone()), Unbounded)).next(), next.map(owned));
         let (other, others) = &self.versions[other as usize];
         assert_eq!(map.common_count(other), model.common_count(others));
+    }
+
+    /// Walks over a version: all of it, what a prefix begins, and what is between two keys.
+    fn walk(&mut self, at: usize) {
+        let (key, other) = (self.random.key(), self.random.key());
+        let (map, model) = &self.versions[at];
+        assert!(map.iter().eq(model.pairs.iter().map(owned)));
+        let under = model.pairs.iter().filter(|pair| pair.0.starts_with(&key));
+        assert!(map.prefix(&key).eq(under.map(owned)));
+        let (low, high) = if key <= other { (key, other) } else { (other, key) };
+        let within = model.pairs.range(low.clone()..=high.clone());
+        assert!(map.range(low..=high).eq(within.map(owned)));
+        let (other, others) = &self.versions[0];
+        assert_eq!(map == other, model.pairs == others.pairs);
     }
 
     fn note(&mut self, refusal: Refusal) {
         assert_eq!(refusal, Refusal::NoMemory);
         self.refused += 1;
     }
+}
+
+/// A pair of the model, as the map gives it.
+fn owned((key, value): (&Vec<u8>, &u64)) -> (Vec<u8>, u64) {
+    (key.clone(), *value)
 }
 
 /// How many calls to make: as many as CALLS says, else 100,000.

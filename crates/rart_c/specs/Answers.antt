@@ -1,5 +1,5 @@
 -- What the numbers that exports answer say.
-use Rattle.std.specs.Prelude.{◌≡◌, ℕ, ◌⊎◌, Option, Some, None}
+use Rattle.std.specs.Prelude.{◌≡◌, ℕ, ◌⊎◌, Bool, true, false, Option, Some, None}
 use Rattle.rart_c.specs.declared.answer.TheConstants.{DONE, ABSENT, NO_ROOM, NO_MEMORY}
 use Rattle.rart_c.specs.declared.answer.Refusal.{Refusal}
 use Rattle.rart_c.specs.declared.answer.Refusal.TheVariants.{NoRoom, NoMemory}
@@ -10,6 +10,11 @@ use Rattle.rart_maps.specs.Versions.{Version, HasRoom}
 abbrev pub Tells : {X : Type 0} → Option X → ℕ → X → X → Type 0
 Tells None answer before after = (answer ≡ ABSENT) × (after ≡ before)
 Tells (Some x) answer before after = (answer ≡ DONE) × (after ≡ x)
+
+-- the number that says whether there was a value
+abbrev pub told_there : Bool → ℕ
+told_there true = DONE
+told_there false = ABSENT
 
 -- The answer says that the call was not done.
 abbrev pub IsRefused : ℕ → Type 0

@@ -1,3 +1,5 @@
 pub mod Answers
 pub mod Longest
 pub mod Owned
+pub mod Reads
+pub mod Shown

@@ -1,6 +1,7 @@
 //! The small numbers that exports answer, and what is told by them.
 ghost use Rattle.std.specs.Prelude.{◌≡◌};
-ghost use Rattle.rart_c.specs.Answers.{Tells, number_of};
+ghost use Rattle.rart_c.specs.Answers.{Tells, number_of, told_there};
+ghost use Rattle.rart_c.specs.Longest.{length_found};
 
 /// The call was done. Where it answers a value, there was one, and it is written.
 pub const DONE: u8 = 0;
@@ -14,7 +15,7 @@ pub const NO_ROOM: u8 = 2;
 /// Memory was refused. Nothing changed.
 pub const NO_MEMORY: u8 = 3;
 
-/// The buffer is too small for the key, whose length is written.
+/// The buffer is too small for what is read, whose length is written.
 pub const TOO_SMALL: u8 = 4;
 
 /// Why a call isn't done.
@@ -47,4 +48,23 @@ pub(crate) fn tell(found: Option<u64>, value: &mut u64) -> u8
             DONE
         }
     }
+}
+
+/// Tells how long the key is that was found, and its value, or that there is none.
+pub(crate) fn tell_longest(found: Option<(usize, &u64)>, len: &mut usize, value: &mut u64) -> u8
+    ensures { Tells (length_found found.entry) result (len.old, value.old) (len.new, value.new) }
+{
+    let Some((length, found)) = found else {
+        return ABSENT;
+    };
+    *len = length;
+    *value = *found;
+    DONE
+}
+
+/// Tells whether there was a value.
+pub(crate) fn tell_there(is_there: bool) -> u8
+    ensures { result ≡ told_there is_there }
+{
+    if is_there { DONE } else { ABSENT }
 }

@@ -5,7 +5,7 @@ ghost use Rattle.rart_c.specs.declared.answer.TheConstants.{NO_ROOM};
 ghost use Rattle.rart_maps.specs.Changes.{after_removal};
 ghost use Rattle.rart_maps.specs.Versions.{HasRoom, empty_at, has_key, value_at, with_key};
 
-use crate::answer::{ABSENT, NO_MEMORY, tell};
+use crate::answer::tell;
 use crate::handle::RartTree;
 use std::alloc::Global;
 
@@ -34,11 +34,9 @@ pub extern "C" fn rart_insert(
         → (tree.new.shows ≡ tree.old.shows) × (replaced.new ≡ replaced.old) }
     ensures room { (result ≡ NO_ROOM) ↔ ¬ (HasRoom tree.old.shows 1) }
 {
-    let Ok(mut table) = tree.take_or_make(alloc) else {
-        return NO_MEMORY;
-    };
-    let told = table.insert(alloc, key, value);
-    *tree = RartTree::of(table);
+    let mut map = tree.take_map(alloc);
+    let told = map.insert(alloc, key, value);
+    *tree = RartTree::of_map(alloc, map);
     match told {
         Ok(was) => tell(was, replaced),
         Err(refusal) => refusal.number(),
@@ -58,11 +56,9 @@ pub extern "C" fn rart_remove(alloc: Global, tree: &mut RartTree, key: &[u8], va
     ensures room { (result ≡ NO_ROOM)
         ↔ (IsTrue (has_key tree.old.shows key.now) × ¬ (HasRoom tree.old.shows 1)) }
 {
-    let Some(mut table) = tree.take(alloc) else {
-        return ABSENT;
-    };
-    let told = table.remove(key);
-    *tree = RartTree::of(table);
+    let mut map = tree.take_map(alloc);
+    let told = map.remove(key);
+    *tree = RartTree::of_map(alloc, map);
     match told {
         Ok(was) => tell(was, value),
         Err(refusal) => refusal.number(),

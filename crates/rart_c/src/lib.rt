@@ -1,12 +1,15 @@
-//! The versioned tree for C programs, and for Rust programs through C: byte strings to numbers.
+//! The versioned tree for C programs, and for Rust programs through C: byte strings to numbers, or
+//! to byte strings.
 //!
 //! C holds a tree as a struct of one pointer. All zeros is the map without a key, its number 0, so
 //! no call makes a tree and none can fail to.
 #![tactic(auto)]
 
 mod answer;
+mod bytes;
 mod changing;
 mod handle;
+mod map;
 mod reading;
 mod table;
 #[cfg(test)]

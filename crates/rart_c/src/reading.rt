@@ -6,7 +6,7 @@ ghost use Rattle.rart_c.specs.Longest.{longest_length};
 ghost use Rattle.rart_maps.specs.Pairs.{common};
 ghost use Rattle.rart_maps.specs.Versions.{has_no_key, value_at};
 
-use crate::answer::{ABSENT, DONE, tell};
+use crate::answer::{tell, tell_longest};
 use crate::handle::RartTree;
 use std::alloc::Global;
 
@@ -16,14 +16,10 @@ pub extern "C" fn rart_version(alloc: Global, tree: &mut RartTree) -> u64
     ensures number { result ≡ tree.old.shows.number }
     ensures same { tree.new.shows ≡ tree.old.shows }
 {
-    match tree.take(alloc) {
-        None => 0,
-        Some(table) => {
-            let number = table.version();
-            *tree = RartTree::of(table);
-            number
-        }
-    }
+    let map = tree.take_map(alloc);
+    let number = map.version();
+    *tree = RartTree::of_map(alloc, map);
+    number
 }
 
 /// How many keys there are.
@@ -32,14 +28,10 @@ pub extern "C" fn rart_len(alloc: Global, tree: &mut RartTree) -> usize
     ensures count { result ≡ finite.len tree.old.shows.content }
     ensures same { tree.new.shows ≡ tree.old.shows }
 {
-    match tree.take(alloc) {
-        None => 0,
-        Some(table) => {
-            let len = table.len();
-            *tree = RartTree::of(table);
-            len
-        }
-    }
+    let map = tree.take_map(alloc);
+    let len = map.len();
+    *tree = RartTree::of_map(alloc, map);
+    len
 }
 
 /// Whether there is no key.
@@ -57,14 +49,10 @@ pub extern "C" fn rart_get(alloc: Global, tree: &mut RartTree, key: &[u8], value
     ensures found { Tells (value_at tree.old.shows key.now) result value.old value.new }
     ensures same { tree.new.shows ≡ tree.old.shows }
 {
-    match tree.take(alloc) {
-        None => ABSENT,
-        Some(table) => {
-            let found = table.get(key);
-            *tree = RartTree::of(table);
-            tell(found, value)
-        }
-    }
+    let map = tree.take_map(alloc);
+    let told = tell(map.get(key).copied(), value);
+    *tree = RartTree::of_map(alloc, map);
+    told
 }
 
 /// Answers `DONE` and writes how long the longest key is that begins the probe, and its value, or
@@ -81,21 +69,10 @@ pub extern "C" fn rart_longest(
         (len.old, value.old) (len.new, value.new) }
     ensures same { tree.new.shows ≡ tree.old.shows }
 {
-    match tree.take(alloc) {
-        None => ABSENT,
-        Some(table) => {
-            let found = table.longest(probe);
-            *tree = RartTree::of(table);
-            match found {
-                None => ABSENT,
-                Some(pair) => {
-                    *len = pair.0;
-                    *value = pair.1;
-                    DONE
-                }
-            }
-        }
-    }
+    let map = tree.take_map(alloc);
+    let told = tell_longest(map.longest(probe), len, value);
+    *tree = RartTree::of_map(alloc, map);
+    told
 }
 
 /// How many keys both trees have. It takes no memory.
@@ -105,21 +82,10 @@ pub extern "C" fn rart_common(alloc: Global, tree: &mut RartTree, other: &mut Ra
     ensures same { tree.new.shows ≡ tree.old.shows }
     ensures other_same { other.new.shows ≡ other.old.shows }
 {
-    match (tree.take(alloc), other.take(alloc)) {
-        (Some(left), Some(right)) => {
-            let count = left.common(&right);
-            *tree = RartTree::of(left);
-            *other = RartTree::of(right);
-            count
-        }
-        (Some(left), None) => {
-            *tree = RartTree::of(left);
-            0
-        }
-        (None, Some(right)) => {
-            *other = RartTree::of(right);
-            0
-        }
-        (None, None) => 0,
-    }
+    let map = tree.take_map(alloc);
+    let others = other.take_map(alloc);
+    let count = map.common(&others);
+    *tree = RartTree::of_map(alloc, map);
+    *other = RartTree::of_map(alloc, others);
+    count
 }

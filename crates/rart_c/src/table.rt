@@ -1,8 +1,10 @@
 //! The tree that a handle leads to, and how many keys it has.
 ghost use Rattle.std.specs.Prelude.{◌≡◌, length, IfOk, OnErr, IsSome, IsTrue, MatchResult};
 ghost use Rattle.std.specs.FinMap as finite;
+ghost use Rattle.std.specs.Option.{option_copied};
+ghost use Rattle.rart_below.specs.Clones.{ClonesEqual};
 ghost use Rattle.rart_c.specs.Answers.{Explains};
-ghost use Rattle.rart_c.specs.Longest.{longest_length};
+ghost use Rattle.rart_c.specs.Longest.{length_found, longest_length};
 ghost use Rattle.rart_maps.specs.Changes.{Changes, removal, replacement};
 ghost use Rattle.rart_maps.specs.Pairs.{common};
 ghost use Rattle.rart_maps.specs.Versions.{HasRoom, empty_at, has_key, value_at, with_rise};
@@ -14,29 +16,28 @@ use std::marker::Model;
 
 /// A tree, and how many keys it has. Contracts see the version that the tree is.
 #[derive(Drop)]
-pub(crate) struct Table {
-    tree: VersionedAdaptiveRadixTree<VectorKey, u64>,
+pub(crate) struct Table<V: Clone> {
+    tree: VersionedAdaptiveRadixTree<VectorKey, V>,
     len: usize,
 }
 
-impl Model for Table {
-    ghost use Rattle.std.specs.Prelude.{◌≡◌, ℕ};
-    ghost use Rattle.std.specs.Coded.{coded_ℕ};
+impl<V: Clone> Model for Table<V> {
+    ghost use Rattle.std.specs.Prelude.{◌≡◌};
     ghost use Rattle.std.specs.FinMap as finite;
     ghost use Rattle.rart_maps.specs.Versions.{Version, version_code};
 
-    ghost Value = { Version ℕ };
+    ghost Value = { Version V };
 
-    ghost coded = { version_code coded_ℕ };
+    ghost coded = { version_code V.code };
 
     ghost view = { λ table. table.tree };
 
     ghost invariant = { λ table. table.len ≡ finite.len table.tree.content };
 }
 
-impl Table {
+impl<V: Clone + Drop> Table<V> {
     /// A map without a key, with this number.
-    pub(crate) fn new_at(alloc: Global, number: u64) -> Table
+    pub(crate) fn new_at(alloc: Global, number: u64) -> Table<V>
         ensures { result ≡ empty_at number }
     {
         Table {
@@ -58,24 +59,21 @@ impl Table {
     }
 
     /// The value of a key, if it is there.
-    pub(crate) fn get(&self, key: &[u8]) -> Option<u64>
-        ensures { result ≡ value_at self.now key.now }
+    pub(crate) fn get(&self, key: &[u8]) -> Option<&V>
+        ensures { option_copied result ≡ value_at self.now key.now }
     {
-        self.tree.get_slice(key).copied()
+        self.tree.get_slice(key)
     }
 
     /// How long the longest key is that begins the probe, and its value, if there is one.
-    pub(crate) fn longest(&self, probe: &[u8]) -> Option<(usize, u64)>
-        ensures { result ≡ longest_length self.now probe.now }
+    pub(crate) fn longest(&self, probe: &[u8]) -> Option<(usize, &V)>
+        ensures { length_found result ≡ longest_length self.now probe.now }
     {
-        match self.tree.longest_slice(probe) {
-            None => None,
-            Some((len, value)) => Some((len, *value)),
-        }
+        self.tree.longest_slice(probe)
     }
 
     /// How many keys both have.
-    pub(crate) fn common(&self, other: &Table) -> usize
+    pub(crate) fn common(&self, other: &Table<V>) -> usize
         ensures { result ≡ length (common self.now.content other.now.content) }
     {
         self.tree.intersect_count(&other.tree)
@@ -86,8 +84,9 @@ impl Table {
         &mut self,
         alloc: Global,
         key: &[u8],
-        value: u64,
-    ) -> Result<Option<u64>, Refusal>
+        value: V,
+    ) -> Result<Option<V>, Refusal>
+        requires clones { ClonesEqual V.is_clone }
         ensures changes { Changes result self.old self.new (replacement self.old key.now value) }
         ensures room { MatchResult result (λ _. HasRoom self.old 1) (Explains self.old) }
     {
@@ -107,7 +106,8 @@ impl Table {
     }
 
     /// Takes a key out, and gives its value. Without the key nothing changes, and it isn't refused.
-    pub(crate) fn remove(&mut self, key: &[u8]) -> Result<Option<u64>, Refusal>
+    pub(crate) fn remove(&mut self, key: &[u8]) -> Result<Option<V>, Refusal>
+        requires clones { ClonesEqual V.is_clone }
         ensures changes { Changes result self.old self.new (removal self.old key.now) }
         ensures room { MatchResult result
             (λ found. IsSome found → HasRoom self.old 1) (Explains self.old) }
@@ -129,7 +129,7 @@ impl Table {
     }
 
     /// The same map once more, its number one greater.
-    pub(crate) fn snapshot(&self) -> Result<Table, Refusal>
+    pub(crate) fn snapshot(&self) -> Result<Table<V>, Refusal>
         ensures copy { IfOk result (λ copy. copy ≡ with_rise self.now 1) }
         ensures room { MatchResult result (λ _. HasRoom self.now 1) (Explains self.now) }
     {
@@ -146,7 +146,7 @@ impl Table {
     }
 
     /// The same map once more, its number too.
-    pub(crate) fn clone(&self) -> Result<Table, AllocError>
+    pub(crate) fn clone(&self) -> Result<Table<V>, AllocError>
         ensures { IfOk result (λ copy. copy ≡ self.now) }
     {
         let tree = self.tree.clone()?;

@@ -1,13 +1,13 @@
 //! What C calls to have one tree more.
-ghost use Rattle.std.specs.Prelude.{◌≡◌, ◌⊎◌, ◌↔◌, IfOk, MatchResult};
-ghost use Rattle.rart_c.specs.Answers.{Explains, IsRefused};
+ghost use Rattle.std.specs.Prelude.{◌≡◌, ◌⊎◌, ◌↔◌};
+ghost use Rattle.rart_c.specs.Answers.{IsRefused};
 ghost use Rattle.rart_c.specs.declared.answer.TheConstants.{NO_ROOM};
 ghost use Rattle.rart_maps.specs.Versions.{HasRoom, empty_at, with_rise};
 
-use crate::answer::{DONE, NO_MEMORY, Refusal};
+use crate::answer::{DONE, NO_MEMORY};
 use crate::handle::RartTree;
-use crate::table::Table;
-use std::alloc::{AllocError, Global};
+use crate::map::Map;
+use std::alloc::Global;
 
 /// Makes `copy` the same map, its number one greater, and frees what `copy` was. `NO_ROOM` says
 /// that the number can't be raised, `NO_MEMORY` that memory was refused: `copy` is as before then.
@@ -19,28 +19,15 @@ pub extern "C" fn rart_snapshot(alloc: Global, tree: &mut RartTree, copy: &mut R
     ensures room { (result ≡ NO_ROOM) ↔ ¬ (HasRoom tree.old.shows 1) }
     ensures same { tree.new.shows ≡ tree.old.shows }
 {
-    let Ok(table) = tree.take_or_make(alloc) else {
-        return NO_MEMORY;
-    };
-    let made = snapshot_of(alloc, &table);
-    *tree = RartTree::of(table);
+    let map = tree.take_map(alloc);
+    let made = map.snapshot(alloc);
+    *tree = RartTree::of_map(alloc, map);
     match made {
         Ok(made) => {
-            *copy = RartTree::of(made);
+            *copy = RartTree::of_map(alloc, made);
             DONE
         }
         Err(refusal) => refusal.number(),
-    }
-}
-
-fn snapshot_of(alloc: Global, table: &Table) -> Result<Box<Table>, Refusal>
-    ensures copy { IfOk result (λ copy. copy.value ≡ with_rise table.now 1) }
-    ensures room { MatchResult result (λ _. HasRoom table.now 1) (Explains table.now) }
-{
-    let copy = table.snapshot()?;
-    match Box::new(alloc, copy) {
-        Ok(copy) => Ok(copy),
-        Err(_) => Err(Refusal::NoMemory),
     }
 }
 
@@ -53,26 +40,16 @@ pub extern "C" fn rart_clone(alloc: Global, tree: &mut RartTree, copy: &mut Rart
     ensures refused { result ≡ NO_MEMORY → copy.new.shows ≡ copy.old.shows }
     ensures same { tree.new.shows ≡ tree.old.shows }
 {
-    let Some(table) = tree.take(alloc) else {
-        *copy = RartTree::empty(alloc);
-        return DONE;
-    };
-    let made = clone_of(alloc, &table);
-    *tree = RartTree::of(table);
+    let map = tree.take_map(alloc);
+    let made = map.clone(alloc);
+    *tree = RartTree::of_map(alloc, map);
     match made {
         Ok(made) => {
-            *copy = RartTree::of(made);
+            *copy = RartTree::of_map(alloc, made);
             DONE
         }
         Err(_) => NO_MEMORY,
     }
-}
-
-fn clone_of(alloc: Global, table: &Table) -> Result<Box<Table>, AllocError>
-    ensures { IfOk result (λ copy. copy.value ≡ table.now) }
-{
-    let copy = table.clone()?;
-    Ok(Box::new(alloc, copy)?)
 }
 
 /// Frees what the tree leads to, and leaves it without a key, its number so great. `NO_MEMORY` says
@@ -83,9 +60,9 @@ pub extern "C" fn rart_new_at(alloc: Global, tree: &mut RartTree, number: u64) -
         ⊎ ((result ≡ DONE) × (tree.new.shows ≡ empty_at number)) }
     ensures refused { result ≡ NO_MEMORY → tree.new.shows ≡ tree.old.shows }
 {
-    match Box::new(alloc, Table::new_at(alloc, number)) {
-        Ok(table) => {
-            *tree = RartTree::of(table);
+    match Map::new_at(alloc, number) {
+        Ok(map) => {
+            *tree = RartTree::of_map(alloc, map);
             DONE
         }
         Err(_) => NO_MEMORY,

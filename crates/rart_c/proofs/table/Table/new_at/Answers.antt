@@ -4,5 +4,6 @@ use Rattle.rart_c.proofs.EmptyLemmas.{no-length}
 use Rattle.rart_c.proofs.table.Table.new_at.Goals as goal
 
 pub invariant_of-result : goal.invariant_of-result
-invariant_of-result c =
-    sym (ap (λ v. finite.len v.content) c.new_at.ensures.empty ∙ no-length c.args.number)
+invariant_of-result g c =
+    no-length g.row.V.Denot c.args.number
+    ∙ sym (ap (λ v. finite.len v.content) c.new_at.ensures.empty)

@@ -1,0 +1,8 @@
+//! Trees whose values are byte strings.
+pub(crate) mod changing;
+pub(crate) mod handle;
+pub(crate) mod reading;
+#[cfg(test)]
+mod tests;
+pub(crate) mod value;
+pub(crate) mod versions;

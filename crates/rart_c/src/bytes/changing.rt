@@ -1,0 +1,86 @@
+//! What C calls to change a tree of byte strings.
+ghost use Rattle.std.specs.Prelude.{◌≡◌, ◌⊎◌, ◌↔◌, IsTrue, MatchResult};
+ghost use Rattle.rart_c.specs.Answers.{Explains, IsRefused, told_there};
+ghost use Rattle.rart_c.specs.declared.answer.TheConstants.{NO_ROOM};
+ghost use Rattle.rart_maps.specs.Changes.{Changes, after_removal, replacement};
+ghost use Rattle.rart_maps.specs.Versions.{HasRoom, empty_at, has_key, with_key};
+
+use crate::answer::{Refusal, tell_there};
+use crate::bytes::handle::RartBytes;
+use crate::bytes::value::Bytes;
+use crate::map::Map;
+use std::alloc::Global;
+
+/// Frees what the tree leads to: it has no key then, and number 0.
+#[unsafe(no_mangle)]
+pub extern "C" fn rart_bytes_clear(alloc: Global, tree: &mut RartBytes)
+    ensures { tree.new.shows ≡ empty_at 0 }
+{
+    *tree = RartBytes::empty(alloc);
+}
+
+/// Sets a key to a copy of the value, the number then one greater. Answers `DONE` where a value was
+/// replaced, `ABSENT` where the key is new. `NO_ROOM` says that the number can't be raised,
+/// `NO_MEMORY` that memory was refused: nothing changed then.
+#[unsafe(no_mangle)]
+pub extern "C" fn rart_bytes_insert(
+    alloc: Global,
+    tree: &mut RartBytes,
+    key: &[u8],
+    value: &[u8],
+) -> u8
+    ensures done { IsRefused result
+        ⊎ ((tree.new.shows ≡ with_key tree.old.shows key.now value.now 1)
+        × (result ≡ told_there (has_key tree.old.shows key.now))) }
+    ensures refused { IsRefused result → tree.new.shows ≡ tree.old.shows }
+    ensures room { (result ≡ NO_ROOM) ↔ ¬ (HasRoom tree.old.shows 1) }
+{
+    let mut map = tree.take_map(alloc);
+    let told = set(alloc, &mut map, key, value);
+    *tree = RartBytes::of_map(alloc, map);
+    match told {
+        Ok(was) => tell_there(was.is_some()),
+        Err(refusal) => refusal.number(),
+    }
+}
+
+/// Takes a key out, the number then one greater. Answers `DONE`, or `ABSENT` where there is no such
+/// key, and then nothing changed. `NO_ROOM` says that the key is there and the number can't be
+/// raised, `NO_MEMORY` that it is there and memory was refused: nothing changed then.
+#[unsafe(no_mangle)]
+pub extern "C" fn rart_bytes_remove(alloc: Global, tree: &mut RartBytes, key: &[u8]) -> u8
+    ensures done { IsRefused result ⊎ ((tree.new.shows ≡ after_removal tree.old.shows key.now)
+        × (result ≡ told_there (has_key tree.old.shows key.now))) }
+    ensures refused { IsRefused result
+        → (tree.new.shows ≡ tree.old.shows) × IsTrue (has_key tree.old.shows key.now) }
+    ensures room { (result ≡ NO_ROOM)
+        ↔ (IsTrue (has_key tree.old.shows key.now) × ¬ (HasRoom tree.old.shows 1)) }
+{
+    let mut map = tree.take_map(alloc);
+    let told = map.remove(key);
+    *tree = RartBytes::of_map(alloc, map);
+    match told {
+        Ok(was) => tell_there(was.is_some()),
+        Err(refusal) => refusal.number(),
+    }
+}
+
+/// Sets a key to a copy of the value, and gives the value that was replaced. That there is no room
+/// is told before memory is asked for.
+fn set(
+    alloc: Global,
+    map: &mut Map<Bytes>,
+    key: &[u8],
+    value: &[u8],
+) -> Result<Option<Bytes>, Refusal>
+    ensures changes { Changes result map.old map.new (replacement map.old key.now value.now) }
+    ensures room { MatchResult result (λ _. HasRoom map.old 1) (Explains map.old) }
+{
+    if map.version() == u64::MAX {
+        return Err(Refusal::NoRoom);
+    }
+    let Ok(value) = Bytes::new(alloc, value) else {
+        return Err(Refusal::NoMemory);
+    };
+    map.insert(alloc, key, value)
+}

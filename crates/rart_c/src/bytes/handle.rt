@@ -1,0 +1,115 @@
+//! A tree of byte strings as C holds it: one pointer, null for the map without a key and number 0.
+ghost use Rattle.std.specs.Prelude.{◌≡◌, ℕ, List, MatchOption};
+ghost use Rattle.std.specs.Coded.{coded_list, coded_ℕ};
+ghost use Rattle.rart_c.specs.Owned.{held};
+ghost use Rattle.rart_c.specs.contracts.bytes.value.Bytes.{the_row};
+ghost use Rattle.rart_maps.specs.Versions.{Version, empty_at, version_code};
+
+use crate::bytes::value::Bytes;
+use crate::map::Map;
+use crate::table::Table;
+use crate::unboxed::Unboxed;
+use std::alloc::Global;
+use std::marker::Model;
+use std::mem::replace;
+use std::ptr::null_mut;
+
+/// A tree as C holds it, its values byte strings. Contracts see the version that it shows.
+///
+/// What C hands in is all zeros, or as a call left it; C copies it nowhere.
+#[repr(C)]
+pub struct RartBytes {
+    at: *mut u8,
+    alloc: Global,
+    pub ghost shows: { Version (List ℕ) } by { version_code (coded_list coded_ℕ) },
+}
+
+impl Model for RartBytes {
+    ghost also_owns = { λ tree. held the_row ⟦<Bytes as Clone>⟧ tree.alloc tree.at tree.shows };
+}
+
+impl Drop for RartBytes {
+    fn drop(self) {
+        drop(self.into_box());
+    }
+}
+
+impl RartBytes {
+    pub(crate) fn empty(alloc: Global) -> RartBytes
+        ensures { result.shows ≡ empty_at 0 }
+    {
+        RartBytes {
+            at: null_mut(),
+            alloc,
+        }
+    }
+
+    pub(crate) fn of(table: Box<Table<Bytes>>) -> RartBytes
+        ensures { result.shows ≡ table.value }
+    {
+        RartBytes::of_parts(Unboxed::open(table))
+    }
+
+    fn of_parts(table: Unboxed<Table<Bytes>, Global>) -> RartBytes
+        ensures { result.shows ≡ table.value }
+    {
+        let Unboxed { at, alloc } = table;
+        RartBytes {
+            at: at.cast(),
+            alloc,
+        }
+    }
+
+    fn into_box(self) -> Option<Box<Table<Bytes>>>
+        ensures { MatchOption result (self.shows ≡ empty_at 0)
+            (λ table. table.value ≡ self.shows) }
+    {
+        match self.into_parts() {
+            None => None,
+            Some(table) => Some(table.close()),
+        }
+    }
+
+    fn into_parts(self) -> Option<Unboxed<Table<Bytes>, Global>>
+        ensures { MatchOption result (self.shows ≡ empty_at 0)
+            (λ table. table.value ≡ self.shows) }
+    {
+        let RartBytes { at, alloc } = self;
+        if at.is_null() {
+            None
+        } else {
+            Some(Unboxed {
+                at: at.cast(),
+                alloc,
+            })
+        }
+    }
+
+    /// The table, if there is one. The handle shows no key and number 0 then.
+    pub(crate) fn take(&mut self, alloc: Global) -> Option<Box<Table<Bytes>>>
+        ensures table { MatchOption result (self.old.shows ≡ empty_at 0)
+            (λ table. table.value ≡ self.old.shows) }
+        ensures left { self.new.shows ≡ empty_at 0 }
+    {
+        replace(self, RartBytes::empty(alloc)).into_box()
+    }
+
+    /// The map. The handle shows no key and number 0 then.
+    pub(crate) fn take_map(&mut self, alloc: Global) -> Map<Bytes>
+        ensures map { result ≡ self.old.shows }
+        ensures left { self.new.shows ≡ empty_at 0 }
+    {
+        Map {
+            table: self.take(alloc),
+        }
+    }
+
+    pub(crate) fn of_map(alloc: Global, map: Map<Bytes>) -> RartBytes
+        ensures { result.shows ≡ map }
+    {
+        match map.table {
+            None => RartBytes::empty(alloc),
+            Some(table) => RartBytes::of(table),
+        }
+    }
+}

@@ -1,0 +1,50 @@
+//! A byte string as a value, shared by the versions that have it.
+ghost use Rattle.std.specs.Prelude.{◌≡◌, IfOk};
+
+use std::alloc::{AllocError, Global};
+use std::marker::Model;
+use std::rc::RcSlice;
+
+/// A byte string. A clone shares its bytes. Contracts see the bytes.
+#[derive(Drop)]
+pub(crate) struct Bytes {
+    bytes: RcSlice<u8>,
+}
+
+impl Model for Bytes {
+    ghost use Rattle.std.specs.Prelude.{List, ℕ};
+    ghost use Rattle.std.specs.Coded.{coded_list, coded_ℕ};
+    ghost use Rattle.std.specs.Rc.{rc_slice_items};
+
+    ghost Value = { List ℕ };
+
+    ghost coded = { coded_list coded_ℕ };
+
+    ghost view = { λ value. rc_slice_items value.bytes };
+}
+
+impl Clone for Bytes {
+    ghost is_clone = { λ value copy. copy ≡ value };
+
+    fn clone(&self) -> Result<Bytes, AllocError> {
+        Ok(Bytes {
+            bytes: self.bytes.clone()?,
+        })
+    }
+}
+
+impl Bytes {
+    pub(crate) fn new(alloc: Global, bytes: &[u8]) -> Result<Bytes, AllocError>
+        ensures { IfOk result (λ value. value ≡ bytes.now) }
+    {
+        Ok(Bytes {
+            bytes: RcSlice::from_slice(alloc, bytes)?,
+        })
+    }
+
+    pub(crate) fn as_slice(&self) -> &[u8]
+        ensures { result.now ≡ self.now }
+    {
+        self.bytes.as_slice()
+    }
+}

@@ -1,0 +1,74 @@
+//! What C calls to have one tree of byte strings more.
+ghost use Rattle.std.specs.Prelude.{◌≡◌, ◌⊎◌, ◌↔◌};
+ghost use Rattle.rart_c.specs.Answers.{IsRefused};
+ghost use Rattle.rart_c.specs.declared.answer.TheConstants.{NO_ROOM};
+ghost use Rattle.rart_maps.specs.Versions.{HasRoom, empty_at, with_rise};
+
+use crate::answer::{DONE, NO_MEMORY};
+use crate::bytes::handle::RartBytes;
+use crate::map::Map;
+use std::alloc::Global;
+
+/// Makes `copy` the same map, its number one greater, and frees what `copy` was. `NO_ROOM` says
+/// that the number can't be raised, `NO_MEMORY` that memory was refused: `copy` is as before then.
+#[unsafe(no_mangle)]
+pub extern "C" fn rart_bytes_snapshot(
+    alloc: Global,
+    tree: &mut RartBytes,
+    copy: &mut RartBytes,
+) -> u8
+    ensures done { IsRefused result
+        ⊎ ((result ≡ DONE) × (copy.new.shows ≡ with_rise tree.old.shows 1)) }
+    ensures refused { IsRefused result → copy.new.shows ≡ copy.old.shows }
+    ensures room { (result ≡ NO_ROOM) ↔ ¬ (HasRoom tree.old.shows 1) }
+    ensures same { tree.new.shows ≡ tree.old.shows }
+{
+    let map = tree.take_map(alloc);
+    let made = map.snapshot(alloc);
+    *tree = RartBytes::of_map(alloc, map);
+    match made {
+        Ok(made) => {
+            *copy = RartBytes::of_map(alloc, made);
+            DONE
+        }
+        Err(refusal) => refusal.number(),
+    }
+}
+
+/// Makes `copy` the same map, its number too, and frees what `copy` was. `NO_MEMORY` says that
+/// memory was refused: `copy` is as before then.
+#[unsafe(no_mangle)]
+pub extern "C" fn rart_bytes_clone(alloc: Global, tree: &mut RartBytes, copy: &mut RartBytes) -> u8
+    ensures done { (result ≡ NO_MEMORY)
+        ⊎ ((result ≡ DONE) × (copy.new.shows ≡ tree.old.shows)) }
+    ensures refused { result ≡ NO_MEMORY → copy.new.shows ≡ copy.old.shows }
+    ensures same { tree.new.shows ≡ tree.old.shows }
+{
+    let map = tree.take_map(alloc);
+    let made = map.clone(alloc);
+    *tree = RartBytes::of_map(alloc, map);
+    match made {
+        Ok(made) => {
+            *copy = RartBytes::of_map(alloc, made);
+            DONE
+        }
+        Err(_) => NO_MEMORY,
+    }
+}
+
+/// Frees what the tree leads to, and leaves it without a key, its number so great. `NO_MEMORY` says
+/// that memory was refused: it is as before then.
+#[unsafe(no_mangle)]
+pub extern "C" fn rart_bytes_new_at(alloc: Global, tree: &mut RartBytes, number: u64) -> u8
+    ensures done { (result ≡ NO_MEMORY)
+        ⊎ ((result ≡ DONE) × (tree.new.shows ≡ empty_at number)) }
+    ensures refused { result ≡ NO_MEMORY → tree.new.shows ≡ tree.old.shows }
+{
+    match Map::new_at(alloc, number) {
+        Ok(map) => {
+            *tree = RartBytes::of_map(alloc, map);
+            DONE
+        }
+        Err(_) => NO_MEMORY,
+    }
+}

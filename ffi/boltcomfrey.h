@@ -1,4 +1,5 @@
-// A versioned ordered map from byte strings to 64-bit numbers. A snapshot is a map of its own.
+// A versioned ordered map from byte strings to 64-bit numbers, or to byte strings. A snapshot is a
+// map of its own.
 //
 // Each function is proved to do what its comment says, and none panics. Written by ffi/generate.
 #ifndef BOLTCOMFREY_H
@@ -18,6 +19,11 @@ typedef struct rart_tree {
     void *at;
 } rart_tree;
 
+// The same of a map to byte strings: `rart_bytes tree = {0};`.
+typedef struct rart_bytes {
+    void *at;
+} rart_bytes;
+
 // Where the key of an entry ends among the bytes of its page, and its value.
 typedef struct rart_entry {
     size_t end;
@@ -35,7 +41,7 @@ enum {
     RART_NO_ROOM = 2,
     // Memory was refused. Nothing changed.
     RART_NO_MEMORY = 3,
-    // The buffer is too small for the key, whose length is written.
+    // The buffer is too small for what is read, whose length is written.
     RART_TOO_SMALL = 4,
 };
 
@@ -100,6 +106,73 @@ rart_answer rart_insert(
 // RART_ABSENT, and then nothing changed. RART_NO_ROOM says that the key is there and the number
 // can't be raised, RART_NO_MEMORY that it is there and memory was refused: nothing changed then.
 rart_answer rart_remove(rart_tree *tree, const uint8_t *key, size_t key_len, uint64_t *value);
+
+// Makes copy the same map, its number one greater, and frees what copy was. RART_NO_ROOM says that
+// the number can't be raised, RART_NO_MEMORY that memory was refused: copy is as before then.
+rart_answer rart_bytes_snapshot(rart_bytes *tree, rart_bytes *copy);
+
+// Makes copy the same map, its number too, and frees what copy was. RART_NO_MEMORY says that memory
+// was refused: copy is as before then.
+rart_answer rart_bytes_clone(rart_bytes *tree, rart_bytes *copy);
+
+// Frees what the tree leads to, and leaves it without a key, its number so great. RART_NO_MEMORY
+// says that memory was refused: it is as before then.
+rart_answer rart_bytes_new_at(rart_bytes *tree, uint64_t number);
+
+// The number.
+uint64_t rart_bytes_version(rart_bytes *tree);
+
+// How many keys there are.
+size_t rart_bytes_len(rart_bytes *tree);
+
+// Whether there is no key.
+bool rart_bytes_is_empty(rart_bytes *tree);
+
+// Answers RART_DONE, writes the value of a key to the first bytes of into, and its length to len.
+// RART_TOO_SMALL says that into has fewer bytes than the value: len is written then and nothing
+// else. Answers RART_ABSENT where there is no such key. It takes no memory.
+rart_answer rart_bytes_get(
+    rart_bytes *tree,
+    const uint8_t *key,
+    size_t key_len,
+    uint8_t *into,
+    size_t into_len,
+    size_t *len
+);
+
+// Of the longest key that begins the probe: answers as rart_bytes_get of that key does, and where
+// there is one writes how long it is to key_len, also where into is too small. It takes no memory.
+rart_answer rart_bytes_longest(
+    rart_bytes *tree,
+    const uint8_t *probe,
+    size_t probe_len,
+    size_t *key_len,
+    uint8_t *into,
+    size_t into_len,
+    size_t *len
+);
+
+// How many keys both trees have. It takes no memory.
+size_t rart_bytes_common(rart_bytes *tree, rart_bytes *other);
+
+// Frees what the tree leads to: it has no key then, and number 0.
+void rart_bytes_clear(rart_bytes *tree);
+
+// Sets a key to a copy of the value, the number then one greater. Answers RART_DONE where a value
+// was replaced, RART_ABSENT where the key is new. RART_NO_ROOM says that the number can't be
+// raised, RART_NO_MEMORY that memory was refused: nothing changed then.
+rart_answer rart_bytes_insert(
+    rart_bytes *tree,
+    const uint8_t *key,
+    size_t key_len,
+    const uint8_t *value,
+    size_t value_len
+);
+
+// Takes a key out, the number then one greater. Answers RART_DONE, or RART_ABSENT where there is no
+// such key, and then nothing changed. RART_NO_ROOM says that the key is there and the number can't
+// be raised, RART_NO_MEMORY that it is there and memory was refused: nothing changed then.
+rart_answer rart_bytes_remove(rart_bytes *tree, const uint8_t *key, size_t key_len);
 
 #ifdef __cplusplus
 }

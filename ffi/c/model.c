@@ -1,20 +1,9 @@
 // Random calls on eight trees, each compared with tables. The first word is how many, 100,000
 // without it; the second refuses one request for memory in so many.
 #include "boltcomfrey.h"
-#include <stdio.h>
-#include <stdlib.h>
-#include <string.h>
+#include "keys.h"
 
-enum { TREES = 8, MOST_BYTES = 7, LETTERS = 4, KEYS = 21845 };
-
-static const uint8_t letters[LETTERS] = {0, 'a', 'b', 255};
-
-// A key: its bytes, and its number among all keys of at most seven of these letters.
-struct key {
-    uint8_t bytes[MOST_BYTES];
-    size_t len;
-    size_t number;
-};
+enum { TREES = 8 };
 
 struct table {
     bool has[KEYS];
@@ -26,44 +15,6 @@ struct table {
 static rart_tree trees[TREES];
 static struct table tables[TREES];
 static unsigned long long refused;
-
-#define EXPECT(claim)                                                                              \
-    do {                                                                                           \
-        if (!(claim)) {                                                                            \
-            fprintf(stderr, "%s:%d: this is false: %s\n", __FILE__, __LINE__, #claim);             \
-            exit(1);                                                                               \
-        }                                                                                          \
-    } while (0)
-
-static uint64_t random_below(uint64_t most) {
-    static uint64_t state = 88172645463325252u;
-    state ^= state << 13;
-    state ^= state >> 7;
-    state ^= state << 17;
-    return state % most;
-}
-
-// The number of a key's first bytes: the empty key is 0, longer ones stand behind it by letters.
-static size_t number_of(const uint8_t *bytes, size_t len) {
-    size_t number = 0;
-    for (size_t at = 0; at < len; at++) {
-        size_t letter = 0;
-        while (letters[letter] != bytes[at]) {
-            letter++;
-        }
-        number = LETTERS * number + letter + 1;
-    }
-    return number;
-}
-
-static struct key random_key(void) {
-    struct key key = {.len = random_below(MOST_BYTES + 1)};
-    for (size_t at = 0; at < key.len; at++) {
-        key.bytes[at] = letters[random_below(LETTERS)];
-    }
-    key.number = number_of(key.bytes, key.len);
-    return key;
-}
 
 // Whether the answer says that memory was refused, and no such thing was asked for without words.
 static bool is_refused(rart_answer answer) {

@@ -1,4 +1,5 @@
-//! A versioned ordered map from byte strings to numbers, over a library whose every call is proved.
+//! A versioned ordered map from byte strings to numbers, or to byte strings, over a library whose
+//! every call is proved.
 //!
 //! A snapshot is a map of its own: what changes in one is never seen in the other, though both
 //! share the nodes that neither has changed.
@@ -17,11 +18,13 @@
 //! Proved is what the exports do, as `boltcomfrey.h` says it. This crate round them is tested.
 #![warn(missing_docs)]
 
+mod bytes;
 mod error;
 mod map;
 mod raw;
 mod sys;
 
+pub use bytes::VersionedBytes;
 pub use error::Refusal;
 #[cfg(feature = "refusals")]
 pub use sys::refusals;

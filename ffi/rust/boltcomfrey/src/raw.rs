@@ -1,6 +1,6 @@
 //! The proved calls as safe functions. All `unsafe` of this crate stands here and in `sys`.
 use crate::error::Refusal;
-use crate::sys::{self, ABSENT, DONE, NO_ROOM, RartTree};
+use crate::sys::{self, ABSENT, DONE, NO_ROOM, RartBytes, RartTree, TOO_SMALL};
 use std::cell::UnsafeCell;
 use std::ptr::{eq, null_mut};
 
@@ -109,8 +109,132 @@ impl Drop for Tree {
     }
 }
 
+/// The same of a tree whose values are byte strings.
+pub struct BytesTree {
+    handle: UnsafeCell<RartBytes>,
+}
+
+// What each call below relies on is as above.
+impl BytesTree {
+    pub const fn new() -> BytesTree {
+        BytesTree {
+            handle: UnsafeCell::new(RartBytes { at: null_mut() }),
+        }
+    }
+
+    pub fn with_number(number: u64) -> Result<BytesTree, Refusal> {
+        let tree = BytesTree::new();
+        // SAFETY: as above.
+        done(unsafe { sys::rart_bytes_new_at(tree.handle.get(), number) })?;
+        Ok(tree)
+    }
+
+    pub fn version(&self) -> u64 {
+        // SAFETY: as above.
+        unsafe { sys::rart_bytes_version(self.handle.get()) }
+    }
+
+    pub fn len(&self) -> usize {
+        // SAFETY: as above.
+        unsafe { sys::rart_bytes_len(self.handle.get()) }
+    }
+
+    /// Reads a value out where it fits into these bytes, and tells its length.
+    fn read(&self, key: &[u8], into: &mut [u8], len: &mut usize) -> u8 {
+        let (at, room) = (into.as_mut_ptr(), into.len());
+        // SAFETY: as above; `into` and `len` are borrowed to be written, so neither overlaps.
+        unsafe { sys::rart_bytes_get(self.handle.get(), key.as_ptr(), key.len(), at, room, len) }
+    }
+
+    pub fn get(&self, key: &[u8]) -> Option<Vec<u8>> {
+        read_out(|into, len| self.read(key, into, len))
+    }
+
+    pub fn value_len(&self, key: &[u8]) -> Option<usize> {
+        let mut len = 0;
+        (self.read(key, &mut [], &mut len) != ABSENT).then_some(len)
+    }
+
+    pub fn longest_prefix(&self, probe: &[u8]) -> Option<(usize, Vec<u8>)> {
+        let mut key_len = 0;
+        let (at, room) = (probe.as_ptr(), probe.len());
+        let value = read_out(|into, len| {
+            let (start, size) = (into.as_mut_ptr(), into.len());
+            let tree = self.handle.get();
+            // SAFETY: as above; `key_len` is this call's own, and `into` and `len` are borrowed to
+            // be written, so no two overlap.
+            unsafe { sys::rart_bytes_longest(tree, at, room, &mut key_len, start, size, len) }
+        })?;
+        Some((key_len, value))
+    }
+
+    pub fn common_count(&self, other: &BytesTree) -> usize {
+        if eq(self, other) {
+            return self.len(); // (two trees of one call may not be one)
+        }
+        // SAFETY: as above, and they are two.
+        unsafe { sys::rart_bytes_common(self.handle.get(), other.handle.get()) }
+    }
+
+    pub fn insert(&mut self, key: &[u8], value: &[u8]) -> Result<bool, Refusal> {
+        let (at, len) = (key.as_ptr(), key.len());
+        let (start, size) = (value.as_ptr(), value.len());
+        // SAFETY: as above; the key and the value are only read.
+        let answer = unsafe { sys::rart_bytes_insert(self.handle.get(), at, len, start, size) };
+        Ok(found(answer, ())?.is_some())
+    }
+
+    pub fn remove(&mut self, key: &[u8]) -> Result<bool, Refusal> {
+        // SAFETY: as above.
+        let answer =
+            unsafe { sys::rart_bytes_remove(self.handle.get(), key.as_ptr(), key.len()) };
+        Ok(found(answer, ())?.is_some())
+    }
+
+    pub fn snapshot(&self) -> Result<BytesTree, Refusal> {
+        let copy = BytesTree::new();
+        // SAFETY: as above, and the copy is another tree.
+        done(unsafe { sys::rart_bytes_snapshot(self.handle.get(), copy.handle.get()) })?;
+        Ok(copy)
+    }
+
+    pub fn try_clone(&self) -> Result<BytesTree, Refusal> {
+        let copy = BytesTree::new();
+        // SAFETY: as above, and the copy is another tree.
+        done(unsafe { sys::rart_bytes_clone(self.handle.get(), copy.handle.get()) })?;
+        Ok(copy)
+    }
+}
+
+impl Default for BytesTree {
+    fn default() -> BytesTree {
+        BytesTree::new()
+    }
+}
+
+impl Drop for BytesTree {
+    fn drop(&mut self) {
+        // SAFETY: as above.
+        unsafe { sys::rart_bytes_clear(self.handle.get()) }
+    }
+}
+
+/// What a call reads out, which is made once more where the value is longer than most.
+fn read_out(mut call: impl FnMut(&mut [u8], &mut usize) -> u8) -> Option<Vec<u8>> {
+    let (mut short, mut len) = ([0; 128], 0);
+    match call(&mut short, &mut len) {
+        DONE => Some(short[..len].to_vec()),
+        TOO_SMALL => {
+            let mut value = vec![0; len];
+            call(&mut value, &mut len);
+            Some(value)
+        }
+        _ => None,
+    }
+}
+
 /// What the answer of a change says.
-fn found(answer: u8, value: u64) -> Result<Option<u64>, Refusal> {
+fn found<V>(answer: u8, value: V) -> Result<Option<V>, Refusal> {
     match answer {
         ABSENT => Ok(None),
         _ => done(answer).map(|()| Some(value)),

@@ -11,6 +11,12 @@ pub struct RartTree {
     pub at: *mut u8,
 }
 
+/// The same of a map to byte strings.
+#[repr(C)]
+pub struct RartBytes {
+    pub at: *mut u8,
+}
+
 /// Where the key of an entry ends among the bytes of its page, and its value.
 #[repr(C)]
 #[derive(Clone, Copy, Default)]
@@ -50,6 +56,39 @@ unsafe extern "C" {
         replaced: *mut u64,
     ) -> u8;
     pub fn rart_remove(tree: *mut RartTree, key: *const u8, key_len: usize, value: *mut u64) -> u8;
+    pub fn rart_bytes_snapshot(tree: *mut RartBytes, copy: *mut RartBytes) -> u8;
+    pub fn rart_bytes_clone(tree: *mut RartBytes, copy: *mut RartBytes) -> u8;
+    pub fn rart_bytes_new_at(tree: *mut RartBytes, number: u64) -> u8;
+    pub fn rart_bytes_version(tree: *mut RartBytes) -> u64;
+    pub fn rart_bytes_len(tree: *mut RartBytes) -> usize;
+    pub fn rart_bytes_is_empty(tree: *mut RartBytes) -> bool;
+    pub fn rart_bytes_get(
+        tree: *mut RartBytes,
+        key: *const u8,
+        key_len: usize,
+        into: *mut u8,
+        into_len: usize,
+        len: *mut usize,
+    ) -> u8;
+    pub fn rart_bytes_longest(
+        tree: *mut RartBytes,
+        probe: *const u8,
+        probe_len: usize,
+        key_len: *mut usize,
+        into: *mut u8,
+        into_len: usize,
+        len: *mut usize,
+    ) -> u8;
+    pub fn rart_bytes_common(tree: *mut RartBytes, other: *mut RartBytes) -> usize;
+    pub fn rart_bytes_clear(tree: *mut RartBytes);
+    pub fn rart_bytes_insert(
+        tree: *mut RartBytes,
+        key: *const u8,
+        key_len: usize,
+        value: *const u8,
+        value_len: usize,
+    ) -> u8;
+    pub fn rart_bytes_remove(tree: *mut RartBytes, key: *const u8, key_len: usize) -> u8;
 }
 
 /// Whether memory is given, and where. The library asks for an alignment of 16 at most.

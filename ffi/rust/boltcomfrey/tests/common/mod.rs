@@ -1,6 +1,10 @@
 //! Random calls on a few versions, beside a model of std's maps.
+#![allow(dead_code)] // (each test takes one of the two)
+
 use boltcomfrey::{Refusal, VersionedMap};
 use std::collections::BTreeMap;
+
+pub mod bytes;
 
 /// The generator xorshift64.
 struct Random(u64);
@@ -22,33 +26,33 @@ impl Random {
 
 /// What a version should be.
 #[derive(Clone, Default)]
-struct Model {
-    pairs: BTreeMap<Vec<u8>, u64>,
+struct Model<V> {
+    pairs: BTreeMap<Vec<u8>, V>,
     number: u64,
 }
 
-impl Model {
-    fn longest_prefix(&self, probe: &[u8]) -> Option<(usize, u64)> {
+impl<V: Clone> Model<V> {
+    fn longest_prefix(&self, probe: &[u8]) -> Option<(usize, V)> {
         let starts = (0..=probe.len()).rev();
-        starts.map(|len| &probe[..len]).find_map(|it| Some((it.len(), *self.pairs.get(it)?)))
+        starts.map(|len| &probe[..len]).find_map(|it| Some((it.len(), self.pairs.get(it)?.clone())))
     }
 
-    fn common_count(&self, other: &Model) -> usize {
+    fn common_count(&self, other: &Model<V>) -> usize {
         self.pairs.keys().filter(|it| other.pairs.contains_key(*it)).count()
     }
 
-    fn insert(&mut self, key: &[u8], value: u64) -> Option<u64> {
+    fn insert(&mut self, key: &[u8], value: V) -> Option<V> {
         self.number += 1;
         self.pairs.insert(key.to_vec(), value)
     }
 
-    fn remove(&mut self, key: &[u8]) -> Option<u64> {
+    fn remove(&mut self, key: &[u8]) -> Option<V> {
         let removed = self.pairs.remove(key)?;
         self.number += 1;
         Some(removed)
     }
 
-    fn snapshot(&self) -> Model {
+    fn snapshot(&self) -> Model<V> {
         let mut copy = self.clone();
         copy.number += 1;
         copy
@@ -58,7 +62,7 @@ impl Model {
 /// Versions, each beside its model, and how many calls were refused.
 pub struct Compared {
     random: Random,
-    versions: Vec<(VersionedMap, Model)>,
+    versions: Vec<(VersionedMap, Model<u64>)>,
     pub refused: u64,
 }
 

@@ -2,4 +2,7 @@
 //! where two sides changed the same key: definitions, and the laws that show what they mean.
 #![tactic(auto)]
 
+mod differing;
 pub mod laws;
+
+pub use differing::do_differ;

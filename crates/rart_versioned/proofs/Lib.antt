@@ -1,4 +1,5 @@
 pub mod CommonLemmas
+pub mod DiffLemmas
 pub mod EndLemmas
 pub mod MapLemmas
 pub mod MeetLemmas

@@ -20,7 +20,7 @@ use Rattle.rart_versioned.proofs.MapLemmas.{pairs-map}
 use Rattle.rart_versioned.proofs.SoundLemmas.{no-key}
 
 -- no more is given than there is
-filtered-few : {A B : Type 0} (h : A → Option B) (xs : List A) →
+pub filtered-few : {A B : Type 0} (h : A → Option B) (xs : List A) →
     length (filter_map h xs) ≤ length xs
 filtered-few h [] = omega arith
 filtered-few {A} {B} h (x ∷ xs) =

@@ -1,4 +1,5 @@
 pub mod ChangeCounts
+pub mod Diffs
 pub mod Entries
 pub mod Hints
 pub mod IteratorFields

@@ -2,6 +2,7 @@
 //! Whatever counts into a `Work` that it is handed, or counts nothing.
 
 mod change;
+mod diff;
 mod get_mut;
 mod insert;
 mod intersect;

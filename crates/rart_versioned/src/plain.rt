@@ -1,6 +1,7 @@
 // Ported from rart 0.11.0 (Apache-2.0), and rewritten.
 //! Whatever makes a `Work` of its own, or calls what does: the forms that count nothing.
 
+mod diff;
 mod get_mut;
 mod insert;
 mod intersect;

@@ -1,0 +1,151 @@
+-- Which of two ascending lists of pairs has the first key, and what is left behind it.
+use Rattle.std.proofs.Common.{◌≡◌, ◌+◌, ◌≤◌, ◌<◌, ◌⊎◌, ℕ, true, List, [], ◌∷◌, ◌++◌, Option, Some, None, length, refl, sym, ap, subst, ◌∙◌, ⊎_elim, inl, inr, arith}
+use Rattle.std.specs.Prelude.{Contains, IsSome}
+use Rattle.std.specs.Borrow.{Bor}
+use Rattle.std.specs.Option.{is_some, option_copied}
+use Rattle.std.specs.declared.cmp.Ordering.{Ordering}
+use Rattle.std.specs.declared.cmp.Ordering.TheVariants.{Less, Equal, Greater}
+use Rattle.std.proofs.lemmas.Bool.{false≢true}
+use Rattle.rart_below.specs.Bytes.{byte_order}
+use Rattle.rart_maps.specs.FoundLaws.{KeysAscend}
+use Rattle.rart_maps.specs.Order.{IsBefore}
+use Rattle.rart_maps.proofs.ElementLemmas.{Contains-nil, Contains-cases, All-from_contains, AllPairs-first, AllPairs-rest}
+use Rattle.rart_maps.proofs.OrderLemmas.{order_is_of_first_difference}
+use Rattle.rart_walks.specs.Walks.{pending_pair}
+use Rattle.rart_walks.specs.WalkFields.{position}
+use Rattle.rart_diff.specs.declared.side.Side.{Side}
+use Rattle.rart_diff.specs.Diffs.{AreBehind, Leads}
+use Rattle.rart_diff.specs.SideFields.{IsSide, ComesFirst, key_at}
+
+-- Of three strings in order the first stands before the last.
+pub before-before : (u v w : List ℕ) → IsBefore u v → IsBefore v w → IsBefore u w
+before-before u v [] one two = two
+before-before u [] (d ∷ w) one two = absurd one
+before-before [] (c ∷ v) (d ∷ w) one two = tt
+before-before (b ∷ u) (c ∷ v) (d ∷ w) one two =
+    ⊎_elim
+    (λ less. ⊎_elim (λ more. inl (omega (arith, less, more)))
+    (λ same. inl (omega (arith, less, same.0))) two)
+    (λ same. ⊎_elim (λ more. inl (omega (arith, same.0, more)))
+    (λ also. inr (same.0 ∙ also.0, before-before u v w same.1 also.1)) two)
+    one
+
+module _ {V : Type 0} where
+  pub none-behind : (key : List ℕ) (pairs : List (List ℕ × V)) → pairs ≡ [] → AreBehind key pairs
+  none-behind key pairs none =
+      All-from_contains (λ pair. IsBefore key pair.0) pairs
+      (λ pair there. absurd (Contains-nil pair (subst (λ xs. Contains xs pair) none there)))
+
+  -- The first of pairs in order leads the others.
+  pub first-leads : (key : List ℕ) (x : V) (rest : List (List ℕ × V))
+      → KeysAscend (λ pair. pair.0) ((key, x) ∷ rest)
+      → Leads key (Some x) ((key, x) ∷ rest) rest
+  first-leads key x rest ascends =
+      record {
+        pairs = refl;
+        behind = All-from_contains (λ pair. IsBefore key pair.0) rest
+            (λ pair there. AllPairs-first (λ a b. IsBefore a.0 b.0) (key, x) rest ascends pair
+            there);
+      }
+
+  -- A key before the first of pairs in order is before all of them.
+  pub before-first : (key : List ℕ) (pair : List ℕ × V) (rest : List (List ℕ × V))
+      → KeysAscend (λ p. p.0) (pair ∷ rest) → IsBefore key pair.0 → AreBehind key (pair ∷ rest)
+  before-first key pair rest ascends before =
+      All-from_contains (λ p. IsBefore key p.0) (pair ∷ rest)
+      (λ p there. ⊎_elim
+      (λ is. subst (λ (q : List ℕ × V). IsBefore key q.0) is before)
+      (λ later. before-before key pair.0 p.0 before
+      (AllPairs-first (λ a b. IsBefore a.0 b.0) pair rest ascends p later))
+      (Contains-cases pair rest p there))
+
+  held-leads : (key : List ℕ) (held : Option (Bor V)) (rest : List (List ℕ × V))
+      → KeysAscend (λ pair. pair.0) (pending_pair key (option_copied held) ++ rest) → IsSome held
+      → Leads key (option_copied held) (pending_pair key (option_copied held) ++ rest) rest
+  held-leads key None rest ascends some = absurd (false≢true some)
+  held-leads key (Some value) rest ascends some = first-leads key value.now rest ascends
+
+  -- So does a value that is taken, where none is left then.
+  pub taken-leads : (key : List ℕ) (held taken left : Option (Bor V)) (rest : List (List ℕ × V))
+      → taken ≡ held → left ≡ None
+      → KeysAscend (λ pair. pair.0) (pending_pair key (option_copied held) ++ rest)
+      → IsSome taken
+      → Leads key (option_copied taken) (pending_pair key (option_copied held) ++ rest)
+      (pending_pair key (option_copied left) ++ rest)
+  taken-leads key held taken left rest is none ascends some =
+      subst (λ (l : Option (Bor V)). Leads key (option_copied taken)
+      (pending_pair key (option_copied held) ++ rest) (pending_pair key (option_copied l) ++ rest))
+      (sym none)
+      (subst (λ (t : Option (Bor V)). IsSome t → Leads key (option_copied t)
+      (pending_pair key (option_copied held) ++ rest) rest) (sym is)
+      (held-leads key held rest ascends) some)
+
+  held-behind : (key other : List ℕ) (held : Option (Bor V)) (rest : List (List ℕ × V))
+      → KeysAscend (λ pair. pair.0) (pending_pair other (option_copied held) ++ rest)
+      → is_some held ≡ true → IsBefore key other
+      → AreBehind key (pending_pair other (option_copied held) ++ rest)
+  held-behind key other None rest ascends some before = absurd (false≢true some)
+  held-behind key other (Some value) rest ascends some before =
+      before-first key (other, value.now) rest ascends before
+
+  -- What is left ascends too.
+  pub rest-ascends : (key : List ℕ) (value : Option V) (rest : List (List ℕ × V))
+      → KeysAscend (λ pair. pair.0) (pending_pair key value ++ rest)
+      → KeysAscend (λ pair. pair.0) rest
+  rest-ascends key None rest ascends = ascends
+  rest-ascends key (Some x) rest ascends =
+      AllPairs-rest (λ a b. IsBefore a.0 b.0) (key, x) rest ascends
+
+  -- Fewer pairs are left where there is a value.
+  leads-length : {key : List ℕ} {value : Option V} {before after : List (List ℕ × V)}
+      → Leads key value before after → length after ≤ length before
+  leads-length {key} {value} {before} {after} leads =
+      elim value as (λ o. before ≡ pending_pair key o ++ after → length after ≤ length before) [
+        | None ↦ λ is. let same = ap length is in omega (arith, same)
+        | Some x ↦ λ is. let same = ap length is in omega (arith, same)
+      ] leads.pairs
+
+  some-length : {key : List ℕ} {value : Option V} {before after : List (List ℕ × V)}
+      → Leads key value before after → IsSome value → length after < length before
+  some-length {key} {value} {before} {after} leads some =
+      elim value as (λ o. IsSome o → before ≡ pending_pair key o ++ after
+      → length after < length before) [
+        | None ↦ λ none _. absurd (false≢true none)
+        | Some x ↦ λ _ is. let same = ap length is in omega (arith, same)
+      ] some leads.pairs
+
+  pub fewer-left : {key : List ℕ} {before after : Option V}
+      {old old' new new' : List (List ℕ × V)} → Leads key before old old'
+      → Leads key after new new' → IsSome before ⊎ IsSome after
+      → length old' + length new' < length old + length new
+  fewer-left first second some =
+      let one = leads-length first in
+      let two = leads-length second in
+      ⊎_elim
+      (λ is. let less = some-length first is in omega (arith, less, two))
+      (λ is. let less = some-length second is in omega (arith, less, one))
+      some
+
+module _ {P V : Type 0} {partial : _} (bytes : P → List ℕ) where
+  -- Of two keys the order tells which is the first.
+  pub both-first : (before after : Side P V partial) → IsSide bytes before → IsSide bytes after
+      → is_some before.value ≡ true → is_some after.value ≡ true → (r : Ordering)
+      → r ≡ byte_order (key_at bytes before) (key_at bytes after)
+      → ComesFirst bytes before after (Some r)
+  both-first before after one two some also Less is = (
+    some,
+    held-behind (key_at bytes before) (key_at bytes after) after.value
+        (position bytes after.walk).pairs two.ascends also
+        ((order_is_of_first_difference (key_at bytes before) (key_at bytes after)).0.0 (sym is)),
+  )
+  both-first before after one two some also Equal is = (
+    some,
+    also,
+    (order_is_of_first_difference (key_at bytes before) (key_at bytes after)).1.0 (sym is),
+  )
+  both-first before after one two some also Greater is = (
+    also,
+    held-behind (key_at bytes after) (key_at bytes before) before.value
+        (position bytes before.walk).pairs one.ascends some
+        ((order_is_of_first_difference (key_at bytes before) (key_at bytes after)).2.0 (sym is)),
+  )

@@ -1,0 +1,21 @@
+use Rattle.std.proofs.Common.{◌≡◌, ◌+◌, length}
+use Rattle.rart_diff.specs.ChangeFields.{IsChangeWalk, changes_left, nodes_to_enter}
+use Rattle.rart_diff.specs.SideFields.{pairs_left}
+use Rattle.rart_diff.proofs.CountLemmas.{IsCounted}
+use Rattle.rart_diff.proofs.changes.ChangeWalk.next.Given as goal
+
+abbrev pub invariant-merging : goal.invariant-merging
+invariant-merging g l =
+    let bytes = g.P.Partial.bytes in
+    let same = g.V.PartialEq.eq in
+    record {
+      walk : IsChangeWalk bytes l.self;
+      changes : changes_left bytes same l.initial.self ≡ changes_left bytes same l.self;
+      counted : IsCounted (nodes_to_enter bytes l.initial.self) l.initial.work
+          (nodes_to_enter bytes l.self) l.work;
+    }
+
+abbrev pub decreases-merging : goal.decreases-merging
+decreases-merging g l =
+    let bytes = g.P.Partial.bytes in
+    length (pairs_left bytes l.self.before) + length (pairs_left bytes l.self.after)

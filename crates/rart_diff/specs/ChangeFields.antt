@@ -1,0 +1,52 @@
+-- What the fields of a walk from change to change mean, and what it gives.
+use Rattle.std.specs.Prelude.{◌≡◌, ◌⊎◌, ℕ, ◌+◌, Bool, List, [], ◌∷◌, Option, Some, None, IsSome, if◌then◌else◌}
+use Rattle.std.specs.Borrow.{Bor}
+use Rattle.std.specs.Option.{option_copied}
+use Rattle.rart_changes.specs.ChangeLists.{Change}
+use Rattle.rart_diff.specs.declared.changes.ChangeWalk.{ChangeWalk}
+use Rattle.rart_diff.specs.Diffs.{Leads, changes_between}
+use Rattle.rart_diff.specs.SideFields.{IsSide, IsAtKey, key_at, pairs_left, nodes_left}
+
+-- `partial` is what is known of prefixes, which the types take for a ghost field
+module _ {P V : Type 0} {partial : _} (bytes : P → List ℕ) where
+  -- the changes that are left
+  abbrev pub changes_left : (V → V → Bool) → ChangeWalk P V partial → List (Change V)
+  changes_left same walk =
+      changes_between same (pairs_left bytes walk.before) (pairs_left bytes walk.after)
+
+  -- the key that was given last
+  abbrev pub key_given : ChangeWalk P V partial → List ℕ
+  key_given walk = if walk.is_before then key_at bytes walk.before else key_at bytes walk.after
+
+  -- how many nodes are left to enter
+  abbrev pub nodes_to_enter : ChangeWalk P V partial → ℕ
+  nodes_to_enter walk = nodes_left bytes walk.before + nodes_left bytes walk.after
+
+  pub record IsChangeWalk (walk : ChangeWalk P V partial) : Type 0 where
+    pub before : IsSide bytes walk.before
+    pub after : IsSide bytes walk.after
+
+  -- Both sides stand at the first of what they have left.
+  pub record AreAtKeys (walk : ChangeWalk P V partial) : Type 0 where
+    pub before : IsAtKey bytes walk.before
+    pub after : IsAtKey bytes walk.after
+
+  -- The next key of either side was taken, with what both have there, or there was none.
+  abbrev pub TakesKey : ChangeWalk P V partial → ChangeWalk P V partial →
+      Option (Option (Bor V) × Option (Bor V)) → Type 0
+  TakesKey start next None =
+      (pairs_left bytes start.before ≡ []) × (pairs_left bytes start.after ≡ [])
+  TakesKey start next (Some values) =
+      Leads (key_given next) (option_copied values.0)
+      (pairs_left bytes start.before) (pairs_left bytes next.before)
+      × Leads (key_given next) (option_copied values.1)
+      (pairs_left bytes start.after) (pairs_left bytes next.after)
+      × (IsSome values.0 ⊎ IsSome values.1)
+
+  -- The first change was given, or there was none.
+  abbrev pub GivesChange : (V → V → Bool) → ChangeWalk P V partial → ChangeWalk P V partial →
+      Option (Option (Bor V) × Option (Bor V)) → Type 0
+  GivesChange same start next None = changes_left same start ≡ []
+  GivesChange same start next (Some values) = changes_left same start
+      ≡ (key_given next, option_copied values.0, option_copied values.1)
+      ∷ changes_left same next

@@ -1,0 +1,3 @@
+pub mod ChangeFields
+pub mod Diffs
+pub mod SideFields

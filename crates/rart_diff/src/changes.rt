@@ -1,0 +1,130 @@
+//! The walk from change to change.
+ghost use Rattle.std.specs.Prelude.{◌≡◌, ◌+◌, length, None, IfOk, OnOk};
+ghost use Rattle.rart_maps.specs.FoundLaws.{KeysAscend};
+ghost use Rattle.rart_node.specs.Counts.{CountsUpTo};
+ghost use Rattle.rart_walks.specs.Trails.{HoldsBytes};
+ghost use Rattle.rart_walks.specs.WalkFields.{IsWalk, position};
+ghost use Rattle.rart_diff.specs.Diffs.{changes_between};
+
+use crate::order::order_of;
+use crate::side::Side;
+use rart_below::Partial;
+use rart_changes::do_differ;
+use rart_node::Work;
+use rart_walks::{KeyTrail, Walk};
+use std::alloc::AllocError;
+use std::cmp::Ordering;
+
+/// Two walks that go on together, from key to key of either tree.
+///
+/// Contracts see the changes that are left by `changes_left`, and how many nodes are left to enter
+/// by `nodes_to_enter`.
+#[derive(Drop)]
+pub(crate) struct ChangeWalk<'a, P: Partial, V> {
+    before: Side<'a, P, V>,
+    after: Side<'a, P, V>,
+    // whether the tree before has the key that was given last, or else the one after alone
+    is_before: bool,
+}
+
+impl<'a, P: Partial, V: Drop + Eq> ChangeWalk<'a, P, V> {
+    ghost use Rattle.rart_diff.specs.ChangeFields.{IsChangeWalk, TakesKey, GivesChange, changes_left, key_given, nodes_to_enter, AreAtKeys};
+
+    /// The changes from the pairs that the one walk has left to those of the other. It enters no
+    /// node.
+    pub(crate) fn new(
+        old: Walk<'a, P, V, KeyTrail>,
+        new: Walk<'a, P, V, KeyTrail>,
+    ) -> ChangeWalk<'a, P, V>
+        requires old { IsWalk P.bytes HoldsBytes None old }
+        requires new { IsWalk P.bytes HoldsBytes None new }
+        requires old_ascends { KeysAscend (λ pair. pair.0) (position P.bytes old).pairs }
+        requires new_ascends { KeysAscend (λ pair. pair.0) (position P.bytes new).pairs }
+        ensures walk { IsChangeWalk P.bytes result }
+        ensures changes { changes_left P.bytes V.eq result ≡ changes_between V.eq
+            (position P.bytes old.entry).pairs (position P.bytes new.entry).pairs }
+        ensures nodes { nodes_to_enter P.bytes result
+            ≡ length (position P.bytes old.entry).places
+            + length (position P.bytes new.entry).places }
+    {
+        ChangeWalk {
+            before: Side::new(old),
+            after: Side::new(new),
+            is_before: false,
+        }
+    }
+
+    /// The key that was given last.
+    pub(crate) fn key(&self) -> &[u8]
+        requires walk { IsChangeWalk P.bytes self.now }
+        ensures { result.now ≡ key_given P.bytes self.now }
+    {
+        if self.is_before {
+            self.before.key()
+        } else {
+            self.after.key()
+        }
+    }
+
+    /// Goes on to the next change, and gives the values before and after, where there are any, or
+    /// `None` where no change is left.
+    pub(crate) fn next(
+        &mut self,
+        work: &mut Work,
+    ) -> Result<Option<(Option<&'a V>, Option<&'a V>)>, AllocError>
+        requires walk { IsChangeWalk P.bytes self.old }
+        ensures walk { OnOk result (IsChangeWalk P.bytes self.new) }
+        ensures gives { IfOk result (GivesChange P.bytes V.eq self.old self.new) }
+        ensures entered { OnOk result (work.new.entered + nodes_to_enter P.bytes self.new
+            ≡ work.old.entered + nodes_to_enter P.bytes self.old) }
+        ensures counted { CountsUpTo (nodes_to_enter P.bytes self.old) 0 work.old work.new }
+    {
+        'merging: while let Some((before, after)) = self.next_key(work)? {
+            if do_differ(before, after) {
+                return Ok(Some((before, after)));
+            }
+        }
+        Ok(None)
+    }
+
+    // Goes on to the next key of either tree, and gives what both have there.
+    fn next_key(
+        &mut self,
+        work: &mut Work,
+    ) -> Result<Option<(Option<&'a V>, Option<&'a V>)>, AllocError>
+        requires walk { IsChangeWalk P.bytes self.old }
+        ensures walk { OnOk result (IsChangeWalk P.bytes self.new) }
+        ensures takes { IfOk result (TakesKey P.bytes self.old self.new) }
+        ensures entered { OnOk result (work.new.entered + nodes_to_enter P.bytes self.new
+            ≡ work.old.entered + nodes_to_enter P.bytes self.old) }
+        ensures counted { CountsUpTo (nodes_to_enter P.bytes self.old) 0 work.old work.new }
+    {
+        self.before.advance(work)?;
+        self.after.advance(work)?;
+        Ok(self.take_first())
+    }
+
+    // Takes the values of the first of the keys that both stand at.
+    fn take_first(&mut self) -> Option<(Option<&'a V>, Option<&'a V>)>
+        requires walk { IsChangeWalk P.bytes self.old }
+        requires at_keys { AreAtKeys P.bytes self.old }
+        ensures walk { IsChangeWalk P.bytes self.new }
+        ensures takes { TakesKey P.bytes self.old self.new result }
+        ensures nodes { nodes_to_enter P.bytes self.new ≡ nodes_to_enter P.bytes self.old }
+    {
+        match order_of(&self.before, &self.after)? {
+            Ordering::Less => {
+                self.is_before = true;
+                Some((self.before.take(), None))
+            }
+            Ordering::Equal => {
+                self.is_before = true;
+                Some((self.before.take(), self.after.take()))
+            }
+            Ordering::Greater => {
+                self.is_before = false;
+                Some((None, self.after.take()))
+            }
+        }
+    }
+}

@@ -1,0 +1,108 @@
+//! Visits of the changes, their keys lent as views.
+ghost use Rattle.std.specs.Prelude.{◌≡◌, ◌+◌, length, None};
+ghost use Rattle.std.specs.Option.{option_copied};
+ghost use Rattle.rart_changes.specs.ChangeVisits.{ByViewChange};
+ghost use Rattle.rart_maps.specs.FoundLaws.{KeysAscend};
+ghost use Rattle.rart_maps.specs.Visits.{CallableOn, CalledOn, Visits, Visitable, VisitsUntil, VisitableUntil};
+ghost use Rattle.rart_node.specs.Counts.{CountsUpTo};
+ghost use Rattle.rart_walks.specs.Trails.{HoldsBytes};
+ghost use Rattle.rart_walks.specs.WalkFields.{IsWalk, position};
+ghost use Rattle.rart_diff.specs.Diffs.{changes_between};
+
+use crate::changes::ChangeWalk;
+use rart_below::{LendingKeyView, Partial, Refusal, VisitControl};
+use rart_node::Work;
+use rart_walks::{KeyTrail, Walk};
+use std::alloc::AllocError;
+
+/// As `visit_changed_keys`, with a view of the key, which ends with the call.
+pub fn visit_changed_views<
+    'a,
+    P: Partial,
+    V: Drop + Eq,
+    F: FnMut(LendingKeyView<'_, '_>, Option<&V>, Option<&V>),
+>(
+    old: Walk<'a, P, V, KeyTrail>,
+    new: Walk<'a, P, V, KeyTrail>,
+    f: &mut F,
+    work: &mut Work,
+) -> Result<(), AllocError>
+    requires old { IsWalk P.bytes HoldsBytes None old }
+    requires new { IsWalk P.bytes HoldsBytes None new }
+    requires old_ascends { KeysAscend (λ pair. pair.0) (position P.bytes old).pairs }
+    requires new_ascends { KeysAscend (λ pair. pair.0) (position P.bytes new).pairs }
+    requires visitable { Visitable F.FnMut ByViewChange f.old
+        (changes_between V.eq (position P.bytes old).pairs (position P.bytes new).pairs) }
+    ensures visits { Visits F.FnMut ByViewChange result f.old
+        (changes_between V.eq (position P.bytes old.entry).pairs (position P.bytes new.entry).pairs)
+        f.new }
+    ensures counted { CountsUpTo (length (position P.bytes old.entry).places
+        + length (position P.bytes new.entry).places) 0 work.old work.new }
+{
+    let mut changes = ChangeWalk::new(old, new);
+    'visiting: while let Some((before, after)) = changes.next(work)? {
+        show(changes.key(), before, after, f);
+    }
+    Ok(())
+}
+
+/// As `visit_changed_views`, up to the first key on which the closure answers `Stop` or an error.
+/// Its error is answered as `Refusal::Callback`. No node is entered behind that key but one that
+/// either walk was about to enter.
+///
+/// Refused for memory, the answer is `Refusal::Memory`: it has called the closure on a beginning of
+/// them, and each time the closure answered `Continue`.
+pub fn visit_changed_views_until<
+    'a,
+    P: Partial,
+    V: Drop + Eq,
+    E: Drop,
+    F: FnMut(LendingKeyView<'_, '_>, Option<&V>, Option<&V>) -> Result<VisitControl, E>,
+>(
+    old: Walk<'a, P, V, KeyTrail>,
+    new: Walk<'a, P, V, KeyTrail>,
+    f: &mut F,
+    work: &mut Work,
+) -> Result<(), Refusal<E>>
+    requires old { IsWalk P.bytes HoldsBytes None old }
+    requires new { IsWalk P.bytes HoldsBytes None new }
+    requires old_ascends { KeysAscend (λ pair. pair.0) (position P.bytes old).pairs }
+    requires new_ascends { KeysAscend (λ pair. pair.0) (position P.bytes new).pairs }
+    requires visitable { VisitableUntil F.FnMut ByViewChange f.old
+        (changes_between V.eq (position P.bytes old).pairs (position P.bytes new).pairs) }
+    ensures visits { VisitsUntil F.FnMut ByViewChange result f.old
+        (changes_between V.eq (position P.bytes old.entry).pairs (position P.bytes new.entry).pairs)
+        f.new }
+    ensures counted { CountsUpTo (length (position P.bytes old.entry).places
+        + length (position P.bytes new.entry).places) 0 work.old work.new }
+{
+    let mut changes = ChangeWalk::new(old, new);
+    'visiting: loop {
+        let (before, after) = match changes.next(work) {
+            Ok(Some(values)) => values,
+            Ok(None) => return Ok(()),
+            Err(refused) => return Err(Refusal::Memory(refused)),
+        };
+        match show(changes.key(), before, after, f) {
+            Ok(VisitControl::Continue) => {}
+            Ok(VisitControl::Stop) => return Ok(()),
+            Err(error) => return Err(Refusal::Callback(error)),
+        }
+    }
+}
+
+// Calls the closure on a change, with a view of its key.
+fn show<V, R, F: FnMut(LendingKeyView<'_, '_>, Option<&V>, Option<&V>) -> R>(
+    key: &[u8],
+    before: Option<&V>,
+    after: Option<&V>,
+    f: &mut F,
+) -> R
+    requires { CallableOn F.FnMut ByViewChange f.old
+        (key.now, option_copied before, option_copied after) }
+    ensures { CalledOn F.FnMut ByViewChange f.old
+        (key.now, option_copied before.entry, option_copied after.entry) result f.new }
+{
+    let segments = [key];
+    f(LendingKeyView::new(&segments, key.len()), before, after)
+}

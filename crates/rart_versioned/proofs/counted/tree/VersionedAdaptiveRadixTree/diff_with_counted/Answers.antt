@@ -1,0 +1,17 @@
+use Rattle.std.proofs.Common.{sym, subst}
+use Rattle.rart_changes.specs.ChangeVisits.{ByKeyChange}
+use Rattle.rart_maps.specs.Visits.{Visitable}
+use Rattle.rart_maps.proofs.VisitLemmas.{up_to-start, visits-refused}
+use Rattle.rart_versioned.proofs.counted.tree.VersionedAdaptiveRadixTree.diff_with_counted.Goals as goal
+
+pub returns-in_err-old-clause-visits : goal.returns-in_err-old-clause-visits
+returns-in_err-old-clause-visits g c =
+    let shows = ByKeyChange g.K.KeyTrait.bytes in
+    let start = up_to-start g.F.FnMut shows tt c.args.f.now _ in
+    visits-refused g.F.FnMut shows c.from_residual.result c.from_residual.ensures.0 (_, start)
+
+pub visit_changed_keys-requires-clause-visitable :
+    goal.visit_changed_keys-requires-clause-visitable
+visit_changed_keys-requires-clause-visitable g c =
+    subst (Visitable g.F.FnMut (ByKeyChange g.K.KeyTrait.bytes) c.args.f.now)
+    (sym c.in_ok-old.ensures.walks.changes_are) c.requires.visitable

@@ -17,5 +17,6 @@ mod unversioned;
 mod update;
 mod values;
 mod visitors;
+mod within;
 
 pub use try_insert::InsertError;

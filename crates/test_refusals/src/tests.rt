@@ -4,14 +4,17 @@
 
 mod answer;
 mod changes;
+mod differences;
 mod fragile;
 mod iterators;
 mod lists;
 mod long_lists;
 mod memoryless;
+mod merging;
 mod order;
 mod places;
 mod readings;
 mod requests;
 mod seen;
+mod told;
 mod trial;

@@ -72,6 +72,26 @@ impl Clone for Fragile {
     }
 }
 
+impl PartialEq for Fragile {
+    ghost use Rattle.std.specs.Prelude.{nat_eq};
+    ghost use Rattle.std.specs.Cmp.{partial_equiv_from_equiv};
+    ghost use Rattle.std.proofs.lemmas.Cmp.{nat_eq_equiv};
+
+    ghost eq = { nat_eq };
+
+    ghost laws = { partial_equiv_from_equiv nat_eq_equiv };
+
+    fn eq(&self, other: &Fragile) -> bool {
+        self.number == other.number
+    }
+}
+
+impl Eq for Fragile {
+    ghost use Rattle.std.proofs.lemmas.Cmp.{nat_eq_equiv};
+
+    ghost laws = { nat_eq_equiv };
+}
+
 impl Fragile {
     /// This number. Refused where too many values name the fuse.
     pub fn new(number: u64, fuse: &Rc<Fuse>) -> Result<Fragile, AllocError> {

@@ -1,5 +1,6 @@
 //! Uses of versions, each a module that prints what it sees: price lists, records with drafts, a
-//! routing table, facts joined with an older snapshot, an undo history, and drafts that are merged.
+//! routing table, facts joined with an older snapshot, an undo history, drafts that are merged, and
+//! a replica that is sent what changed.
 #![tactic(auto)]
 
 mod drafts;
@@ -7,6 +8,7 @@ mod facts;
 mod history;
 mod prices;
 mod records;
+mod replica;
 mod routes;
 
 fn main(rt: HostRuntime) -> anyhow::Result<()> {
@@ -16,5 +18,6 @@ fn main(rt: HostRuntime) -> anyhow::Result<()> {
     facts::show(&rt)?;
     history::show(&rt)?;
     drafts::show(&rt)?;
+    replica::show(&rt)?;
     Ok(())
 }

@@ -1,10 +1,12 @@
 //! Times of the versioned tree beside those of std's `BTreeMap`, over the same loops, in
 //! nanoseconds an operation, and an entry for walks, the least of five passes. With the word `run`
-//! as argument it measures; else it says how to.
+//! as argument it measures all, and with `diffs` what changed between versions; else it says how
+//! to.
 #![tactic(auto)]
 
 ghost use Rattle.std.specs.Prelude.{◌<◌};
 
+mod diff_times;
 mod keys;
 mod meet_times;
 mod meets;
@@ -13,6 +15,7 @@ mod stores;
 mod walk_times;
 mod walks;
 
+use diff_times::{measure_diffs, measure_tracked};
 use keys::{Kind, keys_of};
 use meet_times::measure_meets;
 use route_times::measure_routes;
@@ -195,19 +198,37 @@ fn measure(rt: &HostRuntime, kind: Kind, count: usize) -> anyhow::Result<()> {
     Ok(())
 }
 
-fn main(rt: HostRuntime) -> anyhow::Result<()> {
-    if env::args(&rt)?.skip(1).next().is_none() {
-        println!(rt; "rt run -- run: nanoseconds an operation, the tree's and those of BTreeMap")?;
-        return Ok(());
-    }
-    measure_routes(&rt)?;
+fn measure_all(rt: &HostRuntime) -> anyhow::Result<()> {
+    measure_routes(rt)?;
     for kind in [Kind::Random, Kind::Shared] {
         for count in [1_000, 10_000, 100_000] {
-            measure(&rt, kind, count)?;
-            measure_walks(&rt, kind, count)?;
+            measure(rt, kind, count)?;
+            measure_walks(rt, kind, count)?;
         }
-        measure_thinned(&rt, kind, 10_000)?;
-        measure_meets(&rt, kind, 10_000)?;
+        measure_thinned(rt, kind, 10_000)?;
+        measure_meets(rt, kind, 10_000)?;
     }
     Ok(())
+}
+
+fn measure_changes(rt: &HostRuntime) -> anyhow::Result<()> {
+    for kind in [Kind::Random, Kind::Shared] {
+        for count in [1_000, 100_000] {
+            measure_diffs(rt, kind, count)?;
+        }
+        measure_tracked(rt, kind, 100_000)?;
+    }
+    Ok(())
+}
+
+fn main(rt: HostRuntime) -> anyhow::Result<()> {
+    let Some(word) = env::args(&rt)?.skip(1).next() else {
+        println!(rt; "rt run -- run: nanoseconds an operation, the tree's and those of BTreeMap")?;
+        println!(rt; "rt run -- diffs: those of what changed between versions alone")?;
+        return Ok(());
+    };
+    if word.as_str() != "diffs" {
+        measure_all(&rt)?;
+    }
+    measure_changes(&rt)
 }

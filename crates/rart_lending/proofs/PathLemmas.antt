@@ -9,7 +9,9 @@ use Rattle.std.proofs.lemmas.Option.{same_Some, none-some}
 use Rattle.rart_below.specs.Bytes.{common_length}
 use Rattle.rart_below.specs.Children.{child_at}
 use Rattle.rart_node.specs.Shape.{Shape, Forest, node, prefix_of, value_of, children_of, entries_of, with_replaced, with_value}
-use Rattle.rart_lending.specs.Paths.{first_byte, child_along, step, path_end, graft, graft_at, Arrives}
+use Rattle.rart_lending.specs.Grafts.{graft, graft_at}
+use Rattle.rart_search.specs.Paths.{first_byte, child_along, step, path_end, Arrives}
+use Rattle.rart_search.proofs.PathLemmas.{path_end-add, back-is}
 use Rattle.rart_shape.specs.Trees.{strip_prefix, found, IsTree, IsPut}
 use Rattle.rart_shape.proofs.PrefixLemmas.{strip_prefix-short, strip_prefix-whole, strip_prefix-is, first-parts, common-within, begins-long, begins-first}
 use Rattle.rart_shape.proofs.FindLemmas.{found-child, branch, ordered}
@@ -36,14 +38,6 @@ module _ {V : Type 0} where
   step-child (node prefix value width forest) key byte whole next =
       let parts = first-parts (drop (common_length prefix key) key) byte next in
       rw (strip_prefix-whole prefix key whole, parts.1) refl
-
-  -- by what the prefix leaves of the key
-  pub step-strip_prefix : (s : Shape V) (key rest : List ℕ) (byte : ℕ)
-      → strip_prefix (prefix_of s) key ≡ Some rest → slice_get rest 0 ≡ Some byte
-      → step key s ≡ option_map (λ child. (child, rest)) (child_at byte (children_of s))
-  step-strip_prefix (node prefix value width forest) key rest byte is next =
-      let parts = first-parts rest byte next in
-      rw (is, parts.1) refl
 
   -- a step down goes to a child, under the first byte of what is left
   pub record IsStep (key : List ℕ) (s : Shape V) (below : Shape V × List ℕ) : Type 0 where
@@ -100,19 +94,6 @@ module _ {V : Type 0} where
       ∙ ap (found below.0) (sym parts.1)
 
   -- ---- so many steps
-  pub path_end-add : (a b : ℕ) (key : List ℕ) (s : Shape V)
-      → path_end (a + b) key s ≡ option_and_then (λ end. path_end b end.1 end.0) (path_end a key s)
-  path_end-add zero b key s = let e : zero + b ≡ b = omega arith in rw e refl
-  path_end-add (suc a) b key s =
-      let e : suc a + b ≡ suc (a + b) = omega arith in
-      let P : Option (Shape V × List ℕ) → Type 0 =
-      λ o. option_and_then (λ below. path_end (a + b) below.1 below.0) o
-      ≡ option_and_then (λ end. path_end b end.1 end.0)
-      (option_and_then (λ below. path_end a below.1 below.0) o) in
-      let both : (o : Option (Shape V × List ℕ)) → P o =
-      elim [ None ↦ refl | Some below ↦ path_end-add a b below.1 below.0 ] in
-      rw e (both (step key s))
-
   pub graft-add : (a b : ℕ) (new : Shape V) (key : List ℕ) (s : Shape V) (end : Shape V × List ℕ)
       → path_end a key s ≡ Some end → graft (a + b) new key s
       ≡ graft a (graft b new end.1 end.0) key s
@@ -248,12 +229,6 @@ module _ {V : Type 0} where
       elim [ None ↦ (λ none. absurd (false≢true none)) | Some end ↦ (λ some. refl) ] in
       both (path_end a key s) (subst IsSome
       (ap (λ n. path_end n key s) is ∙ path_end-add a b key s) there)
-
-  pub back-is : (a b steps : ℕ) (key : List ℕ) (s : Shape V) (middle : Shape V × List ℕ)
-      → steps ≡ a + b → path_end a key s ≡ Some middle
-      → path_end steps key s ≡ path_end b middle.1 middle.0
-  back-is a b steps key s middle is there = ap (λ n. path_end n key s) is ∙ path_end-add a b key s
-      ∙ ap (option_and_then (λ end. path_end b end.1 end.0)) there
 
   pub step-there : (b : ℕ) (key : List ℕ) (s : Shape V) → IsSome (path_end (suc b) key s)
       → IsSome (step key s)

@@ -5,18 +5,17 @@
 ghost use Rattle.std.specs.Prelude.{◌≡◌, ◌+◌, Some, IfOk};
 ghost use Rattle.std.specs.Borrow.{sem};
 ghost use Rattle.rart_below.specs.Clones.{ClonesEqual};
-ghost use Rattle.rart_lending.specs.Paths.{Arrives, LendsAlong};
+ghost use Rattle.rart_lending.specs.Grafts.{LendsAlong};
+ghost use Rattle.rart_search.specs.Paths.{Arrives};
 ghost use Rattle.rart_node.specs.Counts.{CountsUpTo};
 ghost use Rattle.rart_node.specs.NodeShapes.{pointer_shape};
 ghost use Rattle.rart_shape.specs.Trees.{IsTree, found};
 
 mod path;
-mod search;
 
 use path::{Path, Whole};
 use rart_below::Partial;
 use rart_node::{NodeRef, Work};
-pub use search::path_length;
 use std::alloc::AllocError;
 
 /// Lends the value of a key that ends so many nodes below a pointer, for writing.

@@ -8,7 +8,8 @@ ghost use Rattle.rart_below.specs.Clones.{ClonesEqual};
 ghost use Rattle.rart_node.specs.NodeShapes.{node_shape, pointer_shape};
 ghost use Rattle.rart_node.specs.Shape.{children_of};
 ghost use Rattle.rart_node.specs.Counts.{CountsUpTo};
-ghost use Rattle.rart_lending.specs.Paths.{step, path_end, first_byte, LendsPathEnd};
+ghost use Rattle.rart_lending.specs.Grafts.{LendsPathEnd};
+ghost use Rattle.rart_search.specs.Paths.{step, path_end, first_byte};
 ghost use Rattle.rart_shape.specs.Trees.{IsTree};
 
 use rart_below::Partial;

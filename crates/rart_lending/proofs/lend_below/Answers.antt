@@ -4,7 +4,8 @@ use Rattle.std.specs.Result.{is_ok}
 use Rattle.std.proofs.lemmas.Option.{same_Some}
 use Rattle.rart_node.specs.NodeShapes.{node_shape, pointer_shape}
 use Rattle.rart_node.specs.Shape.{prefix_of, with_value}
-use Rattle.rart_lending.specs.Paths.{path_end, graft}
+use Rattle.rart_lending.specs.Grafts.{graft}
+use Rattle.rart_search.specs.Paths.{path_end}
 use Rattle.rart_shape.specs.Trees.{strip_prefix, IsTree, IsPut}
 use Rattle.rart_lending.proofs.PathLemmas.{tree-along, found-along, put-along, found-ended, put-ended}
 use Rattle.rart_lending.proofs.lend_below.Goals as goal

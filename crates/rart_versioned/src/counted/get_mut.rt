@@ -16,7 +16,8 @@ ghost use Rattle.rart_maps.specs.Versions.{HasRoom, has_key, value_at};
 use crate::counted::missing::{Missing, found_of};
 use crate::counted::tree::VersionedAdaptiveRadixTree;
 use rart_below::{KeyTrait, Partial};
-use rart_lending::{lend_below, path_length};
+use rart_lending::lend_below;
+use rart_search::path_length;
 use rart_node::{NodeRef, Work};
 use std::alloc::AllocError;
 

@@ -8,7 +8,7 @@ ghost use Rattle.rart_node.specs.Counts.{CountsUpTo};
 
 use crate::counted::tree::VersionedAdaptiveRadixTree;
 use rart_below::{KeyTrait, Partial};
-use rart_lookup::get_below;
+use rart_search::get_below;
 use rart_node::{NodeRef, Work};
 
 impl<K: KeyTrait, V: Clone + Drop> VersionedAdaptiveRadixTree<K, V> {

@@ -10,7 +10,7 @@ ghost use Rattle.rart_node.specs.Counts.{CountsUpTo};
 use crate::counted::tree::VersionedAdaptiveRadixTree;
 use rart_below::{KeyTrait, Partial};
 use rart_node::{NodeRef, Work};
-use rart_visits::visit_beginnings;
+use rart_search::visit_prefix_matches;
 
 impl<K: KeyTrait, V: Clone + Drop> VersionedAdaptiveRadixTree<K, V> {
     /// As `prefix_match_for_each_k`, with the nodes entered counted into `work`: at most one more
@@ -30,7 +30,7 @@ impl<K: KeyTrait, V: Clone + Drop> VersionedAdaptiveRadixTree<K, V> {
     {
         match &self.root {
             None => {}
-            Some(root) => visit_beginnings(root, probe.as_ref(), f, work),
+            Some(root) => visit_prefix_matches(root, probe.as_ref(), f, work),
         }
     }
 }

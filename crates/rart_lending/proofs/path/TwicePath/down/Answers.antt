@@ -8,12 +8,14 @@ use Rattle.rart_node.specs.declared.node.VersionedNode.{VersionedNode}
 use Rattle.rart_node.specs.declared.node_ref.NodeRef.{NodeRef}
 use Rattle.rart_node.specs.NodeShapes.{node_shape, pointer_shape}
 use Rattle.rart_node.specs.Shape.{children_of, with_replaced}
-use Rattle.rart_lending.specs.Paths.{step, path_end, graft, first_byte}
+use Rattle.rart_lending.specs.Grafts.{graft}
+use Rattle.rart_search.specs.Paths.{step, path_end, first_byte}
 use Rattle.rart_shape.specs.Trees.{IsTree}
 use Rattle.rart_shape.proofs.CountingLemmas.{counts-then}
 use Rattle.rart_shape.proofs.FindLemmas.{branch, ordered, ascending}
 use Rattle.rart_shape.proofs.InsertionLemmas.{replaced-same}
-use Rattle.rart_lending.proofs.PathLemmas.{front-there, back-is, step-there, below-is, tree-along, graft-add, graft-below, graft-same}
+use Rattle.rart_search.proofs.PathLemmas.{back-is}
+use Rattle.rart_lending.proofs.PathLemmas.{front-there, step-there, below-is, tree-along, graft-add, graft-below, graft-same}
 use Rattle.rart_lending.proofs.path.TwicePath.down.Goals as goal
 
 pub down-requires-clause-there : goal.down-requires-clause-there

@@ -1,0 +1,39 @@
+use Rattle.std.proofs.Common.{◌==◌, length, sym, ap, ◌∙◌}
+use Rattle.std.proofs.lemmas.Bool.{false≢true}
+use Rattle.std.specs.Option.{option_map}
+use Rattle.rart_node.specs.NodeShapes.{pointer_shape}
+use Rattle.rart_search.proofs.StepLemmas.{step-counted, step-missing, step-lower, step-child}
+use Rattle.rart_search.proofs.lookup.get_below.Goals as goal
+
+pub returns-in_err-passed-clause-counted : goal.returns-in_err-passed-clause-counted
+returns-in_err-passed-clause-counted g c =
+    step-counted _ _ _ _ _ _ _ c.down.invariant c.in_err-passed.ensures.work
+
+pub returns-in-None-clause-counted : goal.returns-in-None-clause-counted
+returns-in-None-clause-counted g c =
+    step-counted _ _ _ _ _ _ _ c.down.invariant c.in_ok-passed.ensures.work
+
+pub returns-in-None-2-clause-value : goal.returns-in-None-2-clause-value
+returns-in-None-2-clause-value g c =
+    sym (step-missing _ _ _ _ _ _ _ c.down.invariant c.in_ok-passed.ensures.work _
+    c.in_ok-passed.ensures.rest (λ end. false≢true (c.if-is_empty.ensures ∙ ap (λ z. length z == 0) end))
+    (sym (ap (option_map (λ child. pointer_shape g.P.Partial.bytes child.now)) c.in-None.is)
+    ∙ c.in_ok-passed.ensures.child))
+
+pub returns-in-None-2-clause-counted : goal.returns-in-None-2-clause-counted
+returns-in-None-2-clause-counted g c =
+    step-counted _ _ _ _ _ _ _ c.down.invariant c.in_ok-passed.ensures.work
+
+pub down-smaller : goal.down-smaller
+down-smaller g c =
+    step-lower _ _ _ _ _ _ _ c.down.invariant c.in_ok-passed.ensures.work _
+    c.in_ok-passed.ensures.rest _
+    (sym (ap (option_map (λ child. pointer_shape g.P.Partial.bytes child.now)) c.in-Some.is)
+    ∙ c.in_ok-passed.ensures.child)
+
+pub down-preserved : goal.down-preserved
+down-preserved g c =
+    step-child _ _ _ _ _ _ _ c.down.invariant c.in_ok-passed.ensures.work _
+    c.in_ok-passed.ensures.rest _
+    (sym (ap (option_map (λ child. pointer_shape g.P.Partial.bytes child.now)) c.in-Some.is)
+    ∙ c.in_ok-passed.ensures.child)

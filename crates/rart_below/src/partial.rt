@@ -17,6 +17,11 @@ pub trait Partial: Drop {
 
     ghost bytes: { Self → List ℕ };
 
+    /// A value with these bytes.
+    fn new_from_slice(alloc: Global, slice: &[u8]) -> Result<Self, AllocError>
+        requires { IsAdmitted MAXIMUM_SIZE (length slice.now) }
+        ensures { IfOk result (λ partial. bytes partial ≡ slice.now) };
+
     /// The number of bytes.
     fn len(&self) -> usize
         ensures { result ≡ length (bytes self.now) };

@@ -74,7 +74,7 @@ pub last_or-append : {A : Type 0} (o : Option A) (xs ys : List A) →
 last_or-append o [] ys = refl
 last_or-append o (x ∷ xs) ys = last_or-append (Some x) xs ys
 
-take-front : (front rest : List ℕ) → take (length front) (front ++ rest) ≡ front
+pub take-front : (front rest : List ℕ) → take (length front) (front ++ rest) ≡ front
 take-front [] rest = refl
 take-front (b ∷ front) rest = ap (λ more. b ∷ more) (take-front front rest)
 
@@ -85,7 +85,7 @@ module _ {V : Type 0} where
   own-pending key (Some value) = λ i. (append-nil key i, value) ∷ []
 
   -- The node's own pair comes first.
-  own-first : (above : List ℕ) (s : Shape V) (rest left : List ℕ) → IsTree s →
+  pub own-first : (above : List ℕ) (s : Shape V) (rest left : List ℕ) → IsTree s →
       strip_prefix (prefix_of s) rest ≡ Some left →
       behind_path above (beginning rest s)
       ≡ pending_pair (above ++ prefix_of s) (value_of s)

@@ -8,15 +8,13 @@ use Rattle.rart_shape.specs.Trees.{strip_prefix, IsTree, own_pair}
 use Rattle.rart_below.specs.Bytes.{begins}
 use Rattle.rart_shape.proofs.PrefixLemmas.{strip_prefix-is}
 use Rattle.rart_shape.proofs.FindLemmas.{branch, ordered}
+use Rattle.rart_search.specs.Steps.{child_under}
+use Rattle.rart_search.proofs.StepLemmas.{take-front, own-first, under}
 use Rattle.rart_walks.specs.Frames.{behind_path, pending_pair}
 use Rattle.rart_walks.proofs.BeginningLemmas.{beginning, beginning_at, beginning-left, beginning-end, beginning-deeper}
 use Rattle.rart_walks.proofs.WalkLemmas.{behind-none, behind-behind, behind-append}
-use Rattle.rart_versioned.specs.IteratorFields.{child_on, height_in, matches_below}
+use Rattle.rart_versioned.specs.IteratorFields.{height_in, matches_below}
 use Rattle.rart_versioned.specs.Roots.{IsTreeIn, pairs_in}
-
-take-front : (front rest : List ℕ) → take (length front) (front ++ rest) ≡ front
-take-front [] rest = refl
-take-front (b ∷ front) rest = ap (λ more. b ∷ more) (take-front front rest)
 
 drop-front : (front rest : List ℕ) → drop (length front) (front ++ rest) ≡ rest
 drop-front [] rest = refl
@@ -59,11 +57,6 @@ module _ (probe : List ℕ) (depth : ℕ) (prefix rest : List ℕ)
       ∙ drop-front (take depth probe ++ prefix) rest
 
 module _ {V : Type 0} where
-  own-pending : (key : List ℕ) (value : Option V) →
-      behind_path key (own_pair value) ≡ pending_pair key value
-  own-pending key None = refl
-  own-pending key (Some value) = ap (λ k. (k, value) ∷ []) (append-nil key)
-
   -- what the child of a node has that the rest of the probe leads to
   below-is : (probe rest : List ℕ) (depth : ℕ) (key : List ℕ) (o : Option (Shape V)) →
       take depth probe ≡ key → drop depth probe ≡ rest →
@@ -85,35 +78,21 @@ module _ {V : Type 0} where
   matches-left probe depth s left =
       ap (behind_path (take depth probe)) (beginning-left s (drop depth probe) left)
 
-  parts : (s : Shape V) (w rest : List ℕ) → IsTree s → strip_prefix (prefix_of s) w ≡ Some rest →
-      beginning w s
-      ≡ behind_path (prefix_of s) (own_pair (value_of s)
-      ++ beginning_at rest (child_on rest (children_of s)))
-  parts s w [] tree is =
-      beginning-end s w [] tree is refl
-      ∙ ap (behind_path (prefix_of s)) (sym (append-nil (own_pair (value_of s))))
-  parts s w (byte ∷ rest) tree is = beginning-deeper s w (byte ∷ rest) byte tree is refl
-
   -- At a node whose prefix the probe has, its own pair comes first, and then what its child has.
   pub matches-here : (probe : List ℕ) (depth : ℕ) (s : Shape V) (rest : List ℕ) → IsTree s →
       (is : strip_prefix (prefix_of s) (drop depth probe) ≡ Some rest) →
       matches_below probe depth (Some s)
       ≡ pending_pair (take (after probe depth (prefix_of s) rest is) probe) (value_of s)
       ++ matches_below probe (after probe depth (prefix_of s) rest is)
-      (child_on rest (children_of s))
+      (child_under rest s)
   matches-here probe depth s rest tree is =
       let above = take depth probe in
       let key = above ++ prefix_of s in
       let depth' = after probe depth (prefix_of s) rest is in
-      let own = own_pair (value_of s) in
-      let child = child_on rest (children_of s) in
-      let below = beginning_at rest child in
+      let child = child_under rest s in
       let front = take-after probe depth (prefix_of s) rest is in
-      ap (behind_path above) (parts s (drop depth probe) rest tree is)
-      ∙ behind-behind above (prefix_of s) (own ++ below)
-      ∙ behind-append key own below
-      ∙ ap (λ first. first ++ behind_path key below) (own-pending key (value_of s))
-      ∙ ap (λ k. pending_pair k (value_of s) ++ behind_path key below) (sym front)
+      own-first above s (drop depth probe) rest tree is
+      ∙ ap (λ k. pending_pair k (value_of s) ++ behind_path key (beginning_at rest child)) (sym front)
       ∙ ap (λ later. pending_pair (take depth' probe) (value_of s) ++ later)
       (below-is probe rest depth' key child front
       (drop-after probe depth (prefix_of s) rest is))
@@ -123,15 +102,13 @@ module _ {V : Type 0} where
 
   -- The child that the rest of the probe leads to is a tree, and lower.
   pub child-tree : (s : Shape V) (rest : List ℕ) → IsTree s → (o : Option (Shape V)) →
-      o ≡ child_on rest (children_of s) → IsTreeIn o
+      o ≡ child_under rest s → IsTreeIn o
   child-tree s rest tree None here = tt
-  child-tree s [] tree (Some child) here = absurd (none-some child (sym here))
-  child-tree s (byte ∷ rest) tree (Some child) here =
-      (branch s byte child (ordered s tree) (sym here)).tree
+  child-tree s rest tree (Some child) here = let at-byte = under rest s child here in
+      (branch s at-byte.byte child (ordered s tree) (sym at-byte.here)).tree
 
   pub child-lower : (s : Shape V) (rest : List ℕ) → IsTree s → (o : Option (Shape V)) →
-      o ≡ child_on rest (children_of s) → height_in o < height s
+      o ≡ child_under rest s → height_in o < height s
   child-lower s rest tree None here = height-some s
-  child-lower s [] tree (Some child) here = absurd (none-some child (sym here))
-  child-lower s (byte ∷ rest) tree (Some child) here =
-      (branch s byte child (ordered s tree) (sym here)).lower
+  child-lower s rest tree (Some child) here = let at-byte = under rest s child here in
+      (branch s at-byte.byte child (ordered s tree) (sym at-byte.here)).lower

@@ -38,11 +38,6 @@ module _ {V : Type 0} where
       behind_path (take depth probe)
       (filter (λ pair. begins pair.0 (drop depth probe)) (pairs_of s))
 
-  -- the child under the first byte of a string
-  abbrev pub child_on : List ℕ → List (ℕ × Shape V) → Option (Shape V)
-  child_on [] children = None
-  child_on (byte ∷ rest) children = child_at byte children
-
   -- The first pair has this key and this value, or there is none.
   abbrev pub ValueGives :
       List (List ℕ × V) → List ℕ → Option (Bor V) → List (List ℕ × V) → Type 0

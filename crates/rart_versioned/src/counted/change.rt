@@ -66,7 +66,7 @@ impl<K: KeyTrait, V: Clone + Drop> VersionedAdaptiveRadixTree<K, V> {
                 Ok(())
             }
             Change::Put(value) => {
-                self.put_in(key, value, more, work)?;
+                self.put_in(key.as_ref(), value, more, work)?;
                 Ok(())
             }
             Change::Take => {

@@ -89,7 +89,7 @@ impl<K: KeyTrait, V: Clone + Drop> VersionedAdaptiveRadixTree<K, V> {
     {
         match told {
             SlotUpdate::Insert(value) => {
-                self.put_in(key, value, 1, work)?;
+                self.put_in(key.as_ref(), value, 1, work)?;
                 Ok(true)
             }
             SlotUpdate::Keep => Ok(false),

@@ -1,6 +1,7 @@
 // Ported from rart 0.11.0 (Apache-2.0), and rewritten.
 //! Insertion with no count.
-ghost use Rattle.std.specs.Prelude.{OnOk, Some};
+ghost use Rattle.std.specs.Prelude.{OnOk, Some, length};
+ghost use Rattle.rart_below.specs.Bytes.{IsAdmitted};
 ghost use Rattle.rart_below.specs.Clones.{ClonesEqual};
 ghost use Rattle.rart_maps.specs.Changes.{Changes, insertion, replacement};
 ghost use Rattle.rart_maps.specs.Lookups.{Sets};
@@ -59,5 +60,35 @@ impl<K: KeyTrait, V: Clone + Drop> VersionedAdaptiveRadixTree<K, V> {
         ensures sets { OnOk result (Sets self.old self.new (K.bytes key) (Some value)) }
     {
         self.insert_and_replace_k(&key, value)
+    }
+
+    /// As `insert_k`, the key by its bytes: no key is made for it.
+    ///
+    /// ```
+    /// let replaced = list.insert_slice(b"tea", 300)?;
+    /// ```
+    pub fn insert_slice(&mut self, key: &[u8], value: V) -> Result<bool, AllocError>
+        requires clones { ClonesEqual V.is_clone }
+        requires room { HasRoom self.old 1 }
+        requires admitted { IsAdmitted K.MAXIMUM_SIZE (length key.now) }
+        ensures changes { Changes result self.old self.new (insertion self.old key.now value) }
+        ensures sets { OnOk result (Sets self.old self.new key.now (Some value)) }
+    {
+        Ok(self.insert_and_replace_slice(key, value)?.is_some())
+    }
+
+    /// As `insert_slice`, and answers the value that was replaced, if one was.
+    pub fn insert_and_replace_slice(
+        &mut self,
+        key: &[u8],
+        value: V,
+    ) -> Result<Option<V>, AllocError>
+        requires clones { ClonesEqual V.is_clone }
+        requires room { HasRoom self.old 1 }
+        requires admitted { IsAdmitted K.MAXIMUM_SIZE (length key.now) }
+        ensures changes { Changes result self.old self.new (replacement self.old key.now value) }
+        ensures sets { OnOk result (Sets self.old self.new key.now (Some value)) }
+    {
+        self.insert_and_replace_slice_counted(key, value, &mut Work::new())
     }
 }

@@ -7,15 +7,16 @@ ghost use Rattle.rart_maps.specs.Pairs.{beginnings};
 ghost use Rattle.rart_node.specs.NodeShapes.{node_shape, pointer_shape};
 ghost use Rattle.rart_node.specs.Shape.{IsAscending, children_of, height};
 ghost use Rattle.rart_shape.specs.Trees.{IsTree};
-ghost use Rattle.rart_versioned.specs.IteratorFields.{EntryGives, ValueGives, child_on, height_in, matches_below};
+ghost use Rattle.rart_versioned.specs.IteratorFields.{EntryGives, ValueGives, height_in, matches_below};
 ghost use Rattle.rart_versioned.specs.ProbeFields.{IsWay, matches_on, next_node};
 ghost use Rattle.rart_walks.specs.Frames.{pending_pair};
 
 use crate::counted::VersionedAdaptiveRadixTree;
 use crate::counted::prefix_match::{VersionedPrefixMatchIter, Way};
 use rart_below::{KeyTrait, Partial};
-use rart_node::{NodeRef, VersionedNode, Work};
-use rart_shape::{rest_of, strip_prefix};
+use rart_node::{NodeRef, Work};
+use rart_search::step;
+use rart_shape::rest_of;
 use std::alloc::{AllocError, Global};
 
 impl<'a, K: KeyTrait, P: Partial, V: Drop> Iterator for VersionedPrefixMatchIter<'a, K, P, V> {
@@ -111,28 +112,14 @@ fn enter<'a, P: Partial, V: Drop>(
         ++ matches_on P.bytes probe.now result.1 }
     ensures lower { height_in (next_node P.bytes result.1) < height (pointer_shape P.bytes at.now) }
 {
-    let node = at.open(&mut Work::new());
-    match strip_prefix(rest_of(probe, depth), node.prefix()) {
+    match step(at, rest_of(probe, depth), &mut Work::new()) {
         None => (None, Way { at: None, depth }),
-        Some(rest) => {
-            let at = child_under(node, rest);
-            let depth = probe.len() - rest.len();
-            (node.value(), Way { at, depth })
+        Some(passed) => {
+            let depth = probe.len() - passed.rest.len();
+            let at = passed.child;
+            (passed.node.value(), Way { at, depth })
         }
     }
-}
-
-/// The child of a node under the first byte of what is left of the probe.
-fn child_under<'a, P: Partial, V: Drop>(
-    node: &'a VersionedNode<P, V>,
-    rest: &[u8],
-) -> Option<&'a NodeRef<P, V>>
-    requires { IsAscending (node_shape P.bytes node.now) }
-    ensures { option_map (λ child. pointer_shape P.bytes child.now) result
-        ≡ child_on rest.now (children_of (node_shape P.bytes node.now)) }
-{
-    let byte = rest.first()?;
-    node.seek_child(*byte)
 }
 
 impl<K: KeyTrait, V: Clone + Drop> VersionedAdaptiveRadixTree<K, V> {

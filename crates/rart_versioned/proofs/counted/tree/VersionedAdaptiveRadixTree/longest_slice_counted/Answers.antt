@@ -19,7 +19,7 @@ returns-in-None-clause-entered g c keyed =
 
 pub returns-in-Some-clause-found : goal.returns-in-Some-clause-found
 returns-in-Some-clause-found g c =
-    c.longest_beginning.ensures.longest
+    c.longest_prefix_match.ensures.longest
     ∙ sym (ap (last_or None) (root-begins (pointer_shape g.K.PartialType.Partial.bytes)
     g.K.KeyTrait.MAXIMUM_SIZE c.self.inside.version c.self.inside.root c.args.self.now
     c.self.invariant c.self.view_is c.in-Some.root c.in-Some.is _ _ refl))
@@ -27,4 +27,4 @@ returns-in-Some-clause-found g c =
 pub returns-in-Some-clause-counted : goal.returns-in-Some-clause-counted
 returns-in-Some-clause-counted g c =
     let s = pointer_shape g.K.PartialType.Partial.bytes c.in-Some.root in
-    counts-most c.longest_beginning.ensures.counted (path-most s c.args.probe.now) (omega arith)
+    counts-most c.longest_prefix_match.ensures.counted (path-most s c.args.probe.now) (omega arith)

@@ -22,8 +22,8 @@ returns-in-None-clause-entered g c keyed =
     c.self.inside.root c.args.self.now c.self.invariant c.self.view_is
     c.in-None.is keyed)
 
-pub visit_beginnings-requires-clause-visitable : goal.visit_beginnings-requires-clause-visitable
-visit_beginnings-requires-clause-visitable g c =
+pub visit_prefix_matches-requires-clause-visitable : goal.visit_prefix_matches-requires-clause-visitable
+visit_prefix_matches-requires-clause-visitable g c =
     let same = root-begins (pointer_shape g.K.PartialType.Partial.bytes) g.K.KeyTrait.MAXIMUM_SIZE
     c.self.inside.version
     c.self.inside.root c.args.self.now c.self.invariant c.self.view_is
@@ -36,8 +36,8 @@ returns-in-Some-clause-visits g c =
     c.self.inside.version
     c.self.inside.root c.args.self.now c.self.invariant c.self.view_is
     c.in-Some.root c.in-Some.is _ _ c.as_ref.ensures in
-    subst (λ list. Visit g.F.FnMut BySlice c.args.f.now list c.visit_beginnings.new.f) (sym same)
-    c.visit_beginnings.ensures.visits
+    subst (λ list. Visit g.F.FnMut BySlice c.args.f.now list c.visit_prefix_matches.new.f) (sym same)
+    c.visit_prefix_matches.ensures.visits
 
 pub returns-in-Some-clause-counted : goal.returns-in-Some-clause-counted
 returns-in-Some-clause-counted g c =
@@ -45,4 +45,4 @@ returns-in-Some-clause-counted g c =
     let probe = c.as_ref.result.now in
     let most = subst (λ (k : List ℕ). path_bound s probe ≤ length k + 1) c.as_ref.ensures
     (path-most s probe) in
-    counts-most c.visit_beginnings.ensures.counted most (omega arith)
+    counts-most c.visit_prefix_matches.ensures.counted most (omega arith)

@@ -1,27 +1,34 @@
 use Rattle.std.proofs.lemmas.Bool.{true≢false}
 use Rattle.rart_maps.specs.Versions.{has_no_key}
-use Rattle.std.proofs.Common.{◌≡◌, ◌+◌, ◌<◌, None, Some, true, sym, ap, subst, ◌∙◌, arith, rules}
-use Rattle.std.specs.Prelude.{All}
+use Rattle.std.proofs.Common.{◌≡◌, ◌+◌, ◌<◌, None, Some, true, length, sym, ap, subst, ◌∙◌, arith, rules}
 use Rattle.std.specs.Option.{option_map}
+use Rattle.rart_below.specs.Bytes.{IsAdmitted}
 use Rattle.rart_node.specs.NodeShapes.{pointer_shape}
 use Rattle.rart_versioned.specs.Roots.{IsSound, found_in}
 use Rattle.rart_versioned.proofs.MapLemmas.{get-found}
-use Rattle.rart_versioned.proofs.SoundLemmas.{IsPutIn, leaf-put, root-put, sound-put, map-put, value-in, no-key}
+use Rattle.rart_versioned.proofs.SoundLemmas.{IsPutIn, leaf-put, root-put, sound-put, map-put, value-in, no-key, all-bytes}
 use Rattle.rart_versioned.proofs.counted.tree.VersionedAdaptiveRadixTree.put_in.Goals as goal
+
+pub leaf_of-requires : goal.leaf_of-requires
+leaf_of-requires g c =
+    subst (λ most. IsAdmitted most (length c.args.key.now)) (sym g.met.K.KeyTrait.maximum_of_partial)
+    c.requires.admitted
+
+pub insert_below-requires-clause-admitted : goal.insert_below-requires-clause-admitted
+insert_below-requires-clause-admitted g c =
+    subst (λ most. IsAdmitted most (length c.args.key.now)) (sym g.met.K.KeyTrait.maximum_of_partial)
+    c.requires.admitted
 
 pub invariant_of-self-in-None : goal.invariant_of-self-in-None
 invariant_of-self-in-None g c =
     let f = pointer_shape g.K.PartialType.Partial.bytes in
-    let w = g.K.KeyTrait.bytes c.args.key.now in
+    let w = c.args.key.now in
     let n = c.self.inside.version in
     let raised = c.requires.raised in
     sound-put g.K.KeyTrait.MAXIMUM_SIZE n (n + c.args.more) None
     (f c.in_ok-leaf-in-None.leaf) w c.args.value tt (omega (arith, raised)) (
-      (
-        g.met.K.KeyTrait.admitted c.args.key.now,
-        omega (arith, c.length_at-length.ensures, c.length_at-length.type_inv),
-      ),
-      subst (All (λ b. b < 256)) c.as_ref.ensures c.read_bytes.ensures,
+      (c.requires.admitted, omega (arith, c.len-length.ensures, c.len-length.type_inv)),
+      all-bytes c.args.key.now c.type_inv.key,
     )
     (subst (IsPutIn w c.args.value None) (sym c.in_ok-leaf-in-None.ensures.leaf)
     (leaf-put w c.args.value))
@@ -29,7 +36,7 @@ invariant_of-self-in-None g c =
 pub invariant_of-self-in-Some : goal.invariant_of-self-in-Some
 invariant_of-self-in-Some g c =
     let f = pointer_shape g.K.PartialType.Partial.bytes in
-    let w = g.K.KeyTrait.bytes c.args.key.now in
+    let w = c.args.key.now in
     let n = c.self.inside.version in
     let raised = c.requires.raised in
     let sound : IsSound g.K.KeyTrait.MAXIMUM_SIZE n (Some (f c.in-Some.root)) =
@@ -37,11 +44,8 @@ invariant_of-self-in-Some g c =
     c.self.invariant in
     sound-put g.K.KeyTrait.MAXIMUM_SIZE n (n + c.args.more) (Some (f c.in-Some.root))
     (f c.insert_below.new.at) w c.args.value sound (omega (arith, raised)) (
-      (
-        g.met.K.KeyTrait.admitted c.args.key.now,
-        omega (arith, c.length_at-length.ensures, c.length_at-length.type_inv),
-      ),
-      subst (All (λ b. b < 256)) c.as_ref.ensures c.read_bytes.ensures,
+      (c.requires.admitted, omega (arith, c.len-length.ensures, c.len-length.type_inv)),
+      all-bytes c.args.key.now c.type_inv.key,
     )
     (root-put w c.args.value (f c.in-Some.root)
     (f c.insert_below.new.at) c.in_ok-old-in-Some.ensures.puts.0)
@@ -49,14 +53,14 @@ invariant_of-self-in-Some g c =
 pub returns-in_ok-leaf-in-None-clause-changes : goal.returns-in_ok-leaf-in-None-clause-changes
 returns-in_ok-leaf-in-None-clause-changes g c = (
   rw (← c.self.view_is, c.in-None.is)
-      (sym (get-found None (g.K.KeyTrait.bytes c.args.key.now) tt)),
+      (sym (get-found None c.args.key.now tt)),
   search rules,
 )
 
 pub returns-in_ok-old-in-Some-clause-changes : goal.returns-in_ok-old-in-Some-clause-changes
 returns-in_ok-old-in-Some-clause-changes g c =
     let f = pointer_shape g.K.PartialType.Partial.bytes in
-    let w = g.K.KeyTrait.bytes c.args.key.now in
+    let w = c.args.key.now in
     let n = c.self.inside.version in
     let o = option_map f c.self.inside.root in
     let sound : IsSound g.K.KeyTrait.MAXIMUM_SIZE n (Some (f c.in-Some.root)) =

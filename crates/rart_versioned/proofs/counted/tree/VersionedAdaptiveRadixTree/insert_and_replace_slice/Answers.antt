@@ -1,0 +1,8 @@
+use Rattle.rart_maps.proofs.LookupLemmas.{replacement-sets}
+use Rattle.rart_versioned.proofs.counted.tree.VersionedAdaptiveRadixTree.insert_and_replace_slice.Goals as goal
+
+pub returns-clause-sets : goal.returns-clause-sets
+returns-clause-sets g c =
+    replacement-sets c.args.self.now c.insert_and_replace_slice_counted.new.self c.args.key.now
+    c.args.value c.insert_and_replace_slice_counted.result
+    c.insert_and_replace_slice_counted.ensures.changes

@@ -85,6 +85,9 @@ rart_answer rart_longest(
     uint64_t *value
 );
 
+// How many keys both trees have. It takes no memory.
+size_t rart_common(rart_tree *tree, rart_tree *other);
+
 // Answers RART_DONE and writes the first key that is not before this one to the front of room, its
 // length and its value; behind the key room is as before. Where room is shorter than that key it
 // answers RART_TOO_SMALL and writes its length and no value; what room has then is not told. Where
@@ -109,9 +112,6 @@ rart_answer rart_next(
     size_t *len,
     uint64_t *value
 );
-
-// How many keys both trees have. It takes no memory.
-size_t rart_common(rart_tree *tree, rart_tree *other);
 
 // Frees what the tree leads to: it has no key then, and number 0.
 void rart_clear(rart_tree *tree);
@@ -179,6 +179,36 @@ rart_answer rart_bytes_longest(
 
 // How many keys both trees have. It takes no memory.
 size_t rart_bytes_common(rart_bytes *tree, rart_bytes *other);
+
+// Answers RART_DONE, writes the first key that is not before this one to the front of room, its
+// value to the front of into, and the lengths of both; behind them room and into are as before.
+// Where the key is longer than room, or the value than into, it answers RART_TOO_SMALL and writes
+// both lengths, the key where room has the bytes for it, and no value; what room has else is not
+// told. Where there is none it answers RART_ABSENT and writes nothing. It takes no memory.
+rart_answer rart_bytes_seek(
+    rart_bytes *tree,
+    const uint8_t *from,
+    size_t from_len,
+    uint8_t *room,
+    size_t room_len,
+    size_t *key_len,
+    uint8_t *into,
+    size_t into_len,
+    size_t *len
+);
+
+// As rart_bytes_seek, of the keys behind this one.
+rart_answer rart_bytes_next(
+    rart_bytes *tree,
+    const uint8_t *after,
+    size_t after_len,
+    uint8_t *room,
+    size_t room_len,
+    size_t *key_len,
+    uint8_t *into,
+    size_t into_len,
+    size_t *len
+);
 
 // Frees what the tree leads to: it has no key then, and number 0.
 void rart_bytes_clear(rart_bytes *tree);

@@ -1,7 +1,5 @@
-// Random calls on four trees whose values are byte strings, each compared with tables. The words
-// are those of model.c.
-#include "boltcomfrey.h"
-#include "keys.h"
+// Random calls on four trees whose values are byte strings, each compared with tables.
+#include "shared.h"
 
 enum { TREES = 4, MOST_VALUE = 40 };
 
@@ -15,12 +13,6 @@ struct table {
 
 static rart_bytes trees[TREES];
 static struct table tables[TREES];
-static unsigned long long refused;
-
-static bool is_refused(rart_answer answer) {
-    refused += answer == RART_NO_MEMORY;
-    return answer == RART_NO_MEMORY;
-}
 
 static void insert(size_t at) {
     struct key key = random_key();
@@ -117,6 +109,41 @@ static void look_longest(size_t at) {
     }
 }
 
+// Asks for the first key behind another, or at it, with room of any length for it and its value.
+static bool step_to(size_t at, const struct key *from, bool is_strict, struct key *found) {
+    uint8_t room[MOST_BYTES], into[MOST_VALUE];
+    size_t size = random_below(MOST_BYTES + 1), most = random_below(MOST_VALUE + 1);
+    size_t key_len = 99, len = 99, told;
+    memset(room, 7, MOST_BYTES);
+    memset(into, 7, MOST_VALUE);
+    rart_answer (*call)(rart_bytes *, const uint8_t *, size_t, uint8_t *, size_t, size_t *,
+                        uint8_t *, size_t, size_t *) = is_strict ? rart_bytes_next
+                                                                 : rart_bytes_seek;
+    rart_answer answer = call(&trees[at], from->bytes, from->len, room, size, &key_len, into, most,
+                              &len);
+    if (answer == RART_ABSENT) {
+        EXPECT(key_len == 99 && len == 99 && room[0] == 7 && into[0] == 7);
+        return false;
+    }
+    EXPECT(key_len <= MOST_BYTES && len <= MOST_VALUE);
+    for (size_t byte = key_len; byte < MOST_BYTES; byte++) {
+        EXPECT(room[byte] == 7);
+    }
+    if (size < key_len) {
+        EXPECT(answer == RART_TOO_SMALL && into[0] == 7);
+        told = len;
+        size = key_len;
+        answer = call(&trees[at], from->bytes, from->len, room, size, &key_len, into, most, &len);
+        EXPECT(key_len == size && len == told);
+    }
+    found->len = key_len;
+    memcpy(found->bytes, room, key_len);
+    found->number = number_of(room, key_len);
+    EXPECT(tables[at].has[found->number]);
+    expect_read(&tables[at], found->number, answer, into, most, len);
+    return true;
+}
+
 static void count_common(size_t at) {
     size_t other = (at + 1 + random_below(TREES - 1)) % TREES, wanted = 0;
     for (size_t key = 0; key < KEYS; key++) {
@@ -131,6 +158,8 @@ static void step(size_t at) {
         copy(at);
     } else if (what < 2) {
         count_common(at);
+    } else if (what < 3) {
+        expect_walk(at, tables[at].len, step_to);
     } else if (what < 30) {
         look(at);
     } else if (what < 60) {
@@ -157,17 +186,9 @@ static void run_out(void) {
     EXPECT(rart_bytes_version(&tree) == 0);
 }
 
-void refuse_one_in(unsigned long long so_many);
-
 int main(int count, char **words) {
-    unsigned long long calls = count > 1 ? strtoull(words[1], NULL, 10) : 100000;
     run_out();
-    refuse_one_in(count > 2 ? strtoull(words[2], NULL, 10) : 0);
-    for (unsigned long long call = 0; call < calls; call++) {
-        step(random_below(TREES));
-    }
-    refuse_one_in(0);
-    EXPECT((refused > 0) == (count > 2));
+    unsigned long long calls = make_calls(count, words, TREES, step);
     for (size_t at = 0; at < TREES; at++) {
         rart_bytes_clear(&trees[at]);
     }

@@ -1,7 +1,5 @@
-// Random calls on eight trees, each compared with tables. The first word is how many, 100,000
-// without it; the second refuses one request for memory in so many.
-#include "boltcomfrey.h"
-#include "keys.h"
+// Random calls on eight trees, each compared with tables.
+#include "shared.h"
 
 enum { TREES = 8 };
 
@@ -14,13 +12,6 @@ struct table {
 
 static rart_tree trees[TREES];
 static struct table tables[TREES];
-static unsigned long long refused;
-
-// Whether the answer says that memory was refused, and no such thing was asked for without words.
-static bool is_refused(rart_answer answer) {
-    refused += answer == RART_NO_MEMORY;
-    return answer == RART_NO_MEMORY;
-}
 
 static void insert(size_t at) {
     struct key key = random_key();
@@ -83,13 +74,6 @@ static void look_longest(size_t at, const struct key *probe) {
     EXPECT(wanted == 0 || value == tables[at].values[number_of(probe->bytes, len)]);
 }
 
-// Whether the one key stands before the other, in the order of bytes.
-static bool is_before(const struct key *key, const struct key *other) {
-    size_t common = key->len < other->len ? key->len : other->len;
-    int order = memcmp(key->bytes, other->bytes, common);
-    return order < 0 || (order == 0 && key->len < other->len);
-}
-
 // Asks for the first key behind another, or at it, first with less room than it needs.
 static bool step_to(size_t at, const struct key *from, bool is_strict, struct key *found) {
     size_t len = 99;
@@ -108,25 +92,6 @@ static bool step_to(size_t at, const struct key *from, bool is_strict, struct ke
     found->number = number_of(found->bytes, len);
     EXPECT(tables[at].has[found->number] && value == tables[at].values[found->number]);
     return true;
-}
-
-// A walk from key to key meets as many as there are, in order; and the first of them at or behind
-// another key is what is found from there.
-static void walk(size_t at) {
-    struct key probe = random_key(), sought = {0}, last = {0}, next = {0};
-    bool is_found = step_to(at, &probe, false, &sought), is_met = false;
-    size_t met = 0;
-    for (bool goes_on = step_to(at, &last, false, &next); goes_on;
-         goes_on = step_to(at, &last, true, &next)) {
-        EXPECT(met == 0 || is_before(&last, &next));
-        if (!is_met && !is_before(&next, &probe)) {
-            EXPECT(is_found && sought.number == next.number);
-            is_met = true;
-        }
-        last = next;
-        met++;
-    }
-    EXPECT(met == tables[at].len && is_met == is_found);
 }
 
 static void look(size_t at) {
@@ -153,7 +118,7 @@ static void step(size_t at) {
     } else if (what < 4) {
         count_common(at);
     } else if (what < 5) {
-        walk(at);
+        expect_walk(at, tables[at].len, step_to);
     } else if (what < 60) {
         look(at);
     } else if (what < 130) {
@@ -179,17 +144,9 @@ static void run_out(void) {
     EXPECT(rart_version(&tree) == 0);
 }
 
-void refuse_one_in(unsigned long long so_many);
-
 int main(int count, char **words) {
-    unsigned long long calls = count > 1 ? strtoull(words[1], NULL, 10) : 100000;
     run_out();
-    refuse_one_in(count > 2 ? strtoull(words[2], NULL, 10) : 0);
-    for (unsigned long long call = 0; call < calls; call++) {
-        step(random_below(TREES));
-    }
-    refuse_one_in(0);
-    EXPECT((refused > 0) == (count > 2));
+    unsigned long long calls = make_calls(count, words, TREES, step);
     for (size_t at = 0; at < TREES; at++) {
         rart_clear(&trees[at]);
     }

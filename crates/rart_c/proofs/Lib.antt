@@ -1,5 +1,4 @@
 pub mod EmptyLemmas
-pub mod FirstLemmas
 pub mod Handles
 pub mod LengthLemmas
 pub mod Parts

@@ -73,16 +73,16 @@ pub(crate) fn tell_first(
 ) -> u8
     ensures { (pairs : List (List ℕ × ℕ)) (before after : List ℕ) → length before ≡ room
         → Finds pairs found.entry before after
-        → TellsFirst pairs result before after (len.old, value.old) (len.new, value.new) }
+        → TellsFirst pairs result (before, len.old) (after, len.new) value.old value.new }
 {
-    let Some((length, found)) = found else {
+    let Some((key_len, first)) = found else {
         return ABSENT;
     };
-    *len = length;
-    if room < length {
+    *len = key_len;
+    if room < key_len {
         return TOO_SMALL;
     }
-    *value = *found;
+    *value = *first;
     DONE
 }
 

@@ -6,3 +6,4 @@ pub(crate) mod reading;
 mod tests;
 pub(crate) mod value;
 pub(crate) mod versions;
+pub(crate) mod walking;

@@ -16,3 +16,4 @@ mod table;
 mod tests;
 mod unboxed;
 mod versions;
+mod walking;

@@ -1,17 +1,14 @@
 //! What C calls to read a tree.
 ghost use Rattle.std.specs.Prelude.{◌≡◌, length};
 ghost use Rattle.std.specs.FinMap as finite;
-ghost use Rattle.std.specs.declared.ops.Bound.TheVariants.{Included, Excluded, Unbounded};
 ghost use Rattle.rart_c.specs.Answers.{Tells};
-ghost use Rattle.rart_c.specs.Firsts.{TellsFirst};
 ghost use Rattle.rart_c.specs.Longest.{longest_length};
-ghost use Rattle.rart_maps.specs.Pairs.{common, within};
+ghost use Rattle.rart_maps.specs.Pairs.{common};
 ghost use Rattle.rart_maps.specs.Versions.{has_no_key, value_at};
 
-use crate::answer::{tell, tell_first, tell_longest};
+use crate::answer::{tell, tell_longest};
 use crate::handle::RartTree;
 use std::alloc::Global;
-use std::ops::Bound;
 
 /// The number.
 #[unsafe(no_mangle)]
@@ -74,51 +71,6 @@ pub extern "C" fn rart_longest(
 {
     let map = tree.take_map(alloc);
     let told = tell_longest(map.longest(probe), len, value);
-    *tree = RartTree::of_map(alloc, map);
-    told
-}
-
-/// Answers `DONE` and writes the first key that is not before this one to the front of `room`, its
-/// length and its value; behind the key `room` is as before. Where `room` is shorter than that key
-/// it answers `TOO_SMALL` and writes its length and no value; what `room` has then is not told.
-/// Where there is none it answers `ABSENT` and writes nothing. It takes no memory.
-#[unsafe(no_mangle)]
-pub extern "C" fn rart_seek(
-    alloc: Global,
-    tree: &mut RartTree,
-    from: &[u8],
-    room: &mut [u8],
-    len: &mut usize,
-    value: &mut u64,
-) -> u8
-    ensures found { TellsFirst (within tree.old.shows.content (Included from.now) Unbounded) result
-        room.old room.new (len.old, value.old) (len.new, value.new) }
-    ensures same { tree.new.shows ≡ tree.old.shows }
-{
-    let map = tree.take_map(alloc);
-    let size = room.len();
-    let told = tell_first(map.first(Bound::Included(from), room), size, len, value);
-    *tree = RartTree::of_map(alloc, map);
-    told
-}
-
-/// As `rart_seek`, of the keys behind this one.
-#[unsafe(no_mangle)]
-pub extern "C" fn rart_next(
-    alloc: Global,
-    tree: &mut RartTree,
-    after: &[u8],
-    room: &mut [u8],
-    len: &mut usize,
-    value: &mut u64,
-) -> u8
-    ensures found { TellsFirst (within tree.old.shows.content (Excluded after.now) Unbounded) result
-        room.old room.new (len.old, value.old) (len.new, value.new) }
-    ensures same { tree.new.shows ≡ tree.old.shows }
-{
-    let map = tree.take_map(alloc);
-    let size = room.len();
-    let told = tell_first(map.first(Bound::Excluded(after), room), size, len, value);
     *tree = RartTree::of_map(alloc, map);
     told
 }

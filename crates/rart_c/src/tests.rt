@@ -2,11 +2,9 @@
 use crate::answer::{ABSENT, DONE, NO_ROOM, TOO_SMALL};
 use crate::changing::{rart_clear, rart_insert, rart_remove};
 use crate::handle::RartTree;
-use crate::reading::{
-    rart_common, rart_get, rart_is_empty, rart_len, rart_longest, rart_next, rart_seek,
-    rart_version,
-};
+use crate::reading::{rart_common, rart_get, rart_is_empty, rart_len, rart_longest, rart_version};
 use crate::versions::{rart_clone, rart_new_at, rart_snapshot};
+use crate::walking::{rart_next, rart_seek};
 use std::test::Fail;
 
 #[test]

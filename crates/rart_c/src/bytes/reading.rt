@@ -110,7 +110,7 @@ pub extern "C" fn rart_bytes_common(
 }
 
 /// Reads a value out, if there is one.
-fn read(found: Option<&Bytes>, into: &mut [u8], len: &mut usize) -> u8
+pub(crate) fn read(found: Option<&Bytes>, into: &mut [u8], len: &mut usize) -> u8
     ensures { Reads (option_copied found.entry) result (into.old, len.old) (into.new, len.new) }
 {
     let Some(found) = found else {

@@ -7,6 +7,7 @@ use crate::bytes::reading::{
     rart_bytes_version,
 };
 use crate::bytes::versions::{rart_bytes_clone, rart_bytes_new_at, rart_bytes_snapshot};
+use crate::bytes::walking::{rart_bytes_next, rart_bytes_seek};
 use std::test::Fail;
 
 #[test]
@@ -93,6 +94,84 @@ fn longest_keys_are_read(rt: HostRuntime) -> Result<(), Fail> {
         DONE
     );
     assert_eq!(rt; into, [111, 110, 101, 9]);
+    Ok(())
+}
+
+#[test]
+fn keys_are_found_in_order(rt: HostRuntime) -> Result<(), Fail> {
+    let alloc = rt.alloc();
+    let mut tree = RartBytes::empty(alloc);
+    let mut room = *b"....";
+    let mut into = *b"----";
+    let (mut key_len, mut len) = (7, 7);
+    assert_eq!(rt;
+        rart_bytes_seek(
+            alloc,
+            &mut tree,
+            b"",
+            &mut room,
+            &mut key_len,
+            &mut into,
+            &mut len
+        ),
+        ABSENT
+    );
+    assert_eq!(rt; (key_len, len), (7, 7));
+    assert_eq!(rt; rart_bytes_insert(alloc, &mut tree, b"ab", b"one"), ABSENT);
+    assert_eq!(rt; rart_bytes_insert(alloc, &mut tree, b"abcde", b"2"), ABSENT);
+    assert_eq!(rt; rart_bytes_insert(alloc, &mut tree, b"b", b"three"), ABSENT);
+    assert_eq!(rt;
+        rart_bytes_seek(
+            alloc,
+            &mut tree,
+            b"ab",
+            &mut room,
+            &mut key_len,
+            &mut into,
+            &mut len
+        ),
+        DONE
+    );
+    assert_eq!(rt; (&room, key_len, &into, len), (b"ab..", 2, b"one-", 3));
+    assert_eq!(rt;
+        rart_bytes_next(
+            alloc,
+            &mut tree,
+            b"ab",
+            &mut room,
+            &mut key_len,
+            &mut into,
+            &mut len
+        ),
+        TOO_SMALL
+    );
+    assert_eq!(rt; (key_len, &into, len), (5, b"one-", 1));
+    assert_eq!(rt;
+        rart_bytes_seek(
+            alloc,
+            &mut tree,
+            b"abd",
+            &mut room,
+            &mut key_len,
+            &mut into,
+            &mut len
+        ),
+        TOO_SMALL
+    );
+    assert_eq!(rt; (room[0], key_len, &into, len), (b'b', 1, b"one-", 5));
+    assert_eq!(rt;
+        rart_bytes_next(
+            alloc,
+            &mut tree,
+            b"b",
+            &mut room,
+            &mut key_len,
+            &mut into,
+            &mut len
+        ),
+        ABSENT
+    );
+    assert_eq!(rt; (key_len, len), (1, 5));
     Ok(())
 }
 

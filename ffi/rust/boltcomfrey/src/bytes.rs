@@ -1,5 +1,8 @@
 use crate::error::Refusal;
+use crate::iter::{Iter, Shown};
 use crate::raw::BytesTree;
+use std::fmt;
+use std::ops::RangeBounds;
 
 /// A map from byte strings to byte strings, of which snapshots change independently.
 ///
@@ -142,6 +145,49 @@ impl VersionedBytes {
         self.tree.longest_prefix(probe.as_ref())
     }
 
+    /// The pairs in the order of their keys, each key and each value a copy.
+    ///
+    /// ```
+    /// # use boltcomfrey::VersionedBytes;
+    /// let mut names = VersionedBytes::new();
+    /// names.try_extend([("tea", "Tea"), ("milk", "Milk")])?;
+    /// let values: Vec<_> = names.iter().map(|(_, value)| value).collect();
+    /// assert_eq!(values, [b"Milk".to_vec(), b"Tea".to_vec()]);
+    /// # Ok::<(), boltcomfrey::Refusal>(())
+    /// ```
+    #[must_use]
+    pub fn iter(&self) -> Iter<'_, Vec<u8>> {
+        Iter::of(&self.tree)
+    }
+
+    /// The pairs whose keys are in a range, in order. Bounds the other way round are no fault: no
+    /// key is between them.
+    ///
+    /// ```
+    /// # use boltcomfrey::VersionedBytes;
+    /// let mut names = VersionedBytes::new();
+    /// names.try_extend([("milk", "Milk"), ("salt", "Salt"), ("tea", "Tea")])?;
+    /// assert_eq!(names.range("n"..).count(), 2);
+    /// assert_eq!(names.range("milk".."tea").count(), 2);
+    /// # Ok::<(), boltcomfrey::Refusal>(())
+    /// ```
+    pub fn range<K: AsRef<[u8]>>(&self, range: impl RangeBounds<K>) -> Iter<'_, Vec<u8>> {
+        Iter::within(&self.tree, range)
+    }
+
+    /// The pairs whose keys a prefix begins, in order.
+    ///
+    /// ```
+    /// # use boltcomfrey::VersionedBytes;
+    /// let mut names = VersionedBytes::new();
+    /// names.try_extend([("tea", "Tea"), ("teapot", "Teapot"), ("tin", "Tin")])?;
+    /// assert_eq!(names.prefix("tea").count(), 2);
+    /// # Ok::<(), boltcomfrey::Refusal>(())
+    /// ```
+    pub fn prefix(&self, prefix: impl AsRef<[u8]>) -> Iter<'_, Vec<u8>> {
+        Iter::under(&self.tree, prefix.as_ref())
+    }
+
     /// How many keys both maps have, whatever their values. It takes no memory.
     ///
     /// ```
@@ -238,5 +284,46 @@ impl VersionedBytes {
             self.insert(key, value)?;
         }
         Ok(())
+    }
+}
+
+impl<'a> IntoIterator for &'a VersionedBytes {
+    type Item = (Vec<u8>, Vec<u8>);
+    type IntoIter = Iter<'a, Vec<u8>>;
+
+    fn into_iter(self) -> Iter<'a, Vec<u8>> {
+        self.iter()
+    }
+}
+
+/// The same keys with the same values, whatever the numbers.
+///
+/// ```
+/// # use boltcomfrey::VersionedBytes;
+/// let mut names = VersionedBytes::new();
+/// names.insert("tea", "Tea")?;
+/// assert_eq!(names, names.snapshot()?);
+/// # Ok::<(), boltcomfrey::Refusal>(())
+/// ```
+impl PartialEq for VersionedBytes {
+    fn eq(&self, other: &VersionedBytes) -> bool {
+        self.len() == other.len() && self.iter().eq(other)
+    }
+}
+
+impl Eq for VersionedBytes {}
+
+/// The pairs, as std shows a map, each key and each value as text with escapes.
+///
+/// ```
+/// # use boltcomfrey::VersionedBytes;
+/// let mut names = VersionedBytes::new();
+/// names.insert("tea", "Tea")?;
+/// assert_eq!(format!("{names:?}"), r#"{"tea": "Tea"}"#);
+/// # Ok::<(), boltcomfrey::Refusal>(())
+/// ```
+impl fmt::Debug for VersionedBytes {
+    fn fmt(&self, f: &mut fmt::Formatter<'_>) -> fmt::Result {
+        self.iter().show(f, Shown)
     }
 }

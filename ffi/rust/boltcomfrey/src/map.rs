@@ -2,7 +2,7 @@ use crate::error::Refusal;
 use crate::iter::Iter;
 use crate::raw::Tree;
 use std::fmt;
-use std::ops::{Bound, RangeBounds};
+use std::ops::RangeBounds;
 
 /// A map from byte strings to numbers, of which snapshots change independently.
 ///
@@ -140,7 +140,7 @@ impl VersionedMap {
     /// ```
     #[must_use]
     pub fn iter(&self) -> Iter<'_> {
-        Iter::new(&self.tree, Bound::Unbounded, Bound::Unbounded)
+        Iter::of(&self.tree)
     }
 
     /// The pairs whose keys are in a range, in order. Bounds the other way round are no fault: no
@@ -155,9 +155,7 @@ impl VersionedMap {
     /// # Ok::<(), boltcomfrey::Refusal>(())
     /// ```
     pub fn range<K: AsRef<[u8]>>(&self, range: impl RangeBounds<K>) -> Iter<'_> {
-        let low = range.start_bound().map(|it| it.as_ref().to_vec());
-        let high = range.end_bound().map(|it| it.as_ref().to_vec());
-        Iter::new(&self.tree, low, high)
+        Iter::within(&self.tree, range)
     }
 
     /// The pairs whose keys a prefix begins, in order.
@@ -170,8 +168,7 @@ impl VersionedMap {
     /// # Ok::<(), boltcomfrey::Refusal>(())
     /// ```
     pub fn prefix(&self, prefix: impl AsRef<[u8]>) -> Iter<'_> {
-        let prefix = prefix.as_ref();
-        Iter::new(&self.tree, Bound::Included(prefix.to_vec()), behind_all(prefix))
+        Iter::under(&self.tree, prefix.as_ref())
     }
 
     /// How many keys both maps have, whatever their values. It takes no memory.
@@ -310,28 +307,6 @@ impl Eq for VersionedMap {}
 /// ```
 impl fmt::Debug for VersionedMap {
     fn fmt(&self, f: &mut fmt::Formatter<'_>) -> fmt::Result {
-        let pairs = self.iter().map(|(key, value)| (Shown(key), value));
-        f.debug_map().entries(pairs).finish()
-    }
-}
-
-// A key as text.
-struct Shown(Vec<u8>);
-
-impl fmt::Debug for Shown {
-    fn fmt(&self, f: &mut fmt::Formatter<'_>) -> fmt::Result {
-        write!(f, "\"{}\"", self.0.escape_ascii())
-    }
-}
-
-// The upper bound of the keys that a prefix begins.
-fn behind_all(prefix: &[u8]) -> Bound<Vec<u8>> {
-    match prefix.iter().rposition(|it| *it != u8::MAX) {
-        None => Bound::Unbounded,
-        Some(last) => {
-            let mut behind = prefix[..=last].to_vec();
-            behind[last] += 1;
-            Bound::Excluded(behind)
-        }
+        self.iter().show(f, |value| value)
     }
 }

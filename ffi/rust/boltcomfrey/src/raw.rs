@@ -1,5 +1,6 @@
 //! The proved calls as safe functions. All `unsafe` of this crate stands here and in `sys`.
 use crate::error::Refusal;
+use crate::iter::First;
 use crate::sys::{self, ABSENT, DONE, NO_ROOM, RartBytes, RartTree, TOO_SMALL};
 use std::cell::UnsafeCell;
 use std::ops::Bound;
@@ -57,30 +58,6 @@ impl Tree {
         (answer == DONE).then_some((len, value))
     }
 
-    /// The value of the first key that meets a bound, and that key in `room`, whatever stood there.
-    pub fn first(&self, low: Bound<&[u8]>, room: &mut Vec<u8>) -> Option<u64> {
-        let (from, is_strict) = match low {
-            Bound::Included(from) => (from, false),
-            Bound::Excluded(from) => (from, true),
-            Bound::Unbounded => (&[][..], false),
-        };
-        let call = if is_strict { sys::rart_next } else { sys::rart_seek };
-        let (mut len, mut value) = (0, 0);
-        room.resize(room.capacity(), 0);
-        loop {
-            let (at, end) = (room.as_mut_ptr(), room.len());
-            let key = (from.as_ptr(), from.len());
-            // SAFETY: as above; `room` and both numbers are this call's own.
-            let answer =
-                unsafe { call(self.handle.get(), key.0, key.1, at, end, &mut len, &mut value) };
-            if answer != TOO_SMALL {
-                room.truncate(len);
-                return (answer == DONE).then_some(value);
-            }
-            room.resize(len, 0);
-        }
-    }
-
     pub fn common_count(&self, other: &Tree) -> usize {
         if eq(self, other) {
             return self.len(); // (two trees of one call may not be one)
@@ -118,6 +95,27 @@ impl Tree {
         // SAFETY: as above, and the copy is another tree.
         done(unsafe { sys::rart_clone(self.handle.get(), copy.handle.get()) })?;
         Ok(copy)
+    }
+}
+
+impl First<u64> for Tree {
+    fn first(&self, low: Bound<&[u8]>, room: &mut Vec<u8>) -> Option<u64> {
+        let (from, is_strict) = start_of(low);
+        let call = if is_strict { sys::rart_next } else { sys::rart_seek };
+        let (mut len, mut value) = (0, 0);
+        room.resize(room.capacity(), 0);
+        loop {
+            let (at, end) = (room.as_mut_ptr(), room.len());
+            let key = (from.as_ptr(), from.len());
+            // SAFETY: as above; `room` and both numbers are this call's own.
+            let answer =
+                unsafe { call(self.handle.get(), key.0, key.1, at, end, &mut len, &mut value) };
+            if answer != TOO_SMALL {
+                room.truncate(len);
+                return (answer == DONE).then_some(value);
+            }
+            room.resize(len, 0);
+        }
     }
 }
 
@@ -231,6 +229,30 @@ impl BytesTree {
     }
 }
 
+impl First<Vec<u8>> for BytesTree {
+    fn first(&self, low: Bound<&[u8]>, room: &mut Vec<u8>) -> Option<Vec<u8>> {
+        let (from, is_strict) = start_of(low);
+        let call = if is_strict { sys::rart_bytes_next } else { sys::rart_bytes_seek };
+        let (tree, key, mut key_len) = (self.handle.get(), (from.as_ptr(), from.len()), 0);
+        room.resize(room.capacity(), 0);
+        let value = read_out(|into, len| {
+            let (at, end) = (room.as_mut_ptr(), room.len());
+            let (start, size) = (into.as_mut_ptr(), into.len());
+            // SAFETY: as above; `key_len` is this call's own, and `room`, `into` and `len` are
+            // borrowed to be written, so no two overlap.
+            let answer = unsafe {
+                call(tree, key.0, key.1, at, end, &mut key_len, start, size, len)
+            };
+            if room.len() < key_len {
+                room.resize(key_len, 0); // (it fits when the call is made once more)
+            }
+            answer
+        })?;
+        room.truncate(key_len);
+        Some(value)
+    }
+}
+
 impl Default for BytesTree {
     fn default() -> BytesTree {
         BytesTree::new()
@@ -241,6 +263,15 @@ impl Drop for BytesTree {
     fn drop(&mut self) {
         // SAFETY: as above.
         unsafe { sys::rart_bytes_clear(self.handle.get()) }
+    }
+}
+
+/// The key from which a bound takes keys, and whether it takes those behind it alone.
+fn start_of(low: Bound<&[u8]>) -> (&[u8], bool) {
+    match low {
+        Bound::Included(from) => (from, false),
+        Bound::Excluded(from) => (from, true),
+        Bound::Unbounded => (&[], false),
     }
 }
 

@@ -46,6 +46,7 @@ unsafe extern "C" {
         len: *mut usize,
         value: *mut u64,
     ) -> u8;
+    pub fn rart_common(tree: *mut RartTree, other: *mut RartTree) -> usize;
     pub fn rart_seek(
         tree: *mut RartTree,
         from: *const u8,
@@ -64,7 +65,6 @@ unsafe extern "C" {
         len: *mut usize,
         value: *mut u64,
     ) -> u8;
-    pub fn rart_common(tree: *mut RartTree, other: *mut RartTree) -> usize;
     pub fn rart_clear(tree: *mut RartTree);
     pub fn rart_insert(
         tree: *mut RartTree,
@@ -98,6 +98,28 @@ unsafe extern "C" {
         len: *mut usize,
     ) -> u8;
     pub fn rart_bytes_common(tree: *mut RartBytes, other: *mut RartBytes) -> usize;
+    pub fn rart_bytes_seek(
+        tree: *mut RartBytes,
+        from: *const u8,
+        from_len: usize,
+        room: *mut u8,
+        room_len: usize,
+        key_len: *mut usize,
+        into: *mut u8,
+        into_len: usize,
+        len: *mut usize,
+    ) -> u8;
+    pub fn rart_bytes_next(
+        tree: *mut RartBytes,
+        after: *const u8,
+        after_len: usize,
+        room: *mut u8,
+        room_len: usize,
+        key_len: *mut usize,
+        into: *mut u8,
+        into_len: usize,
+        len: *mut usize,
+    ) -> u8;
     pub fn rart_bytes_clear(tree: *mut RartBytes);
     pub fn rart_bytes_insert(
         tree: *mut RartBytes,

@@ -1,6 +1,7 @@
 //! The same calls on versions whose values are byte strings.
 use super::{Model, Random};
 use boltcomfrey::{Refusal, VersionedBytes};
+use std::ops::Bound::{Excluded, Unbounded};
 
 /// Versions, each beside its model, and how many calls were refused.
 pub struct Compared {
@@ -21,10 +22,11 @@ impl Compared {
     /// Makes a random call on a random version, and compares what it answers and what it leaves.
     pub fn step(&mut self) {
         let at = self.random.below(self.versions.len() as u64) as usize;
-        match self.random.below(200) {
-            0..2 => self.copy(at),
-            2..60 => self.read(at),
-            60..130 => self.remove(at),
+        match self.random.below(2000) {
+            0..20 => self.copy(at),
+            20 => self.walk(at),
+            21..600 => self.read(at),
+            600..1300 => self.remove(at),
             _ => self.insert(at),
         }
         let (map, model) = &self.versions[at];
@@ -79,8 +81,23 @@ impl Compared {
         assert_eq!(map.value_len(&key), model.pairs.get(&key).map(Vec::len));
         assert_eq!(map.contains_key(&key), model.pairs.contains_key(&key));
         assert_eq!(map.longest_prefix(&key), model.longest_prefix(&key));
+        assert_eq!(map.range(key.clone()..).next(), model.range(key.clone()..).next());
+        let behind = (Excluded(key), Unbounded);
+        assert_eq!(map.range(behind.clone()).next(), model.range(behind).next());
         let (other, others) = &self.versions[other as usize];
         assert_eq!(map.common_count(other), model.common_count(others));
+    }
+
+    /// Walks over a version: all of it, what a prefix begins, and what is between two keys.
+    fn walk(&mut self, at: usize) {
+        let (key, other) = (self.random.key(), self.random.key());
+        let (map, model) = &self.versions[at];
+        assert!(map.iter().eq(model.range(..)));
+        assert!(map.prefix(&key).eq(model.prefix(&key)));
+        let (low, high) = if key <= other { (key, other) } else { (other, key) };
+        assert!(map.range(low.clone()..=high.clone()).eq(model.range(low..=high)));
+        let (other, others) = &self.versions[0];
+        assert_eq!(map == other, model.pairs == others.pairs);
     }
 
     fn note(&mut self, refusal: Refusal) {

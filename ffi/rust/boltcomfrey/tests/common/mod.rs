@@ -4,6 +4,7 @@
 use boltcomfrey::{Refusal, VersionedMap};
 use std::collections::BTreeMap;
 use std::ops::Bound::{Excluded, Unbounded};
+use std::ops::RangeBounds;
 
 pub mod bytes;
 
@@ -36,6 +37,16 @@ impl<V: Clone> Model<V> {
     fn longest_prefix(&self, probe: &[u8]) -> Option<(usize, V)> {
         let starts = (0..=probe.len()).rev();
         starts.map(|len| &probe[..len]).find_map(|it| Some((it.len(), self.pairs.get(it)?.clone())))
+    }
+
+    /// The pairs within two bounds, as the map gives them.
+    fn range(&self, range: impl RangeBounds<Vec<u8>>) -> impl Iterator<Item = (Vec<u8>, V)> {
+        self.pairs.range(range).map(|(key, value)| (key.clone(), value.clone()))
+    }
+
+    /// The pairs that a prefix begins.
+    fn prefix(&self, prefix: &[u8]) -> impl Iterator<Item = (Vec<u8>, V)> {
+        self.range(..).filter(|(key, _)| key.starts_with(prefix))
     }
 
     fn common_count(&self, other: &Model<V>) -> usize {
@@ -130,10 +141,9 @@ impl Compared {
         assert_eq!(map.get(&key), model.pairs.get(&key).copied());
         assert_eq!(map.contains_key(&key), model.pairs.contains_key(&key));
         assert_eq!(map.longest_prefix(&key), model.longest_prefix(&key));
-        let first = model.pairs.range(key.clone()..).next();
-        assert_eq!(map.range(key.clone()..).next(), first.map(owned));
-        let next = model.pairs.range((Excluded(key.clone()), Unbounded)).next();
-        assert_eq!(map.range((Excluded(key.clone()), Unbounded)).next(), next.map(owned));
+        assert_eq!(map.range(key.clone()..).next(), model.range(key.clone()..).next());
+        let behind = (Excluded(key), Unbounded);
+        assert_eq!(map.range(behind.clone()).next(), model.range(behind).next());
         let (other, others) = &self.versions[other as usize];
         assert_eq!(map.common_count(other), model.common_count(others));
     }
@@ -142,12 +152,10 @@ impl Compared {
     fn walk(&mut self, at: usize) {
         let (key, other) = (self.random.key(), self.random.key());
         let (map, model) = &self.versions[at];
-        assert!(map.iter().eq(model.pairs.iter().map(owned)));
-        let under = model.pairs.iter().filter(|pair| pair.0.starts_with(&key));
-        assert!(map.prefix(&key).eq(under.map(owned)));
+        assert!(map.iter().eq(model.range(..)));
+        assert!(map.prefix(&key).eq(model.prefix(&key)));
         let (low, high) = if key <= other { (key, other) } else { (other, key) };
-        let within = model.pairs.range(low.clone()..=high.clone());
-        assert!(map.range(low..=high).eq(within.map(owned)));
+        assert!(map.range(low.clone()..=high.clone()).eq(model.range(low..=high)));
         let (other, others) = &self.versions[0];
         assert_eq!(map == other, model.pairs == others.pairs);
     }
@@ -156,11 +164,6 @@ impl Compared {
         assert_eq!(refusal, Refusal::NoMemory);
         self.refused += 1;
     }
-}
-
-/// A pair of the model, as the map gives it.
-fn owned((key, value): (&Vec<u8>, &u64)) -> (Vec<u8>, u64) {
-    (key.clone(), *value)
 }
 
 /// How many calls to make: as many as CALLS says, else 100,000.

@@ -85,3 +85,31 @@ module _ {V : Type 0} where
         made_grows = omega (arith, made_grows, made);
         made_at_most = omega (arith, made_most, made);
       }
+
+  -- Whatever is there, one node more.
+  pub turn-soon : (most : ℕ) (before after later : Counts) → CountsUpTo most 0 before after
+      → (start : Option (List ℕ × Shape V))
+      → later.entered ≡ after.entered + cond (is_some start) 1 0 → later.made ≡ after.made
+      → CountsUpTo (most + 1) 0 before later
+  turn-soon most before after later counted None entered made =
+      let grows = counted.entered_grows in
+      let at_most = counted.entered_at_most in
+      let made_grows = counted.made_grows in
+      let made_most = counted.made_at_most in
+      record {
+        entered_grows = omega (arith, grows, entered);
+        entered_at_most = omega (arith, at_most, entered);
+        made_grows = omega (arith, made_grows, made);
+        made_at_most = omega (arith, made_most, made);
+      }
+  turn-soon most before after later counted (Some start) entered made =
+      let grows = counted.entered_grows in
+      let at_most = counted.entered_at_most in
+      let made_grows = counted.made_grows in
+      let made_most = counted.made_at_most in
+      record {
+        entered_grows = omega (arith, grows, entered);
+        entered_at_most = omega (arith, at_most, entered);
+        made_grows = omega (arith, made_grows, made);
+        made_at_most = omega (arith, made_most, made);
+      }

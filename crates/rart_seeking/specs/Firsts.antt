@@ -1,6 +1,6 @@
 -- The first of some pairs, as a call finds it: by the length of its key, its value, and the bytes
 -- of its key in room of the caller's.
-use Rattle.std.specs.Prelude.{◌≡◌, ◌≤◌, ℕ, List, [], ◌∷◌, Option, Some, None, length, take, drop}
+use Rattle.std.specs.Prelude.{◌≡◌, ◌≤◌, ℕ, Bool, false, List, [], ◌∷◌, Option, Some, None, length, take, drop}
 use Rattle.std.specs.Borrow.{Bor}
 
 module _ {V : Type 0} where
@@ -24,3 +24,8 @@ module _ {V : Type 0} where
   abbrev pub found_length : Option (ℕ × Bor V) → ℕ
   found_length None = 0
   found_length (Some found) = found.0
+
+  -- whether the first pair is there and its key passes a test
+  abbrev pub first_passes : (List ℕ → Bool) → List (List ℕ × V) → Bool
+  first_passes test [] = false
+  first_passes test (pair ∷ others) = test pair.0

@@ -39,6 +39,8 @@ pub(crate) fn find_start<'k, 'a, P: Partial, V: Drop>(
         (pairs_of (pointer_shape P.bytes root.now))) (start_shape P.bytes result) }
     ensures counted { CountsUpTo (path_bound (pointer_shape P.bytes root.now) low.now
         + start_length (start_shape P.bytes result)) 0 work.old work.new }
+    ensures soon { CountsUpTo (path_bound (pointer_shape P.bytes root.now) low.now + 1) 0
+        work.old work.new }
     ensures entered { work.old.entered < work.new.entered }
 {
     let mut at = root;

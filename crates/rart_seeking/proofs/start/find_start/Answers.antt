@@ -6,7 +6,7 @@ use Rattle.rart_node.specs.VersionedNodeIter.{children_left}
 use Rattle.rart_seeking.specs.Starts.{IsStart, StartAt, AreTurns, IsDeep, start_shape, turn_shape}
 use Rattle.rart_seeking.proofs.StartLemmas.{from_low, seek-start, ends-with-all, ends-with-none, ends-inside, inside-short, children-turns}
 use Rattle.rart_seeking.proofs.StepLemmas.{step_passed, step-counted, step-lower, step-missing, step-child, step-turns, step-brief, step-turn}
-use Rattle.rart_seeking.proofs.TurnLemmas.{turn-counted}
+use Rattle.rart_seeking.proofs.TurnLemmas.{turn-counted, turn-soon}
 use Rattle.rart_shape.proofs.PrefixLemmas.{common_fits}
 use Rattle.rart_walks.proofs.StepLemmas.{goes-on, goes-some}
 use Rattle.rart_seeking.proofs.start.find_start.Goals as goal
@@ -221,3 +221,33 @@ down-preserved g c =
           c.around.ensures.later));
       deep = c.turn_of-turn.ensures.deep c.down.invariant.deep turns;
     }
+
+pub returns-in-Inside-clause-soon : goal.returns-in-Inside-clause-soon
+returns-in-Inside-clause-soon g c =
+    let bytes = g.P.Partial.bytes in
+    let o = node_shape bytes c.open-node.result.now in
+    let same : o ≡ pointer_shape bytes c.down.at.now = c.open-node.ensures.shown in
+    turn-soon _ c.args.work.now c.open-node.new.work c.open_turn.new.work
+    (step-counted _ _ _ _ _ _ _ _ _ c.down.invariant.seek o c.open-node.new.work
+    c.open-node.ensures.work same) (start_shape bytes c.open_turn.result)
+    c.open_turn.ensures.entered c.open_turn.ensures.made
+
+pub returns-in-Nothing-clause-soon : goal.returns-in-Nothing-clause-soon
+returns-in-Nothing-clause-soon g c =
+    let bytes = g.P.Partial.bytes in
+    let o = node_shape bytes c.open-node.result.now in
+    let same : o ≡ pointer_shape bytes c.down.at.now = c.open-node.ensures.shown in
+    turn-soon _ c.args.work.now c.open-node.new.work c.open_turn-in-Nothing.new.work
+    (step-counted _ _ _ _ _ _ _ _ _ c.down.invariant.seek o c.open-node.new.work
+    c.open-node.ensures.work same) (start_shape bytes c.open_turn-in-Nothing.result)
+    c.open_turn-in-Nothing.ensures.entered c.open_turn-in-Nothing.ensures.made
+
+pub returns-in-None-clause-soon : goal.returns-in-None-clause-soon
+returns-in-None-clause-soon g c =
+    let bytes = g.P.Partial.bytes in
+    let o = node_shape bytes c.open-node.result.now in
+    let same : o ≡ pointer_shape bytes c.down.at.now = c.open-node.ensures.shown in
+    turn-soon _ c.args.work.now c.open-node.new.work c.open_turn-in-None.new.work
+    (step-counted _ _ _ _ _ _ _ _ _ c.down.invariant.seek o c.open-node.new.work
+    c.open-node.ensures.work same) (start_shape bytes c.open_turn-in-None.result)
+    c.open_turn-in-None.ensures.entered c.open_turn-in-None.ensures.made

@@ -21,6 +21,7 @@ mod update;
 pub(crate) mod values;
 pub(crate) mod visitors;
 pub(crate) mod walks;
+mod within;
 
 pub use iter::VersionedIter;
 pub use prefix_match::VersionedPrefixMatchIter;

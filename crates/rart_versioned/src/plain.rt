@@ -18,5 +18,6 @@ mod unversioned;
 mod update;
 mod values;
 mod visitors;
+mod within;
 
 pub use try_insert::InsertError;

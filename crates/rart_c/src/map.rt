@@ -1,5 +1,5 @@
 //! What a handle leads to: a table, or none, which is the map without a key and number 0.
-ghost use Rattle.std.specs.Prelude.{◌≡◌, length, IfOk, IsSome, IsTrue, OnErr, MatchResult};
+ghost use Rattle.std.specs.Prelude.{◌≡◌, ◌==◌, length, not, IfOk, IsSome, IsTrue, OnErr, MatchResult};
 ghost use Rattle.std.specs.FinMap as finite;
 ghost use Rattle.std.specs.Option.{option_copied};
 ghost use Rattle.std.specs.Range.Bound.{bound_map};
@@ -91,6 +91,18 @@ impl<V: Clone + Drop> Map<V> {
         match &self.table {
             None => None,
             Some(table) => table.first(low, room),
+        }
+    }
+
+    /// Whether there is a pair within two bounds.
+    pub(crate) fn has_within(&self, low: Bound<&[u8]>, high: Bound<&[u8]>) -> bool
+        ensures { result ≡ not (length (within self.now.content
+            (bound_map (λ low. low.now) low.entry) (bound_map (λ high. high.now) high.entry))
+            == 0) }
+    {
+        match &self.table {
+            None => false,
+            Some(table) => table.has_within(low, high),
         }
     }
 

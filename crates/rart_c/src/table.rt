@@ -1,5 +1,5 @@
 //! The tree that a handle leads to, and how many keys it has.
-ghost use Rattle.std.specs.Prelude.{◌≡◌, length, IfOk, OnErr, IsSome, IsTrue, MatchResult};
+ghost use Rattle.std.specs.Prelude.{◌≡◌, ◌==◌, length, not, IfOk, OnErr, IsSome, IsTrue, MatchResult};
 ghost use Rattle.std.specs.FinMap as finite;
 ghost use Rattle.std.specs.Option.{option_copied};
 ghost use Rattle.std.specs.Range.Bound.{bound_map};
@@ -83,6 +83,15 @@ impl<V: Clone + Drop> Table<V> {
             Unbounded) result room.old room.new }
     {
         self.tree.first_slice(low, room)
+    }
+
+    /// Whether there is a pair within two bounds.
+    pub(crate) fn has_within(&self, low: Bound<&[u8]>, high: Bound<&[u8]>) -> bool
+        ensures { result ≡ not (length (within self.now.content
+            (bound_map (λ low. low.now) low.entry) (bound_map (λ high. high.now) high.entry))
+            == 0) }
+    {
+        self.tree.has_within(low, high)
     }
 
     /// How many keys both have.

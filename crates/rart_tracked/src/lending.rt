@@ -59,6 +59,30 @@ impl<K: KeyTrait, V: Clone + Drop> TrackedTree<K, V> {
         found_of(self.lent(key))
     }
 
+    /// As `get_mut_k`, with the nodes entered and made counted into `work`: at most five more
+    /// entered than five times the bytes of the key, and at most four more made than twice these.
+    /// Where the key is absent it is looked up alone, and none is made.
+    pub fn get_mut_k_counted(
+        &mut self,
+        key: &K,
+        work: &mut Work,
+    ) -> Result<Option<&mut V>, AllocError>
+        requires clones { ClonesEqual V.is_clone }
+        requires room { HasRoom self.old.current 1 }
+        ensures* writes_back { sem 𝓛 (LendsFound K.row V.row K.PartialType.row K.MAXIMUM_SIZE
+            K.bytes K.eq K.cmp K.partial_cmp K.PartialType.Partial V.Clone self.entry
+            (K.bytes key.now) result) }
+        ensures value { IfOk result (λ found. option_map (λ value. value.now) found
+            ≡ value_at self.old.current (K.bytes key.now)) }
+        ensures present { OnErr result (IsTrue (has_key self.old.current (K.bytes key.now))) }
+        ensures counted { CountsUpTo (5 * lookup_bound (K.bytes key.now))
+            (2 * change_bound (K.bytes key.now)) work.old work.new }
+        ensures absent { has_key self.old.current (K.bytes key.now) ≡ false
+            → CountsUpTo (lookup_bound (K.bytes key.now)) 0 work.old work.new }
+    {
+        found_of(self.lent_k_counted(key, work))
+    }
+
     /// As `lent_k`, the key by value.
     fn lent(&mut self, key: K) -> Result<&mut V, Missing>
         requires clones { ClonesEqual V.is_clone }
@@ -89,9 +113,7 @@ impl<K: KeyTrait, V: Clone + Drop> TrackedTree<K, V> {
         self.lent_k_counted(key, &mut Work::new())
     }
 
-    /// As `lent_k`, with the nodes entered and made counted into `work`: at most five more entered
-    /// than five times the bytes of the key, and at most four more made than twice these. Where the
-    /// key is absent it is looked up alone, and none is made.
+    /// As `lent_k`, with the nodes entered and made counted into `work`.
     fn lent_k_counted(&mut self, key: &K, work: &mut Work) -> Result<&mut V, Missing>
         requires clones { ClonesEqual V.is_clone }
         requires room { HasRoom self.old.current 1 }

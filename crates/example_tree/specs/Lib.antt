@@ -1,3 +1,3 @@
 pub mod Counting
 pub mod Listing
-pub mod Meeting
+pub mod InCommon

@@ -7,5 +7,5 @@ abbrev pub line_of : VectorKey × ℕ → List ℕ × ℕ
 line_of line = (line.0.bytes.items, line.1)
 
 -- The first list is the second as far as it goes.
-abbrev pub IsBeginning : {A : Type 0} → List A → List A → Type 0
-IsBeginning {A} front list = (rest : List A) × (list ≡ front ++ rest)
+abbrev pub IsPrefix : {A : Type 0} → List A → List A → Type 0
+IsPrefix {A} front list = (rest : List A) × (list ≡ front ++ rest)

@@ -175,7 +175,7 @@ pub fn swap(counts: &mut Counts, one: &VectorKey, two: &VectorKey) -> Result<boo
     Ok(true)
 }
 
-/// Gives so many of one key's number to another key.
+/// Gives `amount` of one key's number to another key.
 pub fn transfer(
     counts: &mut Counts,
     from: &VectorKey,
@@ -203,7 +203,8 @@ pub fn transfer(
     Ok(())
 }
 
-/// Sets a key, looks, and goes back to the snapshot that it took before: what the key had meanwhile.
+/// Sets a key, looks, and goes back to the snapshot that it took before: what the key had
+/// meanwhile.
 pub fn try_and_undo(
     counts: &mut Counts,
     key: &VectorKey,

@@ -1,5 +1,5 @@
-//! What the counts of the tree's calls come to, in values found by hand: laws, each the contract of a
-//! function that does nothing.
+//! What the counts of the tree's calls come to, in values found by hand: laws, each the contract of
+//! a function that does nothing.
 ghost use Rattle.example_tree.specs.Counting.{UpdatesEnter, UpdatesMake, EndedVisitsEnter, MembersAreLeft};
 
 /// How many nodes an update of a key of two bytes enters and makes at most, by what its callback
@@ -9,8 +9,8 @@ pub fn updates_are_counted()
     ensures makes { UpdatesMake }
 {}
 
-/// How many nodes a visit enters at most that its closure ends, and how many members an iterator has
-/// left.
+/// How many nodes a visit enters at most that its closure ends, and how many members an iterator
+/// has left.
 pub fn ends_are_counted()
     ensures ended { EndedVisitsEnter }
     ensures left { MembersAreLeft }

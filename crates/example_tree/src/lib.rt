@@ -5,8 +5,8 @@
 
 pub mod clients;
 pub mod counting;
+pub mod in_common;
 pub mod listing;
-pub mod meeting;
 pub mod prices;
 pub mod stock;
 pub mod values;

@@ -1,8 +1,8 @@
 //! A price list, read in order.
 ghost use Rattle.std.specs.Prelude.{◌≡◌, [], IfOk, OnErr, OnOk, false, map};
 ghost use Rattle.std.specs.declared.ops.Bound.TheVariants.{Included, Excluded};
-ghost use Rattle.rart_maps.specs.Pairs.{beginnings, pairs, under, within};
-ghost use Rattle.example_tree.specs.Listing.{IsBeginning, line_of};
+ghost use Rattle.rart_maps.specs.Pairs.{prefix_matches, pairs, under, within};
+ghost use Rattle.example_tree.specs.Listing.{IsPrefix, line_of};
 
 use crate::prices::PriceList;
 use rart_versioned::{KeyTrait, VectorKey, VectorPartial, VersionedIter};
@@ -19,11 +19,11 @@ pub fn listing(alloc: Global, list: &PriceList) -> Result<Vec<(VectorKey, u64)>,
 }
 
 /// Puts the names in order into an empty list, each with its price. Refused for memory, a
-/// beginning of them is there.
+/// prefix of them is there.
 pub fn list_into(list: &PriceList, lines: &mut Vec<(VectorKey, u64)>) -> Result<(), AllocError>
     requires empty { lines.old.items ≡ [] }
     ensures all { OnOk result (map line_of lines.new.items ≡ pairs list.now.content) }
-    ensures beginning { OnErr result (IsBeginning (map line_of lines.new.items)
+    ensures prefix { OnErr result (IsPrefix (map line_of lines.new.items)
         (pairs list.now.content)) }
 {
     for item in list.iter()? {
@@ -59,13 +59,13 @@ pub fn all_prices(alloc: Global, list: &PriceList) -> Result<Vec<u64>, AllocErro
 pub fn listing_under(
     alloc: Global,
     list: &PriceList,
-    beginning: &VectorKey,
+    prefix: &VectorKey,
 ) -> Result<Vec<(VectorKey, u64)>, AllocError>
     ensures { IfOk result (λ lines. map line_of lines.items
-        ≡ under list.now.content beginning.now.bytes.items) }
+        ≡ under list.now.content prefix.now.bytes.items) }
 {
     let mut lines = Vec::new(alloc);
-    for item in list.prefix_iter_k(beginning)? {
+    for item in list.prefix_iter_k(prefix)? {
         let (name, price) = item?;
         lines.push((name, *price))?;
     }
@@ -97,7 +97,7 @@ pub fn listing_along(
     text: &VectorKey,
 ) -> Result<Vec<(VectorKey, u64)>, AllocError>
     ensures { IfOk result (λ lines. map line_of lines.items
-        ≡ beginnings list.now.content text.now.bytes.items) }
+        ≡ prefix_matches list.now.content text.now.bytes.items) }
 {
     let mut lines = Vec::new(alloc);
     for item in list.prefix_match_iter_k(text)? {

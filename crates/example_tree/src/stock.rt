@@ -8,7 +8,7 @@ use std::alloc::{AllocError, Global};
 
 pub type Stock = VersionedAdaptiveRadixTree<VectorKey, u64>;
 
-/// Adds so many pieces to those of a name, of which there are none where it is absent.
+/// Adds `more` pieces to those of a name, of which there are none where it is absent.
 pub fn add(alloc: Global, stock: &mut Stock, name: &str, more: u64) -> Result<(), AllocError>
     requires room { HasRoom stock.old 1 }
     requires fits { unwrap_or (value_at stock.old name.now) 0 + more < 2 ^ 64 }

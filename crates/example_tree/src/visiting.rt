@@ -10,10 +10,10 @@ use std::alloc::{AllocError, Global};
 pub fn prices_under(
     alloc: Global,
     list: &PriceList,
-    beginning: &VectorKey,
+    prefix: &VectorKey,
 ) -> Result<Vec<u64>, AllocError>
     ensures { IfOk result (λ prices. prices.items
-        ≡ map (λ pair. pair.1) (under list.now.content beginning.now.bytes.items)) }
+        ≡ map (λ pair. pair.1) (under list.now.content prefix.now.bytes.items)) }
 {
     let mut prices: Vec<u64> = Vec::new(alloc);
     let mut kept: Result<(), AllocError> = Ok(());
@@ -25,7 +25,7 @@ pub fn prices_under(
             kept = put(&mut prices, *price);
         }
     };
-    list.prefix_values_for_each_k(beginning, &mut keep)?;
+    list.prefix_values_for_each_k(prefix, &mut keep)?;
     kept?;
     Ok(prices)
 }

@@ -22,7 +22,7 @@ type Tracked = TrackedTree<ArrayKey<16>, u64>;
 
 type Entry<'a> = (ArrayKey<16>, &'a u64);
 
-/// Two versions, of so many keys each.
+/// Two versions, of `count` keys each.
 #[derive(Drop)]
 struct Versions {
     before: Tree,
@@ -30,7 +30,7 @@ struct Versions {
     count: usize,
 }
 
-// The first so many keys that were drawn get another value: they lie anywhere among the others.
+// The first `changed` keys that were drawn get another value: they lie anywhere among the others.
 fn versions_of(
     alloc: Global,
     kind: Kind,
@@ -145,7 +145,7 @@ fn least_time(
     Ok(least)
 }
 
-/// Prints the times of diffs of versions of so many keys. The sums of both ways are the same where
+/// Prints the times of diffs of versions of `count` keys. The sums of both ways are the same where
 /// both are right.
 pub fn measure_diffs(rt: &HostRuntime, kind: Kind, count: usize) -> anyhow::Result<()> {
     println!(rt;
@@ -186,7 +186,7 @@ fn show_changes(tracked: &Tracked, sums: &mut Sums) -> Result<(), AllocError> {
     })
 }
 
-/// Prints the time in which a tracked version of so many keys tells its few changes.
+/// Prints the time in which a tracked version of `count` keys tells its few changes.
 pub fn measure_tracked(rt: &HostRuntime, kind: Kind, count: usize) -> anyhow::Result<()> {
     let tracked = tracked_of(rt.alloc(), kind, count)?;
     let mut sums = Sums::new();

@@ -22,7 +22,7 @@ impl Kind {
     }
 }
 
-/// So many keys of sixteen bytes, the same for the same seed.
+/// `count` keys of sixteen bytes, the same for the same seed.
 pub fn keys_of(
     alloc: Global,
     kind: Kind,

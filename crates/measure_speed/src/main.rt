@@ -48,7 +48,7 @@ fn hits<S: Store>(store: &S, keys: &[S::Key]) -> u64 {
     count
 }
 
-// A snapshot for each so many keys, which are put into it.
+// A snapshot for each group of keys, which are put into it.
 fn change_snapshots<S: Store>(store: &S, keys: &[S::Key], each: usize) -> Result<(), AllocError>
     requires { 0 < each }
 {

@@ -39,7 +39,7 @@ struct Pair<S: Store> {
     right: S,
 }
 
-// The keys of the other side: so many of a hundred are those of the one, from the front.
+// The keys of the other side: `percent` in a hundred are those of the one, from the front.
 fn other_keys(
     alloc: Global,
     kind: Kind,
@@ -105,7 +105,7 @@ fn least_time<S: Meets>(
     Ok(least)
 }
 
-/// Prints the times of all intersections of two stores of so many keys.
+/// Prints the times of all intersections of two stores of `count` keys.
 pub fn measure_meets(rt: &HostRuntime, kind: Kind, count: usize) -> anyhow::Result<()> {
     let mut sums = Sums::new();
     for percent in PERCENTS {

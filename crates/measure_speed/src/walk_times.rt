@@ -43,7 +43,7 @@ impl Walk {
 pub(crate) struct Tenths(pub(crate) u128);
 
 impl Tenths {
-    /// What each of so many entries took of these nanoseconds.
+    /// What each of `entries` entries took of these nanoseconds.
     pub(crate) fn each(nanoseconds: u128, entries: u64) -> Tenths {
         Tenths(nanoseconds.saturating_mul(10) / (entries as u128).max(1))
     }
@@ -199,7 +199,7 @@ pub fn measure_walks(rt: &HostRuntime, kind: Kind, count: usize) -> anyhow::Resu
     print_times(rt, &tree, &sorted, &walks)
 }
 
-// Of each so many keys one stays in a store that is thinned.
+// Of each hundred keys one stays in a store that is thinned.
 const STAYS_OF: usize = 100;
 
 // Removes all keys but the first of each hundred.

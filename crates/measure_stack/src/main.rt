@@ -55,7 +55,7 @@ fn has(alloc: Global, chain: &Chain, bytes: &[u8]) -> Result<bool, AllocError> {
     Ok(chain.get_k(&key).copied() == Some(bytes.len()))
 }
 
-// Puts in so many keys that go on from these bytes by one byte, which is none of the chain's.
+// Puts in `others` keys that go on from these bytes by one byte, which is none of the chain's.
 fn insert_others(
     alloc: Global,
     chain: &mut Chain,

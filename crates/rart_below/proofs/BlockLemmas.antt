@@ -21,7 +21,7 @@ AreBytes-drop zero bytes are = are
 AreBytes-drop (suc count) [] are = are
 AreBytes-drop (suc count) (byte ∷ bytes) are = AreBytes-drop count bytes (λ k. are (suc k))
 
--- A string has a block of so many bytes at this place.
+-- A string has a block of `count` bytes at this place.
 pub record HasBlock (count place : ℕ) (bytes : List ℕ) : Type 0 where
   pub within : place + count ≤ length bytes
   pub are_bytes : AreBytes bytes
@@ -46,7 +46,7 @@ block-rest : (count place : ℕ) (bytes : List ℕ)
 block-rest count place bytes = sym (take-append-drop count (drop place bytes))
     ∙ ap (λ rest. block count place bytes ++ rest) (drop-drop count place bytes)
 
--- past a block that is the same in both, the common beginning goes on
+-- past a block that is the same in both, the common prefix goes on
 past_block : (count place : ℕ) (left right : List ℕ) → HasBlock count place left
     → block count place left ≡ block count place right
     → place + count + common_length (drop (place + count) left) (drop (place + count) right)
@@ -63,7 +63,7 @@ past_block count place left right has same =
     ∙ common_length-append (block count place left) _ _ in
     omega (arith, whole, length-block count place left has)
 
--- a beginning that is the same in both is longer by a block that is
+-- a prefix that is the same in both is longer by a block that is
 longer_by : (count place : ℕ) (left right : List ℕ) → HasBlock count place left
     → block count place left ≡ block count place right → place ≤ common_length left right
     → place + count ≤ common_length left right

@@ -15,7 +15,8 @@ rank-later byte key keys h =
     let counts : nat_lt key byte ≡ true = lt-ltb key byte h in
     sum_by-cons (λ k. cond (nat_lt k byte) 1 0) key keys ∙ rw counts (omega arith)
 
-pub rank-skip : (byte key : ℕ) (keys : List ℕ) → byte ≤ key → rank byte (key ∷ keys) ≡ rank byte keys
+pub rank-skip : (byte key : ℕ) (keys : List ℕ) → byte ≤ key → rank byte (key ∷ keys)
+    ≡ rank byte keys
 rank-skip byte key keys h =
     let counts : nat_lt key byte ≡ false = le-ltb key byte h in
     sum_by-cons (λ k. cond (nat_lt k byte) 1 0) key keys ∙ rw counts (omega arith)

@@ -14,7 +14,7 @@ begins [] w = true
 begins (b ∷ u) [] = false
 begins (b ∷ u) (c ∷ w) = b == c && begins u w
 
--- the length of the longest common beginning
+-- the length of the longest common prefix
 abbrev pub common_length : List ℕ → List ℕ → ℕ
 common_length [] w = 0
 common_length (b ∷ u) [] = 0

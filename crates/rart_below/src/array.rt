@@ -36,6 +36,14 @@ impl<const N: usize> Partial for ArrPartial<N> {
 
     ghost bytes = { λ partial. partial.bytes.items };
 
+    fn new_from_slice(_alloc: Global, slice: &[u8]) -> Result<ArrPartial<N>, AllocError>
+        requires admitted { length slice.now ≤ N }
+        ensures { IfOk result (λ partial. partial.bytes.items ≡ slice.now) }
+    {
+        let bytes = inline_bytes(slice);
+        Ok(ArrPartial { bytes })
+    }
+
     fn len(&self) -> usize {
         self.bytes.len()
     }

@@ -17,6 +17,11 @@ pub trait Partial: Drop {
 
     ghost bytes: { Self → List ℕ };
 
+    /// A value with these bytes.
+    fn new_from_slice(alloc: Global, slice: &[u8]) -> Result<Self, AllocError>
+        requires { IsAdmitted MAXIMUM_SIZE (length slice.now) }
+        ensures { IfOk result (λ partial. bytes partial ≡ slice.now) };
+
     /// The number of bytes.
     fn len(&self) -> usize
         ensures { result ≡ length (bytes self.now) };
@@ -52,7 +57,7 @@ pub trait Partial: Drop {
     fn copy(&self, alloc: Global) -> Result<Self, AllocError>
         ensures { IfOk result (λ copy. bytes copy ≡ bytes self.now) };
 
-    /// The length of the longest beginning that the bytes and `other` have in common.
+    /// The length of the longest prefix that the bytes and `other` have in common.
     fn prefix_length_slice(&self, other: &[u8]) -> usize
         ensures { result ≡ common_length (bytes self.now) other.now };
 

@@ -1,10 +1,10 @@
 // Ported from rart 0.11.0 (Apache-2.0), and rewritten.
-//! How many bytes two byte strings have in common at their beginning.
+//! How many bytes two byte strings have in common at their start.
 ghost use Rattle.std.specs.Prelude.{◌≡◌, ◌+◌, ◌≤◌, length, take, drop};
 ghost use Rattle.std.specs.Int.{from_le_bytes, w32, w64};
 ghost use Rattle.rart_below.specs.Bytes.{common_length};
 
-/// The length of the longest common beginning.
+/// The length of the longest common prefix.
 ///
 /// Where both are long enough, blocks of eight or of four bytes are compared as numbers first, of
 /// which the last may overlap the one before. Only where a block differs are bytes compared one by
@@ -24,7 +24,7 @@ pub(crate) fn prefix_length(left: &[u8], right: &[u8]) -> usize
     matched
 }
 
-/// The length of a beginning that is the same in both: of all blocks before the first that differs,
+/// The length of a prefix that is the same in both: of all blocks before the first that differs,
 /// or of the shorter one where no block does. Fewer than four bytes make no block.
 fn equal_blocks(left: &[u8], right: &[u8], shorter: usize) -> usize
     requires in_left { shorter ≤ length left.now }

@@ -29,6 +29,10 @@ impl Partial for VectorPartial {
 
     ghost bytes = { λ partial. partial.bytes.items };
 
+    fn new_from_slice(alloc: Global, slice: &[u8]) -> Result<VectorPartial, AllocError> {
+        copy_of(alloc, slice)
+    }
+
     fn len(&self) -> usize {
         self.bytes.len()
     }

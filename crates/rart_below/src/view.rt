@@ -114,7 +114,7 @@ impl<'a, 'view> LendingKeyView<'a, 'view> {
         }
     }
 
-    /// The key's bytes in a vector of their own, or want of memory.
+    /// The key's bytes in a vector of their own, or out of memory.
     ///
     /// ```
     /// let bytes = key.to_vec(alloc)?;
@@ -129,7 +129,7 @@ impl<'a, 'view> LendingKeyView<'a, 'view> {
         Ok(bytes)
     }
 
-    /// The key itself, or want of memory. Only a key on the heap, or one of more than 64 bytes,
+    /// The key itself, or out of memory. Only a key on the heap, or one of more than 64 bytes,
     /// takes memory.
     ///
     /// ```

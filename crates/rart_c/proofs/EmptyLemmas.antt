@@ -7,7 +7,6 @@ use Rattle.std.specs.Ordering.{as_partial_cmp}
 use Rattle.std.specs.Prelude.{filter}
 use Rattle.std.specs.Range.Bound.{bounds_contain}
 use Rattle.std.specs.declared.ops.Bound.{Bound}
-use Rattle.std.specs.declared.ops.Bound.TheVariants.{Unbounded}
 use Rattle.rart_below.specs.Bytes.{begins, byte_order}
 use Rattle.rart_maps.proofs.PairLawLemmas.{pairs-empty}
 use Rattle.rart_maps.proofs.WorkedPairLemmas.{common_of_empty}
@@ -29,10 +28,10 @@ module _ (V : Type 0) where
       (last_or None (filter (λ pair. begins pair.0 probe) all)))
       (pairs-empty V))
 
-  pub no-pair-from : (low : Bound (List ℕ))
-      → within (empty_at {V = V} 0).content low Unbounded ≡ []
-  no-pair-from low =
-      ap (filter (λ (pair : List ℕ × V). bounds_contain (as_partial_cmp byte_order) low Unbounded
+  pub no-pair-within : (low high : Bound (List ℕ))
+      → within (empty_at {V = V} 0).content low high ≡ []
+  no-pair-within low high =
+      ap (filter (λ (pair : List ℕ × V). bounds_contain (as_partial_cmp byte_order) low high
       pair.0)) (pairs-empty V)
 
   pub none-removed : (key : List ℕ) → empty_at 0 ≡ after_removal (empty_at {V = V} 0) key

@@ -1,6 +1,7 @@
 pub mod EmptyLemmas
 pub mod Handles
 pub mod LengthLemmas
+pub mod PageLemmas
 pub mod Parts
 pub mod Pointers
 pub mod Steps

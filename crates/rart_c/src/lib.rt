@@ -10,6 +10,7 @@ mod bytes;
 mod changing;
 mod handle;
 mod map;
+mod paging;
 mod reading;
 mod table;
 #[cfg(test)]

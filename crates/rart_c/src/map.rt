@@ -1,5 +1,5 @@
 //! What a handle leads to: a table, or none, which is the map without a key and number 0.
-ghost use Rattle.std.specs.Prelude.{◌≡◌, length, IfOk, IsSome, IsTrue, OnErr, MatchResult};
+ghost use Rattle.std.specs.Prelude.{◌≡◌, ◌==◌, length, not, IfOk, IsSome, IsTrue, OnErr, MatchResult};
 ghost use Rattle.std.specs.FinMap as finite;
 ghost use Rattle.std.specs.Option.{option_copied};
 ghost use Rattle.std.specs.Range.Bound.{bound_map};
@@ -94,6 +94,18 @@ impl<V: Clone + Drop> Map<V> {
         }
     }
 
+    /// Whether there is a pair within two bounds.
+    pub(crate) fn has_within(&self, low: Bound<&[u8]>, high: Bound<&[u8]>) -> bool
+        ensures { result ≡ not (length (within self.now.content
+            (bound_map (λ low. low.now) low.entry) (bound_map (λ high. high.now) high.entry))
+            == 0) }
+    {
+        match &self.table {
+            None => false,
+            Some(table) => table.has_within(low, high),
+        }
+    }
+
     /// How many keys both have.
     pub(crate) fn common(&self, other: &Map<V>) -> usize
         ensures { result ≡ length (common self.now.content other.now.content) }
@@ -118,7 +130,7 @@ impl<V: Clone + Drop> Map<V> {
         let Ok(mut table) = self.take_or_make(alloc) else {
             return Err(Refusal::NoMemory);
         };
-        let told = table.insert(alloc, key, value);
+        let told = table.insert(key, value);
         self.table = Some(table);
         told
     }

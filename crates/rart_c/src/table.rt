@@ -1,5 +1,5 @@
 //! The tree that a handle leads to, and how many keys it has.
-ghost use Rattle.std.specs.Prelude.{◌≡◌, length, IfOk, OnErr, IsSome, IsTrue, MatchResult};
+ghost use Rattle.std.specs.Prelude.{◌≡◌, ◌==◌, length, not, IfOk, OnErr, IsSome, IsTrue, MatchResult};
 ghost use Rattle.std.specs.FinMap as finite;
 ghost use Rattle.std.specs.Option.{option_copied};
 ghost use Rattle.std.specs.Range.Bound.{bound_map};
@@ -13,7 +13,7 @@ ghost use Rattle.rart_maps.specs.Versions.{HasRoom, empty_at, has_key, value_at,
 ghost use Rattle.rart_seeking.specs.Firsts.{Finds};
 
 use crate::answer::Refusal;
-use rart_versioned::{KeyTrait, VectorKey, VersionedAdaptiveRadixTree};
+use rart_versioned::{VectorKey, VersionedAdaptiveRadixTree};
 use std::alloc::{AllocError, Global};
 use std::marker::Model;
 use std::ops::Bound;
@@ -85,6 +85,15 @@ impl<V: Clone + Drop> Table<V> {
         self.tree.first_slice(low, room)
     }
 
+    /// Whether there is a pair within two bounds.
+    pub(crate) fn has_within(&self, low: Bound<&[u8]>, high: Bound<&[u8]>) -> bool
+        ensures { result ≡ not (length (within self.now.content
+            (bound_map (λ low. low.now) low.entry) (bound_map (λ high. high.now) high.entry))
+            == 0) }
+    {
+        self.tree.has_within(low, high)
+    }
+
     /// How many keys both have.
     pub(crate) fn common(&self, other: &Table<V>) -> usize
         ensures { result ≡ length (common self.now.content other.now.content) }
@@ -93,12 +102,7 @@ impl<V: Clone + Drop> Table<V> {
     }
 
     /// Sets a key to a value, and gives the value that was replaced.
-    pub(crate) fn insert(
-        &mut self,
-        alloc: Global,
-        key: &[u8],
-        value: V,
-    ) -> Result<Option<V>, Refusal>
+    pub(crate) fn insert(&mut self, key: &[u8], value: V) -> Result<Option<V>, Refusal>
         requires clones { ClonesEqual V.is_clone }
         ensures changes { Changes result self.old self.new (replacement self.old key.now value) }
         ensures room { MatchResult result (λ _. HasRoom self.old 1) (Explains self.old) }
@@ -106,10 +110,7 @@ impl<V: Clone + Drop> Table<V> {
         if self.tree.version() == u64::MAX {
             return Err(Refusal::NoRoom);
         }
-        let Ok(key) = VectorKey::new_from_slice(alloc, key) else {
-            return Err(Refusal::NoMemory);
-        };
-        let Ok(replaced) = self.tree.insert_and_replace_k(&key, value) else {
+        let Ok(replaced) = self.tree.insert_and_replace_slice(key, value) else {
             return Err(Refusal::NoMemory);
         };
         if replaced.is_none() {

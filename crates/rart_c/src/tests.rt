@@ -2,6 +2,7 @@
 use crate::answer::{ABSENT, DONE, NO_ROOM, TOO_SMALL};
 use crate::changing::{rart_clear, rart_insert, rart_remove};
 use crate::handle::RartTree;
+use crate::paging::{EXCLUDED, INCLUDED, RartEntry, UNBOUNDED, rart_page};
 use crate::reading::{rart_common, rart_get, rart_is_empty, rart_len, rart_longest, rart_version};
 use crate::versions::{rart_clone, rart_new_at, rart_snapshot};
 use crate::walking::{rart_next, rart_seek};
@@ -114,6 +115,68 @@ fn keys_are_found_in_order(rt: HostRuntime) -> Result<(), Fail> {
         ABSENT
     );
     assert_eq!(rt; (len, value), (1, 9));
+    Ok(())
+}
+
+#[test]
+fn pages_are_read(rt: HostRuntime) -> Result<(), Fail> {
+    let alloc = rt.alloc();
+    let mut tree = RartTree::empty(alloc);
+    let (mut bytes, mut entries) = (*b"....", [RartEntry { end: 9, value: 9 }; 3]);
+    let (mut value, mut count, mut needed) = (0, 7, 7);
+    assert_eq!(rt; rart_insert(alloc, &mut tree, b"ab", 1, &mut value), ABSENT);
+    assert_eq!(rt;
+        rart_insert(alloc, &mut tree, b"abc", 2, &mut value),
+        ABSENT
+    );
+    assert_eq!(rt; rart_insert(alloc, &mut tree, b"b", 3, &mut value), ABSENT);
+    let first = rart_page(
+        alloc,
+        &mut tree,
+        b"",
+        UNBOUNDED,
+        b"b",
+        INCLUDED,
+        &mut bytes,
+        &mut entries,
+        &mut count,
+        &mut needed,
+    );
+    assert_eq!(rt; (first, count, needed), (DONE, 1, 7));
+    assert_eq!(rt;
+        (entries[0].end, entries[0].value, entries[1].end),
+        (2, 1, 9)
+    );
+    let last = rart_page(
+        alloc,
+        &mut tree,
+        b"ab",
+        EXCLUDED,
+        b"b",
+        INCLUDED,
+        &mut bytes,
+        &mut entries,
+        &mut count,
+        &mut needed,
+    );
+    assert_eq!(rt; (last, count, &bytes), (ABSENT, 2, b"abcb"));
+    assert_eq!(rt;
+        (entries[0].end, entries[1].end, entries[1].value),
+        (3, 4, 3)
+    );
+    let none = rart_page(
+        alloc,
+        &mut tree,
+        b"ab",
+        EXCLUDED,
+        b"b",
+        EXCLUDED,
+        &mut bytes[..2],
+        &mut entries,
+        &mut count,
+        &mut needed,
+    );
+    assert_eq!(rt; (none, count, needed), (TOO_SMALL, 0, 3));
     Ok(())
 }
 

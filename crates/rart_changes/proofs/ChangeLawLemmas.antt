@@ -73,7 +73,8 @@ module _ {V : Type 0} (same : V → V → Bool) where
         λ there. (Contains-filter_map (λ d. Some (reversed d)) (changes same old new) c).1
             (reversed c, reversed-there symmetric new old c there, refl),
         λ there.
-            let found = (Contains-filter_map (λ d. Some (reversed d)) (changes same old new) c).0 there in
+            let found = (Contains-filter_map (λ d. Some (reversed d)) (changes same old new) c).0
+            there in
             subst (Contains (changes same new old)) (ap (λ o. unwrap_or o c) found.2)
             (reversed-there symmetric old new found.0 found.1),
       ))

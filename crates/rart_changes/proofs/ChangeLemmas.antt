@@ -28,7 +28,8 @@ module _ {A B : Type 0} (key : A → List ℕ) (key_of : B → List ℕ) (kept :
   pub KeysAscend-kept : (xs : List A) → KeysAscend key xs → KeysAscend key_of (filter_map kept xs)
   KeysAscend-kept [] ascends = λ i j d less below. absurd (omega (arith, below))
   KeysAscend-kept (x ∷ xs) ascends =
-      let more = KeysAscend-kept xs (AllPairs-rest (λ a b. IsBefore (key a) (key b)) x xs ascends) in
+      let more = KeysAscend-kept xs
+      (AllPairs-rest (λ a b. IsBefore (key a) (key b)) x xs ascends) in
       elim (kept x) as (λ o. kept x ≡ o → KeysAscend key_of (cons_option o (filter_map kept xs))) [
         | None ↦ λ _. more
         | Some y ↦ λ is. AllPairs-cons (λ a b. IsBefore (key_of a) (key_of b)) y
@@ -111,7 +112,8 @@ module _ {V : Type 0} where
       (Contains-cases d cs c there)
 
 module _ {V : Type 0} (same : V → V → Bool) where
-  pub change_of-is : (key : List ℕ) (x y : Option V) (c : Change V) → change_of same key x y ≡ Some c
+  pub change_of-is : (key : List ℕ) (x y : Option V) (c : Change V) → change_of same key x y
+      ≡ Some c
       → (c ≡ (key, x, y)) × (differ same x y ≡ true)
   change_of-is key x y c is =
       elim (differ same x y) as (λ d. cond d (Some (key, x, y)) None ≡ Some c

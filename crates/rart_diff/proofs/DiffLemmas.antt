@@ -32,7 +32,8 @@ module _ {A : Type 0} where
 
   first-there : (first : Option A) (xs : List A) (x : A) → first ≡ Some x
       → Contains (cons_option first xs) x
-  first-there first xs x is = subst (λ o. Contains (cons_option o xs) x) (sym is) (Contains-here x xs)
+  first-there first xs x is =
+      subst (λ o. Contains (cons_option o xs) x) (sym is) (Contains-here x xs)
 
   later-there : (first : Option A) (xs : List A) (x : A) → Contains xs x
       → Contains (cons_option first xs) x

@@ -1,3 +1,3 @@
-pub mod CountLemmas
+pub mod DiffCountLemmas
 pub mod DiffLemmas
 pub mod SideLemmas

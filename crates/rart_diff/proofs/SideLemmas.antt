@@ -12,7 +12,7 @@ use Rattle.rart_maps.specs.Order.{IsBefore}
 use Rattle.rart_maps.proofs.ElementLemmas.{Contains-nil, Contains-cases, All-from_contains, AllPairs-first, AllPairs-rest}
 use Rattle.rart_maps.proofs.OrderLemmas.{order_is_of_first_difference}
 use Rattle.rart_walks.specs.Walks.{pending_pair}
-use Rattle.rart_walks.specs.WalkFields.{position}
+use Rattle.rart_walks.specs.WalkFields.{cursor}
 use Rattle.rart_diff.specs.declared.side.Side.{Side}
 use Rattle.rart_diff.specs.Diffs.{AreBehind, Leads}
 use Rattle.rart_diff.specs.SideFields.{IsSide, ComesFirst, key_at}
@@ -135,7 +135,7 @@ module _ {P V : Type 0} {partial : _} (bytes : P → List ℕ) where
   both-first before after one two some also Less is = (
     some,
     held-behind (key_at bytes before) (key_at bytes after) after.value
-        (position bytes after.walk).pairs two.ascends also
+        (cursor bytes after.walk).pairs two.ascends also
         ((order_is_of_first_difference (key_at bytes before) (key_at bytes after)).0.0 (sym is)),
   )
   both-first before after one two some also Equal is = (
@@ -146,6 +146,6 @@ module _ {P V : Type 0} {partial : _} (bytes : P → List ℕ) where
   both-first before after one two some also Greater is = (
     also,
     held-behind (key_at bytes after) (key_at bytes before) before.value
-        (position bytes before.walk).pairs one.ascends some
+        (cursor bytes before.walk).pairs one.ascends some
         ((order_is_of_first_difference (key_at bytes before) (key_at bytes after)).2.0 (sym is)),
   )

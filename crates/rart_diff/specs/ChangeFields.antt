@@ -1,11 +1,14 @@
 -- What the fields of a walk from change to change mean, and what it gives.
-use Rattle.std.specs.Prelude.{◌≡◌, ◌⊎◌, ℕ, ◌+◌, Bool, List, [], ◌∷◌, Option, Some, None, IsSome, if◌then◌else◌}
+use Rattle.std.specs.Prelude.{◌≡◌, ◌⊎◌, ℕ, ◌+◌, Bool, List, [], ◌∷◌, Option, Some, None, IsSome, Result, IfOk, OnOk, if◌then◌else◌}
 use Rattle.std.specs.Borrow.{Bor}
 use Rattle.std.specs.Option.{option_copied}
 use Rattle.rart_changes.specs.ChangeLists.{Change}
+use Rattle.rart_node.specs.Counts.{Counts, CountsUpTo}
+use Rattle.rart_walks.specs.declared.walk.Walk.{Walk}
 use Rattle.rart_diff.specs.declared.changes.ChangeWalk.{ChangeWalk}
 use Rattle.rart_diff.specs.Diffs.{Leads, changes_between}
-use Rattle.rart_diff.specs.SideFields.{IsSide, IsAtKey, key_at, pairs_left, nodes_left}
+use Rattle.rart_diff.specs.SideFields.{IsSide, key_at, pairs_left, nodes_left}
+use Rattle.rart_diff.specs.TwoWalks.{changes_ahead, nodes_ahead}
 
 -- `partial` is what is known of prefixes, which the types take for a ghost field
 module _ {P V : Type 0} {partial : _} (bytes : P → List ℕ) where
@@ -26,11 +29,6 @@ module _ {P V : Type 0} {partial : _} (bytes : P → List ℕ) where
     pub before : IsSide bytes walk.before
     pub after : IsSide bytes walk.after
 
-  -- Both sides stand at the first of what they have left.
-  pub record AreAtKeys (walk : ChangeWalk P V partial) : Type 0 where
-    pub before : IsAtKey bytes walk.before
-    pub after : IsAtKey bytes walk.after
-
   -- The next key of either side was taken, with what both have there, or there was none.
   abbrev pub TakesKey : ChangeWalk P V partial → ChangeWalk P V partial →
       Option (Option (Bor V) × Option (Bor V)) → Type 0
@@ -50,3 +48,27 @@ module _ {P V : Type 0} {partial : _} (bytes : P → List ℕ) where
   GivesChange same start next (Some values) = changes_left same start
       ≡ (key_given next, option_copied values.0, option_copied values.1)
       ∷ changes_left same next
+
+  -- It goes over the changes from what the one walk has left to what the other has.
+  pub record GoesOver (same : V → V → Bool) (old new : Walk P V (List ℕ) partial)
+      (made : ChangeWalk P V partial) : Type 0 where
+    pub walk : IsChangeWalk made
+    pub changes : changes_left same made ≡ changes_ahead bytes same old new
+    pub nodes : nodes_to_enter made ≡ nodes_ahead bytes old new
+
+  -- It gave what is told, and has entered the nodes that it has no more left to enter. Refused, it
+  -- has entered no other.
+  pub record GoesOn {A E : Type 0} (result : Result A E) (IsTold : A → Type 0)
+      (old new : ChangeWalk P V partial) (start now : Counts) : Type 0 where
+    pub walk : OnOk result (IsChangeWalk new)
+    pub gives : IfOk result IsTold
+    pub entered : OnOk result (now.entered + nodes_to_enter new
+        ≡ start.entered + nodes_to_enter old)
+    pub counted : CountsUpTo (nodes_to_enter old) 0 start now
+
+  -- Of the keys that both sides stand at the first was taken, and no node entered.
+  pub record TakesFirst (old new : ChangeWalk P V partial)
+      (given : Option (Option (Bor V) × Option (Bor V))) : Type 0 where
+    pub walk : IsChangeWalk new
+    pub takes : TakesKey old new given
+    pub nodes : nodes_to_enter new ≡ nodes_to_enter old

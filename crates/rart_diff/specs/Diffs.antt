@@ -24,8 +24,9 @@ module _ {V : Type 0} where
   abbrev pub AreAdmitted : Option ℕ → List (List ℕ × V) → Type 0
   AreAdmitted most pairs = All (λ pair. IsAdmitted most (length pair.0)) pairs
 
-  -- Of the pairs before, those after are left behind the key: the others are the key with the value,
-  -- if there is one.
-  pub record Leads (key : List ℕ) (value : Option V) (before after : List (List ℕ × V)) : Type 0 where
+  -- Of the pairs before, those after are left behind the key: the others are the key with the
+  -- value, if there is one.
+  pub record Leads (key : List ℕ) (value : Option V) (before after : List (List ℕ × V))
+      : Type 0 where
     pub pairs : before ≡ pending_pair key value ++ after
     pub behind : AreBehind key after

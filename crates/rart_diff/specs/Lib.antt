@@ -1,3 +1,4 @@
 pub mod ChangeFields
 pub mod Diffs
 pub mod SideFields
+pub mod TwoWalks

@@ -1,14 +1,17 @@
--- What the fields of a side mean, and which of two comes first.
-use Rattle.std.specs.Prelude.{◌≡◌, ℕ, List, [], ◌++◌, Option, Some, None, IsSome, length}
+-- What the fields of a side mean, what its calls do, and which of two comes first.
+use Rattle.std.specs.Prelude.{◌≡◌, ℕ, ◌+◌, List, [], ◌++◌, Option, Some, None, IsSome, Result, OnOk, length}
+use Rattle.std.specs.Borrow.{Bor}
 use Rattle.std.specs.Option.{option_copied}
 use Rattle.std.specs.declared.cmp.Ordering.{Ordering}
 use Rattle.std.specs.declared.cmp.Ordering.TheVariants.{Less, Equal, Greater}
 use Rattle.rart_maps.specs.FoundLaws.{KeysAscend}
-use Rattle.rart_walks.specs.Trails.{HoldsBytes}
+use Rattle.rart_node.specs.Counts.{Counts, CountsUpTo}
+use Rattle.rart_walks.specs.KeyPaths.{HoldsBytes}
 use Rattle.rart_walks.specs.Walks.{pending_pair}
-use Rattle.rart_walks.specs.WalkFields.{IsWalk, path_to, position}
+use Rattle.rart_walks.specs.WalkFields.{IsWalk, path_to, cursor}
+use Rattle.rart_walks.specs.declared.walk.Walk.{Walk}
 use Rattle.rart_diff.specs.declared.side.Side.{Side}
-use Rattle.rart_diff.specs.Diffs.{AreBehind}
+use Rattle.rart_diff.specs.Diffs.{AreBehind, Leads}
 
 -- `partial` is what is known of prefixes, which the types take for a ghost field
 module _ {P V : Type 0} {partial : _} (bytes : P → List ℕ) where
@@ -19,11 +22,11 @@ module _ {P V : Type 0} {partial : _} (bytes : P → List ℕ) where
   -- the pairs that are left, that of this key first
   abbrev pub pairs_left : Side P V partial → List (List ℕ × V)
   pairs_left side =
-      pending_pair (key_at side) (option_copied side.value) ++ (position bytes side.walk).pairs
+      pending_pair (key_at side) (option_copied side.value) ++ (cursor bytes side.walk).pairs
 
   -- how many nodes are left to enter
   abbrev pub nodes_left : Side P V partial → ℕ
-  nodes_left side = length (position bytes side.walk).places
+  nodes_left side = length (cursor bytes side.walk).paths
 
   -- Its walk keeps the bytes of its key, and the keys that are left ascend.
   pub record IsSide (side : Side P V partial) : Type 0 where
@@ -32,7 +35,14 @@ module _ {P V : Type 0} {partial : _} (bytes : P → List ℕ) where
 
   -- It stands at the first of the pairs that are left, if there is one.
   abbrev pub IsAtKey : Side P V partial → Type 0
-  IsAtKey side = side.value ≡ None → (position bytes side.walk).pairs ≡ []
+  IsAtKey side = side.value ≡ None → (cursor bytes side.walk).pairs ≡ []
+
+  -- Both are sides, and stand at the first of what they have left.
+  pub record AreAtKeys (old new : Side P V partial) : Type 0 where
+    pub before : IsSide old
+    pub after : IsSide new
+    pub before_at_key : IsAtKey old
+    pub after_at_key : IsAtKey new
 
   -- Which side has the first key: the old one, both, or the new one; or there is none.
   abbrev pub ComesFirst : Side P V partial → Side P V partial → Option Ordering → Type 0
@@ -41,3 +51,28 @@ module _ {P V : Type 0} {partial : _} (bytes : P → List ℕ) where
   ComesFirst old new (Some Equal) =
       IsSome old.value × IsSome new.value × (key_at old ≡ key_at new)
   ComesFirst old new (Some Greater) = IsSome new.value × AreBehind (key_at new) (pairs_left old)
+
+  -- It has left what the walk has.
+  pub record HasLeft (walk : Walk P V (List ℕ) partial) (made : Side P V partial) : Type 0 where
+    pub side : IsSide made
+    pub pairs : pairs_left made ≡ (cursor bytes walk).pairs
+    pub nodes : nodes_left made ≡ length (cursor bytes walk).paths
+
+  -- It has come to the first of the pairs that it had left, and has entered the nodes that it has
+  -- no more left to enter. Refused, it has entered no other.
+  pub record ComesToKey {E : Type 0} (result : Result (Unit {0}) E) (old new : Side P V partial)
+      (start now : Counts) : Type 0 where
+    pub side : OnOk result (IsSide new)
+    pub pairs : OnOk result (pairs_left new ≡ pairs_left old)
+    pub at_key : OnOk result (IsAtKey new)
+    pub entered : OnOk result (now.entered + nodes_left new ≡ start.entered + nodes_left old)
+    pub counted : CountsUpTo (nodes_left old) 0 start now
+
+  -- It gave the value of its key, which leads what is left then.
+  pub record GivesValue (old new : Side P V partial) (given : Option (Bor V)) : Type 0 where
+    pub side : IsSide new
+    pub value : option_copied given ≡ option_copied old.value
+    pub key : key_at new ≡ key_at old
+    pub leads : IsSome given → Leads (key_at old) (option_copied given) (pairs_left old)
+        (pairs_left new)
+    pub nodes : nodes_left new ≡ nodes_left old

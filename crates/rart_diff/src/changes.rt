@@ -1,17 +1,14 @@
 //! The walk from change to change.
-ghost use Rattle.std.specs.Prelude.{◌≡◌, ◌+◌, length, None, IfOk, OnOk};
-ghost use Rattle.rart_maps.specs.FoundLaws.{KeysAscend};
-ghost use Rattle.rart_node.specs.Counts.{CountsUpTo};
-ghost use Rattle.rart_walks.specs.Trails.{HoldsBytes};
-ghost use Rattle.rart_walks.specs.WalkFields.{IsWalk, position};
-ghost use Rattle.rart_diff.specs.Diffs.{changes_between};
+ghost use Rattle.std.specs.Prelude.{◌≡◌};
+ghost use Rattle.rart_diff.specs.SideFields.{AreAtKeys};
+ghost use Rattle.rart_diff.specs.TwoWalks.{GoTogether};
 
 use crate::order::order_of;
 use crate::side::Side;
 use rart_below::Partial;
 use rart_changes::do_differ;
 use rart_node::Work;
-use rart_walks::{KeyTrail, Walk};
+use rart_walks::{BytesPath, Walk};
 use std::alloc::AllocError;
 use std::cmp::Ordering;
 
@@ -28,24 +25,16 @@ pub(crate) struct ChangeWalk<'a, P: Partial, V> {
 }
 
 impl<'a, P: Partial, V: Drop + Eq> ChangeWalk<'a, P, V> {
-    ghost use Rattle.rart_diff.specs.ChangeFields.{IsChangeWalk, TakesKey, GivesChange, changes_left, key_given, nodes_to_enter, AreAtKeys};
+    ghost use Rattle.rart_diff.specs.ChangeFields.{IsChangeWalk, GoesOver, GoesOn, GivesChange, TakesKey, TakesFirst, key_given};
 
     /// The changes from the pairs that the one walk has left to those of the other. It enters no
     /// node.
     pub(crate) fn new(
-        old: Walk<'a, P, V, KeyTrail>,
-        new: Walk<'a, P, V, KeyTrail>,
+        old: Walk<'a, P, V, BytesPath>,
+        new: Walk<'a, P, V, BytesPath>,
     ) -> ChangeWalk<'a, P, V>
-        requires old { IsWalk P.bytes HoldsBytes None old }
-        requires new { IsWalk P.bytes HoldsBytes None new }
-        requires old_ascends { KeysAscend (λ pair. pair.0) (position P.bytes old).pairs }
-        requires new_ascends { KeysAscend (λ pair. pair.0) (position P.bytes new).pairs }
-        ensures walk { IsChangeWalk P.bytes result }
-        ensures changes { changes_left P.bytes V.eq result ≡ changes_between V.eq
-            (position P.bytes old.entry).pairs (position P.bytes new.entry).pairs }
-        ensures nodes { nodes_to_enter P.bytes result
-            ≡ length (position P.bytes old.entry).places
-            + length (position P.bytes new.entry).places }
+        requires { GoTogether P.bytes old new }
+        ensures { GoesOver P.bytes V.eq old.entry new.entry result }
     {
         ChangeWalk {
             before: Side::new(old),
@@ -56,7 +45,7 @@ impl<'a, P: Partial, V: Drop + Eq> ChangeWalk<'a, P, V> {
 
     /// The key that was given last.
     pub(crate) fn key(&self) -> &[u8]
-        requires walk { IsChangeWalk P.bytes self.now }
+        requires { IsChangeWalk P.bytes self.now }
         ensures { result.now ≡ key_given P.bytes self.now }
     {
         if self.is_before {
@@ -72,12 +61,9 @@ impl<'a, P: Partial, V: Drop + Eq> ChangeWalk<'a, P, V> {
         &mut self,
         work: &mut Work,
     ) -> Result<Option<(Option<&'a V>, Option<&'a V>)>, AllocError>
-        requires walk { IsChangeWalk P.bytes self.old }
-        ensures walk { OnOk result (IsChangeWalk P.bytes self.new) }
-        ensures gives { IfOk result (GivesChange P.bytes V.eq self.old self.new) }
-        ensures entered { OnOk result (work.new.entered + nodes_to_enter P.bytes self.new
-            ≡ work.old.entered + nodes_to_enter P.bytes self.old) }
-        ensures counted { CountsUpTo (nodes_to_enter P.bytes self.old) 0 work.old work.new }
+        requires { IsChangeWalk P.bytes self.old }
+        ensures { GoesOn P.bytes result (GivesChange P.bytes V.eq self.old self.new) self.old
+            self.new work.old work.new }
     {
         'merging: while let Some((before, after)) = self.next_key(work)? {
             if do_differ(before, after) {
@@ -92,12 +78,9 @@ impl<'a, P: Partial, V: Drop + Eq> ChangeWalk<'a, P, V> {
         &mut self,
         work: &mut Work,
     ) -> Result<Option<(Option<&'a V>, Option<&'a V>)>, AllocError>
-        requires walk { IsChangeWalk P.bytes self.old }
-        ensures walk { OnOk result (IsChangeWalk P.bytes self.new) }
-        ensures takes { IfOk result (TakesKey P.bytes self.old self.new) }
-        ensures entered { OnOk result (work.new.entered + nodes_to_enter P.bytes self.new
-            ≡ work.old.entered + nodes_to_enter P.bytes self.old) }
-        ensures counted { CountsUpTo (nodes_to_enter P.bytes self.old) 0 work.old work.new }
+        requires { IsChangeWalk P.bytes self.old }
+        ensures { GoesOn P.bytes result (TakesKey P.bytes self.old self.new) self.old
+            self.new work.old work.new }
     {
         self.before.advance(work)?;
         self.after.advance(work)?;
@@ -106,11 +89,8 @@ impl<'a, P: Partial, V: Drop + Eq> ChangeWalk<'a, P, V> {
 
     // Takes the values of the first of the keys that both stand at.
     fn take_first(&mut self) -> Option<(Option<&'a V>, Option<&'a V>)>
-        requires walk { IsChangeWalk P.bytes self.old }
-        requires at_keys { AreAtKeys P.bytes self.old }
-        ensures walk { IsChangeWalk P.bytes self.new }
-        ensures takes { TakesKey P.bytes self.old self.new result }
-        ensures nodes { nodes_to_enter P.bytes self.new ≡ nodes_to_enter P.bytes self.old }
+        requires { AreAtKeys P.bytes self.old.before self.old.after }
+        ensures { TakesFirst P.bytes self.old self.new result }
     {
         match order_of(&self.before, &self.after)? {
             Ordering::Less => {

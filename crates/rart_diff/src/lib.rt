@@ -1,8 +1,8 @@
 //! What two trees of nodes differ in: a walk over both at once, from change to change.
 //!
 //! Two walks, one over each tree, are merged by their keys, so each node of either is entered at
-//! most once. The visitors call a closure on each key at which the trees differ, in order. They know
-//! prefixes and pointers, and no key type but for the keys that they make.
+//! most once. The visitors call a closure on each key at which the trees differ, in order. They
+//! know prefixes and pointers, and no key type but for the keys that they make.
 #![tactic(auto)]
 
 mod changes;

@@ -1,5 +1,5 @@
 //! Which of two trees has the first key.
-ghost use Rattle.rart_diff.specs.SideFields.{IsSide, IsAtKey, ComesFirst};
+ghost use Rattle.rart_diff.specs.SideFields.{AreAtKeys, ComesFirst};
 
 use crate::side::Side;
 use rart_below::Partial;
@@ -11,10 +11,7 @@ pub(crate) fn order_of<P: Partial, V: Drop>(
     before: &Side<'_, P, V>,
     after: &Side<'_, P, V>,
 ) -> Option<Ordering>
-    requires before { IsSide P.bytes before.now }
-    requires after { IsSide P.bytes after.now }
-    requires before_at_key { IsAtKey P.bytes before.now }
-    requires after_at_key { IsAtKey P.bytes after.now }
+    requires { AreAtKeys P.bytes before.now after.now }
     ensures { ComesFirst P.bytes before.now after.now result }
 {
     match (before.has_key(), after.has_key()) {

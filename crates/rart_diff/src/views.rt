@@ -1,18 +1,14 @@
 //! Visits of the changes, their keys lent as views.
-ghost use Rattle.std.specs.Prelude.{◌≡◌, ◌+◌, length, None};
 ghost use Rattle.std.specs.Option.{option_copied};
 ghost use Rattle.rart_changes.specs.ChangeVisits.{ByViewChange};
-ghost use Rattle.rart_maps.specs.FoundLaws.{KeysAscend};
 ghost use Rattle.rart_maps.specs.Visits.{CallableOn, CalledOn, Visits, Visitable, VisitsUntil, VisitableUntil};
 ghost use Rattle.rart_node.specs.Counts.{CountsUpTo};
-ghost use Rattle.rart_walks.specs.Trails.{HoldsBytes};
-ghost use Rattle.rart_walks.specs.WalkFields.{IsWalk, position};
-ghost use Rattle.rart_diff.specs.Diffs.{changes_between};
+ghost use Rattle.rart_diff.specs.TwoWalks.{GoTogether, changes_ahead, nodes_ahead};
 
 use crate::changes::ChangeWalk;
 use rart_below::{LendingKeyView, Partial, Refusal, VisitControl};
 use rart_node::Work;
-use rart_walks::{KeyTrail, Walk};
+use rart_walks::{BytesPath, Walk};
 use std::alloc::AllocError;
 
 /// As `visit_changed_keys`, with a view of the key, which ends with the call.
@@ -22,22 +18,17 @@ pub fn visit_changed_views<
     V: Drop + Eq,
     F: FnMut(LendingKeyView<'_, '_>, Option<&V>, Option<&V>),
 >(
-    old: Walk<'a, P, V, KeyTrail>,
-    new: Walk<'a, P, V, KeyTrail>,
+    old: Walk<'a, P, V, BytesPath>,
+    new: Walk<'a, P, V, BytesPath>,
     f: &mut F,
     work: &mut Work,
 ) -> Result<(), AllocError>
-    requires old { IsWalk P.bytes HoldsBytes None old }
-    requires new { IsWalk P.bytes HoldsBytes None new }
-    requires old_ascends { KeysAscend (λ pair. pair.0) (position P.bytes old).pairs }
-    requires new_ascends { KeysAscend (λ pair. pair.0) (position P.bytes new).pairs }
+    requires walks { GoTogether P.bytes old new }
     requires visitable { Visitable F.FnMut ByViewChange f.old
-        (changes_between V.eq (position P.bytes old).pairs (position P.bytes new).pairs) }
+        (changes_ahead P.bytes V.eq old new) }
     ensures visits { Visits F.FnMut ByViewChange result f.old
-        (changes_between V.eq (position P.bytes old.entry).pairs (position P.bytes new.entry).pairs)
-        f.new }
-    ensures counted { CountsUpTo (length (position P.bytes old.entry).places
-        + length (position P.bytes new.entry).places) 0 work.old work.new }
+        (changes_ahead P.bytes V.eq old.entry new.entry) f.new }
+    ensures counted { CountsUpTo (nodes_ahead P.bytes old.entry new.entry) 0 work.old work.new }
 {
     let mut changes = ChangeWalk::new(old, new);
     'visiting: while let Some((before, after)) = changes.next(work)? {
@@ -50,7 +41,7 @@ pub fn visit_changed_views<
 /// Its error is answered as `Refusal::Callback`. No node is entered behind that key but one that
 /// either walk was about to enter.
 ///
-/// Refused for memory, the answer is `Refusal::Memory`: it has called the closure on a beginning of
+/// Refused for memory, the answer is `Refusal::Memory`: it has called the closure on a prefix of
 /// them, and each time the closure answered `Continue`.
 pub fn visit_changed_views_until<
     'a,
@@ -59,22 +50,17 @@ pub fn visit_changed_views_until<
     E: Drop,
     F: FnMut(LendingKeyView<'_, '_>, Option<&V>, Option<&V>) -> Result<VisitControl, E>,
 >(
-    old: Walk<'a, P, V, KeyTrail>,
-    new: Walk<'a, P, V, KeyTrail>,
+    old: Walk<'a, P, V, BytesPath>,
+    new: Walk<'a, P, V, BytesPath>,
     f: &mut F,
     work: &mut Work,
 ) -> Result<(), Refusal<E>>
-    requires old { IsWalk P.bytes HoldsBytes None old }
-    requires new { IsWalk P.bytes HoldsBytes None new }
-    requires old_ascends { KeysAscend (λ pair. pair.0) (position P.bytes old).pairs }
-    requires new_ascends { KeysAscend (λ pair. pair.0) (position P.bytes new).pairs }
+    requires walks { GoTogether P.bytes old new }
     requires visitable { VisitableUntil F.FnMut ByViewChange f.old
-        (changes_between V.eq (position P.bytes old).pairs (position P.bytes new).pairs) }
+        (changes_ahead P.bytes V.eq old new) }
     ensures visits { VisitsUntil F.FnMut ByViewChange result f.old
-        (changes_between V.eq (position P.bytes old.entry).pairs (position P.bytes new.entry).pairs)
-        f.new }
-    ensures counted { CountsUpTo (length (position P.bytes old.entry).places
-        + length (position P.bytes new.entry).places) 0 work.old work.new }
+        (changes_ahead P.bytes V.eq old.entry new.entry) f.new }
+    ensures counted { CountsUpTo (nodes_ahead P.bytes old.entry new.entry) 0 work.old work.new }
 {
     let mut changes = ChangeWalk::new(old, new);
     'visiting: loop {

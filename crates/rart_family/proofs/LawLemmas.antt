@@ -6,7 +6,7 @@ use Rattle.rart_maps.specs.Versions.{Version, with_rise}
 use Rattle.rart_family.specs.declared.family.command.Command.{Command}
 use Rattle.rart_family.specs.declared.family.command.Command.TheVariants.{New, NewAt, Snapshot, Duplicate, Discard, Version as NumberOf, IsEmpty, Get, GetMut, Insert, Replace, Remove, Delete, Update, TryUpdate, Iter, Values as ValuesOf, Range, Prefix, Matches, MatchesEach, Views, PrefixViews, RangeViews, PrefixValues, Until, Intersect, IntersectViews, IntersectValues, IntersectCount, Flatten, Longest}
 use Rattle.rart_family.specs.Replies.{Reply, NoRoom, NoMemory}
-use Rattle.rart_family.specs.Families.{Family, Outcome, call_outcome, placement, meet_outcome, change_outcome, version_at, after}
+use Rattle.rart_family.specs.Families.{Family, Outcome, call_outcome, placement, intersection_outcome, change_outcome, version_at, after}
 use Rattle.rart_family.specs.Runs.{Step, Run}
 use Rattle.rart_family.specs.Laws.{place_changed, StepsAreIsolated, PlacesStay, RepliesFixSteps, RepliesFixRuns, StepsReplyTheirOwn, RunsReplyToEach, NoReplyIsWant}
 use Rattle.rart_family.proofs.RunLemmas.{is_no_memory, reply_is_no_want, step_next}
@@ -39,7 +39,7 @@ module _ {V : Type 0} (f : Family V) (P : Family V → Type 0) (same : P f) wher
   kept_called call kept (Some v) = kept v
 
   kept_met : (left right : ℕ) (reply : Version V → Version V → Reply V)
-      → P (meet_outcome f left right reply).1
+      → P (intersection_outcome f left right reply).1
   kept_met left right reply =
       kept_called _ (λ one. kept_called _ (λ other. same) (version_at f right)) (version_at f left)
 

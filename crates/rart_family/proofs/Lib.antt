@@ -5,6 +5,6 @@ pub mod PlaceLemmas
 pub mod ReadLemmas
 pub mod RunLemmas
 pub mod WritingLemmas
-pub mod WantLemmas
+pub mod OutOfMemoryLemmas
 pub mod WorkedCostLemmas
 pub mod WorkedRunLemmas

@@ -1,4 +1,4 @@
--- Laws of steps and runs: want of memory is no command's own reply, a reply fixes the family after
+-- Laws of steps and runs: out of memory is no command's own reply, a reply fixes the family after
 -- it, and a run goes on by one step at its end.
 use Rattle.std.proofs.Common.{◌≡◌, ℕ, ◌+◌, Bool, true, false, cond, length, take, List, [], ◌∷◌, ◌++◌, refl, sym, ap, ◌∙◌, subst, add_assoc, ⊎_elim, zero-add, add-zero, rules}
 use Rattle.std.specs.Prelude.{Option, Some, None, Result, Ok, Err}
@@ -7,7 +7,7 @@ use Rattle.rart_family.specs.declared.family.command.Failure.{Failure}
 use Rattle.rart_family.specs.declared.family.command.Command.{Command}
 use Rattle.rart_family.specs.declared.family.command.Command.TheVariants.{New, NewAt, Snapshot, Duplicate, Discard, Version as NumberOf, IsEmpty, Get, GetMut, Insert, Replace, Remove, Delete, Update, TryUpdate, Iter, Values as ValuesOf, Range, Prefix, Matches, MatchesEach, Views, PrefixViews, RangeViews, PrefixValues, Until, Intersect, IntersectViews, IntersectValues, IntersectCount, Flatten, Longest}
 use Rattle.rart_family.specs.Replies.{Reply, Stopped, NoMemory}
-use Rattle.rart_family.specs.Families.{Family, Outcome, call_outcome, meet_outcome, tried_reply, is_reached, stopped, version_at, reply_to, after}
+use Rattle.rart_family.specs.Families.{Family, Outcome, call_outcome, intersection_outcome, tried_reply, is_reached, stopped, version_at, reply_to, after}
 use Rattle.rart_family.specs.Runs.{Step, Run, next}
 use Rattle.rart_family.specs.Costs.{along}
 
@@ -24,7 +24,7 @@ module _ {V : Type 0} (f : Family V) where
 
   met_tells : (reply : Version V → Version V → Reply V)
       → ((one other : Version V) → is_no_memory (reply one other) ≡ false) → (left right : ℕ)
-      → is_no_memory (meet_outcome f left right reply).0 ≡ false
+      → is_no_memory (intersection_outcome f left right reply).0 ≡ false
   met_tells reply tells left right =
       called_tells _ (λ one. called_tells _ (tells one) (version_at f right)) (version_at f left)
 

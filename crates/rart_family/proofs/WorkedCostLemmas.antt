@@ -10,7 +10,7 @@ use Rattle.rart_maps.proofs.PairLawLemmas.{shared_is_empty}
 use Rattle.rart_family.proofs.WorkedRunLemmas.{abc_alone, abc-left}
 use Rattle.rart_maps.proofs.MapLemmas.{maps, sets}
 use Rattle.rart_family.specs.Families.{Family}
-use Rattle.rart_family.specs.WorkedCosts.{RefusedMemoryIsARun, SnapshotCosts, ChangesApartCost, CloneCosts, ReplacementsCost, AbsentRemovalCosts, DeletionCosts, FailedUpdateCosts, DiscardedPlaceCosts, WrittenAndInsertedCosts, RoomForOneCosts, RoomForTwoCosts, InsertionByUpdateCosts, WrittenAndRemovedCosts, RefusedMemoryCosts, NumbersOfRemovalsCost, UpdatesOfAnAbsentKeyCost, ListsCost, VisitsCost, FlatteningCosts, IntersectionsCost, IntersectionAfterDeletionCosts, EmptyIntersectionsCost, BeginningsCost, LostPlacesCost, LongestMatchesCost, SecondValueCosts, AbsentDeletionCosts, DiscardingCosts, GreatestNumberCosts, GreatestNumberWithAKeyCosts, SettingsCost, RemovalsCost, LastSnapshotCosts, VacantSlotCosts, PrefixCosts, MatchesCost, BoundsCost, OneKeyCosts, RefusalsCost}
+use Rattle.rart_family.specs.WorkedCosts.{RefusedMemoryIsARun, SnapshotCosts, ChangesApartCost, CloneCosts, ReplacementsCost, AbsentRemovalCosts, DeletionCosts, FailedUpdateCosts, DiscardedPlaceCosts, WrittenAndInsertedCosts, RoomForOneCosts, RoomForTwoCosts, InsertionByUpdateCosts, WrittenAndRemovedCosts, RefusedMemoryCosts, NumbersOfRemovalsCost, UpdatesOfAnAbsentKeyCost, ListsCost, VisitsCost, FlatteningCosts, IntersectionsCost, IntersectionAfterDeletionCosts, EmptyIntersectionsCost, PrefixMatchesCost, LostPlacesCost, LongestMatchesCost, SecondValueCosts, AbsentDeletionCosts, DiscardingCosts, GreatestNumberCosts, GreatestNumberWithAKeyCosts, SettingsCost, RemovalsCost, LastSnapshotCosts, VacantSlotCosts, PrefixCosts, MatchesCost, BoundsCost, OneKeyCosts, RefusalsCost}
 
 pub snapshot_costs : SnapshotCosts
 snapshot_costs = simp gets refl
@@ -158,8 +158,8 @@ module _ where
   long-meets_long : set.len (shared long long) ≡ 10
   long-meets_long = simp (maps, sets) refl
 
-pub beginnings_cost : BeginningsCost
-beginnings_cost = simp (gets, long-meets_short, short-meets_long, long-meets_long) refl
+pub prefix_matches_cost : PrefixMatchesCost
+prefix_matches_cost = simp (gets, long-meets_short, short-meets_long, long-meets_long) refl
 
 module _ where
   abbrev one : Map ℕ

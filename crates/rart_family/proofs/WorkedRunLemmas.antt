@@ -3,7 +3,7 @@ use Rattle.std.proofs.Common.{◌≡◌, ℕ, true, false, cond, refl, sym, ap, 
 use Rattle.std.specs.Prelude.{Some, None, codes}
 use Rattle.std.specs.FinMap as finite
 use Rattle.std.specs.FinMap.{gets}
-use Rattle.rart_family.specs.WorkedRuns.{SnapshotKeepsItsValue, ChangesStayApart, CloneKeepsNumber, ReplacementGivesOldValue, AbsentKeyStaysAbsent, DeletionIsNotSeenInSnapshot, FailedUpdateKeepsValue, DiscardedPlaceIsNotUsedAgain, AnswerOutweighsWrite, RoomIsAsked, RoomTwoIsAsked, InsertionByUpdateTakesOne, RemovalOutweighsWrite, RemovalsRaiseNumber, UpdatesOfAnAbsentKey, ListsAreOfOneVersion, VisitsAreCountedFromOne, FlatteningLeavesItsVersion, IntersectionHasKeysOfBoth, DeletedKeyIsInNoIntersection, EmptyVersionMeetsNothing, BeginningIsNoKeyOfBoth, IntersectionNeedsBothVersions, LongestMatchIsAlone, SecondValueStays, AbsentKeyIsNotDeleted, PlacesAreDiscardedOnce, GreatestNumberHasNoRoom, GreatestNumberKeepsItsKeys, SettingsTakeTheLastRoom, RemovalsTakeTheLastRoom, SnapshotTakesTheLastRoom, VacantSlotTakesNoWrite, PrefixIsAmongItsKeys, ProbeIsAmongItsMatches, BoundsAreIncludedOrNot, OneKeyIsListed, RefusalsComeInOrder, VacantSlotKeepsItsValue}
+use Rattle.rart_family.specs.WorkedRuns.{SnapshotKeepsItsValue, ChangesStayApart, CloneKeepsNumber, ReplacementGivesOldValue, AbsentKeyStaysAbsent, DeletionIsNotSeenInSnapshot, FailedUpdateKeepsValue, DiscardedPlaceIsNotUsedAgain, AnswerOutweighsWrite, RoomIsAsked, RoomTwoIsAsked, InsertionByUpdateTakesOne, RemovalOutweighsWrite, RemovalsRaiseNumber, UpdatesOfAnAbsentKey, ListsAreOfOneVersion, VisitsAreCountedFromOne, FlatteningLeavesItsVersion, IntersectionHasKeysOfBoth, DeletedKeyIsInNoIntersection, EmptyVersionMeetsNothing, PrefixIsNoKeyOfBoth, IntersectionNeedsBothVersions, LongestMatchIsAlone, SecondValueStays, AbsentKeyIsNotDeleted, PlacesAreDiscardedOnce, GreatestNumberHasNoRoom, GreatestNumberKeepsItsKeys, SettingsTakeTheLastRoom, RemovalsTakeTheLastRoom, SnapshotTakesTheLastRoom, VacantSlotTakesNoWrite, PrefixIsAmongItsKeys, ProbeIsAmongItsMatches, BoundsAreIncludedOrNot, OneKeyIsListed, RefusalsComeInOrder, VacantSlotKeepsItsValue}
 use Rattle.std.specs.Cmp.{IsTotalOrder, Equal-is}
 use Rattle.std.specs.Cmp.Lexicographic.{nat_list_cmp_total}
 use Rattle.std.specs.Ordering.{eq_by_cmp}
@@ -99,8 +99,8 @@ deleted_key_is_in_no_intersection = simp (maps, abc-left) refl
 pub empty_version_meets_nothing : EmptyVersionMeetsNothing
 empty_version_meets_nothing = simp maps refl
 
-pub beginning_is_no_key_of_both : BeginningIsNoKeyOfBoth
-beginning_is_no_key_of_both = simp maps refl
+pub prefix_is_no_key_of_both : PrefixIsNoKeyOfBoth
+prefix_is_no_key_of_both = simp maps refl
 
 pub intersection_needs_both_versions : IntersectionNeedsBothVersions
 intersection_needs_both_versions = simp maps refl

@@ -1,4 +1,4 @@
--- What one command's own method gives, before want of memory is made a reply.
+-- What one command's own method gives, before out of memory is made a reply.
 use Rattle.std.specs.Prelude.{◌≡◌, ℕ, List, Result, Ok, Err, IsTrue}
 use Rattle.std.specs.declared.alloc.AllocError.{AllocError}
 use Rattle.rart_family.specs.declared.family.command.Command.{Command}
@@ -8,7 +8,7 @@ use Rattle.rart_family.specs.Families.{Family, Outcome, reply_to, after}
 use Rattle.rart_family.specs.Runs.{may_want_memory}
 
 module _ {K V : Type 0} (bytes : K → List ℕ) where
-  -- The reply and what it leaves; or want of memory where it may be replied, which leaves the
+  -- The reply and what it leaves; or out of memory where it may be replied, which leaves the
   -- family.
   abbrev pub Tries : Family V → Command K V → Result (program.Reply K V) AllocError → Family V
       → Type 0

@@ -39,13 +39,13 @@ module _ {V : Type 0} where
   two_with_keys None other = 0
   two_with_keys (Some one) other = if has_no_key one then 0 else 2 * one_with_key other
 
--- From the counts before to those after, so many nodes were entered to read, and none was made.
+-- From the counts before to those after, nodes were entered to read, and none was made.
 pub record ReadsBetween (least most : ℕ) (before after : Counts) : Type 0 where
   pub entered_at_least : before.entered + least ≤ after.entered
   pub entered_at_most : after.entered ≤ before.entered + most
   pub made_as_before : after.made ≡ before.made
 
--- From the counts before to those after, so many nodes were made, and so many entered: at least
+-- From the counts before to those after, nodes were made, and entered: at least
 -- those touched, and at most three times as many as are made at most.
 pub record ChangesBetween (least most touched : ℕ) (before after : Counts) : Type 0 where
   pub made_at_least : before.made + least ≤ after.made
@@ -54,7 +54,7 @@ pub record ChangesBetween (least most touched : ℕ) (before after : Counts) : T
   pub entered_at_most : after.entered ≤ before.entered + 3 * most
 
 module _ {K V : Type 0} (bytes : K → List ℕ) where
-  -- a command, replied so, enters at most so many nodes to read
+  -- the most nodes that a command, replied so, enters to read
   abbrev pub read_cost_of : Family V → Command K V → Reply V → ℕ
   read_cost_of f (Get place key) r = if_called r (lookup_bound (bytes key))
   read_cost_of f (Intersect left right) r =
@@ -67,7 +67,7 @@ module _ {K V : Type 0} (bytes : K → List ℕ) where
       if_called r (meet_cost (version_at f left) (version_at f right))
   read_cost_of f c r = 0
 
-  -- and at least so many
+  -- and the fewest
   abbrev pub read_least_of : Family V → Command K V → Reply V → ℕ
   read_least_of f (Get place key) r = if_done r (one_with_key (version_at f place))
   read_least_of f (Intersect left right) r =
@@ -80,7 +80,7 @@ module _ {K V : Type 0} (bytes : K → List ℕ) where
       if_done r (two_with_keys (version_at f left) (version_at f right))
   read_least_of f c r = 0
 
-  -- it makes at most so many nodes to change its version
+  -- the most nodes that it makes to change its version
   abbrev pub change_cost_of : Family V → Command K V → Reply V → ℕ
   change_cost_of f (GetMut place key value) r = if_called r (change_bound (bytes key))
   change_cost_of f (Insert place key value) r = if_called r (change_bound (bytes key))
@@ -91,24 +91,24 @@ module _ {K V : Type 0} (bytes : K → List ℕ) where
   change_cost_of f (TryUpdate place key write answer) r = if_called r (change_bound (bytes key))
   change_cost_of f c r = 0
 
-  -- and at least so many
+  -- and the fewest
   abbrev pub change_least_of : Family V → Command K V → Reply V → ℕ
   change_least_of f (Insert place key value) r = if_done r 1
   change_least_of f (Replace place key value) r = if_done r 1
   change_least_of f c r = 0
 
-  -- It enters at least so many to change its version, where that has a key. Before a call with a
-  -- value the value is copied, so there want of memory may come before a node is entered.
-  abbrev pub touch_least_of : Family V → Command K V → Reply V → ℕ
-  touch_least_of f (GetMut place key value) r = if_done r (one_with_key (version_at f place))
-  touch_least_of f (Insert place key value) r = if_done r (one_with_key (version_at f place))
-  touch_least_of f (Replace place key value) r = if_done r (one_with_key (version_at f place))
-  touch_least_of f (Remove place key) r = if_called r (one_with_key (version_at f place))
-  touch_least_of f (Delete place key) r = if_called r (one_with_key (version_at f place))
-  touch_least_of f (Update place key write answer) r = if_done r (one_with_key (version_at f place))
-  touch_least_of f (TryUpdate place key write answer) r =
+  -- The fewest nodes that it enters to change its version, where that has a key. Before a call with
+  -- a value the value is copied, so there out of memory may come before a node is entered.
+  abbrev pub enter_least_of : Family V → Command K V → Reply V → ℕ
+  enter_least_of f (GetMut place key value) r = if_done r (one_with_key (version_at f place))
+  enter_least_of f (Insert place key value) r = if_done r (one_with_key (version_at f place))
+  enter_least_of f (Replace place key value) r = if_done r (one_with_key (version_at f place))
+  enter_least_of f (Remove place key) r = if_called r (one_with_key (version_at f place))
+  enter_least_of f (Delete place key) r = if_called r (one_with_key (version_at f place))
+  enter_least_of f (Update place key write answer) r = if_done r (one_with_key (version_at f place))
+  enter_least_of f (TryUpdate place key write answer) r =
       if_done r (one_with_key (version_at f place))
-  touch_least_of f c r = 0
+  enter_least_of f c r = 0
 
   -- A command, replied so, raises the counts by what it costs.
   abbrev pub CountsReads : Family V → Command K V → Reply V → Counts → Counts → Type 0
@@ -116,7 +116,7 @@ module _ {K V : Type 0} (bytes : K → List ℕ) where
 
   abbrev pub CountsChanges : Family V → Command K V → Reply V → Counts → Counts → Type 0
   CountsChanges f c r =
-      ChangesBetween (change_least_of f c r) (change_cost_of f c r) (touch_least_of f c r)
+      ChangesBetween (change_least_of f c r) (change_cost_of f c r) (enter_least_of f c r)
 
   -- costs added up along a run, each at the family before its command
   abbrev pub along : (Family V → Command K V → Reply V → ℕ) → Family V → List (Command K V)
@@ -137,5 +137,5 @@ module _ {K V : Type 0} (bytes : K → List ℕ) where
   abbrev pub change_least : Family V → List (Command K V) → List (Reply V) → ℕ
   change_least = along change_least_of
 
-  abbrev pub touch_least : Family V → List (Command K V) → List (Reply V) → ℕ
-  touch_least = along touch_least_of
+  abbrev pub enter_least : Family V → List (Command K V) → List (Reply V) → ℕ
+  enter_least = along enter_least_of

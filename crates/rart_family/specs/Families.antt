@@ -3,7 +3,7 @@ use Rattle.std.specs.Prelude.{ℕ, ◌+◌, ◌^◌, Bool, false, ◌&&◌, if�
 use Rattle.std.specs.Option.{unwrap_or, option_to_list}
 use Rattle.std.specs.Range.Bound.{bound_map}
 use Rattle.rart_maps.specs.Versions.{Version, empty_at, has_no_key, value_at, has_key, with_rise, with_key}
-use Rattle.rart_maps.specs.Pairs.{pairs, within, under, beginnings, longest_beginning, common}
+use Rattle.rart_maps.specs.Pairs.{pairs, within, under, prefix_matches, longest_prefix_match, common}
 use Rattle.rart_maps.specs.Changes.{after_removal, after_writing, slot_of, slot_update, slot_attempt}
 use Rattle.rart_family.specs.declared.family.command.Failure.{Failure}
 use Rattle.rart_family.specs.declared.family.command.Command.{Command}
@@ -45,8 +45,8 @@ module _ {V : Type 0} (family : Family V) where
   read_outcome place reply = at_place place (λ v. (reply v, family))
 
   -- a call that reads the versions at two places, and leaves the family; so where either has none
-  abbrev pub meet_outcome : ℕ → ℕ → (Version V → Version V → Reply V) → Outcome V
-  meet_outcome left right reply =
+  abbrev pub intersection_outcome : ℕ → ℕ → (Version V → Version V → Reply V) → Outcome V
+  intersection_outcome left right reply =
       at_place left (λ one. at_place right (λ other. (reply one other, family)))
 
   -- a call that replaces the version at its place
@@ -66,7 +66,7 @@ module _ {V : Type 0} where
   tried_reply (Ok flag) = Flag flag
   tried_reply (Err failure) = Failed
 
--- whether the visit of this number comes, counted from 1, where so many values may be visited
+-- whether the visit of this number comes, counted from 1, where `count` values may be visited
 abbrev pub is_reached : ℕ → ℕ → Bool
 is_reached visit count = nat_lt 0 visit && nat_le visit count
 
@@ -130,9 +130,9 @@ module _ {K V : Type 0} (bytes : K → List ℕ) where
   outcome f (Prefix place prefix) =
       read_outcome f place (λ v. Entries (under v.content (bytes prefix)))
   outcome f (Matches place key) =
-      read_outcome f place (λ v. Entries (beginnings v.content (bytes key)))
+      read_outcome f place (λ v. Entries (prefix_matches v.content (bytes key)))
   outcome f (MatchesEach place key) =
-      read_outcome f place (λ v. Entries (beginnings v.content (bytes key)))
+      read_outcome f place (λ v. Entries (prefix_matches v.content (bytes key)))
   outcome f (Views place) = read_outcome f place (λ v. Entries (pairs v.content))
   outcome f (PrefixViews place prefix) =
       read_outcome f place (λ v. Entries (under v.content (bytes prefix)))
@@ -144,18 +144,19 @@ module _ {K V : Type 0} (bytes : K → List ℕ) where
   outcome f (Until place prefix visits fails) =
       read_outcome f place (λ v. stopped visits fails (values_of (under v.content (bytes prefix))))
   outcome f (Intersect left right) =
-      meet_outcome f left right (λ one other. Pairs (common one.content other.content))
+      intersection_outcome f left right (λ one other. Pairs (common one.content other.content))
   outcome f (IntersectViews left right) =
-      meet_outcome f left right (λ one other. Pairs (common one.content other.content))
+      intersection_outcome f left right (λ one other. Pairs (common one.content other.content))
   outcome f (IntersectValues left right) =
-      meet_outcome f left right (λ one other.
+      intersection_outcome f left right (λ one other.
       ValuePairs (value_pairs_of (common one.content other.content)))
   outcome f (IntersectCount left right) =
-      meet_outcome f left right (λ one other. Count (length (common one.content other.content)))
+      intersection_outcome f left right
+      (λ one other. Count (length (common one.content other.content)))
   outcome f (Flatten place) = read_outcome f place (λ v. Entries (pairs v.content))
   outcome f (Longest place key) =
       read_outcome f place (λ v. Entries
-      (option_to_list (longest_beginning v.content (bytes key))))
+      (option_to_list (longest_prefix_match v.content (bytes key))))
 
   abbrev pub reply_to : Family V → Command K V → Reply V
   reply_to f c = (outcome f c).0

@@ -74,7 +74,7 @@ module _ (K V : Type 0) (bytes : K → List ℕ) where
   RepliesFixRuns = (old new other : Family V) (cs : List (Command K V)) (rs : List (Reply V))
       → Run bytes old cs rs new → Run bytes old cs rs other → new ≡ other
 
-  -- Where it is not want of memory, a step's reply is the command's own, and so is what it leaves.
+  -- Where it is not out of memory, a step's reply is the command's own, and so is what it leaves.
   abbrev pub StepsReplyTheirOwn : Type 0
   StepsReplyTheirOwn =
       (old new : Family V) (c : Command K V) (r : Reply V)
@@ -87,7 +87,7 @@ module _ (K V : Type 0) (bytes : K → List ℕ) where
       (old new : Family V) (cs : List (Command K V)) (rs : List (Reply V))
       → Run bytes old cs rs new → length rs ≡ length cs
 
-  -- Want of memory is no command's own reply.
+  -- Out of memory is no command's own reply.
   abbrev pub NoReplyIsWant : Type 0
   NoReplyIsWant = (f : Family V) (c : Command K V) → reply_to bytes f c ≢ NoMemory
 
@@ -110,13 +110,13 @@ module _ (K V : Type 0) (bytes : K → List ℕ) where
       LacksKey f place key × ¬ Inserts answer
   TakesNoMemory f c = ⊥
 
-  -- No step replies want of memory to a command that takes none.
+  -- No step replies out of memory to a command that takes none.
   abbrev pub NoWantWithoutMemory : Type 0
   NoWantWithoutMemory =
       (old new : Family V) (c : Command K V)
       → TakesNoMemory old c → ¬ Step bytes old c NoMemory new
 
-  -- No step replies want of memory where a version or room is lacking.
+  -- No step replies out of memory where a version or room is lacking.
   abbrev pub NoWantBeforeLack : Type 0
   NoWantBeforeLack =
       (old new : Family V) (c : Command K V)

@@ -16,7 +16,7 @@ module _ {V : Type 0} where
   ChangesAt place (Err refusal) before after outcome = after ≡ before
 
   -- A change at w of the version at a place makes at most `change_bound w` nodes. It enters at most
-  -- so many, and at least one where the version has a key.
+  -- `entered`, and at least one where the version has a key.
   pub record CountsChangeAt (entered : ℕ) (f : Family V) (place : ℕ) (w : List ℕ)
       (before after : Counts) : Type 0 where
     pub at_most : CountsUpTo entered (change_bound w) before after

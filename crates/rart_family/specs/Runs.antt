@@ -5,7 +5,7 @@ use Rattle.rart_family.specs.declared.family.command.Command.TheVariants.{Discar
 use Rattle.rart_family.specs.Replies.{Reply, Value, Flag, NoVersion, NoRoom, NoMemory}
 use Rattle.rart_family.specs.Families.{Family, reply_to, after}
 
--- whether want of memory may be replied in place of this reply
+-- whether out of memory may be replied in place of this reply
 abbrev pub may_want_memory : {K V : Type 0} → Command K V → Reply V → Bool
 may_want_memory c NoVersion = false
 may_want_memory c NoRoom = false
@@ -21,7 +21,7 @@ may_want_memory (TryUpdate place key None answer) (Flag false) = false
 may_want_memory c r = true
 
 module _ {K V : Type 0} (bytes : K → List ℕ) where
-  -- The command's own reply and what it leaves; or want of memory, which leaves the family.
+  -- The command's own reply and what it leaves; or out of memory, which leaves the family.
   abbrev pub Step : Family V → Command K V → Reply V → Family V → Type 0
   Step old c r new =
       ((r ≡ reply_to bytes old c) × (new ≡ after bytes old c))

@@ -4,7 +4,7 @@ use Rattle.rart_family.specs.declared.family.command.Command.TheVariants.{New, G
 use Rattle.rart_family.specs.Replies.{Place, Flag, Value, NoVersion, NoMemory}
 use Rattle.rart_family.specs.Families.{Family}
 use Rattle.rart_family.specs.Runs.{Run}
-use Rattle.rart_family.specs.Costs.{read_cost, read_least, change_cost, change_least, touch_least}
+use Rattle.rart_family.specs.Costs.{read_cost, read_least, change_cost, change_least, enter_least}
 use Rattle.rart_family.specs.WorkedRuns.{WorkedRun, snapshot_of_a_value, changes_apart, clone_and_snapshot, replacements, removal_of_an_absent_key, deletion_beside_a_snapshot, failed_update, discarded_place, written_and_inserted, room_for_one, room_for_two, insertion_by_update, written_and_removed, numbers_of_removals, updates_of_an_absent_key, lists_of_two_versions, visits_of_a_version, flattened_version, keys_of_both, key_of_both_after_deletion, empty_beside_a_key, keys_that_begin_others, intersections_of_lost_places, longest_matches, key_put_in_twice, deletion_of_an_absent_key, place_discarded_twice, changes_at_the_greatest_number, changes_of_a_key_at_the_greatest_number, settings_below_the_greatest_number, removals_below_the_greatest_number, snapshot_below_the_greatest_number, writes_to_a_vacant_slot, values_under_a_key, matches_of_a_key, bounds_at_keys, lists_of_one_key, refusals}
 
 -- The sums of a run: how many nodes it enters to read, makes to change and enters to change.
@@ -21,11 +21,11 @@ sums run = record {
   most_read = read_cost (λ key. key) [] run.0 run.1;
   least_made = change_least (λ key. key) [] run.0 run.1;
   most_made = change_cost (λ key. key) [] run.0 run.1;
-  least_touched = touch_least (λ key. key) [] run.0 run.1;
+  least_touched = enter_least (λ key. key) [] run.0 run.1;
 }
 
--- A run enters so many nodes to read, at least and at most, makes so many to change, at least and
--- at most, and enters at least so many to change.
+-- A run enters some nodes to read, at least and at most, makes some to change, at least and
+-- at most, and enters at least some to change.
 abbrev pub Costs : WorkedRun → ℕ → ℕ → ℕ → ℕ → ℕ → Type 0
 Costs run least_read most_read least_made most_made least_touched =
     sums run
@@ -122,10 +122,10 @@ IntersectionAfterDeletionCosts = Costs key_of_both_after_deletion 2 8 3 20 2
 abbrev pub EmptyIntersectionsCost : Type 0
 EmptyIntersectionsCost = Costs empty_beside_a_key 1 2 1 3 0
 
--- Seven strings in three intersections, the beginnings of abcdef; and the one of a version with
+-- Seven strings in three intersections, the prefixes of abcdef; and the one of a version with
 -- itself, where each of the ten strings that begin its keys begins one of both.
-abbrev pub BeginningsCost : Type 0
-BeginningsCost = Costs keys_that_begin_others 8 62 6 38 4
+abbrev pub PrefixMatchesCost : Type 0
+PrefixMatchesCost = Costs keys_that_begin_others 8 62 6 38 4
 
 -- Two strings, "" and a, in two intersections. Where a version is lacking none is entered.
 abbrev pub LostPlacesCost : Type 0

@@ -308,8 +308,8 @@ keys_that_begin_others = (
 
 -- A key of the one that only begins keys of the other is in no intersection; and a version has all
 -- its keys in common with itself.
-abbrev pub BeginningIsNoKeyOfBoth : Type 0
-BeginningIsNoKeyOfBoth = IsReplied keys_that_begin_others
+abbrev pub PrefixIsNoKeyOfBoth : Type 0
+PrefixIsNoKeyOfBoth = IsReplied keys_that_begin_others
 
 abbrev pub intersections_of_lost_places : WorkedRun
 intersections_of_lost_places = (

@@ -4,7 +4,7 @@ ghost use Rattle.std.specs.Option.{option_copied};
 ghost use Rattle.rart_versioned.specs.Clones.{ClonesEqual};
 ghost use Rattle.rart_maps.specs.Versions.{HasRoom};
 ghost use Rattle.rart_family.specs.Attempts.{Tries, Gives, reply_or_want};
-ghost use Rattle.rart_family.specs.Costs.{read_cost, read_least, change_cost, change_least, touch_least, CountsReads, CountsChanges};
+ghost use Rattle.rart_family.specs.Costs.{read_cost, read_least, change_cost, change_least, enter_least, CountsReads, CountsChanges};
 ghost use Rattle.rart_family.specs.Families.{version_at, placement};
 ghost use Rattle.rart_family.specs.Replies.{reply_value};
 ghost use Rattle.rart_family.specs.Runs.{Step, Run};
@@ -114,7 +114,7 @@ impl<K: KeyTrait, V: Clone + Drop> Family<K, V> {
             + change_cost K.bytes self.old commands.now (map (reply_value K.bytes) replies.items)) }
         ensures entered_to_change_at_least { IfOk result (λ replies.
             changes.old.entered
-            + touch_least K.bytes self.old commands.now (map (reply_value K.bytes) replies.items)
+            + enter_least K.bytes self.old commands.now (map (reply_value K.bytes) replies.items)
             ≤ changes.new.entered) }
         ensures entered_to_change_at_most { IfOk result (λ replies.
             changes.new.entered
@@ -200,8 +200,8 @@ impl<K: KeyTrait, V: Clone + Drop> Family<K, V> {
             Command::Values { place } => self.values(*place),
             Command::Range { place, lo, hi } => self.range(*place, lo, hi),
             Command::Prefix { place, prefix } => self.prefix(*place, prefix),
-            Command::Matches { place, key } => self.matches(*place, key),
-            Command::MatchesEach { place, key } => self.matches_each(*place, key),
+            Command::Matches { place, key } => self.prefix_matches(*place, key),
+            Command::MatchesEach { place, key } => self.prefix_matches_each(*place, key),
             Command::Views { place } => self.views(*place),
             Command::PrefixViews { place, prefix } => self.prefix_views(*place, prefix),
             Command::RangeViews { place, lo, hi } => self.range_views(*place, lo, hi),

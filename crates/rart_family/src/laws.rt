@@ -1,7 +1,7 @@
 //! What the definitions of families mean: laws, each the contract of a function that does nothing.
 ghost use Rattle.rart_family.specs.Laws.{StepsAreIsolated, PlacesStay, RepliesFixSteps, RepliesFixRuns, StepsReplyTheirOwn, RunsReplyToEach, NoReplyIsWant, NoWantWithoutMemory, NoWantBeforeLack, ReadsLeaveFamily, VisitorsReplyAsIterators, IntersectionsSwap};
-ghost use Rattle.rart_family.specs.WorkedCosts.{RefusedMemoryIsARun, SnapshotCosts, ChangesApartCost, CloneCosts, ReplacementsCost, AbsentRemovalCosts, DeletionCosts, FailedUpdateCosts, DiscardedPlaceCosts, WrittenAndInsertedCosts, RoomForOneCosts, RoomForTwoCosts, InsertionByUpdateCosts, WrittenAndRemovedCosts, NumbersOfRemovalsCost, UpdatesOfAnAbsentKeyCost, ListsCost, VisitsCost, FlatteningCosts, IntersectionsCost, IntersectionAfterDeletionCosts, EmptyIntersectionsCost, BeginningsCost, LostPlacesCost, LongestMatchesCost, SecondValueCosts, AbsentDeletionCosts, DiscardingCosts, GreatestNumberCosts, GreatestNumberWithAKeyCosts, SettingsCost, RemovalsCost, LastSnapshotCosts, VacantSlotCosts, PrefixCosts, MatchesCost, BoundsCost, OneKeyCosts, RefusalsCost, RefusedMemoryCosts};
-ghost use Rattle.rart_family.specs.WorkedRuns.{SnapshotKeepsItsValue, ChangesStayApart, CloneKeepsNumber, ReplacementGivesOldValue, AbsentKeyStaysAbsent, DeletionIsNotSeenInSnapshot, FailedUpdateKeepsValue, DiscardedPlaceIsNotUsedAgain, AnswerOutweighsWrite, RoomIsAsked, RoomTwoIsAsked, InsertionByUpdateTakesOne, RemovalOutweighsWrite, RemovalsRaiseNumber, UpdatesOfAnAbsentKey, ListsAreOfOneVersion, VisitsAreCountedFromOne, FlatteningLeavesItsVersion, IntersectionHasKeysOfBoth, DeletedKeyIsInNoIntersection, EmptyVersionMeetsNothing, BeginningIsNoKeyOfBoth, IntersectionNeedsBothVersions, LongestMatchIsAlone, SecondValueStays, AbsentKeyIsNotDeleted, PlacesAreDiscardedOnce, GreatestNumberHasNoRoom, GreatestNumberKeepsItsKeys, SettingsTakeTheLastRoom, RemovalsTakeTheLastRoom, SnapshotTakesTheLastRoom, VacantSlotTakesNoWrite, PrefixIsAmongItsKeys, ProbeIsAmongItsMatches, BoundsAreIncludedOrNot, OneKeyIsListed, RefusalsComeInOrder, VacantSlotKeepsItsValue};
+ghost use Rattle.rart_family.specs.WorkedCosts.{RefusedMemoryIsARun, SnapshotCosts, ChangesApartCost, CloneCosts, ReplacementsCost, AbsentRemovalCosts, DeletionCosts, FailedUpdateCosts, DiscardedPlaceCosts, WrittenAndInsertedCosts, RoomForOneCosts, RoomForTwoCosts, InsertionByUpdateCosts, WrittenAndRemovedCosts, NumbersOfRemovalsCost, UpdatesOfAnAbsentKeyCost, ListsCost, VisitsCost, FlatteningCosts, IntersectionsCost, IntersectionAfterDeletionCosts, EmptyIntersectionsCost, PrefixMatchesCost, LostPlacesCost, LongestMatchesCost, SecondValueCosts, AbsentDeletionCosts, DiscardingCosts, GreatestNumberCosts, GreatestNumberWithAKeyCosts, SettingsCost, RemovalsCost, LastSnapshotCosts, VacantSlotCosts, PrefixCosts, MatchesCost, BoundsCost, OneKeyCosts, RefusalsCost, RefusedMemoryCosts};
+ghost use Rattle.rart_family.specs.WorkedRuns.{SnapshotKeepsItsValue, ChangesStayApart, CloneKeepsNumber, ReplacementGivesOldValue, AbsentKeyStaysAbsent, DeletionIsNotSeenInSnapshot, FailedUpdateKeepsValue, DiscardedPlaceIsNotUsedAgain, AnswerOutweighsWrite, RoomIsAsked, RoomTwoIsAsked, InsertionByUpdateTakesOne, RemovalOutweighsWrite, RemovalsRaiseNumber, UpdatesOfAnAbsentKey, ListsAreOfOneVersion, VisitsAreCountedFromOne, FlatteningLeavesItsVersion, IntersectionHasKeysOfBoth, DeletedKeyIsInNoIntersection, EmptyVersionMeetsNothing, PrefixIsNoKeyOfBoth, IntersectionNeedsBothVersions, LongestMatchIsAlone, SecondValueStays, AbsentKeyIsNotDeleted, PlacesAreDiscardedOnce, GreatestNumberHasNoRoom, GreatestNumberKeepsItsKeys, SettingsTakeTheLastRoom, RemovalsTakeTheLastRoom, SnapshotTakesTheLastRoom, VacantSlotTakesNoWrite, PrefixIsAmongItsKeys, ProbeIsAmongItsMatches, BoundsAreIncludedOrNot, OneKeyIsListed, RefusalsComeInOrder, VacantSlotKeepsItsValue};
 
 use rart_versioned::KeyTrait;
 
@@ -21,7 +21,7 @@ pub fn replies_fix_families<K: KeyTrait, V>()
 {}
 
 #[tactic(auto, using(crate::proofs::LawLemmas::own_replies, crate::proofs::LawLemmas::one_each))]
-/// Where it is not want of memory, a step's reply is the command's own, and so is what it leaves. A
+/// Where it is not out of memory, a step's reply is the command's own, and so is what it leaves. A
 /// run has one reply a command.
 pub fn replies_are_the_commands_own<K: KeyTrait, V>()
     ensures step { StepsReplyTheirOwn K V K.bytes }
@@ -29,13 +29,13 @@ pub fn replies_are_the_commands_own<K: KeyTrait, V>()
 {}
 
 #[tactic(auto, using(crate::proofs::LawLemmas::no_want))]
-/// Want of memory is no command's own reply.
+/// Out of memory is no command's own reply.
 pub fn no_reply_is_want<K: KeyTrait, V>()
     ensures { NoReplyIsWant K V K.bytes }
 {}
 
-#[tactic(auto, using(crate::proofs::WantLemmas::no_want_without_memory, crate::proofs::WantLemmas::no_want_before_lack))]
-/// No step replies want of memory to a command that takes none, as a lookup of an absent key or an
+#[tactic(auto, using(crate::proofs::OutOfMemoryLemmas::no_want_without_memory, crate::proofs::OutOfMemoryLemmas::no_want_before_lack))]
+/// No step replies out of memory to a command that takes none, as a lookup of an absent key or an
 /// update that writes and inserts nothing there, nor where a version or room is lacking.
 pub fn want_of_memory_is_bounded<K: KeyTrait, V>()
     ensures without_memory { NoWantWithoutMemory K V K.bytes }
@@ -79,7 +79,7 @@ pub fn worked_runs()
     ensures intersection_has_keys_of_both { IntersectionHasKeysOfBoth }
     ensures deleted_key_is_in_no_intersection { DeletedKeyIsInNoIntersection }
     ensures empty_version_meets_nothing { EmptyVersionMeetsNothing }
-    ensures beginning_is_no_key_of_both { BeginningIsNoKeyOfBoth }
+    ensures prefix_is_no_key_of_both { PrefixIsNoKeyOfBoth }
     ensures intersection_needs_both_versions { IntersectionNeedsBothVersions }
     ensures longest_match_is_alone { LongestMatchIsAlone }
     ensures second_value_stays { SecondValueStays }
@@ -122,7 +122,7 @@ pub fn worked_costs()
     ensures intersections_cost { IntersectionsCost }
     ensures intersection_after_deletion_costs { IntersectionAfterDeletionCosts }
     ensures empty_intersections_cost { EmptyIntersectionsCost }
-    ensures beginnings_cost { BeginningsCost }
+    ensures prefix_matches_cost { PrefixMatchesCost }
     ensures lost_places_cost { LostPlacesCost }
     ensures longest_matches_cost { LongestMatchesCost }
     ensures second_value_costs { SecondValueCosts }

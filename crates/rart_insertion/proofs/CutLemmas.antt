@@ -1,6 +1,6 @@
 -- A node that is cut inside its prefix, and what is put into a node as far as its prefix is
 -- matched.
-use Rattle.std.proofs.Common.{◌≡◌, ℕ, ◌<◌, List, [], ◌∷◌, ◌++◌, Option, Some, None, slice_get, length, take, drop, cond, Bool, true, false, refl, arith, sym, ap, subst, ◌∙◌}
+use Rattle.std.proofs.Common.{◌≡◌, ℕ, ◌<◌, List, ◌++◌, Some, None, slice_get, length, take, drop, cond, false, refl, arith, sym, ap, subst, ◌∙◌}
 use Rattle.std.specs.Prelude.{◌==◌, slice_index_or}
 use Rattle.std.specs.Option.{option_and_then}
 use Rattle.std.specs.Cmp.{unsigned_tied}
@@ -8,7 +8,7 @@ use Rattle.std.specs.Str.{bytes_eq}
 use Rattle.std.proofs.lemmas.List.{take-append-drop}
 use Rattle.rart_below.specs.Bytes.{common_length}
 use Rattle.rart_below.specs.Children.{child_at}
-use Rattle.rart_node.specs.Shape.{Shape, Forest, node, bare, grown, prefix_of, children_of}
+use Rattle.rart_node.specs.Shape.{Shape, node, prefix_of, children_of}
 use Rattle.rart_shape.specs.Trees.{strip_prefix, BeginsWith, found, IsTree, IsOrdered, IsPut, cut_at}
 use Rattle.rart_shape.proofs.PrefixLemmas.{behind-append, split-common, differs-strip_prefix, begins-drop, begins-common}
 use Rattle.rart_shape.proofs.OnlyChildLemmas.{along}

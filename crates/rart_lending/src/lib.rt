@@ -4,22 +4,20 @@
 
 ghost use Rattle.std.specs.Prelude.{◌≡◌, ◌+◌, Some, IfOk};
 ghost use Rattle.std.specs.Borrow.{sem};
-ghost use Rattle.rart_below.specs.Clones.{ClonesEqual};
-ghost use Rattle.rart_lending.specs.Paths.{Arrives, LendsAlong};
+ghost use Rattle.rart_lending.specs.Grafts.{LendsAlong};
+ghost use Rattle.rart_lending.specs.Loans.{CanLend};
 ghost use Rattle.rart_node.specs.Counts.{CountsUpTo};
 ghost use Rattle.rart_node.specs.NodeShapes.{pointer_shape};
-ghost use Rattle.rart_shape.specs.Trees.{IsTree, found};
+ghost use Rattle.rart_shape.specs.Trees.{found};
 
 mod path;
-mod search;
 
 use path::{Path, Whole};
 use rart_below::Partial;
 use rart_node::{NodeRef, Work};
-pub use search::path_length;
 use std::alloc::AllocError;
 
-/// Lends the value of a key that ends so many nodes below a pointer, for writing.
+/// Lends the value of a key that ends `down` nodes below a pointer, for writing.
 ///
 /// Each node on the way is opened for writing once. Refused for memory, the pointer shows what it
 /// showed.
@@ -29,9 +27,7 @@ pub fn lend_below<'a, P: Partial, V: Clone + Drop>(
     steps: usize,
     work: &mut Work,
 ) -> Result<&'a mut V, AllocError>
-    requires clones { ClonesEqual V.is_clone }
-    requires tree { IsTree (pointer_shape P.bytes at.old) }
-    requires arrives { Arrives steps key.now (pointer_shape P.bytes at.old) }
+    requires { CanLend V.is_clone steps key.now (pointer_shape P.bytes at.old) }
     ensures* writes_back { sem 𝓛 (LendsAlong P.row V.row P.bytes at.entry key.now result) }
     ensures value { IfOk result (λ value. found (pointer_shape P.bytes at.old) key.now
         ≡ Some value.now) }

@@ -1,15 +1,10 @@
 // Ported from rart 0.11.0 (Apache-2.0), and rewritten.
 //! The way down a tree to the node that is to be lent.
-ghost use Rattle.std.specs.Prelude.{◌≡◌, ℕ, ◌+◌, ◌*◌, ◌<◌, ◌≤◌, IfOk, Some, IsSome, length, drop};
+ghost use Rattle.std.specs.Prelude.{ℕ, ◌+◌, ◌*◌, drop};
 ghost use Rattle.std.specs.Borrow.{sem};
-ghost use Rattle.std.specs.Option.{option_map};
-ghost use Rattle.rart_below.specs.Children.{child_at};
-ghost use Rattle.rart_below.specs.Clones.{ClonesEqual};
+ghost use Rattle.rart_lending.specs.Grafts.{LendsPathEnd};
+ghost use Rattle.rart_lending.specs.Loans.{CanGoDown, GoesDeeper, GoesUnder, ReachesEnd};
 ghost use Rattle.rart_node.specs.NodeShapes.{node_shape, pointer_shape};
-ghost use Rattle.rart_node.specs.Shape.{children_of};
-ghost use Rattle.rart_node.specs.Counts.{CountsUpTo};
-ghost use Rattle.rart_lending.specs.Paths.{step, path_end, first_byte, LendsPathEnd};
-ghost use Rattle.rart_shape.specs.Trees.{IsTree};
 
 use rart_below::Partial;
 use rart_node::{NodeRef, VersionedNode, Work};
@@ -24,7 +19,7 @@ use std::marker::PhantomData;
 pub(crate) trait Path<P: Partial, V: Clone + Drop> {
     ghost most: { ℕ };
 
-    /// Lends the node that is so many nodes down on the way of a key. `depth` bytes of the key
+    /// Lends the node that is `steps` nodes down on the way of a key. `depth` bytes of the key
     /// stand above the node of the pointer, and then above the last one.
     fn down<'a>(
         at: &'a mut NodeRef<P, V>,
@@ -33,19 +28,12 @@ pub(crate) trait Path<P: Partial, V: Clone + Drop> {
         steps: usize,
         work: &mut Work,
     ) -> Result<&'a mut VersionedNode<P, V>, AllocError>
-        requires clones { ClonesEqual V.is_clone }
-        requires depth { depth.old ≤ length key.now }
-        requires tree { IsTree (pointer_shape P.bytes at.old) }
-        requires few { steps ≤ most }
-        requires there { IsSome (path_end steps (drop depth.old key.now)
-            (pointer_shape P.bytes at.old)) }
+        requires { CanGoDown V.is_clone most steps key.now depth.old
+            (pointer_shape P.bytes at.old) }
         ensures* writes_back { sem 𝓛 (LendsPathEnd P.row V.row P.bytes at.entry steps
             (drop depth.entry.now key.now) result) }
-        ensures reached { IfOk result (λ end. path_end steps (drop depth.old key.now)
-            (pointer_shape P.bytes at.old)
-            ≡ Some (node_shape P.bytes end.now, drop depth.new key.now)) }
-        ensures within { depth.new ≤ length key.now }
-        ensures counted { CountsUpTo (steps + 1) (steps + 1) work.old work.new };
+        ensures reaches { ReachesEnd P.bytes result steps key.now depth.old
+            (pointer_shape P.bytes at.old) depth.new work.old work.new };
 }
 
 /// The node of the pointer itself.
@@ -96,13 +84,8 @@ impl<P: Partial, V: Clone + Drop, L: Path<P, V>> Path<P, V> for Twice<L> {
 /// The byte under which a key goes on below a node. `depth` bytes of the key stand above the node,
 /// and then above the child.
 fn next_byte<P: Partial, V: Drop>(node: &VersionedNode<P, V>, key: &[u8], depth: &mut usize) -> u8
-    requires depth { depth.old ≤ length key.now }
-    requires there { IsSome (step (drop depth.old key.now) (node_shape P.bytes node.now)) }
-    ensures next { step (drop depth.old key.now) (node_shape P.bytes node.now) ≡ option_map
-        (λ child. (child, drop depth.new key.now))
-        (child_at result (children_of (node_shape P.bytes node.now))) }
-    ensures first { first_byte (drop depth.new key.now) ≡ result }
-    ensures within { depth.new ≤ length key.now }
+    requires { GoesDeeper key.now depth.old (node_shape P.bytes node.now) }
+    ensures { GoesUnder result key.now depth.old (node_shape P.bytes node.now) depth.new }
 {
     *depth += node.prefix().len();
     key[*depth]

@@ -6,16 +6,16 @@ use Rattle.rart_below.specs.Children.{child_at}
 use Rattle.rart_node.specs.Shape.{Shape, node, IsAscending, prefix_of, value_of, children_of, entries_of, with_prefix}
 use Rattle.rart_lockstep.specs.Branches.{first_byte}
 use Rattle.rart_lockstep.specs.Children.{common_children}
-use Rattle.rart_lockstep.specs.Sides.{value_here, arms}
+use Rattle.rart_lockstep.specs.TreeCursors.{value_here, next_children}
 use Rattle.rart_lockstep.proofs.ChildLemmas.{common-first, common-none}
 
 module _ {V : Type 0} where
   pub children-with : (s : Shape V) (p : List ℕ) → children_of (with_prefix p s) ≡ children_of s
   children-with (node prefix value width forest) p = refl
 
-  pub arms-ended : (s : Shape V) → prefix_of s ≡ [] → arms s ≡ children_of s
-  arms-ended (node [] value width forest) end = refl
-  arms-ended (node (b ∷ prefix) value width forest) end = cc
+  pub next_children-ended : (s : Shape V) → prefix_of s ≡ [] → next_children s ≡ children_of s
+  next_children-ended (node [] value width forest) end = refl
+  next_children-ended (node (b ∷ prefix) value width forest) end = cc
 
   pub value-ended : (s : Shape V) → prefix_of s ≡ [] → value_here s ≡ value_of s
   value-ended (node [] value width forest) end = refl
@@ -25,7 +25,7 @@ module _ {V : Type 0} where
   -- next.
   pub branch-left : (s t : Shape V) (b : ℕ) → IsAscending s
       → (prefix_of s ≡ []) ⊎ (prefix_of t ≡ []) → slice_get (prefix_of t) 0 ≡ Some b
-      → common_children (arms s) (arms t)
+      → common_children (next_children s) (next_children t)
       ≡ cons_option (option_map (λ child. (first_byte (prefix_of t), (child, t)))
       (child_at b (children_of s))) []
   branch-left s (node [] value width forest) b order ends first = cc
@@ -46,14 +46,14 @@ module _ {V : Type 0} where
   -- So the other way round.
   pub branch-right : (s t : Shape V) (b : ℕ) → prefix_of t ≡ []
       → slice_get (prefix_of s) 0 ≡ Some b
-      → common_children (arms s) (arms t)
+      → common_children (next_children s) (next_children t)
       ≡ cons_option (option_map (λ child. (first_byte (prefix_of s), (s, child)))
       (child_at b (children_of t))) []
   branch-right (node [] value width forest) t b ends first = cc
   branch-right (node (c ∷ p) value width forest) t b ends first =
       let s : Shape V = node (c ∷ p) value width forest in
       let same : c ≡ b = cc in
-      ap (λ children. common_children ((c, s) ∷ []) children) (arms-ended t ends)
+      ap (λ children. common_children ((c, s) ∷ []) children) (next_children-ended t ends)
       ∙ ap (λ byte. cons_option (option_map (λ child. (c, (s, child)))
       (child_at byte (children_of t))) []) same
 
@@ -69,7 +69,7 @@ module _ {V : Type 0} where
   pub step-left : (n t : Shape V) (p rest : List ℕ) (b : ℕ) (found : Option (Shape V))
       → IsAscending (with_prefix p n) → (p ≡ []) ⊎ (prefix_of t ≡ []) → rest ≡ prefix_of t
       → Some b ≡ slice_get rest 0 → found ≡ child_at b (children_of n)
-      → to_left t found ≡ common_children (arms (with_prefix p n)) (arms t)
+      → to_left t found ≡ common_children (next_children (with_prefix p n)) (next_children t)
   step-left (node q value width forest) t p rest b found order ends is first here =
       let first_of : slice_get (prefix_of t) 0 ≡ Some b =
       ap (λ w. slice_get w 0) (sym is) ∙ sym first in
@@ -79,7 +79,7 @@ module _ {V : Type 0} where
   pub step-right : (s n : Shape V) (p rest : List ℕ) (b : ℕ) (found : Option (Shape V))
       → p ≡ [] → rest ≡ prefix_of s
       → Some b ≡ slice_get rest 0 → found ≡ child_at b (children_of n)
-      → to_right s found ≡ common_children (arms s) (arms (with_prefix p n))
+      → to_right s found ≡ common_children (next_children s) (next_children (with_prefix p n))
   step-right s (node q value width forest) p rest b found ends is first here =
       let first_of : slice_get (prefix_of s) 0 ≡ Some b =
       ap (λ w. slice_get w 0) (sym is) ∙ sym first in

@@ -15,21 +15,21 @@ use Rattle.rart_shape.proofs.PrefixLemmas.{behind-append, strip_prefix-own}
 use Rattle.rart_walks.specs.Frames.{behind_path}
 use Rattle.rart_walks.proofs.WalkLemmas.{behind-behind, behind-none}
 use Rattle.rart_lockstep.specs.Children.{common_children}
-use Rattle.rart_lockstep.specs.Commons.{commons}
+use Rattle.rart_lockstep.specs.CommonPairs.{common_pairs}
 use Rattle.rart_lockstep.specs.Entries.{own_entry, behind_key}
 use Rattle.rart_lockstep.proofs.ChildLemmas.{child_at-other}
 
 module _ {V : Type 0} where
   -- what two trees have in common, where there are both
-  abbrev pub commons_in : Option (Shape V) → Option (Shape V) → List (List ℕ × V × V)
-  commons_in None right = []
-  commons_in (Some left) None = []
-  commons_in (Some left) (Some right) = commons left right
+  abbrev pub common_in : Option (Shape V) → Option (Shape V) → List (List ℕ × V × V)
+  common_in None right = []
+  common_in (Some left) None = []
+  common_in (Some left) (Some right) = common_pairs left right
 
   -- what the two trees of each pair have in common, one pair behind the other
-  abbrev pub commons_of_all : List (ℕ × (Shape V × Shape V)) → List (List ℕ × V × V)
-  commons_of_all [] = []
-  commons_of_all (pair ∷ pairs) = commons pair.1.0 pair.1.1 ++ commons_of_all pairs
+  abbrev pub common_of_all : List (ℕ × (Shape V × Shape V)) → List (List ℕ × V × V)
+  common_of_all [] = []
+  common_of_all (pair ∷ pairs) = common_pairs pair.1.0 pair.1.1 ++ common_of_all pairs
 
   -- each key for which there is another value, with both
   abbrev met : (List ℕ → Option V) → List (List ℕ × V) → List (List ℕ × V × V)
@@ -115,11 +115,11 @@ module _ {V : Type 0} where
   with_prefix-is (node prefix value width forest) p is = ap (λ z. node z value width forest) is
 
   -- What both prefixes begin with stands before each key.
-  pub commons-matched : (s t : Shape V) (u p q : List ℕ) → prefix_of s ≡ u ++ p
+  pub common_pairs-matched : (s t : Shape V) (u p q : List ℕ) → prefix_of s ≡ u ++ p
       → prefix_of t ≡ u ++ q
-      → commons s t ≡ behind_key u (commons (with_prefix p s) (with_prefix q t))
-  commons-matched s t u p q left right =
-      (λ i. commons (with_prefix-is s (u ++ p) left i) (with_prefix-is t (u ++ q) right i))
+      → common_pairs s t ≡ behind_key u (common_pairs (with_prefix p s) (with_prefix q t))
+  common_pairs-matched s t u p q left right =
+      (λ i. common_pairs (with_prefix-is s (u ++ p) left i) (with_prefix-is t (u ++ q) right i))
       ∙ ap (met (found (with_prefix (u ++ q) t))) (pairs-matched s u p)
       ∙ met-behind (found (with_prefix (u ++ q) t)) u (pairs_of (with_prefix p s))
       ∙ ap (behind_key u)
@@ -127,9 +127,9 @@ module _ {V : Type 0} where
       (pairs_of (with_prefix p s)) (found-matched t u q))
 
   -- Where the prefixes go on with different bytes, nothing is in common.
-  pub commons-mismatch : (s t : Shape V) (b c : ℕ) → BeginsWith b (prefix_of s)
-      → BeginsWith c (prefix_of t) → b ≢ c → commons s t ≡ []
-  commons-mismatch s t b c left right differ =
+  pub common_pairs-mismatch : (s t : Shape V) (b c : ℕ) → BeginsWith b (prefix_of s)
+      → BeginsWith c (prefix_of t) → b ≢ c → common_pairs s t ≡ []
+  common_pairs-mismatch s t b c left right differ =
       met-begun s b (found t) (λ key. None) left
       (λ w. found-other t c b w right (ne_eqb b c differ))
       ∙ met-none (λ key. None) (pairs_of s) (λ key. refl)
@@ -137,7 +137,7 @@ module _ {V : Type 0} where
   -- ---- one prefix ends
   in_common-some : (s : Shape V) (o : Option (Shape V))
       → met (λ key. option_and_then (λ child. found child key) o) (pairs_of s)
-      ≡ commons_in (Some s) o
+      ≡ common_in (Some s) o
   in_common-some s None = met-none (λ key. None) (pairs_of s) (λ key. refl)
   in_common-some s (Some t) = refl
 
@@ -149,9 +149,9 @@ module _ {V : Type 0} where
 
   -- Where the right prefix has ended and the left one goes on with a byte, what is in common lies
   -- in the right child under it.
-  pub commons-right_ends : (s t : Shape V) (b : ℕ) → BeginsWith b (prefix_of s)
-      → prefix_of t ≡ [] → commons s t ≡ commons_in (Some s) (child_at b (children_of t))
-  commons-right_ends s t b begins end =
+  pub common_pairs-right_ends : (s t : Shape V) (b : ℕ) → BeginsWith b (prefix_of s)
+      → prefix_of t ≡ [] → common_pairs s t ≡ common_in (Some s) (child_at b (children_of t))
+  common_pairs-right_ends s t b begins end =
       met-begun s b (found t)
       (λ key. option_and_then (λ child. found child key) (child_at b (children_of t))) begins
       (λ w. found-inside t b w end)
@@ -161,7 +161,7 @@ module _ {V : Type 0} where
   met-below : (forest : Forest V) (byte : ℕ) (t : Shape V) → IsAscending (entries_of forest)
       → AreBranches forest → BeginsWith byte (prefix_of t)
       → met (found t) (pairs_below forest)
-      ≡ commons_in (child_at byte (entries_of forest)) (Some t)
+      ≡ common_in (child_at byte (entries_of forest)) (Some t)
   met-below bare byte t ascending branches begins = refl
   met-below (grown b child forest) byte t ascending branches begins =
       let order = ascending_parts (b, child) (entries_of forest) ascending in
@@ -173,16 +173,16 @@ module _ {V : Type 0} where
             child_at-below byte b (entries_of forest) (omega (arith, same)) order.0 in
             parts
             ∙ ap (λ rest. met (found t) (pairs_of child) ++ rest)
-            (more ∙ ap (λ o. commons_in o (Some t)) none)
+            (more ∙ ap (λ o. common_in o (Some t)) none)
             ∙ append-nil (met (found t) (pairs_of child))
-            ∙ ap (λ o. commons_in o (Some t))
+            ∙ ap (λ o. common_in o (Some t))
             (sym (child_at-here byte b child (entries_of forest) same))
         | inr differ ↦
             parts
             ∙ ap (λ first. first ++ met (found t) (pairs_below forest))
-            (commons-mismatch child t b byte branches.0 begins differ)
+            (common_pairs-mismatch child t b byte branches.0 begins differ)
             ∙ more
-            ∙ ap (λ o. commons_in o (Some t))
+            ∙ ap (λ o. common_in o (Some t))
             (sym (child_at-other byte b child (entries_of forest) differ))
       ]
 
@@ -194,11 +194,11 @@ module _ {V : Type 0} where
 
   -- Where the left prefix has ended and the right one goes on with a byte, what is in common lies
   -- in the left child under it.
-  pub commons-left_ends : (s t : Shape V) (b : ℕ) → IsTree s → prefix_of s ≡ []
+  pub common_pairs-left_ends : (s t : Shape V) (b : ℕ) → IsTree s → prefix_of s ≡ []
       → BeginsWith b (prefix_of t)
-      → commons s t ≡ commons_in (child_at b (children_of s)) (Some t)
-  commons-left_ends (node (c ∷ prefix) value width forest) t b tree end begins = cc
-  commons-left_ends (node [] value width forest) t b tree end begins =
+      → common_pairs s t ≡ common_in (child_at b (children_of s)) (Some t)
+  common_pairs-left_ends (node (c ∷ prefix) value width forest) t b tree end begins = cc
+  common_pairs-left_ends (node [] value width forest) t b tree end begins =
       ap (met (found t)) (behind-none (own_pair value ++ pairs_below forest))
       ∙ met-append (found t) (own_pair value) (pairs_below forest)
       ∙ ap (λ own. own ++ met (found t) (pairs_below forest))
@@ -215,28 +215,29 @@ module _ {V : Type 0} where
 
   all-next : (byte : ℕ) (child : Shape V) (o : Option (Shape V))
       (pairs : List (ℕ × (Shape V × Shape V)))
-      → commons_of_all (cons_option (option_map (λ other. (byte, (child, other))) o) pairs)
-      ≡ commons_in (Some child) o ++ commons_of_all pairs
+      → common_of_all (cons_option (option_map (λ other. (byte, (child, other))) o) pairs)
+      ≡ common_in (Some child) o ++ common_of_all pairs
   all-next byte child None pairs = refl
   all-next byte child (Some other) pairs = refl
 
   met-all : (forest : Forest V) (t : Shape V) → AreBranches forest → prefix_of t ≡ []
       → met (found t) (pairs_below forest)
-      ≡ commons_of_all (common_children (entries_of forest) (children_of t))
+      ≡ common_of_all (common_children (entries_of forest) (children_of t))
   met-all bare t branches end = refl
   met-all (grown b child forest) t branches end =
       met-append (found t) (pairs_of child) (pairs_below forest)
-      ∙ (λ i. commons-right_ends child t b branches.0 end i ++ met-all forest t branches.2 end i)
+      ∙ (λ i. common_pairs-right_ends child t b branches.0 end i
+      ++ met-all forest t branches.2 end i)
       ∙ sym (all-next b child (child_at b (children_of t))
       (common_children (entries_of forest) (children_of t)))
 
   -- Then what is in common is the entry of the empty string, where both have a value, and what the
   -- children under the same bytes have in common.
-  pub commons-both_end : (s t : Shape V) → IsTree s → prefix_of s ≡ [] → prefix_of t ≡ []
-      → commons s t ≡ own_entry [] (value_of s) (value_of t)
-      ++ commons_of_all (common_children (children_of s) (children_of t))
-  commons-both_end (node (c ∷ prefix) value width forest) t tree end also = cc
-  commons-both_end (node [] value width forest) t tree end also =
+  pub common_pairs-both_end : (s t : Shape V) → IsTree s → prefix_of s ≡ [] → prefix_of t ≡ []
+      → common_pairs s t ≡ own_entry [] (value_of s) (value_of t)
+      ++ common_of_all (common_children (children_of s) (children_of t))
+  common_pairs-both_end (node (c ∷ prefix) value width forest) t tree end also = cc
+  common_pairs-both_end (node [] value width forest) t tree end also =
       ap (met (found t)) (behind-none (own_pair value ++ pairs_below forest))
       ∙ met-append (found t) (own_pair value) (pairs_below forest)
       ∙ (λ i. met-both value t also i ++ met-all forest t tree.1 also i)

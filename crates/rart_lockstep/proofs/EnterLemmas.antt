@@ -11,12 +11,12 @@ use Rattle.rart_maps.specs.Pairs.{Strings}
 use Rattle.rart_maps.specs.StartLaws.{how_many_under, with_byte}
 use Rattle.rart_maps.proofs.StartLemmas.{under-byte}
 use Rattle.rart_lockstep.specs.Children.{common_children}
-use Rattle.rart_lockstep.specs.Commons.{shared_of}
-use Rattle.rart_lockstep.specs.Sides.{behind_bytes, arms}
+use Rattle.rart_lockstep.specs.CommonPairs.{shared_of}
+use Rattle.rart_lockstep.specs.TreeCursors.{behind_bytes, next_children}
 use Rattle.rart_lockstep.specs.Steps.{HasShared, EntersBelow, common_start}
 use Rattle.rart_lockstep.proofs.SharedLemmas.{shared-roots, shared-matched, shared-within, shared-here, ahead-all, ahead-matched, ahead-some, ahead-children, ahead-next}
-use Rattle.rart_lockstep.proofs.StepLemmas.{left-split, right-split, tree-with}
-use Rattle.rart_lockstep.proofs.ArmLemmas.{IsArm, pairs-ascending}
+use Rattle.rart_lockstep.proofs.PairStepLemmas.{left-split, right-split, tree-with}
+use Rattle.rart_lockstep.proofs.NextChildLemmas.{IsArm, pairs-ascending}
 
 -- A string that begins with the byte begins no more than the byte does.
 pub ahead-first : (strings : Strings) (above prefix : List ℕ) (byte : ℕ) → BeginsWith byte prefix
@@ -113,7 +113,8 @@ module _ {V : Type 0} where
     pub enters-end : (count : ℕ) (rest : List (ℕ × (Shape V × Shape V))) (before after : Counts)
         → count ≡ common_length (prefix_of s) (prefix_of t)
         → EntersUpTo (behind_bytes count s) (behind_bytes count t)
-        (common_children (arms (behind_bytes count s)) (arms (behind_bytes count t))) rest
+        (common_children (next_children (behind_bytes count s))
+        (next_children (behind_bytes count t))) rest
         before after
         → EntersBelow s t before after
     enters-end count rest before after is up_to = (
@@ -127,7 +128,8 @@ module _ {V : Type 0} where
           let x_tree = tree-with s (drop count (prefix_of s)) left in
           let y_tree = tree-with t (drop count (prefix_of t)) right in
           let here = shared-here strings path x y there x_tree y_tree in
-          let parts = ahead-children strings path here (common_children (arms x) (arms y))
+          let parts = ahead-children strings path here
+          (common_children (next_children x) (next_children y))
           (pairs-ascending x y x_tree) in
           let most = up_to.most strings path there in
           let same = ap (λ n. how_many_under strings (above ++ take n (prefix_of s))) is in

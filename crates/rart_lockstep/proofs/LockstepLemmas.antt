@@ -13,91 +13,95 @@ use Rattle.rart_shape.specs.Trees.{IsTree, pairs_of}
 use Rattle.rart_shape.proofs.FindLemmas.{ascending, ordered}
 use Rattle.rart_walks.specs.Frames.{behind_path}
 use Rattle.rart_walks.specs.Walks.{AreShort}
-use Rattle.rart_walks.proofs.TrailLemmas.{concat-push}
+use Rattle.rart_walks.proofs.KeyPathLemmas.{concat-push}
 use Rattle.rart_lockstep.specs.Children.{common_children}
-use Rattle.rart_lockstep.specs.Commons.{commons}
+use Rattle.rart_lockstep.specs.CommonPairs.{common_pairs}
 use Rattle.rart_lockstep.specs.Entries.{entry_here, behind_key}
-use Rattle.rart_lockstep.specs.Joints.{CommonBytes}
-use Rattle.rart_lockstep.specs.Meetings.{MayMeet, HaveMet}
-use Rattle.rart_lockstep.specs.Sides.{behind_bytes, arms}
-use Rattle.rart_lockstep.proofs.ArmLemmas.{IsArm, ArePairs, pairs-arms, pair-lower, short-within, short-matched, short-admits}
-use Rattle.rart_lockstep.proofs.CommonLemmas.{commons_of_all}
+use Rattle.rart_lockstep.specs.PairCursors.{CommonBytes}
+use Rattle.rart_lockstep.specs.Intersections.{CanIntersect, HasIntersected}
+use Rattle.rart_lockstep.specs.TreeCursors.{behind_bytes, next_children}
+use Rattle.rart_lockstep.proofs.NextChildLemmas.{IsArm, ArePairs, pairs-next_children, pair-lower, short-within, short-matched, short-admits}
+use Rattle.rart_lockstep.proofs.CommonLemmas.{common_of_all}
 use Rattle.rart_lockstep.proofs.EnterLemmas.{EntersUpTo}
-use Rattle.rart_lockstep.proofs.StepLemmas.{tree-with, height-with, one-ends, commons-apart, commons-here, commons-next, left-split}
+use Rattle.rart_lockstep.proofs.PairStepLemmas.{tree-with, height-with, one-ends, common_pairs-apart, common_pairs-here, common_pairs-next, left-split}
 
 module _ {T V F A : Type 0} (g : Mut F A (Unit {0})) (Shows : A → List ℕ × V × V → Type 0)
     (holds : T → List (List ℕ) → Type 0) (s t : Shape V) (count : ℕ) where
-  -- On the way to the branches that are left, the trail keeps what was matched behind what it kept
-  -- at the start, and the closure was called on all before these branches.
-  pub record IsMeeting (trail : T) (f : F) (left : List (ℕ × (Shape V × Shape V))) (trail' : T)
+  -- On the way to the branches that are left, the key path keeps what was matched behind what it
+  -- kept at the start, and the closure was called on all before these branches.
+  pub record IsIntersection (key_path : T) (f : F) (left : List (ℕ × (Shape V × Shape V)))
+      (key_path' : T)
       (f' : F) : Type 0 where
-    pub held : (segments : List (List ℕ)) → holds trail segments
-        → holds trail' (segments ++ take count (prefix_of s) ∷ [])
-    pub calls : (segments : List (List ℕ)) → holds trail segments
-        → AnswersUpTo g Shows tt f (behind_key (concat segments) (commons s t))
-        (behind_key (concat (segments ++ take count (prefix_of s) ∷ [])) (commons_of_all left)) f'
+    pub held : (segments : List (List ℕ)) → holds key_path segments
+        → holds key_path' (segments ++ take count (prefix_of s) ∷ [])
+    pub calls : (segments : List (List ℕ)) → holds key_path segments
+        → AnswersUpTo g Shows tt f (behind_key (concat segments) (common_pairs s t))
+        (behind_key (concat (segments ++ take count (prefix_of s) ∷ [])) (common_of_all left)) f'
     pub pairs : ArePairs (behind_bytes count s) (behind_bytes count t) left
 
   module _ (common : CommonBytes s t (Some count)) (left_tree : IsTree s) (right_tree : IsTree t)
     where
-      -- what is in common, behind what the trail keeps then
-      whole-here : (segments : List (List ℕ)) → behind_key (concat segments) (commons s t)
+      -- what is in common, behind what the key path keeps then
+      whole-here : (segments : List (List ℕ)) → behind_key (concat segments) (common_pairs s t)
           ≡ entry_here (concat (segments ++ take count (prefix_of s) ∷ [])) (behind_bytes count s)
           (behind_bytes count t)
           ++ behind_key (concat (segments ++ take count (prefix_of s) ∷ []))
-          (commons_of_all (common_children (arms (behind_bytes count s))
-          (arms (behind_bytes count t))))
+          (common_of_all (common_children (next_children (behind_bytes count s))
+          (next_children (behind_bytes count t))))
       whole-here segments =
-          commons-here s t count common (concat segments) left_tree
+          common_pairs-here s t count common (concat segments) left_tree
           ∙ ap (λ path. entry_here path (behind_bytes count s) (behind_bytes count t)
-          ++ behind_key path (commons_of_all (common_children (arms (behind_bytes count s))
-          (arms (behind_bytes count t)))))
+          ++ behind_key path (common_of_all (common_children (next_children (behind_bytes count s))
+          (next_children (behind_bytes count t)))))
           (sym (concat-push segments (take count (prefix_of s))))
 
       -- the entry here comes first
       pub here-visitable : (segments : List (List ℕ)) (f : F)
-          → Visitable g Shows f (behind_key (concat segments) (commons s t))
+          → Visitable g Shows f (behind_key (concat segments) (common_pairs s t))
           → Visitable g Shows f (entry_here (concat (segments ++ take count (prefix_of s) ∷ []))
           (behind_bytes count s) (behind_bytes count t))
       here-visitable segments f visitable =
           callable-part g Shows tt _ _ (whole-here segments) visitable
-          (up_to-start g Shows tt f (behind_key (concat segments) (commons s t)))
+          (up_to-start g Shows tt f (behind_key (concat segments) (common_pairs s t)))
 
       pub here-refused : (segments : List (List ℕ)) (f f' : F)
           → VisitFront g Shows f (entry_here (concat (segments ++ take count (prefix_of s) ∷ []))
           (behind_bytes count s) (behind_bytes count t)) f'
-          → VisitFront g Shows f (behind_key (concat segments) (commons s t)) f'
+          → VisitFront g Shows f (behind_key (concat segments) (common_pairs s t)) f'
       here-refused segments f f' front = (
         _,
         up_to-within g Shows tt _ _ (whole-here segments)
-            (up_to-start g Shows tt f (behind_key (concat segments) (commons s t))) front.0 front.1,
+            (up_to-start g Shows tt f (behind_key (concat segments) (common_pairs s t))) front.0
+            front.1,
       )
 
-      pub meeting-start : (trail trail' : T) (f f' : F)
-          → ((segments : List (List ℕ)) → holds trail segments
-          → holds trail' (segments ++ take count (prefix_of s) ∷ []))
-          → ((segments : List (List ℕ)) → holds trail segments → Visits g Shows (Ok tt) f
+      pub on_common_key-start : (key_path key_path' : T) (f f' : F)
+          → ((segments : List (List ℕ)) → holds key_path segments
+          → holds key_path' (segments ++ take count (prefix_of s) ∷ []))
+          → ((segments : List (List ℕ)) → holds key_path segments → Visits g Shows (Ok tt) f
           (entry_here (concat (segments ++ take count (prefix_of s) ∷ [])) (behind_bytes count s)
           (behind_bytes count t)) f')
-          → IsMeeting trail f (common_children (arms (behind_bytes count s))
-          (arms (behind_bytes count t))) trail' f'
-      meeting-start trail trail' f f' held visits =
+          → IsIntersection key_path f (common_children (next_children (behind_bytes count s))
+          (next_children (behind_bytes count t))) key_path' f'
+      on_common_key-start key_path key_path' f f' held visits =
           record {
             held = held;
             calls = λ segments holds. up_to-part g Shows tt _ _ (whole-here segments)
-                (up_to-start g Shows tt f (behind_key (concat segments) (commons s t)))
+                (up_to-start g Shows tt f (behind_key (concat segments) (common_pairs s t)))
                 (visits segments holds);
-            pairs = pairs-arms (behind_bytes count s) (behind_bytes count t)
+            pairs = pairs-next_children (behind_bytes count s) (behind_bytes count t)
                 (tree-with s (drop count (prefix_of s)) left_tree)
                 (tree-with t (drop count (prefix_of t)) right_tree);
           }
 
       -- The next branch may be met.
-      pub next-may : (greatest : Option ℕ) (trail trail' : T) (f f' : F) (byte : ℕ) (x y : Shape V)
-          (rest : List (ℕ × (Shape V × Shape V))) → MayMeet g Shows holds greatest trail f s t
-          → IsMeeting trail f ((byte, (x, y)) ∷ rest) trail' f'
-          → MayMeet g Shows holds greatest trail' f' x y
-      next-may greatest trail trail' f f' byte x y rest may meeting =
+      pub next-may : (greatest : Option ℕ) (key_path key_path' : T) (f f' : F) (byte : ℕ)
+          (x y : Shape V)
+          (rest : List (ℕ × (Shape V × Shape V)))
+          → CanIntersect g Shows holds greatest key_path f s t
+          → IsIntersection key_path f ((byte, (x, y)) ∷ rest) key_path' f'
+          → CanIntersect g Shows holds greatest key_path' f' x y
+      next-may greatest key_path key_path' f f' byte x y rest may on_common_key =
           let segments = may.0 in
           let start = take count (prefix_of s) in
           let path = concat (segments ++ start ∷ []) in
@@ -106,64 +110,69 @@ module _ {T V F A : Type 0} (g : Mut F A (Unit {0})) (Shows : A → List ℕ × 
           let here = subst (λ path. AreShort greatest (behind_path path
           (pairs_of (behind_bytes count s)))) (sym (concat-push segments start)) matched in (
             segments ++ start ∷ [],
-            meeting.held segments may.1,
-            short-within greatest path x (behind_bytes count s) meeting.pairs.0.0.within here,
-            callable-part g Shows tt _ _ (commons-next path byte x y rest) may.3
-                (meeting.calls segments may.1),
+            on_common_key.held segments may.1,
+            short-within greatest path x (behind_bytes count s) on_common_key.pairs.0.0.within here,
+            callable-part g Shows tt _ _ (common_pairs-next path byte x y rest) may.3
+                (on_common_key.calls segments may.1),
           )
 
-      pub meeting-next : (trail trail' trail'' : T) (f f' f'' : F) (byte : ℕ) (x y : Shape V)
+      pub on_common_key-next : (key_path key_path' key_path'' : T) (f f' f'' : F) (byte : ℕ)
+          (x y : Shape V)
           (rest : List (ℕ × (Shape V × Shape V)))
-          → IsMeeting trail f ((byte, (x, y)) ∷ rest) trail' f'
-          → HaveMet g Shows holds trail' f' (Ok tt) x y trail'' f''
-          → IsMeeting trail f rest trail'' f''
-      meeting-next trail trail' trail'' f f' f'' byte x y rest meeting met =
+          → IsIntersection key_path f ((byte, (x, y)) ∷ rest) key_path' f'
+          → HasIntersected g Shows holds key_path' f' (Ok tt) x y key_path'' f''
+          → IsIntersection key_path f rest key_path'' f''
+      on_common_key-next key_path key_path' key_path'' f f' f'' byte x y rest on_common_key met =
           record {
             held = λ segments holds. (met (segments ++ take count (prefix_of s) ∷ [])
-                (meeting.held segments holds)).1;
+                (on_common_key.held segments holds)).1;
             calls = λ segments holds.
                 let path = concat (segments ++ take count (prefix_of s) ∷ []) in
-                up_to-part g Shows tt _ _ (commons-next path byte x y rest)
-                (meeting.calls segments holds)
-                (met (segments ++ take count (prefix_of s) ∷ []) (meeting.held segments holds)).0;
-            pairs = meeting.pairs.1;
+                up_to-part g Shows tt _ _ (common_pairs-next path byte x y rest)
+                (on_common_key.calls segments holds)
+                (met (segments ++ take count (prefix_of s) ∷ [])
+                (on_common_key.held segments holds)).0;
+            pairs = on_common_key.pairs.1;
           }
 
-      pub meeting-refused : (refused : AllocError) (trail trail' trail'' : T) (f f' f'' : F)
+      pub on_common_key-refused : (refused : AllocError) (key_path key_path' key_path'' : T)
+          (f f' f'' : F)
           (byte : ℕ) (x y : Shape V) (rest : List (ℕ × (Shape V × Shape V)))
-          → IsMeeting trail f ((byte, (x, y)) ∷ rest) trail' f'
-          → HaveMet g Shows holds trail' f' (Err refused) x y trail'' f''
-          → (segments : List (List ℕ)) → holds trail segments
-          → VisitFront g Shows f (behind_key (concat segments) (commons s t)) f''
-      meeting-refused refused trail trail' trail'' f f' f'' byte x y rest meeting met segments
+          → IsIntersection key_path f ((byte, (x, y)) ∷ rest) key_path' f'
+          → HasIntersected g Shows holds key_path' f' (Err refused) x y key_path'' f''
+          → (segments : List (List ℕ)) → holds key_path segments
+          → VisitFront g Shows f (behind_key (concat segments) (common_pairs s t)) f''
+      on_common_key-refused refused key_path key_path' key_path'' f f' f'' byte x y rest
+          on_common_key met segments
           held =
           let path = concat (segments ++ take count (prefix_of s) ∷ []) in
           let front = (met (segments ++ take count (prefix_of s) ∷ [])
-          (meeting.held segments held)).0 in (
+          (on_common_key.held segments held)).0 in (
             _,
-            up_to-within g Shows tt _ _ (commons-next path byte x y rest)
-                (meeting.calls segments held) front.0 front.1,
+            up_to-within g Shows tt _ _ (common_pairs-next path byte x y rest)
+                (on_common_key.calls segments held) front.0 front.1,
           )
 
-      pub meeting-over : (trail trail' : T) (f f' : F) (left : List (ℕ × (Shape V × Shape V)))
-          → left ≡ [] → IsMeeting trail f left trail' f'
-          → (segments : List (List ℕ)) → holds trail segments
-          → Visits g Shows (Ok tt) f (behind_key (concat segments) (commons s t)) f'
-      meeting-over trail trail' f f' left none meeting segments holds =
+      pub on_common_key-over : (key_path key_path' : T) (f f' : F)
+          (left : List (ℕ × (Shape V × Shape V)))
+          → left ≡ [] → IsIntersection key_path f left key_path' f'
+          → (segments : List (List ℕ)) → holds key_path segments
+          → Visits g Shows (Ok tt) f (behind_key (concat segments) (common_pairs s t)) f'
+      on_common_key-over key_path key_path' f f' left none on_common_key segments holds =
           up_to-over g Shows tt
           (ap (λ left. behind_key (concat (segments ++ take count (prefix_of s) ∷ []))
-          (commons_of_all left)) none) (meeting.calls segments holds)
+          (common_of_all left)) none) (on_common_key.calls segments holds)
 
 module _ {V F A : Type 0} (g : Mut F A (Unit {0})) (Shows : A → List ℕ × V × V → Type 0)
     (s t : Shape V) where
   -- Where nothing is in common, nothing is visited.
   pub visits-apart : (path : List ℕ) (f : F) → CommonBytes s t None
-      → Visits g Shows (Ok tt) f (behind_key path (commons s t)) f
+      → Visits g Shows (Ok tt) f (behind_key path (common_pairs s t)) f
   visits-apart path f apart =
       subst (λ entries. Visits g Shows (Ok tt) f (behind_key path entries) f)
-      (sym (commons-apart s t apart)) refl
+      (sym (common_pairs-apart s t apart)) refl
 
--- What was matched is not too long, behind what the trail keeps.
+-- What was matched is not too long, behind what the key path keeps.
 pub push-admits : {V : Type 0} (greatest : Option ℕ) (segments : List (List ℕ)) (s : Shape V)
     (count : ℕ) → IsTree s → AreShort greatest (behind_path (concat segments) (pairs_of s))
     → IsAdmitted greatest (length (concat (segments ++ take count (prefix_of s) ∷ [])))

@@ -15,7 +15,7 @@ use Rattle.rart_maps.specs.Pairs.{Strings}
 use Rattle.rart_maps.specs.StartLaws.{how_many_under, with_byte}
 use Rattle.rart_maps.proofs.ElementLemmas.{Contains-here, Contains-map}
 use Rattle.rart_maps.proofs.StartLemmas.{starts-all, begins-behind, at_least-children, len-strings_under-append, under-all}
-use Rattle.rart_lockstep.specs.Commons.{starts_of, shared_of}
+use Rattle.rart_lockstep.specs.CommonPairs.{starts_of, shared_of}
 use Rattle.rart_lockstep.specs.Steps.{HasShared}
 use Rattle.rart_lockstep.proofs.CommonLemmas.{pairs-matched, with_prefix-is}
 

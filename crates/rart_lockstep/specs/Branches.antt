@@ -5,7 +5,7 @@ use Rattle.rart_node.specs.Shape.{Shape, prefix_of}
 use Rattle.rart_lockstep.specs.declared.branches.Branches.{Branches}
 use Rattle.rart_lockstep.specs.declared.branches.Branches.TheVariants.{Left, Right, Both}
 use Rattle.rart_lockstep.specs.ChildFields.{pairs_left}
-use Rattle.rart_lockstep.specs.SideFields.{side_shape}
+use Rattle.rart_lockstep.specs.TreeCursorFields.{cursor_shape}
 
 -- the first byte, where there is one
 abbrev pub first_byte : List ℕ → ℕ
@@ -18,13 +18,13 @@ module _ {P V : Type 0} {partial : _} (bytes : P → List ℕ) where
   abbrev pub branches_left : Branches P V partial → List (ℕ × (Shape V × Shape V))
   branches_left (Left None) = []
   branches_left (Left (Some step)) = (
-    first_byte (prefix_of (side_shape bytes step.1)),
-    (pointer_shape bytes step.0.now, side_shape bytes step.1),
+    first_byte (prefix_of (cursor_shape bytes step.1)),
+    (pointer_shape bytes step.0.now, cursor_shape bytes step.1),
   ) ∷ []
   branches_left (Right None) = []
   branches_left (Right (Some step)) = (
-    first_byte (prefix_of (side_shape bytes step.0)),
-    (side_shape bytes step.0, pointer_shape bytes step.1.now),
+    first_byte (prefix_of (cursor_shape bytes step.0)),
+    (cursor_shape bytes step.0, pointer_shape bytes step.1.now),
   ) ∷ []
   branches_left (Both children) = pairs_left bytes children
 

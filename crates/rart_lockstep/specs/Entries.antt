@@ -3,7 +3,7 @@ use Rattle.std.specs.Prelude.{ℕ, List, [], ◌∷◌, ◌++◌, Option, Some, 
 use Rattle.std.specs.Borrow.{Bor}
 use Rattle.rart_maps.specs.Visits.{ByValuePair}
 use Rattle.rart_node.specs.Shape.{Shape}
-use Rattle.rart_lockstep.specs.Sides.{value_here}
+use Rattle.rart_lockstep.specs.TreeCursors.{value_here}
 
 -- the two, where there are both
 abbrev pub both : {A : Type 0} → Option A → Option A → Option (A × A)

@@ -1,10 +1,10 @@
 pub mod Branches
 pub mod ChildFields
 pub mod Children
-pub mod Commons
+pub mod CommonPairs
 pub mod Entries
-pub mod Joints
-pub mod Meetings
-pub mod SideFields
-pub mod Sides
+pub mod PairCursors
+pub mod Intersections
+pub mod TreeCursorFields
+pub mod TreeCursors
 pub mod Steps

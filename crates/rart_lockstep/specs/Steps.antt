@@ -8,7 +8,7 @@ use Rattle.rart_node.specs.Counts.{Counts}
 use Rattle.rart_node.specs.Shape.{Shape, prefix_of}
 use Rattle.rart_shape.specs.Trees.{pairs_of}
 
--- the longest common beginning of two strings
+-- the longest common prefix of two strings
 abbrev pub common_start : List ℕ → List ℕ → List ℕ
 common_start u w = take (common_length u w) u
 

@@ -6,7 +6,7 @@ ghost use Rattle.rart_node.specs.NodeShapes.{node_shape};
 ghost use Rattle.rart_node.specs.Shape.{IsAscending, prefix_of};
 
 use crate::children::CommonChildren;
-use crate::side::Side;
+use crate::tree_cursor::TreeCursor;
 use rart_below::Partial;
 use rart_node::{NodeRef, Work};
 
@@ -17,9 +17,9 @@ use rart_node::{NodeRef, Work};
 #[derive(Drop)]
 pub(crate) enum Branches<'a, P: Partial, V> {
     /// The left prefix has ended: its child under the right one's next byte, if there is one.
-    Left(Option<(&'a NodeRef<P, V>, Side<'a, P, V>)>),
+    Left(Option<(&'a NodeRef<P, V>, TreeCursor<'a, P, V>)>),
     /// The right prefix has ended.
-    Right(Option<(Side<'a, P, V>, &'a NodeRef<P, V>)>),
+    Right(Option<(TreeCursor<'a, P, V>, &'a NodeRef<P, V>)>),
     /// Both have ended.
     Both(CommonChildren<'a, P, V>),
 }
@@ -28,20 +28,20 @@ impl<'a, P: Partial, V: Drop> Branches<'a, P, V> {
     ghost use Rattle.rart_node.specs.Counts.{CountsUpTo};
     ghost use Rattle.rart_lockstep.specs.Branches.{branches_left, nodes_a_step};
     ghost use Rattle.rart_lockstep.specs.Children.{TakesPair, common_children};
-    ghost use Rattle.rart_lockstep.specs.SideFields.{side_shape};
-    ghost use Rattle.rart_lockstep.specs.Sides.{arms, children_next};
+    ghost use Rattle.rart_lockstep.specs.TreeCursorFields.{cursor_shape};
+    ghost use Rattle.rart_lockstep.specs.TreeCursors.{next_children, children_next};
 
-    pub(crate) fn new(left: Side<'a, P, V>, right: Side<'a, P, V>) -> Branches<'a, P, V>
-        requires left { IsAscending (side_shape P.bytes left) }
-        requires right { IsAscending (side_shape P.bytes right) }
-        requires ended { (prefix_of (side_shape P.bytes left) ≡ [])
-            ⊎ (prefix_of (side_shape P.bytes right) ≡ []) }
+    pub(crate) fn new(left: TreeCursor<'a, P, V>, right: TreeCursor<'a, P, V>) -> Branches<'a, P, V>
+        requires left { IsAscending (cursor_shape P.bytes left) }
+        requires right { IsAscending (cursor_shape P.bytes right) }
+        requires ended { (prefix_of (cursor_shape P.bytes left) ≡ [])
+            ⊎ (prefix_of (cursor_shape P.bytes right) ≡ []) }
         ensures steps { branches_left P.bytes result
-            ≡ common_children (arms (side_shape P.bytes left.entry))
-            (arms (side_shape P.bytes right.entry)) }
+            ≡ common_children (next_children (cursor_shape P.bytes left.entry))
+            (next_children (cursor_shape P.bytes right.entry)) }
         ensures nodes { nodes_a_step result ≡ children_next
-            (prefix_of (side_shape P.bytes left.entry))
-            (prefix_of (side_shape P.bytes right.entry)) }
+            (prefix_of (cursor_shape P.bytes left.entry))
+            (prefix_of (cursor_shape P.bytes right.entry)) }
     {
         if let Some(byte) = right.rest().first() {
             let Some(child) = left.node.seek_child(*byte) else {
@@ -59,9 +59,12 @@ impl<'a, P: Partial, V: Drop> Branches<'a, P, V> {
     }
 
     /// Takes the next step: the child of one side is entered, or that of either.
-    pub(crate) fn next(&mut self, work: &mut Work) -> Option<(Side<'a, P, V>, Side<'a, P, V>)>
+    pub(crate) fn next(
+        &mut self,
+        work: &mut Work,
+    ) -> Option<(TreeCursor<'a, P, V>, TreeCursor<'a, P, V>)>
         ensures takes { TakesPair (branches_left P.bytes self.old)
-            (option_map (λ pair. (side_shape P.bytes pair.0, side_shape P.bytes pair.1)) result)
+            (option_map (λ pair. (cursor_shape P.bytes pair.0, cursor_shape P.bytes pair.1)) result)
             (branches_left P.bytes self.new) }
         ensures whole { IfSome result (λ pair. (pair.0.from ≡ 0) ⊎ (pair.1.from ≡ 0)) }
         ensures counted { CountsUpTo (if is_some result then 2 else 0) 0
@@ -75,19 +78,19 @@ impl<'a, P: Partial, V: Drop> Branches<'a, P, V> {
         match self {
             Branches::Left(step) => {
                 let (child, right) = step.take()?;
-                let left = Side::whole(child.open(work));
+                let left = TreeCursor::whole(child.open(work));
                 Some((left, right))
             }
             Branches::Right(step) => {
                 let (left, child) = step.take()?;
-                let right = Side::whole(child.open(work));
+                let right = TreeCursor::whole(child.open(work));
                 Some((left, right))
             }
             Branches::Both(children) => {
                 let (left, right) = children.next()?;
                 let left = left.open(work);
                 let right = right.open(work);
-                Some((Side::whole(left), Side::whole(right)))
+                Some((TreeCursor::whole(left), TreeCursor::whole(right)))
             }
         }
     }

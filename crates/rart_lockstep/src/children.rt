@@ -9,8 +9,8 @@ ghost use Rattle.rart_lockstep.specs.Children.{HaveBoth};
 use rart_below::{ByteSet, Partial};
 use rart_node::{NodeRef, VersionedNode};
 
-/// The children of two nodes under the same bytes, two at a time, in the order of these: those whose
-/// bytes are in the set are left.
+/// The children of two nodes under the same bytes, two at a time, in the order of these: those
+/// whose bytes are in the set are left.
 #[derive(Drop)]
 pub(crate) struct CommonChildren<'a, P: Partial, V> {
     left: &'a VersionedNode<P, V>,

@@ -2,7 +2,7 @@
 //! The number of keys of two trees.
 ghost use Rattle.std.specs.Prelude.{◌≡◌, ◌+◌, ◌*◌, ◌<◌, ◌≤◌, ◌^◌, length};
 ghost use Rattle.std.specs.FinSet as set;
-ghost use Rattle.rart_lockstep.specs.Commons.{commons, shared_of};
+ghost use Rattle.rart_lockstep.specs.CommonPairs.{common_pairs, shared_of};
 ghost use Rattle.rart_node.specs.Counts.{CountsUpTo};
 ghost use Rattle.rart_node.specs.NodeShapes.{pointer_shape};
 ghost use Rattle.rart_shape.specs.Trees.{IsTree};
@@ -21,9 +21,9 @@ pub fn count_common<P: Partial, V: Drop>(
 ) -> usize
     requires left { IsTree (pointer_shape P.bytes left.now) }
     requires right { IsTree (pointer_shape P.bytes right.now) }
-    requires fits { length (commons (pointer_shape P.bytes left.now)
+    requires fits { length (common_pairs (pointer_shape P.bytes left.now)
         (pointer_shape P.bytes right.now)) < 2 ^ 64 }
-    ensures count { result ≡ length (commons (pointer_shape P.bytes left.now)
+    ensures count { result ≡ length (common_pairs (pointer_shape P.bytes left.now)
         (pointer_shape P.bytes right.now)) }
     ensures counted { CountsUpTo (2 * set.len (shared_of (pointer_shape P.bytes left.now)
         (pointer_shape P.bytes right.now))) 0 work.old work.new }

@@ -2,26 +2,26 @@
 //! Visits of the keys of two trees, each made anew.
 ghost use Rattle.std.specs.Prelude.{◌+◌, ◌*◌, ◌≤◌, true};
 ghost use Rattle.std.specs.FinSet as set;
-ghost use Rattle.rart_lockstep.specs.Commons.{commons, shared_of};
+ghost use Rattle.rart_lockstep.specs.CommonPairs.{common_pairs, shared_of};
 ghost use Rattle.rart_maps.specs.Visits.{ByKeyPair, Visits, Visitable};
 ghost use Rattle.rart_node.specs.Counts.{CountsUpTo};
 ghost use Rattle.rart_node.specs.NodeShapes.{pointer_shape};
 ghost use Rattle.rart_shape.specs.Trees.{IsTree, pairs_of};
 ghost use Rattle.rart_walks.specs.Walks.{AreShort};
 
-use crate::lockstep::meet_below;
-use crate::meet_trail::MeetTrail;
-use crate::sides::Sides;
+use crate::intersection_path::IntersectionPath;
+use crate::lockstep::intersect_below;
+use crate::tree_cursors::TreeCursors;
 use rart_below::{KeyTrait, Partial};
 use rart_node::{NodeRef, Work};
-use rart_walks::{KeyTrail, Trail};
+use rart_walks::{BytesPath, KeyPath};
 use std::alloc::{AllocError, Global};
 use std::marker::PhantomData;
 
 /// Calls the closure on each key of two trees, in order: with the key and references to what either
 /// tree has there.
 ///
-/// Refused for memory, it has called it on a beginning of them. Two nodes are entered for each
+/// Refused for memory, it has called it on a prefix of them. Two nodes are entered for each
 /// string that begins keys of both at most, and the two that the pointers show at least.
 pub fn visit_common_keys<'a, K: KeyTrait, P: Partial, V: Drop, F: FnMut(K, &'a V, &'a V)>(
     alloc: Global,
@@ -34,31 +34,31 @@ pub fn visit_common_keys<'a, K: KeyTrait, P: Partial, V: Drop, F: FnMut(K, &'a V
     requires right { IsTree (pointer_shape P.bytes right.now) }
     requires admitted { AreShort K.MAXIMUM_SIZE (pairs_of (pointer_shape P.bytes left.now)) }
     requires visitable { Visitable F.FnMut (ByKeyPair K.bytes) f.old
-        (commons (pointer_shape P.bytes left.now) (pointer_shape P.bytes right.now)) }
+        (common_pairs (pointer_shape P.bytes left.now) (pointer_shape P.bytes right.now)) }
     ensures visits { Visits F.FnMut (ByKeyPair K.bytes) result f.old
-        (commons (pointer_shape P.bytes left.now) (pointer_shape P.bytes right.now)) f.new }
+        (common_pairs (pointer_shape P.bytes left.now) (pointer_shape P.bytes right.now)) f.new }
     ensures counted { CountsUpTo (2 * set.len (shared_of (pointer_shape P.bytes left.now)
         (pointer_shape P.bytes right.now))) 0 work.old work.new }
     ensures entered { work.old.entered + 2 ≤ work.new.entered }
 {
-    let mut trail: KeyMaker<'a, K, V> = KeyMaker::new(alloc);
-    let at = Sides::open(left, right, work);
-    meet_below(at, &mut trail, f, work)
+    let mut key_path: KeyMaker<'a, K, V> = KeyMaker::new(alloc);
+    let at = TreeCursors::open(left, right, work);
+    intersect_below(at, &mut key_path, f, work)
 }
 
-// A trail that makes keys.
+// A key path that makes keys.
 #[derive(Drop)]
 struct KeyMaker<'a, K, V> {
     alloc: Global,
-    trail: KeyTrail,
+    key_path: BytesPath,
     made: PhantomData<K>,
     lent: PhantomData<&'a V>,
 }
 
-impl<'a, K: KeyTrait, V> Trail<'a> for KeyMaker<'a, K, V> {
-    ghost use Rattle.rart_walks.specs.Trails.{HoldsBytes};
+impl<'a, K: KeyTrait, V> KeyPath<'a> for KeyMaker<'a, K, V> {
+    ghost use Rattle.rart_walks.specs.KeyPaths.{HoldsBytes};
 
-    ghost holds = { λ maker. HoldsBytes maker.trail };
+    ghost holds = { λ maker. HoldsBytes maker.key_path };
 
     ghost greatest = { K.MAXIMUM_SIZE };
 
@@ -67,22 +67,23 @@ impl<'a, K: KeyTrait, V> Trail<'a> for KeyMaker<'a, K, V> {
     fn new(alloc: Global) -> KeyMaker<'a, K, V> {
         KeyMaker {
             alloc,
-            trail: KeyTrail::new(alloc),
+            key_path: BytesPath::new(alloc),
             made: PhantomData,
             lent: PhantomData,
         }
     }
 
     fn push(&mut self, segment: &'a [u8]) -> Result<(), AllocError> {
-        self.trail.push(segment)
+        self.key_path.push(segment)
     }
 
     fn pop(&mut self, segment: &'a [u8]) {
-        self.trail.pop(segment);
+        self.key_path.pop(segment);
     }
 }
 
-impl<'a, K: KeyTrait, V, F: FnMut(K, &'a V, &'a V)> MeetTrail<'a, V, F> for KeyMaker<'a, K, V> {
+impl<'a, K: KeyTrait, V, F: FnMut(K, &'a V, &'a V)> IntersectionPath<'a, V, F>
+    for KeyMaker<'a, K, V> {
     ghost use Rattle.std.specs.Borrow.{Bor};
 
     ghost Arguments = { K × (Bor V × (Bor V × Unit {0})) };
@@ -92,7 +93,7 @@ impl<'a, K: KeyTrait, V, F: FnMut(K, &'a V, &'a V)> MeetTrail<'a, V, F> for KeyM
     ghost Shows = { ByKeyPair K.bytes };
 
     fn meet(&self, left: &'a V, right: &'a V, f: &mut F) -> Result<(), AllocError> {
-        let key = K::new_from_slice(self.alloc, self.trail.as_slice())?;
+        let key = K::new_from_slice(self.alloc, self.key_path.as_slice())?;
         f(key, left, right);
         Ok(())
     }

@@ -9,21 +9,21 @@
 mod branches;
 mod children;
 mod count;
-mod joint;
+mod intersection_path;
 mod keys;
 mod leaves;
 mod lockstep;
-mod meet_trail;
-mod meeting;
-mod side;
-mod sides;
+mod on_common_key;
+mod pair_cursor;
+mod tree_cursor;
+mod tree_cursors;
 mod values;
 mod views;
 mod visit;
 
 pub use count::count_common;
+pub use intersection_path::IntersectionPath;
 pub use keys::visit_common_keys;
-pub use meet_trail::MeetTrail;
 pub use values::visit_common_values;
-pub use views::ViewTrail;
+pub use views::ViewsPath;
 pub use visit::visit_common;

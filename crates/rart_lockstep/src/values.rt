@@ -2,17 +2,17 @@
 //! Visits of the values of the keys of two trees.
 ghost use Rattle.std.specs.Prelude.{◌+◌, ◌*◌, ◌≤◌, false, None, map};
 ghost use Rattle.std.specs.FinSet as set;
-ghost use Rattle.rart_lockstep.specs.Commons.{commons, shared_of};
+ghost use Rattle.rart_lockstep.specs.CommonPairs.{common_pairs, shared_of};
 ghost use Rattle.rart_maps.specs.Visits.{ByValuePair, Visit, Visitable};
 ghost use Rattle.rart_node.specs.Counts.{CountsUpTo};
 ghost use Rattle.rart_node.specs.NodeShapes.{pointer_shape};
 ghost use Rattle.rart_shape.specs.Trees.{IsTree};
 
-use crate::meet_trail::MeetTrail;
+use crate::intersection_path::IntersectionPath;
 use crate::visit::visit_common;
 use rart_below::Partial;
 use rart_node::{NodeRef, Work};
-use rart_walks::Trail;
+use rart_walks::KeyPath;
 use std::alloc::{AllocError, Global};
 use std::marker::PhantomData;
 
@@ -30,26 +30,26 @@ pub fn visit_common_values<'a, P: Partial, V: Drop, F: FnMut(&'a V, &'a V)>(
     requires left { IsTree (pointer_shape P.bytes left.now) }
     requires right { IsTree (pointer_shape P.bytes right.now) }
     requires visitable { Visitable F.FnMut ByValuePair f.old (map (λ entry. (entry.1, entry.2))
-        (commons (pointer_shape P.bytes left.now) (pointer_shape P.bytes right.now))) }
+        (common_pairs (pointer_shape P.bytes left.now) (pointer_shape P.bytes right.now))) }
     ensures visits { Visit F.FnMut ByValuePair f.old (map (λ entry. (entry.1, entry.2))
-        (commons (pointer_shape P.bytes left.now) (pointer_shape P.bytes right.now))) f.new }
+        (common_pairs (pointer_shape P.bytes left.now) (pointer_shape P.bytes right.now))) f.new }
     ensures counted { CountsUpTo (2 * set.len (shared_of (pointer_shape P.bytes left.now)
         (pointer_shape P.bytes right.now))) 0 work.old work.new }
     ensures entered { work.old.entered + 2 ≤ work.new.entered }
 {
-    // (a trail that keeps nothing refuses nothing)
-    let trail = ValueTrail { lent: PhantomData };
-    let _met = visit_common(trail, left, right, f, work);
+    // (a key path that keeps nothing refuses nothing)
+    let key_path = ValuesPath { lent: PhantomData };
+    let _met = visit_common(key_path, left, right, f, work);
 }
 
-// A trail that keeps nothing, for a closure that is lent the values alone.
+// A key path that keeps nothing, for a closure that is lent the values alone.
 #[derive(Drop)]
-struct ValueTrail<'a, V> {
+struct ValuesPath<'a, V> {
     lent: PhantomData<&'a V>,
 }
 
-impl<'a, V> Trail<'a> for ValueTrail<'a, V> {
-    ghost use Rattle.rart_walks.specs.Trails.{HoldsNothing};
+impl<'a, V> KeyPath<'a> for ValuesPath<'a, V> {
+    ghost use Rattle.rart_walks.specs.KeyPaths.{HoldsNothing};
 
     ghost holds = { HoldsNothing };
 
@@ -57,8 +57,8 @@ impl<'a, V> Trail<'a> for ValueTrail<'a, V> {
 
     ghost can_refuse = { false };
 
-    fn new(_alloc: Global) -> ValueTrail<'a, V> {
-        ValueTrail { lent: PhantomData }
+    fn new(_alloc: Global) -> ValuesPath<'a, V> {
+        ValuesPath { lent: PhantomData }
     }
 
     #[inline]
@@ -70,7 +70,7 @@ impl<'a, V> Trail<'a> for ValueTrail<'a, V> {
     fn pop(&mut self, _segment: &'a [u8]) {}
 }
 
-impl<'a, V, F: FnMut(&'a V, &'a V)> MeetTrail<'a, V, F> for ValueTrail<'a, V> {
+impl<'a, V, F: FnMut(&'a V, &'a V)> IntersectionPath<'a, V, F> for ValuesPath<'a, V> {
     ghost use Rattle.std.specs.Borrow.{Bor};
     ghost use Rattle.rart_lockstep.specs.Entries.{ByItsValues};
 

@@ -2,50 +2,50 @@
 //! Keys of two trees lent as views.
 ghost use Rattle.std.specs.Prelude.{◌-◌, ◌^◌, true, Some};
 
-use crate::meet_trail::MeetTrail;
+use crate::intersection_path::IntersectionPath;
 use rart_below::LendingKeyView;
-use rart_walks::{SegmentTrail, Trail};
+use rart_walks::{KeyPath, SegmentsPath};
 use std::alloc::{AllocError, Global};
 use std::marker::PhantomData;
 
-/// A trail of segments, for a closure that is lent a view of the key, which ends with the call, and
-/// references to what either tree has there. It may keep the segments and the references.
+/// A key path of segments, for a closure that is lent a view of the key, which ends with the call,
+/// and references to what either tree has there. It may keep the segments and the references.
 #[derive(Drop)]
-pub struct ViewTrail<'a, V> {
-    trail: SegmentTrail<'a>,
+pub struct ViewsPath<'a, V> {
+    key_path: SegmentsPath<'a>,
     // (the values live as long as the segments)
     lent: PhantomData<&'a V>,
 }
 
-impl<'a, V> Trail<'a> for ViewTrail<'a, V> {
-    ghost use Rattle.rart_walks.specs.Trails.{HoldsSegments};
+impl<'a, V> KeyPath<'a> for ViewsPath<'a, V> {
+    ghost use Rattle.rart_walks.specs.KeyPaths.{HoldsSegments};
 
-    ghost holds = { λ trail. HoldsSegments trail.trail };
+    ghost holds = { λ key_path. HoldsSegments key_path.key_path };
 
     ghost greatest = { Some (2 ^ 64 - 1) };
 
     ghost can_refuse = { true };
 
-    fn new(alloc: Global) -> ViewTrail<'a, V> {
-        ViewTrail {
-            trail: SegmentTrail::new(alloc),
+    fn new(alloc: Global) -> ViewsPath<'a, V> {
+        ViewsPath {
+            key_path: SegmentsPath::new(alloc),
             lent: PhantomData,
         }
     }
 
     #[inline]
     fn push(&mut self, segment: &'a [u8]) -> Result<(), AllocError> {
-        self.trail.push(segment)
+        self.key_path.push(segment)
     }
 
     #[inline]
     fn pop(&mut self, segment: &'a [u8]) {
-        self.trail.pop(segment);
+        self.key_path.pop(segment);
     }
 }
 
-impl<'a, V, F: FnMut(LendingKeyView<'a, '_>, &'a V, &'a V)> MeetTrail<'a, V, F>
-    for ViewTrail<'a, V> {
+impl<'a, V, F: FnMut(LendingKeyView<'a, '_>, &'a V, &'a V)> IntersectionPath<'a, V, F>
+    for ViewsPath<'a, V> {
     ghost use Rattle.std.specs.Borrow.{Bor};
     ghost use Rattle.std.specs.Prelude.{ℕ, List};
     ghost use Rattle.rart_maps.specs.Visits.{ByViewPair};
@@ -57,7 +57,7 @@ impl<'a, V, F: FnMut(LendingKeyView<'a, '_>, &'a V, &'a V)> MeetTrail<'a, V, F>
     ghost Shows = { ByViewPair };
 
     fn meet(&self, left: &'a V, right: &'a V, f: &mut F) -> Result<(), AllocError> {
-        let key = LendingKeyView::new(self.trail.segments(), self.trail.len());
+        let key = LendingKeyView::new(self.key_path.segments(), self.key_path.len());
         f(key, left, right);
         Ok(())
     }

@@ -2,31 +2,32 @@
 //! A visit of the keys of two trees.
 ghost use Rattle.std.specs.Prelude.{◌+◌, ◌*◌, ◌≤◌, [], IsTrue, OnErr};
 ghost use Rattle.std.specs.FinSet as set;
-ghost use Rattle.rart_lockstep.specs.Commons.{commons, shared_of};
+ghost use Rattle.rart_lockstep.specs.CommonPairs.{common_pairs, shared_of};
 ghost use Rattle.rart_maps.specs.Visits.{Visits, Visitable};
 ghost use Rattle.rart_node.specs.Counts.{CountsUpTo};
 ghost use Rattle.rart_node.specs.NodeShapes.{pointer_shape};
 ghost use Rattle.rart_shape.specs.Trees.{IsTree, pairs_of};
 ghost use Rattle.rart_walks.specs.Walks.{AreShort};
 
-use crate::lockstep::meet_below;
-use crate::meet_trail::MeetTrail;
-use crate::meeting::Meeting;
-use crate::sides::Sides;
+use crate::intersection_path::IntersectionPath;
+use crate::lockstep::intersect_below;
+use crate::on_common_key::OnCommonKey;
+use crate::tree_cursors::TreeCursors;
 use rart_below::Partial;
 use rart_node::{NodeRef, Work};
 use std::alloc::AllocError;
 
-/// Calls the closure on each key of two trees, in order, from an empty trail, in the trail's way.
+/// Calls the closure on each key of two trees, in order, from an empty key path, in the key path's
+/// way.
 ///
-/// Refused for memory, it has called it on a beginning of them. Two nodes are entered for each
+/// Refused for memory, it has called it on a prefix of them. Two nodes are entered for each
 /// string that begins keys of both at most, and the two that the pointers show at least. It takes
-/// no memory but what the trail does.
+/// no memory but what the key path does.
 ///
 /// Its bounds name no closure, since a closure that may keep what it is lent can't be handed to
 /// another crate by itself.
-pub fn visit_common<'a, P: Partial, V: Drop, F, T: MeetTrail<'a, V, F>>(
-    mut trail: T,
+pub fn visit_common<'a, P: Partial, V: Drop, F, T: IntersectionPath<'a, V, F>>(
+    mut key_path: T,
     left: &'a NodeRef<P, V>,
     right: &'a NodeRef<P, V>,
     f: &mut F,
@@ -34,32 +35,33 @@ pub fn visit_common<'a, P: Partial, V: Drop, F, T: MeetTrail<'a, V, F>>(
 ) -> Result<(), AllocError>
     requires left { IsTree (pointer_shape P.bytes left.now) }
     requires right { IsTree (pointer_shape P.bytes right.now) }
-    requires empty { T.holds trail [] }
+    requires empty { T.holds key_path [] }
     requires admitted { AreShort T.greatest (pairs_of (pointer_shape P.bytes left.now)) }
     requires visitable { Visitable T.calls T.Shows f.old
-        (commons (pointer_shape P.bytes left.now) (pointer_shape P.bytes right.now)) }
+        (common_pairs (pointer_shape P.bytes left.now) (pointer_shape P.bytes right.now)) }
     ensures visits { Visits T.calls T.Shows result f.old
-        (commons (pointer_shape P.bytes left.now) (pointer_shape P.bytes right.now)) f.new }
+        (common_pairs (pointer_shape P.bytes left.now) (pointer_shape P.bytes right.now)) f.new }
     ensures refused { OnErr result (IsTrue T.can_refuse) }
     ensures counted { CountsUpTo (2 * set.len (shared_of (pointer_shape P.bytes left.now)
         (pointer_shape P.bytes right.now))) 0 work.old work.new }
     ensures entered { work.old.entered + 2 ≤ work.new.entered }
 {
-    let at = Sides::open(left, right, work);
-    meet_below(at, &mut trail, f, work)
+    let at = TreeCursors::open(left, right, work);
+    intersect_below(at, &mut key_path, f, work)
 }
 
-impl<'a, P: Partial, V: Drop, F, T: MeetTrail<'a, V, F>> Meeting<V, T, F> for Sides<'a, P, V> {
+impl<'a, P: Partial, V: Drop, F, T: IntersectionPath<'a, V, F>> OnCommonKey<V, T, F>
+    for TreeCursors<'a, P, V> {
     ghost Arguments = { T.Arguments };
 
     ghost calls = { T.calls };
 
     ghost Shows = { T.Shows };
 
-    fn meet(&self, trail: &T, f: &mut F) -> Result<(), AllocError> {
+    fn meet(&self, key_path: &T, f: &mut F) -> Result<(), AllocError> {
         match self.values_here() {
             None => Ok(()),
-            Some((left, right)) => trail.meet(left, right, f),
+            Some((left, right)) => key_path.meet(left, right, f),
         }
     }
 }

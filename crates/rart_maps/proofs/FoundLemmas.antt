@@ -14,7 +14,7 @@ use Rattle.rart_below.specs.Bytes.{byte_order, begins}
 use Rattle.rart_maps.specs.Versions.{Map}
 use Rattle.rart_maps.specs.Pairs.{pairs, common}
 use Rattle.rart_maps.specs.Order.{IsBefore}
-use Rattle.rart_maps.specs.FoundLaws.{PairsAscendByKey, WithinAscends, UnderAscends, BeginningsAscend, PairsAreFound, WithinIsFound, UnderIsFound, BeginningsAreFound, CommonIsFound, CommonAscends, KeysAscend, AscendingListsAreFixed}
+use Rattle.rart_maps.specs.FoundLaws.{PairsAscendByKey, WithinAscends, UnderAscends, PrefixMatchesAscend, PairsAreFound, WithinIsFound, UnderIsFound, PrefixMatchesAreFound, CommonIsFound, CommonAscends, KeysAscend, AscendingListsAreFixed}
 use Rattle.rart_maps.proofs.ElementLemmas.{Contains-nil, Contains-here, Contains-later, Contains-cases, All-from_contains, AllPairs-first, AllPairs-rest, Contains-filter, Contains-filter_map, Contains-entries, below-contains}
 use Rattle.rart_maps.proofs.PairLawLemmas.{pairs_ascend}
 use Rattle.rart_maps.proofs.OrderLemmas.{byte_order-IsAntisymmetric, bounds_contain-is, lt-before, IsBefore-itself, IsBefore-back}
@@ -123,8 +123,8 @@ module _ (V : Type 0) where
   pub under_ascends : UnderAscends V
   under_ascends m p = KeysAscend-filter_pairs (begins p) m
 
-  pub beginnings_ascend : BeginningsAscend V
-  beginnings_ascend m w = KeysAscend-filter_pairs (λ key. begins key w) m
+  pub prefix_matches_ascend : PrefixMatchesAscend V
+  prefix_matches_ascend m w = KeysAscend-filter_pairs (λ key. begins key w) m
 
   pub pairs_are_found : PairsAreFound V
   pairs_are_found m key x = Contains-pairs m key x
@@ -142,8 +142,8 @@ module _ (V : Type 0) where
   pub under_is_found : UnderIsFound V
   under_is_found m p key x = Contains-filter_pairs (begins p) m key x
 
-  pub beginnings_are_found : BeginningsAreFound V
-  beginnings_are_found m w key x = Contains-filter_pairs (λ k. begins k w) m key x
+  pub prefix_matches_are_found : PrefixMatchesAreFound V
+  prefix_matches_are_found m w key x = Contains-filter_pairs (λ k. begins k w) m key x
 
   pub common_is_found : CommonIsFound V
   common_is_found left right key x y =

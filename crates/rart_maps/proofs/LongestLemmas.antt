@@ -7,11 +7,11 @@ use Rattle.std.proofs.lemmas.Bool.{false≢true}
 use Rattle.std.proofs.lemmas.Option.{same_Some}
 use Rattle.rart_below.specs.Bytes.{begins}
 use Rattle.rart_maps.specs.Versions.{Map}
-use Rattle.rart_maps.specs.Pairs.{beginnings, longest_beginning}
+use Rattle.rart_maps.specs.Pairs.{prefix_matches, longest_prefix_match}
 use Rattle.rart_maps.specs.Order.{IsBefore}
 use Rattle.rart_maps.specs.FoundLaws.{KeysAscend, LongestIsFound}
 use Rattle.rart_maps.proofs.ElementLemmas.{Contains-nil, Contains-here, Contains-later, Contains-cases, AllPairs-first, AllPairs-rest}
-use Rattle.rart_maps.proofs.FoundLemmas.{beginnings_ascend, beginnings_are_found}
+use Rattle.rart_maps.proofs.FoundLemmas.{prefix_matches_ascend, prefix_matches_are_found}
 use Rattle.rart_maps.proofs.OrderLemmas.{before-longer}
 
 -- The last element of a list in which each stands so to each later one: it is there, and each other
@@ -74,5 +74,5 @@ module _ {V : Type 0} (w : List ℕ) where
 module _ (V : Type 0) where
   pub longest_is_found : LongestIsFound V
   longest_is_found m w key x =
-      last-longest w (beginnings m w) (beginnings_ascend V m w)
-      (λ other y there. (((beginnings_are_found V m w other y).0) there).0) key x
+      last-longest w (prefix_matches m w) (prefix_matches_ascend V m w)
+      (λ other y there. (((prefix_matches_are_found V m w other y).0) there).0) key x

@@ -17,7 +17,8 @@ is-same : (w : List ℕ) → eq_by_cmp byte_order w w ≡ true
 is-same w = ap is_eq (tied_itself nat_list_cmp_total w)
 
 is-other : (q w : List ℕ) → eq_by_cmp byte_order q w ≡ false → q ≢ w
-is-other q w apart same = cc (sym (is-same w) ∙ ap (λ k. eq_by_cmp byte_order k w) (sym same) ∙ apart)
+is-other q w apart same = cc
+    (sym (is-same w) ∙ ap (λ k. eq_by_cmp byte_order k w) (sym same) ∙ apart)
 
 module _ {V : Type 0} where
   -- Maps that have the same at one key, and at each other key, are the same.
@@ -61,7 +62,8 @@ lookups_sets V before after w value = (
   ),
 )
   where
-    made : Sets before (record { content = with_value before.content w value; number = before.number }) w value
+    made : Sets before (record
+        { content = with_value before.content w value; number = before.number }) w value
     made = with_value-sets before.content before.number w value
 
 pub slots_have_their_value : (V : Type 0) → SlotsHaveTheirValue V

@@ -1,4 +1,4 @@
--- The order of byte strings, the bounds on it, and beginnings.
+-- The order of byte strings, the bounds on it, and prefixes.
 use Rattle.std.proofs.Common.{◌≡◌, ◌<◌, ◌↔◌, ◌⊎◌, ℕ, true, List, [], ◌∷◌, ◌++◌, length, refl, sym, ap, ◌∙◌, ⊎_elim, inl, inr, arith}
 use Rattle.std.specs.Prelude.{◌==◌}
 use Rattle.std.specs.declared.cmp.Ordering.{Ordering}
@@ -122,7 +122,7 @@ bounds_contain-is low high key = (
       ((high-meets high key).1 both.1),
 )
 
--- ---- beginnings
+-- ---- prefixes
 
 -- Of two that begin the same string, the later one is the longer one.
 pub before-longer : (u v w : List ℕ) → begins u w ≡ true → begins v w ≡ true → IsBefore u v

@@ -1,4 +1,4 @@
--- The laws of maps, their pairs and the beginnings of keys.
+-- The laws of maps, their pairs and the prefixes of keys.
 use Rattle.std.proofs.Common.{◌≡◌, ℕ, Bool, true, false, cond, ◌&&◌, ◌||◌, nat_eq, List, [], ◌∷◌, ◌++◌, length, map, filter, refl, sym, ap, subst, ◌∙◌, ⊎_elim, inl, inr, arith}
 use Rattle.std.specs.Prelude.{Option, Some, None, T, ◌⊎◌}
 use Rattle.std.specs.List.{list_any, filter_map, flat_map, cons_option}
@@ -15,9 +15,9 @@ use Rattle.std.proofs.lemmas.List.Folds.{list_any-append}
 use Rattle.std.proofs.lemmas.Map.Text.{is_eq-slice_cmp}
 use Rattle.rart_below.specs.Bytes.{byte_order, begins}
 use Rattle.rart_maps.specs.Versions.{Map}
-use Rattle.rart_maps.specs.Pairs.{pairs, beginnings_of, starts, shared}
+use Rattle.rart_maps.specs.Pairs.{pairs, prefixes_of, starts, shared}
 use Rattle.rart_maps.proofs.ElementLemmas.{T-true}
-use Rattle.rart_maps.specs.PairLaws.{IsSublist, PairsAscend, WithinIsSublist, UnderIsSublist, BeginningsIsSublist, CommonSwaps, StartsShorten, SharedShorten, SharedIsEmpty}
+use Rattle.rart_maps.specs.PairLaws.{IsSublist, PairsAscend, WithinIsSublist, UnderIsSublist, PrefixMatchesIsSublist, CommonSwaps, StartsShorten, SharedShorten, SharedIsEmpty}
 
 -- ---- sub-lists
 
@@ -189,7 +189,7 @@ module _ {V : Type 0} where
       ∙ ap (option_map (λ xs. (xs.1, xs.0))) (sym (find-joined (pairs left) (finite.get right) q))
       ∙ sym (find-turned _ q))
 
--- ---- beginnings of keys
+-- ---- prefixes of keys
 
 no_length : {A : Type 0} (xs : List A) → length xs ≡ 0 → xs ≡ []
 no_length [] none = refl
@@ -229,17 +229,17 @@ list_any-weaker p q weaker (x ∷ xs) one =
           [ true ↦ refl | false ↦ list_any-weaker p q weaker xs later ]
     ] refl one
 
--- the beginnings of a string are those that begin it
-one-of_beginnings : (u w : List ℕ) → list_any (bytes_eq u) (beginnings_of w) ≡ begins u w
-one-of_beginnings [] [] = refl
-one-of_beginnings [] (c ∷ w) = refl
-one-of_beginnings (b ∷ u) [] = refl
-one-of_beginnings (b ∷ u) (c ∷ w) =
-    list_any-map (bytes_eq (b ∷ u)) (λ v. c ∷ v) (beginnings_of w)
-    ∙ list_any-and (nat_eq b c) (bytes_eq u) (beginnings_of w)
-    ∙ ap (λ t. nat_eq b c && t) (one-of_beginnings u w)
+-- the prefixes of a string are those that begin it
+one-of_prefixes : (u w : List ℕ) → list_any (bytes_eq u) (prefixes_of w) ≡ begins u w
+one-of_prefixes [] [] = refl
+one-of_prefixes [] (c ∷ w) = refl
+one-of_prefixes (b ∷ u) [] = refl
+one-of_prefixes (b ∷ u) (c ∷ w) =
+    list_any-map (bytes_eq (b ∷ u)) (λ v. c ∷ v) (prefixes_of w)
+    ∙ list_any-and (nat_eq b c) (bytes_eq u) (prefixes_of w)
+    ∙ ap (λ t. nat_eq b c && t) (one-of_prefixes u w)
 
--- What begins a string as part of a longer beginning begins it.
+-- What begins a string as part of a longer prefix begins it.
 pub begins-shorter : (u v w : List ℕ) → begins (u ++ v) w ≡ true → begins u w ≡ true
 begins-shorter [] v w is = refl
 begins-shorter (b ∷ u) v [] is = is
@@ -248,22 +248,22 @@ begins-shorter (b ∷ u) v (c ∷ w) is =
     and_from (nat_eq b c) (begins u w) parts.0 (begins-shorter u v w parts.1)
 
 module _ {V : Type 0} where
-  -- A string is one of the beginnings exactly if it begins some key.
-  pub contains-beginnings : (list : List (List ℕ × V)) (u : List ℕ)
-      → set.contains (set.from_list {R = byte_order} (flat_map (λ pair. beginnings_of pair.0) list))
+  -- A string is one of the prefixes exactly if it begins some key.
+  pub contains-prefix_matches : (list : List (List ℕ × V)) (u : List ℕ)
+      → set.contains (set.from_list {R = byte_order} (flat_map (λ pair. prefixes_of pair.0) list))
       u ≡ list_any (λ pair. begins u pair.0) list
-  contains-beginnings list u =
+  contains-prefix_matches list u =
       set.contains-from_list nat_list_cmp_total
-      (flat_map (λ pair. beginnings_of pair.0) list) u
+      (flat_map (λ pair. prefixes_of pair.0) list) u
       ∙ list_any-same (eq_by_cmp byte_order u) (bytes_eq u) (is_eq-slice_cmp u)
-      (flat_map (λ pair. beginnings_of pair.0) list)
-      ∙ list_any-flat_map (bytes_eq u) (λ pair. beginnings_of pair.0) list
-      ∙ list_any-same (λ pair. list_any (bytes_eq u) (beginnings_of pair.0))
-      (λ pair. begins u pair.0) (λ pair. one-of_beginnings u pair.0) list
+      (flat_map (λ pair. prefixes_of pair.0) list)
+      ∙ list_any-flat_map (bytes_eq u) (λ pair. prefixes_of pair.0) list
+      ∙ list_any-same (λ pair. list_any (bytes_eq u) (prefixes_of pair.0))
+      (λ pair. begins u pair.0) (λ pair. one-of_prefixes u pair.0) list
 
   pub contains-starts : (m : Map V) (u : List ℕ)
       → set.contains (starts m) u ≡ list_any (λ pair. begins u pair.0) (pairs m)
-  contains-starts m u = contains-beginnings (pairs m) u
+  contains-starts m u = contains-prefix_matches (pairs m) u
 
   pub contains-shared : (left right : Map V) (u : List ℕ)
       → set.contains (shared left right) u
@@ -313,8 +313,8 @@ module _ (V : Type 0) where
   pub under_is_sublist : UnderIsSublist V
   under_is_sublist m p = sublist-filter _ (pairs m)
 
-  pub beginnings_is_sublist : BeginningsIsSublist V
-  beginnings_is_sublist m w = sublist-filter _ (pairs m)
+  pub prefix_matches_is_sublist : PrefixMatchesIsSublist V
+  prefix_matches_is_sublist m w = sublist-filter _ (pairs m)
 
   pub common_swaps : CommonSwaps V
   common_swaps left right =

@@ -16,7 +16,7 @@ use Rattle.rart_below.specs.Bytes.{byte_order, begins}
 use Rattle.rart_maps.specs.Bounds.{bound_string, bound_length}
 use Rattle.rart_maps.specs.FoundLaws.{KeysAscend}
 use Rattle.rart_maps.specs.Order.{IsBefore, MeetsLow, MeetsHigh}
-use Rattle.rart_maps.specs.Pairs.{pairs, within, beginnings_of}
+use Rattle.rart_maps.specs.Pairs.{pairs, within, prefixes_of}
 use Rattle.rart_maps.specs.StartLaws.{with_byte}
 use Rattle.rart_maps.specs.Versions.{Map}
 use Rattle.rart_maps.proofs.ElementLemmas.{Contains-here, Contains-later, Contains-map, Contains-filter}
@@ -29,45 +29,45 @@ use Rattle.rart_maps.proofs.SetLemmas.{few-listed}
 -- ---- the strings that begin another
 
 -- the strings that begin w, without the empty one
-abbrev nonempty_beginnings : List ℕ → List (List ℕ)
-nonempty_beginnings [] = []
-nonempty_beginnings (b ∷ w) = map (λ u. b ∷ u) (beginnings_of w)
+abbrev nonempty_prefixes : List ℕ → List (List ℕ)
+nonempty_prefixes [] = []
+nonempty_prefixes (b ∷ w) = map (λ u. b ∷ u) (prefixes_of w)
 
-length-beginnings_of : (w : List ℕ) → length (beginnings_of w) ≡ length w + 1
-length-beginnings_of [] = refl
-length-beginnings_of (b ∷ w) =
-    let longer = length-map (beginnings_of w) (λ u. b ∷ u) in
-    let more = length-beginnings_of w in
+length-prefixes_of : (w : List ℕ) → length (prefixes_of w) ≡ length w + 1
+length-prefixes_of [] = refl
+length-prefixes_of (b ∷ w) =
+    let longer = length-map (prefixes_of w) (λ u. b ∷ u) in
+    let more = length-prefixes_of w in
     omega (arith, longer, more)
 
-length-nonempty_beginnings : (w : List ℕ) → length (nonempty_beginnings w) ≡ length w
-length-nonempty_beginnings [] = refl
-length-nonempty_beginnings (b ∷ w) =
-    let longer = length-map (beginnings_of w) (λ u. b ∷ u) in
-    let more = length-beginnings_of w in
+length-nonempty_prefixes : (w : List ℕ) → length (nonempty_prefixes w) ≡ length w
+length-nonempty_prefixes [] = refl
+length-nonempty_prefixes (b ∷ w) =
+    let longer = length-map (prefixes_of w) (λ u. b ∷ u) in
+    let more = length-prefixes_of w in
     omega (arith, longer, more)
 
-Contains-beginnings_of : (u w : List ℕ) → begins u w ≡ true → Contains (beginnings_of w) u
-Contains-beginnings_of [] [] is = Contains-here [] []
-Contains-beginnings_of [] (c ∷ w) is = Contains-here [] (map (λ u. c ∷ u) (beginnings_of w))
-Contains-beginnings_of (b ∷ u) [] is = absurd (false≢true is)
-Contains-beginnings_of (b ∷ u) (c ∷ w) is =
+Contains-prefixes_of : (u w : List ℕ) → begins u w ≡ true → Contains (prefixes_of w) u
+Contains-prefixes_of [] [] is = Contains-here [] []
+Contains-prefixes_of [] (c ∷ w) is = Contains-here [] (map (λ u. c ∷ u) (prefixes_of w))
+Contains-prefixes_of (b ∷ u) [] is = absurd (false≢true is)
+Contains-prefixes_of (b ∷ u) (c ∷ w) is =
     let parts = and_parts (b == c) (begins u w) is in
-    let longer = map (λ u. c ∷ u) (beginnings_of w) in
+    let longer = map (λ u. c ∷ u) (prefixes_of w) in
     Contains-later [] longer (b ∷ u)
     (subst (λ a. Contains longer (a ∷ u)) (sym (eqb-true b c parts.0))
-    (Contains-map (λ u. c ∷ u) (beginnings_of w) u (Contains-beginnings_of u w parts.1)))
+    (Contains-map (λ u. c ∷ u) (prefixes_of w) u (Contains-prefixes_of u w parts.1)))
 
 -- A string that begins w, and before which another stands, is one of them.
-Contains-nonempty_beginnings : (v u w : List ℕ) → IsBefore v u → begins u w ≡ true →
-    Contains (nonempty_beginnings w) u
-Contains-nonempty_beginnings v [] w before is = absurd before
-Contains-nonempty_beginnings v (b ∷ u) [] before is = absurd (false≢true is)
-Contains-nonempty_beginnings v (b ∷ u) (c ∷ w) before is =
+Contains-nonempty_prefixes : (v u w : List ℕ) → IsBefore v u → begins u w ≡ true →
+    Contains (nonempty_prefixes w) u
+Contains-nonempty_prefixes v [] w before is = absurd before
+Contains-nonempty_prefixes v (b ∷ u) [] before is = absurd (false≢true is)
+Contains-nonempty_prefixes v (b ∷ u) (c ∷ w) before is =
     let parts = and_parts (b == c) (begins u w) is in
-    subst (λ a. Contains (map (λ u. c ∷ u) (beginnings_of w)) (a ∷ u))
+    subst (λ a. Contains (map (λ u. c ∷ u) (prefixes_of w)) (a ∷ u))
     (sym (eqb-true b c parts.0))
-    (Contains-map (λ u. c ∷ u) (beginnings_of w) u (Contains-beginnings_of u w parts.1))
+    (Contains-map (λ u. c ∷ u) (prefixes_of w) u (Contains-prefixes_of u w parts.1))
 
 -- Nodes that each stand at another string of a list are no more than these.
 nodes-listed : {A : Type 0} (list : List (List ℕ)) (nodes : List (List ℕ × A)) →
@@ -182,10 +182,10 @@ range-points-few {V} {A} m low high nodes apart all =
     let before = λ (a b : List ℕ × A). IsBefore a.0 b.0 in
     let test = λ (node : List ℕ × A). begins node.0 (bound_string high) in
     let other = λ (node : List ℕ × A). not (test node) in
-    let begun = nodes-listed (nonempty_beginnings (bound_string high)) (filter test nodes)
+    let begun = nodes-listed (nonempty_prefixes (bound_string high)) (filter test nodes)
     (AllPairs-filter before test nodes apart) (λ node there.
     let found = (Contains-filter test nodes node).0 there in
-    Contains-nonempty_beginnings (bound_string low) node.0 (bound_string high)
+    Contains-nonempty_prefixes (bound_string low) node.0 (bound_string high)
     (lt-before (bound_string low) node.0 (all node found.0).1) found.1) in
     let others = points-counted (within m low high) (within_ascends V m low high)
     (filter other nodes) (AllPairs-filter before other nodes apart) (λ node there.
@@ -193,6 +193,6 @@ range-points-few {V} {A} m low high nodes apart all =
     let is = all node found.0 in
     within-point m low high node.0 (lt-before (bound_string low) node.0 is.1)
     ((high-meets high node.0).0 is.2) (not-true (test node) found.1) is.0) in
-    let beginnings = length-nonempty_beginnings (bound_string high) in
+    let prefix_matches = length-nonempty_prefixes (bound_string high) in
     let both = length-filter_both test other (λ node. refl) nodes in
-    omega (arith, begun, others, beginnings, both)
+    omega (arith, begun, others, prefix_matches, both)

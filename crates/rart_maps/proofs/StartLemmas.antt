@@ -18,12 +18,12 @@ use Rattle.std.proofs.lemmas.List.Sums.{sum_by-cons}
 use Rattle.std.proofs.lemmas.Map.Text.{is_eq-slice_cmp}
 use Rattle.rart_below.specs.Bytes.{byte_order, begins}
 use Rattle.rart_maps.specs.Versions.{Map}
-use Rattle.rart_maps.specs.Pairs.{Strings, pairs, beginnings_of, starts, shared}
+use Rattle.rart_maps.specs.Pairs.{Strings, pairs, prefixes_of, starts, shared}
 use Rattle.rart_maps.specs.StartLaws.{strings_under, how_many_under, HasStarts, with_byte, all_bytes, HasByteKeys, sum_of_parts, StringsUnderSplit, StringsUnderAreApart, StringsUnderAddUp, StartsBeginKeys, SharedAreInBoth, StartsAddUp, SharedAddUp}
 use Rattle.rart_maps.proofs.ElementLemmas.{Contains-here, Contains-later, Contains-map, list_any-is}
 use Rattle.rart_maps.proofs.FoundLemmas.{Contains-pairs}
 use Rattle.rart_maps.proofs.OrderLemmas.{byte_order-IsAntisymmetric, lt-less, begins-append, begins-rest}
-use Rattle.rart_maps.proofs.PairLawLemmas.{begins-shorter, contains-beginnings, contains-starts, contains-shared}
+use Rattle.rart_maps.proofs.PairLawLemmas.{begins-shorter, contains-prefix_matches, contains-starts, contains-shared}
 use Rattle.rart_maps.proofs.SetLemmas.{contains-kept, elements, len-retain, len-retain-weaker, Contains-elements}
 
 -- ---- starts and shared
@@ -453,9 +453,9 @@ begins-behind (b ∷ p) u w is =
 module _ {V : Type 0} where
   -- each string that begins a key of a list, among all of them
   pub starts-all : (list : List (List ℕ × V))
-      → HasStarts (set.from_list (flat_map (λ pair. beginnings_of pair.0) list)) [] list
+      → HasStarts (set.from_list (flat_map (λ pair. prefixes_of pair.0) list)) [] list
   starts-all list pair there u is =
-      contains-beginnings list u
+      contains-prefix_matches list u
       ∙ (list_any-is (λ pair. begins u pair.0) list).1 (pair, there, is)
 
   pub starts-behind : (strings : Strings) (above prefix : List ℕ) (list : List (List ℕ × V))

@@ -79,7 +79,10 @@ module _ {F A X : Type 0} (g : Mut F A (Unit {0})) (Shows : A → X → Type 0) 
   visitable_of_one x f = (
     λ callable. (callable-first g Shows tt x [] f callable).0,
     λ takes. callable-from g Shows tt x [] f takes
-        (λ j called. record { at = λ y rest k before. absurd (up_to-none g Shows tt y rest j k before) }),
+        (λ j called. record {
+          at = λ y rest k before. absurd
+              (up_to-none g Shows tt y rest j k before);
+        }),
   )
 
   pub visit_of_parts : VisitOfParts g Shows

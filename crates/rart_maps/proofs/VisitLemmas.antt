@@ -109,7 +109,7 @@ module _ {F A R X : Type 0} (g : Mut F A R) (Shows : A → X → Type 0) (answer
       (here.0, later.1 ∙ ap (λ ys. ys ++ xs) here.1 ∙ append_assoc (seen f) (x ∷ []) xs)
 
 module _ {F A X : Type 0} (g : Mut F A (Unit {0})) (Shows : A → X → Type 0) where
-  -- What was called on a beginning, and was refused.
+  -- What was called on a prefix, and was refused.
   pub visits-refused : {f last : F} {members : List X} (result : Result (Unit {0}) AllocError) →
       IsErr result → VisitFront g Shows f members last → Visits g Shows result f members last
   visits-refused (Ok done) is front = absurd (false≢true is)

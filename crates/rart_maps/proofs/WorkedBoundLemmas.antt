@@ -1,6 +1,6 @@
 -- The worked values of the bounds, by computation.
 use Rattle.std.proofs.Common.{◌*◌, refl, ap, inl, inr}
-use Rattle.rart_maps.specs.WorkedBounds.{LookupOfNoByte, LookupOfThreeBytes, ChangeOfNoByte, ChangeOfThreeBytes, TouchOfNoByte, TouchOfThreeBytes, MeetOfTwo, MeetBelowOne, MeetWithItself, MeetOfEmpty, ReachOfTwo, ReachOfAll, ReachOfNone, MeetOfDistinct, MeetInsideKeys, ReachOfFive, ReachOfOne, ReachPastKeys, WalkOfThree, WalkOfOneBelowOther, WalkOfNone, ScanOfTwo, ScanOfAll, ScanOfNone, ScanOfThree, RangeOfTwo, RangeOfAll, RangeReversed, RangeOfNone, RangeOfNoneBelow}
+use Rattle.rart_maps.specs.WorkedBounds.{LookupOfNoByte, LookupOfThreeBytes, ChangeOfNoByte, ChangeOfThreeBytes, TouchOfNoByte, TouchOfThreeBytes, MeetOfTwo, MeetBelowOne, MeetWithItself, MeetOfEmpty, ReachOfTwo, ReachOfAll, ReachOfNone, MeetOfDistinct, MeetInsideKeys, ReachOfFive, ReachOfOne, ReachPastKeys, WalkOfThree, WalkOfOneBelowOther, WalkOfNone, ReachByPairsOfTwo, ReachByPairsOfAll, ReachByPairsOfNone, ReachByPairsOfThree, RangeOfTwo, RangeOfAll, RangeReversed, RangeOfNone, RangeOfNoneBelow}
 use Rattle.rart_maps.proofs.MapLemmas.{maps, sets}
 use Rattle.rart_maps.proofs.PairLawLemmas.{shared_is_empty}
 use Rattle.std.specs.FinMap as finite
@@ -71,8 +71,8 @@ walk_of_one_below_other = simp (maps, sets) refl
 pub walk_of_none : WalkOfNone
 walk_of_none = simp (maps, sets) refl
 
-pub scan_of_two : ScanOfTwo
-scan_of_two = simp (maps, sets) refl
+pub reach_by_pairs_of_two : ReachByPairsOfTwo
+reach_by_pairs_of_two = simp (maps, sets) refl
 
 pub range_of_two : RangeOfTwo
 range_of_two = simp maps refl
@@ -86,14 +86,14 @@ range_reversed = simp maps refl
 pub range_of_none : RangeOfNone
 range_of_none = simp maps refl
 
-pub scan_of_all : ScanOfAll
-scan_of_all = simp maps refl
+pub reach_by_pairs_of_all : ReachByPairsOfAll
+reach_by_pairs_of_all = simp maps refl
 
-pub scan_of_none : ScanOfNone
-scan_of_none = simp maps refl
+pub reach_by_pairs_of_none : ReachByPairsOfNone
+reach_by_pairs_of_none = simp maps refl
 
-pub scan_of_three : ScanOfThree
-scan_of_three = simp maps refl
+pub reach_by_pairs_of_three : ReachByPairsOfThree
+reach_by_pairs_of_three = simp maps refl
 
 pub range_of_none_below : RangeOfNoneBelow
 range_of_none_below = simp maps refl

@@ -5,7 +5,7 @@ use Rattle.std.specs.Option.{option_map}
 use Rattle.std.specs.FinMap as finite
 use Rattle.rart_below.specs.Bytes.{byte_order}
 use Rattle.rart_maps.specs.Pairs.{pairs}
-use Rattle.rart_maps.specs.WorkedPairs.{WithinIncluded, WithinExcluded, WithinOtherKeys, WithinLowAlone, WithinHighAlone, WithinReversed, WithinOneKey, WithinNoKey, UnderTwo, UnderOne, UnderItself, UnderEmpty, UnderNone, BeginningsShortestFirst, BeginningsOfKey, BeginningsNone, LongestInside, LongestIsItself, LongestIsEmpty, LongestNone, CommonLeftFirst, CommonNone, CommonOfTwo, CommonOfOne, CommonOfEmpty, SharedOfTwo, SharedOfOne, SharedOfEmpty}
+use Rattle.rart_maps.specs.WorkedPairs.{WithinIncluded, WithinExcluded, WithinOtherKeys, WithinLowAlone, WithinHighAlone, WithinReversed, WithinOneKey, WithinNoKey, UnderTwo, UnderOne, UnderItself, UnderEmpty, UnderNone, PrefixMatchesShortestFirst, PrefixMatchesOfKey, PrefixMatchesNone, LongestInside, LongestIsItself, LongestIsEmpty, LongestNone, CommonLeftFirst, CommonNone, CommonOfTwo, CommonOfOne, CommonOfEmpty, SharedOfTwo, SharedOfOne, SharedOfEmpty}
 use Rattle.rart_maps.proofs.MapLemmas.{maps, sets}
 use Rattle.rart_maps.proofs.PairLawLemmas.{pairs-empty, shared_is_empty}
 
@@ -48,14 +48,14 @@ under_empty = simp maps refl
 pub under_none : UnderNone
 under_none = simp maps refl
 
-pub beginnings_shortest_first : BeginningsShortestFirst
-beginnings_shortest_first = simp maps refl
+pub prefix_matches_shortest_first : PrefixMatchesShortestFirst
+prefix_matches_shortest_first = simp maps refl
 
-pub beginnings_of_key : BeginningsOfKey
-beginnings_of_key = simp maps refl
+pub prefix_matches_of_key : PrefixMatchesOfKey
+prefix_matches_of_key = simp maps refl
 
-pub beginnings_none : BeginningsNone
-beginnings_none = simp maps refl
+pub prefix_matches_none : PrefixMatchesNone
+prefix_matches_none = simp maps refl
 
 pub longest_inside : LongestInside
 longest_inside = simp maps refl

@@ -4,7 +4,7 @@ use Rattle.std.specs.declared.ops.Bound.{Bound}
 use Rattle.std.specs.FinMap as finite
 use Rattle.rart_below.specs.Bytes.{begins}
 use Rattle.rart_maps.specs.Versions.{Map}
-use Rattle.rart_maps.specs.Pairs.{pairs, within, under, beginnings, longest_beginning, common}
+use Rattle.rart_maps.specs.Pairs.{pairs, within, under, prefix_matches, longest_prefix_match, common}
 use Rattle.rart_maps.specs.Order.{IsBefore, MeetsLow, MeetsHigh}
 
 -- The keys of a list ascend strictly: each stands before each later one.
@@ -23,8 +23,8 @@ module _ (V : Type 0) where
   abbrev pub UnderAscends : Type 0
   UnderAscends = (m : Map V) (p : List ℕ) → KeysAscend (λ pair. pair.0) (under m p)
 
-  abbrev pub BeginningsAscend : Type 0
-  BeginningsAscend = (m : Map V) (w : List ℕ) → KeysAscend (λ pair. pair.0) (beginnings m w)
+  abbrev pub PrefixMatchesAscend : Type 0
+  PrefixMatchesAscend = (m : Map V) (w : List ℕ) → KeysAscend (λ pair. pair.0) (prefix_matches m w)
 
   -- So do those in common.
   abbrev pub CommonAscends : Type 0
@@ -47,16 +47,16 @@ module _ (V : Type 0) where
       Contains (under m p) (key, x) ↔ (IsTrue (begins p key) × (finite.get m key ≡ Some x))
 
   -- It stands among those whose key begins w exactly where also the key begins w.
-  abbrev pub BeginningsAreFound : Type 0
-  BeginningsAreFound = (m : Map V) (w key : List ℕ) (x : V) →
-      Contains (beginnings m w) (key, x) ↔ (IsTrue (begins key w) × (finite.get m key ≡ Some x))
+  abbrev pub PrefixMatchesAreFound : Type 0
+  PrefixMatchesAreFound = (m : Map V) (w key : List ℕ) (x : V) →
+      Contains (prefix_matches m w) (key, x) ↔ (IsTrue (begins key w) × (finite.get m key ≡ Some x))
 
   -- The longest of these is exactly the one whose key no other one's passes in length.
   abbrev pub LongestIsFound : Type 0
   LongestIsFound = (m : Map V) (w key : List ℕ) (x : V) →
-      (longest_beginning m w ≡ Some (key, x))
-      ↔ (Contains (beginnings m w) (key, x)
-      × ((other : List ℕ) (y : V) → Contains (beginnings m w) (other, y)
+      (longest_prefix_match m w ≡ Some (key, x))
+      ↔ (Contains (prefix_matches m w) (key, x)
+      × ((other : List ℕ) (y : V) → Contains (prefix_matches m w) (other, y)
       → length other ≤ length key))
 
   -- A key stands in common with two values exactly where either map has its value there.

@@ -15,7 +15,7 @@ module _ {A X : Type 0} (Shows : A → X → Type 0) where
   abbrev pub items_given : List A → List (Option (Result A AllocError))
   items_given items = map (λ item. Some (Ok item)) items
 
-  -- nothing, so many times
+  -- nothing, a number of times
   abbrev pub nothing_given : ℕ → List (Option (Result A AllocError))
   nothing_given times = replicate times None
 

@@ -27,8 +27,8 @@ MeetsHigh (Included high) key = IsAtMost key high
 MeetsHigh (Excluded high) key = IsBefore key high
 MeetsHigh Unbounded key = ⊤
 
--- The order of byte strings says of two that the one stands before the other, that they are equal, or
--- that the other stands before the one, exactly where it is so.
+-- The order of byte strings says of two that the one stands before the other, that they are equal,
+-- or that the other stands before the one, exactly where it is so.
 abbrev pub OrderIsOfFirstDifference : Type 0
 OrderIsOfFirstDifference = (u w : List ℕ) → ((byte_order u w ≡ Less) ↔ IsBefore u w)
     × ((byte_order u w ≡ Equal) ↔ (u ≡ w)) × ((byte_order u w ≡ Greater) ↔ IsBefore w u)

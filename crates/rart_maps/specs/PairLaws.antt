@@ -1,4 +1,4 @@
--- Laws that show what the words on maps, their pairs and the beginnings of keys mean.
+-- Laws that show what the words on maps, their pairs and the prefixes of keys mean.
 use Rattle.std.specs.Prelude.{◌≡◌, ◌↔◌, ◌⊎◌, ℕ, List, [], ◌∷◌, ◌++◌, map, IsTrue, ⊤}
 use Rattle.std.specs.declared.ops.Bound.{Bound}
 use Rattle.std.specs.FinMap as finite
@@ -6,7 +6,7 @@ use Rattle.std.specs.FinMap.{is_sorted}
 use Rattle.std.specs.FinSet as set
 use Rattle.rart_below.specs.Bytes.{byte_order}
 use Rattle.rart_maps.specs.Versions.{Map}
-use Rattle.rart_maps.specs.Pairs.{pairs, within, under, beginnings, common, starts, shared}
+use Rattle.rart_maps.specs.Pairs.{pairs, within, under, prefix_matches, common, starts, shared}
 
 -- The first list has some of the second's elements, in their order.
 abbrev pub IsSublist : {A : Type 0} → List A → List A → Type 0
@@ -27,8 +27,8 @@ module _ (V : Type 0) where
   abbrev pub UnderIsSublist : Type 0
   UnderIsSublist = (m : Map V) (p : List ℕ) → IsSublist (under m p) (pairs m)
 
-  abbrev pub BeginningsIsSublist : Type 0
-  BeginningsIsSublist = (m : Map V) (w : List ℕ) → IsSublist (beginnings m w) (pairs m)
+  abbrev pub PrefixMatchesIsSublist : Type 0
+  PrefixMatchesIsSublist = (m : Map V) (w : List ℕ) → IsSublist (prefix_matches m w) (pairs m)
 
   -- With the maps swapped, the same keys come in the same order with their values swapped.
   abbrev pub CommonSwaps : Type 0
@@ -36,7 +36,7 @@ module _ (V : Type 0) where
       (left right : Map V) → common right left
       ≡ map (λ entry. (entry.0, entry.2, entry.1)) (common left right)
 
-  -- Each beginning of a string that begins a key begins that key too.
+  -- Each prefix of a string that begins a key begins that key too.
   abbrev pub StartsShorten : Type 0
   StartsShorten = (m : Map V) (u v : List ℕ) → IsTrue (set.contains (starts m) (u ++ v))
       → IsTrue (set.contains (starts m) u)

@@ -26,12 +26,12 @@ module _ {V : Type 0} where
   under m p = filter (λ pair. begins p pair.0) (pairs m)
 
   -- the pairs whose key begins w, the shortest first
-  abbrev pub beginnings : Map V → List ℕ → List (List ℕ × V)
-  beginnings m w = filter (λ pair. begins pair.0 w) (pairs m)
+  abbrev pub prefix_matches : Map V → List ℕ → List (List ℕ × V)
+  prefix_matches m w = filter (λ pair. begins pair.0 w) (pairs m)
 
   -- the last of them, whose key is the longest, where there is one
-  abbrev pub longest_beginning : Map V → List ℕ → Option (List ℕ × V)
-  longest_beginning m w = last_or None (beginnings m w)
+  abbrev pub longest_prefix_match : Map V → List ℕ → Option (List ℕ × V)
+  longest_prefix_match m w = last_or None (prefix_matches m w)
 
   -- each key of both with what either has there, strictly ascending by key
   abbrev pub common : Map V → Map V → List (List ℕ × V × V)
@@ -40,9 +40,9 @@ module _ {V : Type 0} where
       (pairs left)
 
 -- the strings that begin w, from the empty one to w
-abbrev pub beginnings_of : List ℕ → List (List ℕ)
-beginnings_of [] = [] ∷ []
-beginnings_of (b ∷ w) = [] ∷ map (λ u. b ∷ u) (beginnings_of w)
+abbrev pub prefixes_of : List ℕ → List (List ℕ)
+prefixes_of [] = [] ∷ []
+prefixes_of (b ∷ w) = [] ∷ map (λ u. b ∷ u) (prefixes_of w)
 
 -- a finite set of byte strings
 abbrev pub Strings : Type 0
@@ -51,7 +51,7 @@ Strings = set.FinSet (slice_cmp nat_cmp)
 module _ {V : Type 0} where
   -- the strings that begin some key
   abbrev pub starts : Map V → Strings
-  starts m = set.from_list (flat_map (λ pair. beginnings_of pair.0) (pairs m))
+  starts m = set.from_list (flat_map (λ pair. prefixes_of pair.0) (pairs m))
 
   -- the strings that begin some key of the one and some key of the other, not always the same key
   abbrev pub shared : Map V → Map V → Strings

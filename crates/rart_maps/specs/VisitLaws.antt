@@ -30,14 +30,14 @@ module _ {F A X : Type 0} (g : Mut F A (Unit {0})) (Shows : A → X → Type 0) 
       ↔ ((j : F) × Visit g Shows f xs j × Visit g Shows j ys f')
 
   -- A visitor that answers `Ok` has made a visit of all members; refused for memory, one of a
-  -- beginning.
+  -- prefix.
   abbrev pub VisitsTell : Type 0
   VisitsTell = (members : List X) (f f' : F) (refused : AllocError) →
       (Visits g Shows (Ok tt) f members f' ↔ Visit g Shows f members f')
       × (Visits g Shows (Err refused) f members f'
       ↔ ((front rest : List X) × (members ≡ front ++ rest) × Visit g Shows f front f'))
 
-  -- What a refused visit leaves is what the visit of a beginning leaves.
+  -- What a refused visit leaves is what the visit of a prefix leaves.
   abbrev pub FrontOfVisit : Type 0
   FrontOfVisit = (members : List X) (f f' : F) → VisitFront g Shows f members f'
       ↔ ((front rest : List X) × (members ≡ front ++ rest) × Visit g Shows f front f')
@@ -68,7 +68,7 @@ module _ {F A X E : Type 0} (g : Mut F A (Result VisitControl E)) (Shows : A →
       × IfContinues answer (VisitUntil g Shows j xs last f') ((j ≡ f') × (last ≡ answer)))
 
   -- What a refused visit leaves is what a visit leaves that goes on behind each member of a
-  -- beginning.
+  -- prefix.
   abbrev pub FrontOfUntil : Type 0
   FrontOfUntil = (members : List X) (f f' : F) → VisitUntilFront g Shows f members f'
       ↔ ((front rest : List X) × (members ≡ front ++ rest)
@@ -81,7 +81,7 @@ module _ {F A X E : Type 0} (g : Mut F A (Result VisitControl E)) (Shows : A →
       ↔ (CallableOn g Shows f x
       × ((j : F) → CalledOn g Shows f x (Ok Continue) j → VisitableUntil g Shows j xs))
 
-  -- f is called on the members of a beginning, and answers `Continue` on each but the last, on
+  -- f is called on the members of a prefix, and answers `Continue` on each but the last, on
   -- which it gives this answer.
   abbrev pub EndsOnOne : F → List X → Result VisitControl E → F → Type 0
   EndsOnOne f members answer f' = (front : List X) × (x : X) × (rest : List X) × (j : F)
@@ -99,7 +99,7 @@ module _ {F A X E : Type 0} (g : Mut F A (Result VisitControl E)) (Shows : A →
   UntilCallbackRefuses = (members : List X) (f f' : F) (e : E) →
       VisitsUntil g Shows (Err (Callback e)) f members f' ↔ EndsOnOne f members (Err e) f'
 
-  -- One that was refused for memory, on a beginning of the members, each answered `Continue`.
+  -- One that was refused for memory, on a prefix of the members, each answered `Continue`.
   abbrev pub UntilMemoryIsRefused : Type 0
   UntilMemoryIsRefused = (members : List X) (f f' : F) (refused : AllocError) →
       VisitsUntil g Shows (Err (Memory refused)) f members f'

@@ -74,12 +74,12 @@ module _ {F A X : Type 0} (g : Mut F A (Unit {0})) (Shows : A → X → Type 0) 
   abbrev pub Visit : F → List X → F → Type 0
   Visit f members f' = Answers g Shows tt f members f'
 
-  -- so for the members of a beginning, which is what a refusal leaves
+  -- so for the members of a prefix, which is what a refusal leaves
   abbrev pub VisitFront : F → List X → F → Type 0
   VisitFront f members f' = (rest : List X) × AnswersUpTo g Shows tt f members rest f'
 
   -- what a visitor that takes memory has done, by its answer: a visit of all members, or, refused,
-  -- of a beginning
+  -- of a prefix
   abbrev pub Visits : Result (Unit {0}) AllocError → F → List X → F → Type 0
   Visits (Ok done) f members f' = Visit f members f'
   Visits (Err refused) f members f' = VisitFront f members f'
@@ -103,13 +103,13 @@ module _ {F A X E : Type 0} (g : Mut F A (Result VisitControl E)) (Shows : A →
   VisitUntil f members (Ok Stop) f' = VisitUpTo f members (Ok Stop) f'
   VisitUntil f members (Err e) f' = VisitUpTo f members (Err e) f'
 
-  -- what a refusal leaves: f is called on the members of a beginning, and answers `Continue`
+  -- what a refusal leaves: f is called on the members of a prefix, and answers `Continue`
   abbrev pub VisitUntilFront : F → List X → F → Type 0
   VisitUntilFront f members f' =
       (rest : List X) × AnswersUpTo g Shows (Ok Continue) f members rest f'
 
   -- what a visitor that takes memory has done, by its answer: `Ok` tells that f answered no error,
-  -- and `Callback` which one; refused for memory, f answered `Continue` on a beginning
+  -- and `Callback` which one; refused for memory, f answered `Continue` on a prefix
   abbrev pub VisitsUntil : Result (Unit {0}) (Refusal E) → F → List X → F → Type 0
   VisitsUntil (Ok done) f members f' =
       (last : VisitControl) × VisitUntil f members (Ok last) f'

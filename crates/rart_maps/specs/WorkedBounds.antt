@@ -3,7 +3,7 @@ use Rattle.std.specs.Prelude.{◌≡◌, ℕ, List, [], ◌∷◌, map, codes}
 use Rattle.std.specs.declared.ops.Bound.TheVariants.{Included, Excluded, Unbounded}
 use Rattle.std.specs.FinMap as finite
 use Rattle.rart_maps.specs.Versions.{Map}
-use Rattle.rart_maps.specs.Bounds.{lookup_bound, change_bound, touch_bound, meet_bound, reach_bound, scan_bound, range_bound, walk_cost}
+use Rattle.rart_maps.specs.Bounds.{lookup_bound, change_bound, enter_bound, meet_bound, reach_bound, reach_by_pairs, range_bound, node_count}
 
 -- a map of these keys: on values no bound depends
 abbrev pub map_of : List (List ℕ) → Map ℕ
@@ -22,10 +22,10 @@ abbrev pub ChangeOfThreeBytes : Type 0
 ChangeOfThreeBytes = change_bound (codes "abc") ≡ 5
 
 abbrev pub TouchOfNoByte : Type 0
-TouchOfNoByte = touch_bound [] ≡ 3
+TouchOfNoByte = enter_bound [] ≡ 3
 
 abbrev pub TouchOfThreeBytes : Type 0
-TouchOfThreeBytes = touch_bound (codes "abc") ≡ 12
+TouchOfThreeBytes = enter_bound (codes "abc") ≡ 12
 
 -- Shared are "", a, ab and b.
 abbrev pub MeetOfTwo : Type 0
@@ -82,31 +82,33 @@ ReachPastKeys =
 
 -- The points of ac, ad and b are these and the empty string and a, at which they part.
 abbrev pub WalkOfThree : Type 0
-WalkOfThree = walk_cost (map_of (codes "ac" ∷ codes "ad" ∷ codes "b" ∷ [])) ≡ 5
+WalkOfThree = node_count (map_of (codes "ac" ∷ codes "ad" ∷ codes "b" ∷ [])) ≡ 5
 
 -- The keys abc and ab part nowhere: the one begins the other.
 abbrev pub WalkOfOneBelowOther : Type 0
-WalkOfOneBelowOther = walk_cost (map_of (codes "ab" ∷ codes "abc" ∷ [])) ≡ 2
+WalkOfOneBelowOther = node_count (map_of (codes "ab" ∷ codes "abc" ∷ [])) ≡ 2
 
 abbrev pub WalkOfNone : Type 0
-WalkOfNone = walk_cost (map_of []) ≡ 0
+WalkOfNone = node_count (map_of []) ≡ 0
 
 -- Under a are two keys, and the prefix has one byte.
-abbrev pub ScanOfTwo : Type 0
-ScanOfTwo = scan_bound (map_of (codes "ac" ∷ codes "ad" ∷ codes "b" ∷ [])) (codes "a") ≡ 6
+abbrev pub ReachByPairsOfTwo : Type 0
+ReachByPairsOfTwo = reach_by_pairs (map_of (codes "ac" ∷ codes "ad" ∷ codes "b" ∷ []))
+    (codes "a") ≡ 6
 
 -- Under the empty string are all three keys.
-abbrev pub ScanOfAll : Type 0
-ScanOfAll = scan_bound (map_of (codes "ac" ∷ codes "ad" ∷ codes "b" ∷ [])) [] ≡ 7
+abbrev pub ReachByPairsOfAll : Type 0
+ReachByPairsOfAll = reach_by_pairs (map_of (codes "ac" ∷ codes "ad" ∷ codes "b" ∷ [])) [] ≡ 7
 
 -- Under abc is no key, and the prefix has three bytes.
-abbrev pub ScanOfNone : Type 0
-ScanOfNone = scan_bound (map_of (codes "ac" ∷ codes "ad" ∷ codes "b" ∷ [])) (codes "abc") ≡ 4
+abbrev pub ReachByPairsOfNone : Type 0
+ReachByPairsOfNone = reach_by_pairs (map_of (codes "ac" ∷ codes "ad" ∷ codes "b" ∷ []))
+    (codes "abc") ≡ 4
 
 -- Under a are three keys of four.
-abbrev pub ScanOfThree : Type 0
-ScanOfThree =
-    scan_bound (map_of (codes "ac" ∷ codes "ad" ∷ codes "ae" ∷ codes "b" ∷ [])) (codes "a") ≡ 8
+abbrev pub ReachByPairsOfThree : Type 0
+ReachByPairsOfThree =
+    reach_by_pairs (map_of (codes "ac" ∷ codes "ad" ∷ codes "ae" ∷ codes "b" ∷ [])) (codes "a") ≡ 8
 
 -- From a up to b, b itself not, are a and ab, and either bound has one byte.
 abbrev pub RangeOfTwo : Type 0

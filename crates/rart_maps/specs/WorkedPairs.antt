@@ -4,7 +4,7 @@ use Rattle.std.specs.declared.ops.Bound.TheVariants.{Included, Excluded, Unbound
 use Rattle.std.specs.FinMap as finite
 use Rattle.std.specs.FinSet as set
 use Rattle.rart_maps.specs.Versions.{Map}
-use Rattle.rart_maps.specs.Pairs.{within, under, beginnings, longest_beginning, common, shared}
+use Rattle.rart_maps.specs.Pairs.{within, under, prefix_matches, longest_prefix_match, common, shared}
 
 abbrev pub letters : Map ℕ
 letters = finite.from_entries
@@ -75,29 +75,29 @@ abbrev pub stems : Map ℕ
 stems = finite.from_entries
     ((codes "ab", 2) ∷ ([], 0) ∷ (codes "abc", 3) ∷ (codes "b", 4) ∷ (codes "a", 1) ∷ [])
 
-abbrev pub BeginningsShortestFirst : Type 0
-BeginningsShortestFirst = beginnings stems (codes "abd")
+abbrev pub PrefixMatchesShortestFirst : Type 0
+PrefixMatchesShortestFirst = prefix_matches stems (codes "abd")
     ≡ ([], 0) ∷ (codes "a", 1) ∷ (codes "ab", 2) ∷ []
 
 -- A key begins itself, and no shorter string.
-abbrev pub BeginningsOfKey : Type 0
-BeginningsOfKey = beginnings stems (codes "b") ≡ ([], 0) ∷ (codes "b", 4) ∷ []
+abbrev pub PrefixMatchesOfKey : Type 0
+PrefixMatchesOfKey = prefix_matches stems (codes "b") ≡ ([], 0) ∷ (codes "b", 4) ∷ []
 
-abbrev pub BeginningsNone : Type 0
-BeginningsNone = beginnings words (codes "abc") ≡ []
+abbrev pub PrefixMatchesNone : Type 0
+PrefixMatchesNone = prefix_matches words (codes "abc") ≡ []
 
 -- The longest of them, which may be the string itself or the empty one.
 abbrev pub LongestInside : Type 0
-LongestInside = longest_beginning stems (codes "abd") ≡ Some (codes "ab", 2)
+LongestInside = longest_prefix_match stems (codes "abd") ≡ Some (codes "ab", 2)
 
 abbrev pub LongestIsItself : Type 0
-LongestIsItself = longest_beginning stems (codes "b") ≡ Some (codes "b", 4)
+LongestIsItself = longest_prefix_match stems (codes "b") ≡ Some (codes "b", 4)
 
 abbrev pub LongestIsEmpty : Type 0
-LongestIsEmpty = longest_beginning stems (codes "cab") ≡ Some ([], 0)
+LongestIsEmpty = longest_prefix_match stems (codes "cab") ≡ Some ([], 0)
 
 abbrev pub LongestNone : Type 0
-LongestNone = longest_beginning words (codes "abc") ≡ None
+LongestNone = longest_prefix_match words (codes "abc") ≡ None
 
 -- ---- keys in common
 
@@ -142,7 +142,7 @@ SharedOfTwo = (set.len (shared few tens) ≡ 4)
     × IsTrue (set.contains (shared few tens) (codes "ab"))
     × IsTrue (set.contains (shared few tens) (codes "b"))
 
--- Each beginning of the key, "", a, ab and abc.
+-- Each prefix of the key, "", a, ab and abc.
 abbrev pub SharedOfOne : Type 0
 SharedOfOne = set.len (shared (one_key 1) (one_key 10)) ≡ 4
 

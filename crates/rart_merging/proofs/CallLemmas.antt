@@ -17,7 +17,7 @@ module _ {F A R X : Type 0} (g : Mut F A R) (Shows : A → X → Type 0) (answer
       (all ∙ sym (append_assoc front (x ∷ []) (xs ++ rest)))
       (step front x (xs ++ rest) f calls.0 all holds calls.1) calls.2)
 
-  -- It holds of a beginning once there was a call on each member of it,
+  -- It holds of a prefix once there was a call on each member of it,
   pub holds-up_to : (rest : List X) (f f' : F) → Holds [] f
       → (calls : AnswersUpTo g Shows answer f members rest f') → Holds calls.0 f'
   holds-up_to rest f f' holds calls =

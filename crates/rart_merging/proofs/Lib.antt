@@ -1,5 +1,5 @@
 pub mod CallLemmas
-pub mod MergeLemmas
+pub mod MergedVersionLemmas
 pub mod PatchLemmas
 pub mod SettingLemmas
 pub mod SettlingLemmas

@@ -103,9 +103,9 @@ module _ {V : Type 0} where
   patched-append m [] ys = refl
   patched-append m (x ∷ xs) ys = patched-append (with_value m x.0 x.2) xs ys
 
-  none-of : (o : Option V) → is_some o ≡ false → None ≡ o
-  none-of None not = refl
-  none-of (Some x) not = absurd (cc not)
+  not_some-is_None : (o : Option V) → is_some o ≡ false → None ≡ o
+  not_some-is_None None not = refl
+  not_some-is_None (Some x) not = absurd (cc not)
 
   -- A map without a key is the map without it.
   removed-absent : (m : Map V) (w : List ℕ) → is_some (finite.get m w) ≡ false
@@ -115,7 +115,7 @@ module _ {V : Type 0} where
       finite.get-remove nat_list_cmp_total m w q
       ∙ elim (eq_by_cmp byte_order q w) as (λ t. eq_by_cmp byte_order q w ≡ t
       → cond t None (finite.get m q) ≡ finite.get m q) [
-        | true ↦ λ same. none-of (finite.get m q)
+        | true ↦ λ same. not_some-is_None (finite.get m q)
             (ap (λ u. is_some (finite.get m u)) (same_key q w same) ∙ absent)
         | false ↦ λ _. refl
       ] refl)

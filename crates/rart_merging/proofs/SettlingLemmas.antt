@@ -26,7 +26,7 @@ use Rattle.rart_merging.specs.Merging.{Answerable, IsAskedUpTo, MergesTo, Replie
 use Rattle.rart_merging.specs.Setting.{IsSetTo}
 use Rattle.rart_merging.specs.Settling.{Askable, AskableIn, Settles, SettlesIn}
 use Rattle.rart_merging.proofs.CallLemmas.{holds-of_all, holds-up_to}
-use Rattle.rart_merging.proofs.MergeLemmas.{at_conflict, conflict_at, conflict_at-is, conflicts-of_theirs, conflicts_in, three_at}
+use Rattle.rart_merging.proofs.MergedVersionLemmas.{at_conflict, conflict_at, conflict_at-is, conflicts-of_theirs, conflicts_in, three_at}
 use Rattle.rart_merging.proofs.PatchLemmas.{room-next}
 use Rattle.rart_merging.proofs.SettingLemmas.{apart-before, get-with_value-itself, get-with_value-other, patched-append, patched-with_value, with_value-again}
 
@@ -58,7 +58,7 @@ module _ {F A V : Type 0} (g : Mut F A (Option V)) (Shows : A → Conflict V →
     ours = start.content
 
     -- What a draft is once these changes of theirs were gone over, and what the closure has replied
-    -- so far: to each conflict among them, where no memory was refused, and else to a beginning.
+    -- so far: to each conflict among them, where no memory was refused, and else to a prefix.
     pub record IsSettled (front : List (Change V)) (made : Result (Unit {0}) AllocError)
         (now : Version V) (f : F) : Type 0 where
       pub replies : List (Reply V)
@@ -267,7 +267,7 @@ module _ {F A V : Type 0} (g : Mut F A (Option V)) (Shows : A → Conflict V →
           content = settled.content ok;
         }
 
-    -- and refused on the way, the closure was asked at a beginning of the conflicts.
+    -- and refused on the way, the closure was asked at a prefix of the conflicts.
     pub settled-asks : (base theirs : Map V) (front rest : List (Change V))
         → changes same base theirs ≡ front ++ rest → (made : Result (Unit {0}) AllocError)
         → (now : Version V) (f : F) → IsSettled front made now f
@@ -373,7 +373,7 @@ module _ {S K F A V : Type 0}
       (askable-next g Shows same ours (state first) base theirs answerable calls.0 c rest calls.1
       (made s) (now s) (state s) way.settled ok (at_conflict same ours.content c) refl)
 
-  -- and what it leaves: a merge, or what was asked of a beginning.
+  -- and what it leaves: a merge, or what was asked of a prefix.
   pub merge-visit : (first : S) (s : S) → Visit closure (ByKeyChange bytes) first all s
       → now first ≡ ours → side first ≡ ours.content → IsOk (made s)
       → MergesTo g Shows same (state first) base ours.content theirs (state s) (now s).content

@@ -50,7 +50,7 @@ module _ {F A V : Type 0} (g : Mut F A (Option V)) (Shows : A → Conflict V →
     pub at : (replies : List (Reply V)) (conflict : Conflict V) (rest : List (Conflict V)) (f' : F)
         → RepliesUpTo f all replies (conflict ∷ rest) f' → CallableOn g Shows f' conflict
 
-  -- It is called on the conflicts of a beginning, which is what a refusal leaves.
+  -- It is called on the conflicts of a prefix, which is what a refusal leaves.
   abbrev pub IsAskedUpTo : F → List (Conflict V) → F → Type 0
   IsAskedUpTo f all f' =
       (replies : List (Reply V)) × (rest : List (Conflict V)) × RepliesUpTo f all replies rest f'

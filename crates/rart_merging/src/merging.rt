@@ -49,7 +49,7 @@ pub trait Merging<K: KeyTrait, V: Clone + Drop + Eq> {
     ///
     /// The number is one greater for each key that theirs changed and that is there before the call
     /// or after it. It asks for room for all the changes of theirs, which `diff_count` counts.
-    /// Refused for memory, map and number are as before, and the closure was called on a beginning
+    /// Refused for memory, map and number are as before, and the closure was called on a prefix
     /// of the conflicts.
     ///
     /// ```

@@ -3,6 +3,6 @@ pub mod CopyLemmas
 pub mod ChildMapLemmas
 pub mod ChildOrderLemmas
 pub mod RoomLemmas
-pub mod MergeLemmas
+pub mod NodeMergeLemmas
 pub mod NodeLemmas
 pub mod WidthLemmas

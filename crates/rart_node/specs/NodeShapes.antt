@@ -113,7 +113,8 @@ module _ {P V : Type 0} (bytes : P → List ℕ) where
   node_shape_roll_at : (layer : VersionedNode-F P V (VersionedNode P V) (NodeRef P V))
       (content : Content (NodeRef P V))
       → node_shape (roll-VersionedNode P V (record layer { content = content }))
-      ≡ node_of_content (bytes layer.prefix) (held_value layer.value) (shapes_of_content (content_shape content))
+      ≡ node_of_content (bytes layer.prefix) (held_value layer.value)
+      (shapes_of_content (content_shape content))
   unfolding node_shape pointer_shape
   node_shape_roll_at layer (Leaf upper) =
       fold-roll-VersionedNode P V (Shape V) (Shape V) node_step pointer_step

@@ -21,15 +21,15 @@ IsWidth width = (width ≡ 0) ⊎ (width ≡ 4) ⊎ (width ≡ 16) ⊎ (width �
 abbrev pub wider : ℕ → ℕ
 wider width = if width == 0 then 4 else if width == 4 then 16 else if width == 16 then 48 else 256
 
--- so many children fill a node of this width
+-- how many children fill a node of this width
 abbrev pub is_full_at : ℕ → ℕ → Bool
 is_full_at width count = nat_lt width 256 && nat_le width count
 
--- So many children are all that a width has room for. A leaf and the greatest width are never full.
+-- The most children that a width has room for. A leaf and the greatest width are never full.
 abbrev pub IsFullAt : ℕ → ℕ → Type 0
 IsFullAt width count = (0 < width) × (width < 256) × (count ≡ width)
 
--- the width of a node of this width, with so many children, once it has got one more
+-- the width of a node of this width, with `count` children, once it has got one more
 abbrev pub widened : ℕ → ℕ → ℕ
 widened width count = if is_full_at width count then wider width else width
 

@@ -1,19 +1,20 @@
 -- The steps of an edit down the way of a key, in the words of its code.
-use Rattle.std.proofs.Common.{◌≡◌, ℕ, zero, suc, ◌+◌, ◌-◌, ◌<◌, ◌≤◌, List, [], ◌∷◌, ◌++◌, Option, Some, None, Result, Ok, Err, IsSome, is_some, slice_get, length, drop, refl, arith, sym, ap, subst, ◌∙◌}
+use Rattle.std.proofs.Common.{◌≡◌, ℕ, suc, ◌-◌, ◌<◌, ◌≤◌, List, Option, Some, None, Result, Ok, Err, is_some, slice_get, length, drop, refl, arith, sym, ap, subst, ◌∙◌}
 use Rattle.std.specs.Option.{option_and_then, OnSome}
-use Rattle.std.specs.Result.{IsOk, IfOk, OnOk, OnErr}
+use Rattle.std.specs.Result.{IsOk, IsErr, IfOk, OnOk, OnErr}
 use Rattle.std.proofs.lemmas.Bool.{false≢true}
 use Rattle.std.proofs.lemmas.Option.{none-some, same_Some}
 use Rattle.rart_below.specs.Children.{child_at}
-use Rattle.rart_node.specs.Shape.{Shape, prefix_of, value_of, children_of, with_value, with_deleted, with_replaced, IsAscending}
-use Rattle.rart_removal.specs.Plans.{GoesOn, Removes, RemovesBelow}
+use Rattle.rart_node.specs.Counts.{Counts, CountsUpTo}
+use Rattle.rart_node.specs.Shape.{Shape, prefix_of, value_of, children_of, with_deleted, with_replaced, IsAscending}
+use Rattle.rart_removal.specs.Plans.{GoesOn, Removes, RemovesBelow, TakesOut, value_under}
 use Rattle.rart_removal.specs.declared.edit.Edit.{Edit}
 use Rattle.rart_shape.specs.Trees.{strip_prefix, found, IsTree, IsTaken}
 use Rattle.rart_shape.proofs.PrefixLemmas.{strip_prefix-is, strip_prefix-own}
 use Rattle.rart_shape.proofs.MatchLemmas.{found-deeper}
 use Rattle.rart_shape.proofs.FindLemmas.{IsBranch, branch, ordered}
 use Rattle.rart_shape.proofs.InsertionLemmas.{replaced-same}
-use Rattle.rart_removal.proofs.RemovalLemmas.{split-strip_prefix, take-below, deleted-replaced, ascending-replaced}
+use Rattle.rart_removal.proofs.RemovalLemmas.{split-strip_prefix, taken-below, deleted-replaced, ascending-replaced}
 
 pub when-ok : {A E B : Type 0} (result : Result A E) (x : A) → result ≡ Ok x → (IsOk result → B) → B
 when-ok (Ok y) x is says = says refl
@@ -40,10 +41,32 @@ pub if-ok : {A E : Type 0} {P Q : A → Type 0} (result : Result A E) → ((a : 
 if-ok (Ok a) goes holds = goes a holds
 if-ok (Err e) goes holds = tt
 
+-- what is told of an answer, where there is none
+pub refused-ok : {A E : Type 0} (P : Type 0) (result : Result A E) → IsErr result → OnOk result P
+refused-ok P (Ok x) err = absurd (false≢true err)
+refused-ok P (Err e) err = tt
+
+pub refused-if : {A E : Type 0} (P : A → Type 0) (result : Result A E) → IsErr result
+    → IfOk result P
+refused-if P (Ok x) err = absurd (false≢true err)
+refused-if P (Err e) err = tt
+
+pub refused-takes : {V E : Type 0} (result : Result (Option V) E) → IsErr result
+    → {gone : Option V} {IsTold : Shape V → Type 0} {most : ℕ} {before after : Shape V}
+    {start now : Counts} → after ≡ before → CountsUpTo most most start now
+    → TakesOut result gone IsTold most before after start now
+refused-takes result err same counted =
+    record {
+      taken = refused-ok _ result err;
+      value = refused-if _ result err;
+      refused = on-any result same;
+      counted = counted;
+    }
+
 -- what is left of a string behind a prefix that it begins with
-pub left-is : (prefix key rest : List ℕ) → strip_prefix prefix key ≡ Some rest
+pub drop-stripped : (prefix key rest : List ℕ) → strip_prefix prefix key ≡ Some rest
     → drop (length prefix) key ≡ rest
-left-is prefix key rest strips =
+drop-stripped prefix key rest strips =
     let whole = (split-strip_prefix prefix key (ap is_some strips)).0 in
     same_Some (drop (length prefix) key) rest
     (sym (ap (strip_prefix prefix) whole
@@ -69,6 +92,12 @@ module _ {V : Type 0} where
   child-is s opened child byte same here =
       sym (here ∙ ap (λ z. child_at byte (children_of z)) same)
 
+  pub pruned-value : (s opened child : Shape V) (value : Option V) (byte : ℕ) → opened ≡ s
+      → Some child ≡ child_at byte (children_of opened) → value ≡ value_of child
+      → value ≡ value_under byte s
+  pruned-value s opened child value byte same here is =
+      is ∙ sym (ap (option_and_then value_of) (child-is s opened child byte same here))
+
   pub kept-is : (s opened child left after replaced : Shape V) (byte : ℕ) → opened ≡ s → IsTree s
       → Some child ≡ child_at byte (children_of opened)
       → replaced ≡ with_replaced byte left opened → after ≡ replaced → left ≡ child → after ≡ s
@@ -92,7 +121,7 @@ module _ {V : Type 0} where
         → IsTaken key s after
     taken-deeper opened left replaced after same is shows taken =
         subst (IsTaken key s) (sym (shows ∙ is ∙ ap (with_replaced byte left) same))
-        (take-below s child left key rest byte tree
+        (taken-below s child left key rest byte tree
         (strip_prefix-is (prefix_of s) key rest goes.strips) goes.next goes.here taken)
 
 module _ {P V : Type 0} (bytes : P → List ℕ) (edit : Edit P V) where
@@ -123,7 +152,7 @@ module _ {P V : Type 0} (bytes : P → List ℕ) (edit : Edit P V) where
     steps-down rest left =
         let same : deeper.2 ≡ rest =
         sym (left ∙ ap (λ n. drop n key) (long ∙ ap length (is ∙ ap prefix_of same))
-        ∙ left-is (prefix_of s) key deeper.2 deeper.3.strips) in
+        ∙ drop-stripped (prefix_of s) key deeper.2 deeper.3.strips) in
         record {
           byte = deeper.0;
           child = deeper.1;

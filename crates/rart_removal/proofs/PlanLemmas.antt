@@ -10,11 +10,10 @@ use Rattle.rart_below.specs.Bytes.{IsAdmitted}
 use Rattle.rart_below.specs.Children.{child_at}
 use Rattle.rart_node.specs.declared.node_ref.NodeRef.{NodeRef}
 use Rattle.rart_node.specs.NodeShapes.{pointer_shape}
-use Rattle.rart_node.specs.Shape.{Shape, Forest, node, bare, grown, HasOnly, merged, prefix_of, value_of, children_of, with_value, with_deleted}
-use Rattle.rart_removal.specs.Plans.{GoesOn, IsLeafAt, LeadsToLeaf, Removes, IsPlan, edited, gone, value_under, cost_of}
+use Rattle.rart_node.specs.Shape.{Shape, node, bare, grown, HasOnly, merged, prefix_of, value_of, children_of, with_value, with_deleted}
+use Rattle.rart_removal.specs.Plans.{GoesOn, IsLeafAt, LeadsToLeaf, Removes, IsPlan, value_under, cost_of}
 use Rattle.rart_removal.specs.Removals.{AreAdmitted, IsTakenOr, CountsLeaving}
-use Rattle.rart_node.specs.Counts.{Counts}
-use Rattle.rart_removal.specs.declared.edit.Edit.{Edit}
+use Rattle.rart_node.specs.Counts.{Counts, CountsUpTo}
 use Rattle.rart_removal.specs.declared.edit.Edit.TheVariants.{Take, Prune, Replace}
 use Rattle.rart_removal.specs.declared.plan.Plan.{Plan}
 use Rattle.rart_shape.specs.Trees.{strip_prefix, found, IsTree, IsTaken, path_bound}
@@ -22,12 +21,12 @@ use Rattle.rart_shape.proofs.PrefixLemmas.{no-first, strip_prefix-own, strip_pre
 use Rattle.rart_shape.proofs.MatchLemmas.{found-here, found-deeper, path-deeper}
 use Rattle.rart_shape.proofs.FindLemmas.{ascending, ordered}
 use Rattle.rart_removal.proofs.EditLemmas.{branch-is, child-is, found-below-is}
-use Rattle.rart_removal.proofs.RemovalLemmas.{IsLeft, found-own, take-end, empty-leaf, take-leaf, left-kept, left-merged, admitted-left, admitted-merged, one-less}
+use Rattle.rart_removal.proofs.RemovalLemmas.{IsLeft, found-own, taken-end, empty-leaf, taken-leaf, left-kept, left-merged, admitted-left, admitted-merged, one-less}
 
 -- ---- lists and options
-pub none-is : {A : Type 0} (o : Option A) → is_some o ≡ false → o ≡ None
-none-is None none = refl
-none-is (Some a) none = absurd (false≢true (sym none))
+pub not_some-None : {A : Type 0} (o : Option A) → is_some o ≡ false → o ≡ None
+not_some-None None none = refl
+not_some-None (Some a) none = absurd (false≢true (sym none))
 
 -- a value that was looked at
 pub value-there : {V : Type 0} (o : Option (Bor V)) (value : Option V) (t : Bool)
@@ -58,12 +57,12 @@ module _ {V : Type 0} where
 
   here-left : (s : Shape V) → IsTree s → IsLeft (prefix_of s) s (with_value None s)
   here-left s tree =
-      take-end s (prefix_of s) [] (ordered s tree) (sym (append-nil (prefix_of s))) refl
+      taken-end s (prefix_of s) [] (ordered s tree) (sym (append-nil (prefix_of s))) refl
 
   same-children : (s : Shape V) → children_of (with_value None s) ≡ children_of s
   same-children (node prefix value width forest) = refl
 
-  no-value : (s : Shape V) → value_of (with_value None s) ≡ None
+  pub no-value : (s : Shape V) → value_of (with_value None s) ≡ None
   no-value (node prefix value width forest) = refl
 
   pub here-leaf : (s : Shape V) → length (children_of s) ≡ 0 → IsSome (value_of s)
@@ -87,7 +86,7 @@ module _ {V : Type 0} where
   pub leaf-alone : (s after : Shape V) (key : List ℕ) → IsTree s → IsLeafAt key s
       → after ≡ with_value None s → IsTakenOr true key s after
   leaf-alone s after key tree leaf is =
-      let left = take-end s key [] (ordered s tree)
+      let left = taken-end s key [] (ordered s tree)
       (strip_prefix-is (prefix_of s) key [] leaf.2) refl in (
         ap value_of is ∙ no-value s,
         ap children_of is ∙ same-children s ∙ leaf.0,
@@ -95,7 +94,7 @@ module _ {V : Type 0} where
       )
 
   -- ---- where a leaf goes
-  kept-value : (s : Shape V) (byte : ℕ) → value_of (with_deleted byte s) ≡ value_of s
+  pub kept-value : (s : Shape V) (byte : ℕ) → value_of (with_deleted byte s) ≡ value_of s
   kept-value (node prefix value width forest) byte = refl
 
   forks : (s : Shape V) → IsTree s → value_of s ≡ None → 1 < length (children_of s)
@@ -109,7 +108,7 @@ module _ {V : Type 0} where
       (leads : LeadsToLeaf byte key s) where
     leaf-left : IsLeft key s (with_deleted byte s)
     leaf-left =
-        take-leaf s leads.0 key leads.1 byte tree leads.2.strips leads.2.next leads.2.here
+        taken-leaf s leads.0 key leads.1 byte tree leads.2.strips leads.2.next leads.2.here
         leads.3.0 leads.3.2
 
     leaf-value : value_under byte s ≡ found s key
@@ -134,15 +133,15 @@ module _ {V : Type 0} where
           let fewer = less in
           ap (λ z. length (children_of z)) is ∙ omega (arith, more, few, fewer)
 
-      left-is : IsLeft key s after
-      left-is = subst (IsLeft key s) (sym is) leaf-left
+      after-is_left : IsLeft key s after
+      after-is_left = subst (IsLeft key s) (sym is) leaf-left
 
       pub leaf-admitted : (most : Option ℕ) → AreAdmitted most s → (b : ℕ) (child : Shape V)
           → HasOnly b child after
           → IsAdmitted most (length (prefix_of after) + length (prefix_of child))
       leaf-admitted most admitted b child only =
-          admitted-merged most after child b left-is.0 only
-          (admitted-left most s after key left-is admitted)
+          admitted-merged most after child b after-is_left.0 only
+          (admitted-left most s after key after-is_left admitted)
 
 module _ {P V : Type 0} (bytes : P → List ℕ) where
   pub here-removes : (s : Shape V) → IsTree s → 1 < length (children_of s)
@@ -182,7 +181,7 @@ module _ {P V : Type 0} (bytes : P → List ℕ) where
         → value ≡ value_under byte s → (key : List ℕ) → LeadsToLeaf byte key s
         → Removes bytes (Replace pointer value) key s
     leaf-replaces tree byte is none took key leads =
-        replaces key (left-is s byte tree key leads after is)
+        replaces key (after-is_left s byte tree key leads after is)
         (ap value_of is ∙ kept-value s byte ∙ none) (took ∙ leaf-value s byte tree key leads)
 
   pub prune-removes : (s : Shape V) (byte : ℕ) → IsTree s
@@ -200,16 +199,23 @@ module _ {P V : Type 0} (bytes : P → List ℕ) where
       }
 
   -- the key ends at the node that was opened
-  pub ends-here : (plan : Plan P V) (s opened : Shape V) (key prefix rest : List ℕ) → opened ≡ s
-      → prefix ≡ prefix_of opened → Some rest ≡ strip_prefix prefix key
-      → None ≡ slice_get rest 0 → IsPlan bytes plan (prefix_of opened) opened
-      → IsPlan bytes plan key s
-  ends-here plan s opened key prefix rest same is strips end planned =
-      let whole : key ≡ prefix_of opened =
-      strip_prefix-is prefix key rest (sym strips)
-      ∙ ap (λ z. prefix ++ z) (no-first rest (sym end)) ∙ append-nil prefix ∙ is in
-      subst (λ z. IsPlan bytes plan z s) (sym whole)
-      (subst (λ z. IsPlan bytes plan (prefix_of opened) z) same planned)
+  module _ (s opened : Shape V) (key prefix rest : List ℕ) (same : opened ≡ s)
+      (is : prefix ≡ prefix_of opened) (strips : Some rest ≡ strip_prefix prefix key)
+      (end : None ≡ slice_get rest 0) where
+    whole-key : key ≡ prefix_of opened
+    whole-key =
+        strip_prefix-is prefix key rest (sym strips)
+        ∙ ap (λ z. prefix ++ z) (no-first rest (sym end)) ∙ append-nil prefix ∙ is
+
+    pub ends-here : (plan : Plan P V) → IsPlan bytes plan (prefix_of opened) opened
+        → IsPlan bytes plan key s
+    ends-here plan planned =
+        subst (λ z. IsPlan bytes plan z s) (sym whole-key)
+        (subst (λ z. IsPlan bytes plan (prefix_of opened) z) same planned)
+
+    pub ends-found : found s key ≡ value_of opened
+    ends-found =
+        ap (found s) whole-key ∙ ap (λ z. found z (prefix_of opened)) (sym same) ∙ here-found opened
 
 -- ---- one node down
 module _ {V : Type 0} (s opened : Shape V) (key prefix rest : List ℕ) (same : opened ≡ s)
@@ -291,3 +297,66 @@ pub refused-cost : {P V E : Type 0} (result : Result (Plan P V) E) → IsErr res
     → cost_of result ≡ 0
 refused-cost (Ok plan) err = absurd (false≢true err)
 refused-cost (Err e) err = refl
+
+pub leaving-same : (later most : ℕ) (counts : Counts) → later ≤ most
+    → CountsLeaving later most most counts counts
+leaving-same later most counts few =
+    record {
+      entered_grows = omega arith;
+      entered_at_most = omega (arith, few);
+      made_grows = omega arith;
+      made_at_most = omega (arith, few);
+    }
+
+-- nothing is still to come
+pub leaving-done : {entered made most most_made : ℕ} {before after : Counts}
+    → CountsUpTo entered made before after → entered ≤ most → made ≤ most_made
+    → CountsLeaving 0 most most_made before after
+leaving-done counted entered made =
+    let b = counted.entered_at_most in
+    let d = counted.made_at_most in
+    record {
+      entered_grows = counted.entered_grows;
+      entered_at_most = omega (arith, b, entered);
+      made_grows = counted.made_grows;
+      made_at_most = omega (arith, d, made);
+    }
+
+-- what was still to come came
+pub counts-carried : {later entered made most : ℕ} {before between after : Counts}
+    → CountsLeaving later entered made before between → CountsUpTo most most between after
+    → most ≤ later → CountsUpTo entered made before after
+counts-carried first later few =
+    let a = first.entered_grows in
+    let b = first.entered_at_most in
+    let c = first.made_grows in
+    let d = first.made_at_most in
+    let e = later.entered_grows in
+    let f = later.entered_at_most in
+    let g = later.made_grows in
+    let h = later.made_at_most in
+    record {
+      entered_grows = omega (arith, a, e);
+      entered_at_most = omega (arith, b, f, few);
+      made_grows = omega (arith, c, g);
+      made_at_most = omega (arith, d, h, few);
+    }
+
+pub counts-made : (before after : Counts) → after ≡ record before { made = before.made + 1 }
+    → CountsUpTo 0 1 before after
+counts-made before after is =
+    rw is record {
+      entered_grows = omega arith;
+      entered_at_most = omega arith;
+      made_grows = omega arith;
+      made_at_most = omega arith;
+    }
+
+-- one was entered, and maybe more behind it
+pub opened-more : {before between : Counts}
+    → between ≡ record before { entered = before.entered + 1 } → before.entered < between.entered
+opened-more is = let up = ap (λ z. z.entered) is in omega (arith, up)
+
+pub entered-more : {l e m start : ℕ} {between after : Counts} → start < between.entered
+    → CountsLeaving l e m between after → start < after.entered
+entered-more some later = let grows = later.entered_grows in omega (arith, some, grows)

@@ -167,9 +167,9 @@ module _ {V : Type 0} where
       let is : forest ≡ bare = sym (forest_of-entries_of forest) ∙ ap forest_of none in
       (λ i. found (node prefix None width (is i)) q) ∙ nothing-left (strip_prefix prefix q)
 
-  pub take-end : (s : Shape V) (key rest : List ℕ) → IsOrdered s → key ≡ prefix_of s ++ rest
+  pub taken-end : (s : Shape V) (key rest : List ℕ) → IsOrdered s → key ≡ prefix_of s ++ rest
       → rest ≡ [] → IsLeft key s (with_value None s)
-  take-end (node prefix old width forest) key rest order is end =
+  taken-end (node prefix old width forest) key rest order is end =
       rw (is, end) (
         order,
         (λ q. lift prefix [] q None (inside old forest) (inside None forest)
@@ -178,13 +178,13 @@ module _ {V : Type 0} where
       )
 
   -- the child under the next byte was taken from
-  pub take-below : (s child after : Shape V) (key rest : List ℕ) (byte : ℕ) → IsTree s
+  pub taken-below : (s child after : Shape V) (key rest : List ℕ) (byte : ℕ) → IsTree s
       → key ≡ prefix_of s ++ rest → slice_get rest 0 ≡ Some byte
       → child_at byte (children_of s) ≡ Some child
       → IsTaken rest child after → IsTaken key s (with_replaced byte after s)
-  take-below (node prefix old width forest) child after key [] byte tree is next here taken =
+  taken-below (node prefix old width forest) child after key [] byte tree is next here taken =
       absurd (none-some byte next)
-  take-below (node prefix old width forest) child after key
+  taken-below (node prefix old width forest) child after key
       (b ∷ rest) byte tree is next here taken =
       let same = same_Some b byte next in
       let order : IsOrdered (node prefix old width forest) = (tree.0, tree.1) in
@@ -207,14 +207,14 @@ module _ {V : Type 0} where
       )
 
   -- it was left without value and child, and goes
-  take-whole : (s child after : Shape V) (key rest : List ℕ) (byte : ℕ) → IsOrdered s
+  taken-whole : (s child after : Shape V) (key rest : List ℕ) (byte : ℕ) → IsOrdered s
       → key ≡ prefix_of s ++ rest → slice_get rest 0 ≡ Some byte
       → child_at byte (children_of s) ≡ Some child
       → IsLeft rest child after → ((q : List ℕ) → found after q ≡ None)
       → IsLeft key s (with_deleted byte s)
-  take-whole (node prefix old width forest) child after key
+  taken-whole (node prefix old width forest) child after key
       [] byte order is next here taken empty = absurd (none-some byte next)
-  take-whole (node prefix old width forest) child after key
+  taken-whole (node prefix old width forest) child after key
       (b ∷ rest) byte order is next here taken empty =
       let same = same_Some b byte next in
       let entries = entries_of forest in
@@ -251,16 +251,16 @@ module _ {V : Type 0} where
       ascending-with forest byte child order.0
 
   -- a leaf that the key ends at goes
-  pub take-leaf : (s leaf : Shape V) (key rest : List ℕ) (byte : ℕ) → IsTree s
+  pub taken-leaf : (s leaf : Shape V) (key rest : List ℕ) (byte : ℕ) → IsTree s
       → strip_prefix (prefix_of s) key ≡ Some rest → slice_get rest 0 ≡ Some byte
       → child_at byte (children_of s) ≡ Some leaf → children_of leaf ≡ []
       → strip_prefix (prefix_of leaf) rest ≡ Some [] → IsLeft key s (with_deleted byte s)
-  take-leaf s leaf key rest byte tree strips next here none ends =
+  taken-leaf s leaf key rest byte tree strips next here none ends =
       let order = ordered s tree in
       let leaf_tree = (branch s byte leaf order here).tree in
-      take-whole s leaf (with_value None leaf) key rest byte order
+      taken-whole s leaf (with_value None leaf) key rest byte order
       (strip_prefix-is (prefix_of s) key rest strips) next here
-      (take-end leaf rest [] (ordered leaf leaf_tree) (strip_prefix-is
+      (taken-end leaf rest [] (ordered leaf leaf_tree) (strip_prefix-is
       (prefix_of leaf) rest [] ends)
       refl) (λ q. empty-leaf leaf q none)
 

@@ -1,13 +1,12 @@
 // Ported from rart 0.11.0 (Apache-2.0), and rewritten.
 //! What is done at one node, and the way down to it.
-ghost use Rattle.std.specs.Prelude.{◌≡◌, ◌+◌, IsSome, IfOk, OnOk, OnErr, None};
+ghost use Rattle.std.specs.Prelude.{◌≡◌, ◌+◌, IsSome, None};
 ghost use Rattle.rart_below.specs.Children.{child_at};
 ghost use Rattle.rart_below.specs.Clones.{ClonesEqual};
 ghost use Rattle.rart_node.specs.NodeShapes.{pointer_shape};
-ghost use Rattle.rart_node.specs.Counts.{CountsUpTo};
 ghost use Rattle.rart_node.specs.Shape.{children_of, value_of, with_deleted, with_value};
-ghost use Rattle.rart_removal.specs.Plans.{Fits, RemovesBelow, edited, edit_cost, gone, value_under};
-ghost use Rattle.rart_shape.specs.Trees.{IsTree, IsTaken, found};
+ghost use Rattle.rart_removal.specs.Plans.{CanEdit, Fits, RemovesBelow, TakesOut, edited, edit_cost, gone, value_under};
+ghost use Rattle.rart_shape.specs.Trees.{IsTaken, found};
 
 use rart_below::Partial;
 use rart_node::{NodeRef, Work};
@@ -25,7 +24,7 @@ pub(crate) enum Edit<P, V> {
     Replace(NodeRef<P, V>, Option<V>),
 }
 
-/// Does an edit so many nodes down the way of a key, and gives the value that goes. Refused for
+/// Does an edit `steps` nodes down the way of a key, and gives the value that goes. Refused for
 /// memory, all is as before.
 pub(crate) fn edit_below<P: Partial, V: Clone + Drop>(
     at: &mut NodeRef<P, V>,
@@ -34,15 +33,11 @@ pub(crate) fn edit_below<P: Partial, V: Clone + Drop>(
     edit: Edit<P, V>,
     work: &mut Work,
 ) -> Result<Option<V>, AllocError>
-    requires clones { ClonesEqual V.is_clone }
-    requires tree { IsTree (pointer_shape P.bytes at.old) }
+    requires may { CanEdit V.is_clone (pointer_shape P.bytes at.old) }
     requires planned { RemovesBelow P.bytes depth edit key.now (pointer_shape P.bytes at.old) }
-    ensures taken { OnOk result
-        (IsTaken key.now (pointer_shape P.bytes at.old) (pointer_shape P.bytes at.new)) }
-    ensures value { IfOk result (λ value. value ≡ found (pointer_shape P.bytes at.old) key.now) }
-    ensures refused { OnErr result (pointer_shape P.bytes at.new ≡ pointer_shape P.bytes at.old) }
-    ensures counted { CountsUpTo (depth + edit_cost edit) (depth + edit_cost edit) work.old
-        work.new }
+    ensures { TakesOut result (found (pointer_shape P.bytes at.old) key.now)
+        (λ left. IsTaken key.now (pointer_shape P.bytes at.old) left) (depth + edit_cost edit)
+        (pointer_shape P.bytes at.old) (pointer_shape P.bytes at.new) work.old work.new }
 {
     if depth == 0 {
         return edit_here(at, edit, work);
@@ -64,15 +59,11 @@ fn edit_here<P: Partial, V: Clone + Drop>(
     edit: Edit<P, V>,
     work: &mut Work,
 ) -> Result<Option<V>, AllocError>
-    requires clones { ClonesEqual V.is_clone }
-    requires tree { IsTree (pointer_shape P.bytes at.old) }
+    requires may { CanEdit V.is_clone (pointer_shape P.bytes at.old) }
     requires fits { Fits P.bytes edit (pointer_shape P.bytes at.old) }
-    ensures edited { OnOk result (pointer_shape P.bytes at.new
-        ≡ edited P.bytes edit (pointer_shape P.bytes at.old)) }
-    ensures value { IfOk result (λ value. value ≡ gone P.bytes edit
-        (pointer_shape P.bytes at.old)) }
-    ensures refused { OnErr result (pointer_shape P.bytes at.new ≡ pointer_shape P.bytes at.old) }
-    ensures counted { CountsUpTo (edit_cost edit) (edit_cost edit) work.old work.new }
+    ensures { TakesOut result (gone P.bytes edit (pointer_shape P.bytes at.old))
+        (λ left. left ≡ edited P.bytes edit (pointer_shape P.bytes at.old)) (edit_cost edit)
+        (pointer_shape P.bytes at.old) (pointer_shape P.bytes at.new) work.old work.new }
 {
     match edit {
         Edit::Take => take(at, work),
@@ -90,11 +81,9 @@ pub(crate) fn take<P: Partial, V: Clone + Drop>(
     work: &mut Work,
 ) -> Result<Option<V>, AllocError>
     requires clones { ClonesEqual V.is_clone }
-    ensures taken { OnOk result (pointer_shape P.bytes at.new
-        ≡ with_value None (pointer_shape P.bytes at.old)) }
-    ensures value { IfOk result (λ value. value ≡ value_of (pointer_shape P.bytes at.old)) }
-    ensures refused { OnErr result (pointer_shape P.bytes at.new ≡ pointer_shape P.bytes at.old) }
-    ensures counted { CountsUpTo 1 1 work.old work.new }
+    ensures { TakesOut result (value_of (pointer_shape P.bytes at.old))
+        (λ left. left ≡ with_value None (pointer_shape P.bytes at.old)) 1
+        (pointer_shape P.bytes at.old) (pointer_shape P.bytes at.new) work.old work.new }
 {
     let node = at.open_mut(work)?;
     Ok(node.take_value())
@@ -107,14 +96,11 @@ fn prune<P: Partial, V: Clone + Drop>(
     byte: u8,
     work: &mut Work,
 ) -> Result<Option<V>, AllocError>
-    requires clones { ClonesEqual V.is_clone }
-    requires tree { IsTree (pointer_shape P.bytes at.old) }
+    requires may { CanEdit V.is_clone (pointer_shape P.bytes at.old) }
     requires present { IsSome (child_at byte (children_of (pointer_shape P.bytes at.old))) }
-    ensures pruned { OnOk result (pointer_shape P.bytes at.new
-        ≡ with_deleted byte (pointer_shape P.bytes at.old)) }
-    ensures value { IfOk result (λ value. value ≡ value_under byte (pointer_shape P.bytes at.old)) }
-    ensures refused { OnErr result (pointer_shape P.bytes at.new ≡ pointer_shape P.bytes at.old) }
-    ensures counted { CountsUpTo 2 2 work.old work.new }
+    ensures { TakesOut result (value_under byte (pointer_shape P.bytes at.old))
+        (λ left. left ≡ with_deleted byte (pointer_shape P.bytes at.old)) 2
+        (pointer_shape P.bytes at.old) (pointer_shape P.bytes at.new) work.old work.new }
 {
     let node = at.open_mut(work)?;
     let Some(leaf) = node.seek_child_mut(byte) else {

@@ -7,12 +7,8 @@
 //! puts it in place, and opens the nodes above it alone.
 #![tactic(auto)]
 
-ghost use Rattle.std.specs.Prelude.{◌≡◌, ◌<◌, ◌*◌, None, IsSome, OnErr, IfOk};
-ghost use Rattle.rart_below.specs.Clones.{ClonesEqual};
 ghost use Rattle.rart_node.specs.NodeShapes.{pointer_shape};
-ghost use Rattle.rart_node.specs.Counts.{CountsUpTo};
-ghost use Rattle.rart_removal.specs.Removals.{AreAdmitted, IsTakenOr};
-ghost use Rattle.rart_shape.specs.Trees.{IsTree, found, path_bound};
+ghost use Rattle.rart_removal.specs.Removals.{CanRemove, RemovesKey};
 
 mod edit;
 mod plan;
@@ -39,23 +35,9 @@ pub fn remove_below<P: Partial, V: Clone + Drop>(
     version: u64,
     work: &mut Work,
 ) -> Result<Removed<V>, AllocError>
-    requires clones { ClonesEqual V.is_clone }
-    requires tree { IsTree (pointer_shape P.bytes root.old) }
-    requires lengths { AreAdmitted P.MAXIMUM_SIZE (pointer_shape P.bytes root.old) }
-    ensures taken { IfOk result (λ removed. IsTakenOr removed.left_empty key.now
-        (pointer_shape P.bytes root.old) (pointer_shape P.bytes root.new)) }
-    ensures value { IfOk result (λ removed. removed.value
-        ≡ found (pointer_shape P.bytes root.old) key.now) }
-    ensures refused { OnErr result (pointer_shape P.bytes root.new
-        ≡ pointer_shape P.bytes root.old) }
-    ensures present { OnErr result (IsSome (found (pointer_shape P.bytes root.old) key.now)) }
-    ensures counted { CountsUpTo (2 * path_bound (pointer_shape P.bytes root.old) key.now)
-        (path_bound (pointer_shape P.bytes root.old) key.now) work.old work.new }
-    ensures entered { work.old.entered < work.new.entered }
-    ensures absent { found (pointer_shape P.bytes root.old) key.now ≡ None
-        → pointer_shape P.bytes root.new ≡ pointer_shape P.bytes root.old }
-    ensures absent_makes_none { found (pointer_shape P.bytes root.old) key.now ≡ None
-        → work.new.made ≡ work.old.made }
+    requires { CanRemove V.is_clone P.MAXIMUM_SIZE (pointer_shape P.bytes root.old) }
+    ensures { RemovesKey result key.now (pointer_shape P.bytes root.old)
+        (pointer_shape P.bytes root.new) work.old work.new }
 {
     match plan_below(alloc, root, key, version, work)? {
         Plan::Absent => Ok(Removed {

@@ -1,14 +1,12 @@
 // Ported from rart 0.11.0 (Apache-2.0), and rewritten.
 //! The way down that finds a key, and what is to be done to remove it.
-ghost use Rattle.std.specs.Prelude.{◌≡◌, ◌+◌, ◌*◌, ◌<◌, ◌≤◌, ℕ, List, true, false, None, IsSome, IfOk, OnErr, length};
-ghost use Rattle.rart_below.specs.Bytes.{IsAdmitted};
+ghost use Rattle.std.specs.Prelude.{◌≡◌, ℕ, List};
 ghost use Rattle.rart_below.specs.Clones.{ClonesEqual};
 ghost use Rattle.rart_node.specs.NodeShapes.{node_shape, pointer_shape};
-ghost use Rattle.rart_node.specs.Counts.{CountsUpTo};
-ghost use Rattle.rart_node.specs.Shape.{Shape, HasOnly, merged, prefix_of, value_of, children_of, IsAscending};
-ghost use Rattle.rart_removal.specs.Plans.{IsPlan, LeadsToLeaf, Removes, cost_of, edit_cost_of, value_under};
-ghost use Rattle.rart_removal.specs.Removals.{AreAdmitted, CountsLeaving};
-ghost use Rattle.rart_shape.specs.Trees.{IsTree, found, path_bound};
+ghost use Rattle.rart_node.specs.Shape.{Shape, HasOnly, IsAscending, merged, prefix_of};
+ghost use Rattle.rart_removal.specs.Plans.{CanLoseAChild, CanMerge, Gives, LeadsToLeaf, PlansBelow, PlansHere, PlansWithout, value_under};
+ghost use Rattle.rart_removal.specs.Removals.{CanRemove};
+ghost use Rattle.rart_shape.specs.Trees.{IsTree};
 
 use crate::edit::Edit;
 use rart_below::Partial;
@@ -23,7 +21,7 @@ pub(crate) enum Plan<P, V> {
     Absent,
     /// The node goes: the key ends there, and it has no child.
     Leaf,
-    /// An edit, so many nodes down the way of the key.
+    /// An edit, `steps` nodes down the way of the key.
     At(usize, Edit<P, V>),
 }
 
@@ -36,18 +34,8 @@ pub(crate) fn plan_below<P: Partial, V: Clone + Drop>(
     version: u64,
     work: &mut Work,
 ) -> Result<Plan<P, V>, AllocError>
-    requires clones { ClonesEqual V.is_clone }
-    requires tree { IsTree (pointer_shape P.bytes at.now) }
-    requires lengths { AreAdmitted P.MAXIMUM_SIZE (pointer_shape P.bytes at.now) }
-    ensures plan { IfOk result (λ plan. IsPlan P.bytes plan key.now
-        (pointer_shape P.bytes at.now)) }
-    ensures present { OnErr result (IsSome (found (pointer_shape P.bytes at.now) key.now)) }
-    ensures counted { CountsLeaving (cost_of result)
-        (2 * path_bound (pointer_shape P.bytes at.now) key.now)
-        (path_bound (pointer_shape P.bytes at.now) key.now) work.old work.new }
-    ensures entered { work.old.entered < work.new.entered }
-    ensures absent_makes_none { found (pointer_shape P.bytes at.now) key.now ≡ None
-        → work.new.made ≡ work.old.made }
+    requires { CanRemove V.is_clone P.MAXIMUM_SIZE (pointer_shape P.bytes at.now) }
+    ensures { PlansBelow P.bytes result key.now (pointer_shape P.bytes at.now) work.old work.new }
 {
     let node = at.open(work);
     let Some(rest) = strip_prefix(key, node.prefix()) else {
@@ -73,15 +61,8 @@ fn plan_here<P: Partial, V: Clone + Drop>(
     version: u64,
     work: &mut Work,
 ) -> Result<Plan<P, V>, AllocError>
-    requires clones { ClonesEqual V.is_clone }
-    requires tree { IsTree (node_shape P.bytes node.now) }
-    requires lengths { AreAdmitted P.MAXIMUM_SIZE (node_shape P.bytes node.now) }
-    ensures plan { IfOk result (λ plan. IsPlan P.bytes plan
-        (prefix_of (node_shape P.bytes node.now)) (node_shape P.bytes node.now)) }
-    ensures present { OnErr result (IsSome (value_of (node_shape P.bytes node.now))) }
-    ensures counted { CountsLeaving (cost_of result) 1 1 work.old work.new }
-    ensures absent_makes_none { value_of (node_shape P.bytes node.now) ≡ None
-        → work.new.made ≡ work.old.made }
+    requires { CanRemove V.is_clone P.MAXIMUM_SIZE (node_shape P.bytes node.now) }
+    ensures { PlansHere P.bytes result (node_shape P.bytes node.now) work.old work.new }
 {
     if node.value().is_none() {
         return Ok(Plan::Absent);
@@ -106,14 +87,9 @@ fn plan_without<P: Partial, V: Clone + Drop>(
     version: u64,
     work: &mut Work,
 ) -> Result<Edit<P, V>, AllocError>
-    requires clones { ClonesEqual V.is_clone }
-    requires tree { IsTree (node_shape P.bytes node.now) }
-    requires lengths { AreAdmitted P.MAXIMUM_SIZE (node_shape P.bytes node.now) }
+    requires may { CanRemove V.is_clone P.MAXIMUM_SIZE (node_shape P.bytes node.now) }
     requires leaf { (key : List ℕ) × LeadsToLeaf byte key (node_shape P.bytes node.now) }
-    ensures removes { IfOk result (λ edit. (key : List ℕ)
-        → LeadsToLeaf byte key (node_shape P.bytes node.now)
-        → Removes P.bytes edit key (node_shape P.bytes node.now)) }
-    ensures counted { CountsLeaving (edit_cost_of result) 2 2 work.old work.new }
+    ensures { PlansWithout P.bytes result byte (node_shape P.bytes node.now) work.old work.new }
 {
     if can_lose_a_child(node) {
         return Ok(Edit::Prune(byte));
@@ -127,10 +103,7 @@ fn plan_without<P: Partial, V: Clone + Drop>(
 /// Whether a node that loses a child still has a value or two children.
 fn can_lose_a_child<P: Partial, V: Drop>(node: &VersionedNode<P, V>) -> bool
     requires { IsTree (node_shape P.bytes node.now) }
-    ensures stays { result ≡ true → value_of (node_shape P.bytes node.now) ≡ None
-        → 2 < length (children_of (node_shape P.bytes node.now)) }
-    ensures value { result ≡ false → value_of (node_shape P.bytes node.now) ≡ None }
-    ensures children { result ≡ false → length (children_of (node_shape P.bytes node.now)) ≤ 2 }
+    ensures { CanLoseAChild result (node_shape P.bytes node.now) }
 {
     node.value().is_some() || node.num_children() > 2
 }
@@ -143,8 +116,8 @@ fn value_under<P: Partial, V: Clone + Drop>(
 ) -> Result<Option<V>, AllocError>
     requires clones { ClonesEqual V.is_clone }
     requires order { IsAscending (node_shape P.bytes node.now) }
-    ensures value { IfOk result (λ value. value ≡ value_under byte (node_shape P.bytes node.now)) }
-    ensures counted { CountsUpTo 1 0 work.old work.new }
+    ensures { Gives result (λ value. value ≡ value_under byte (node_shape P.bytes node.now)) 1 0
+        work.old work.new }
 {
     match node.seek_child(byte) {
         None => Ok(None),
@@ -159,16 +132,11 @@ fn merge<P: Partial, V: Clone + Drop>(
     version: u64,
     work: &mut Work,
 ) -> Result<NodeRef<P, V>, AllocError>
-    requires clones { ClonesEqual V.is_clone }
-    requires value { value_of (node_shape P.bytes node.now) ≡ None }
-    requires child { length (children_of (node_shape P.bytes node.now)) ≡ 1 }
-    requires admitted { (byte : ℕ) (child : Shape V)
-        → HasOnly byte child (node_shape P.bytes node.now) → IsAdmitted P.MAXIMUM_SIZE
-        (length (prefix_of (node_shape P.bytes node.now)) + length (prefix_of child)) }
-    ensures merged { IfOk result (λ it. (byte : ℕ) (child : Shape V)
+    requires { CanMerge V.is_clone P.MAXIMUM_SIZE (node_shape P.bytes node.now) }
+    ensures { Gives result (λ it. (byte : ℕ) (child : Shape V)
         → HasOnly byte child (node_shape P.bytes node.now)
-        → pointer_shape P.bytes it ≡ merged (prefix_of (node_shape P.bytes node.now)) child) }
-    ensures counted { CountsUpTo 1 1 work.old work.new }
+        → pointer_shape P.bytes it ≡ merged (prefix_of (node_shape P.bytes node.now)) child)
+        1 1 work.old work.new }
 {
     NodeRef::new(alloc, node.merge_child(alloc, version, work)?, work)
 }

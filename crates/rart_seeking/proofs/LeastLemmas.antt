@@ -1,11 +1,11 @@
 -- The way down first children to the least pair of a tree.
-use Rattle.std.proofs.Common.{◌≡◌, ◌+◌, ◌<◌, ◌≤◌, ℕ, List, [], ◌∷◌, ◌++◌, Some, None, length, take, drop, refl, arith, sym, ap, subst, ◌∙◌}
+use Rattle.std.proofs.Common.{◌≡◌, ◌+◌, ◌<◌, ◌≤◌, ℕ, List, [], ◌∷◌, ◌++◌, Some, None, length, take, drop, refl, arith, sym, ap, subst, ◌∙◌, Bool, false}
 use Rattle.std.specs.Prelude.{◌-◌, ◌^◌}
 use Rattle.std.proofs.lemmas.List.{append-nil, length-append}
 use Rattle.rart_below.specs.Children.{child_at}
 use Rattle.rart_below.proofs.AscendingLemmas.{child_at-here}
 use Rattle.rart_node.specs.Shape.{Shape, height, prefix_of, value_of, children_of}
-use Rattle.rart_seeking.specs.Firsts.{IsFirst}
+use Rattle.rart_seeking.specs.Firsts.{IsFirst, first_passes}
 use Rattle.rart_seeking.specs.Starts.{IsStart}
 use Rattle.rart_seeking.proofs.TurnLemmas.{tree-turns, turn-first, turn-deep}
 use Rattle.rart_shape.specs.Trees.{IsTree, pairs_of}
@@ -90,3 +90,44 @@ module _ {V : Type 0} where
       let some = tree-some s tree none in
       let count = ap length no-child in
       omega (arith, some, count)
+
+-- ---- the first of the pairs, by its key
+module _ {V : Type 0} where
+  abbrev first_key : List (List ℕ × V) → List ℕ
+  first_key [] = []
+  first_key (pair ∷ pairs) = pair.0
+
+  module _ (whole : List (List ℕ × V)) (above : List ℕ) (s : Shape V)
+      (at : IsStart whole above s) (pair : List ℕ × V) (others : List (List ℕ × V))
+      (is : whole ≡ pair ∷ others) where
+    -- it goes on behind the prefix of the node
+    pub first-goes : (more : List ℕ) × (pair.0 ≡ above ++ (prefix_of s ++ more))
+    first-goes =
+        let has = tree-has-pair s at.tree in (
+          has.behind,
+          ap first_key (sym is ∙ at.is
+              ∙ ap (λ z. behind_path above z ++ at.others) has.first),
+        )
+
+    -- where that has a value, it ends there
+    pub first-ends : (value : V) → value_of s ≡ Some value → pair.0 ≡ above ++ prefix_of s
+    first-ends value some =
+        ap first_key (sym is ∙ at.is ∙ ap (λ z. z ++ at.others) (pairs-entered above s)
+        ∙ ap (λ o. (pending_pair (above ++ prefix_of s) o
+        ++ behind_path (above ++ prefix_of s) (pairs_of_all (children_of s))) ++ at.others) some)
+
+  pub passes-none : (test : List ℕ → Bool) (kept : List (List ℕ × V)) → kept ≡ []
+      → false ≡ first_passes test kept
+  passes-none test kept none = sym (ap (first_passes test) none)
+
+  -- what is told of the first pair of a tree is told of all
+  pub passes-start : (test : List ℕ → Bool) (kept : List (List ℕ × V)) (path : List ℕ)
+      (s : Shape V) → IsStart kept path s → (told : Bool)
+      → ((pair : List ℕ × V) (others : List (List ℕ × V))
+      → behind_path path (pairs_of s) ≡ pair ∷ others → told ≡ test pair.0)
+      → told ≡ first_passes test kept
+  passes-start test kept path s at told each =
+      let has = tree-has-pair s at.tree in
+      let first = ap (behind_path path) has.first in
+      each (path ++ (prefix_of s ++ has.behind), has.value) (behind_path path has.others) first
+      ∙ sym (ap (first_passes test) (at.is ∙ ap (λ z. z ++ at.others) first))

@@ -1,5 +1,6 @@
 pub mod FromLemmas
 pub mod TurnLemmas
+pub mod BesideLemmas
 pub mod LeastLemmas
-pub mod StartLemmas
-pub mod StepLemmas
+pub mod SeekStartLemmas
+pub mod SeekStepLemmas

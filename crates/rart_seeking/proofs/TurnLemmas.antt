@@ -1,11 +1,11 @@
 -- Children that a way passes: the first of them is where the pairs behind it begin.
-use Rattle.std.proofs.Common.{◌≡◌, ◌+◌, ℕ, true, false, cond, List, [], ◌∷◌, ◌++◌, Option, Some, None, is_some, arith, ap, subst, ◌∙◌}
+use Rattle.std.proofs.Common.{◌≡◌, ◌+◌, ◌<◌, ℕ, true, false, cond, List, [], ◌∷◌, ◌++◌, Option, Some, None, is_some, arith, sym, ap, subst, ◌∙◌}
 use Rattle.std.specs.Prelude.{nat_le, ◌-◌, ◌^◌}
 use Rattle.std.proofs.lemmas.List.{append_assoc}
 use Rattle.rart_below.specs.Children.{children_from}
 use Rattle.rart_node.specs.Counts.{Counts, CountsUpTo}
 use Rattle.rart_node.specs.Shape.{Shape, Forest, node, bare, grown, prefix_of, children_of, entries_of}
-use Rattle.rart_seeking.specs.Starts.{IsStart, AreTurns, IsDeep, start_length}
+use Rattle.rart_seeking.specs.Starts.{IsStart, StartAt, AreTurns, FindsStart, IsDeep, OpensTurn, start_length}
 use Rattle.rart_shape.specs.Trees.{IsTree, AreBranches, pairs_of}
 use Rattle.rart_shape.proofs.PrefixLemmas.{begins-long}
 use Rattle.rart_walks.specs.Frames.{behind_path, pairs_of_all}
@@ -84,4 +84,47 @@ module _ {V : Type 0} where
         entered_at_most = omega (arith, at_most, entered, deep);
         made_grows = omega (arith, made_grows, made);
         made_at_most = omega (arith, made_most, made);
+      }
+
+  -- Whatever is there, one node more.
+  pub turn-soon : (most : ℕ) (before after later : Counts) → CountsUpTo most 0 before after
+      → (start : Option (List ℕ × Shape V))
+      → later.entered ≡ after.entered + cond (is_some start) 1 0 → later.made ≡ after.made
+      → CountsUpTo (most + 1) 0 before later
+  turn-soon most before after later counted None entered made =
+      let grows = counted.entered_grows in
+      let at_most = counted.entered_at_most in
+      let made_grows = counted.made_grows in
+      let made_most = counted.made_at_most in
+      record {
+        entered_grows = omega (arith, grows, entered);
+        entered_at_most = omega (arith, at_most, entered);
+        made_grows = omega (arith, made_grows, made);
+        made_at_most = omega (arith, made_most, made);
+      }
+  turn-soon most before after later counted (Some start) entered made =
+      let grows = counted.entered_grows in
+      let at_most = counted.entered_at_most in
+      let made_grows = counted.made_grows in
+      let made_most = counted.made_at_most in
+      record {
+        entered_grows = omega (arith, grows, entered);
+        entered_at_most = omega (arith, at_most, entered);
+        made_grows = omega (arith, made_grows, made);
+        made_at_most = omega (arith, made_most, made);
+      }
+
+  -- What a turn leads to is found, once the way has entered a node.
+  pub found-turn : (pairs : List (List ℕ × V)) (most : ℕ) (before after later : Counts)
+      → CountsUpTo most 0 before after → before.entered < after.entered
+      → (turn opened : Option (List ℕ × Shape V)) → OpensTurn turn opened after later
+      → IsDeep turn → StartAt pairs turn → FindsStart pairs most opened before later
+  found-turn pairs most before after later counted first turn opened opens deep at =
+      let entered = opens.entered in
+      record {
+        start = subst (StartAt pairs) (sym opens.shown) at;
+        counted = turn-counted most before after later counted opened
+            (subst IsDeep (sym opens.shown) deep) entered opens.made;
+        soon = turn-soon most before after later counted opened entered opens.made;
+        entered = omega (arith, first, entered);
       }

@@ -1,13 +1,9 @@
 // Ported from rart 0.11.0 (Apache-2.0), and rewritten.
 //! The least pair below a node.
-ghost use Rattle.std.specs.Prelude.{◌≡◌, ◌+◌, ◌-◌, ◌^◌, ◌<◌, ◌≤◌, ◌++◌, ℕ, Some, length, take, drop};
-ghost use Rattle.rart_node.specs.Counts.{CountsUpTo};
+ghost use Rattle.std.specs.Prelude.{◌+◌, ◌^◌, ◌<◌, length};
 ghost use Rattle.rart_node.specs.NodeShapes.{node_shape};
-ghost use Rattle.rart_node.specs.Shape.{prefix_of};
-ghost use Rattle.rart_seeking.specs.Firsts.{IsFirst};
-ghost use Rattle.rart_shape.specs.Trees.{IsTree, pairs_of};
-ghost use Rattle.rart_walks.specs.Frames.{behind_path};
-ghost use Rattle.rart_walks.specs.Walks.{AreShort};
+ghost use Rattle.rart_seeking.specs.Firsts.{FindsLeast, WritesAt};
+ghost use Rattle.rart_seeking.specs.Starts.{CanGoDown};
 
 use rart_below::Partial;
 use rart_node::{NodeRef, VersionedNode, Work};
@@ -20,15 +16,9 @@ pub(crate) fn least<'a, P: Partial, V: Drop>(
     room: &mut [u8],
     work: &mut Work,
 ) -> (usize, &'a V)
-    requires tree { IsTree (node_shape P.bytes start.now) }
-    requires short { AreShort (Some (2 ^ 64 - 1))
-        (behind_path path.now (pairs_of (node_shape P.bytes start.now))) }
-    ensures first { IsFirst (behind_path path.now (pairs_of (node_shape P.bytes start.now)))
-        result.0 result.1.now room.old room.new }
-    ensures longer { length path.now + length (prefix_of (node_shape P.bytes start.now))
-        ≤ result.0 }
-    ensures counted { CountsUpTo (result.0 - (length path.now
-        + length (prefix_of (node_shape P.bytes start.now)))) 0 work.old work.new }
+    requires { CanGoDown path.now (node_shape P.bytes start.now) }
+    ensures { FindsLeast path.now (node_shape P.bytes start.now) result.0 result.1.now room.old
+        room.new work.old work.new }
 {
     let mut node = start;
     let mut len = write_at(room, 0, path);
@@ -47,11 +37,7 @@ pub(crate) fn least<'a, P: Partial, V: Drop>(
 // Writes bytes behind the first ones, if they fit there, and gives where they end.
 fn write_at(room: &mut [u8], at: usize, bytes: &[u8]) -> usize
     requires { at + length bytes.now < 2 ^ 64 }
-    ensures end { result ≡ at + length bytes.now }
-    ensures written { result ≤ length room.old
-        → take result room.new ≡ take at room.old ++ bytes.now }
-    ensures behind { (later : ℕ) → result ≤ later → drop later room.new ≡ drop later room.old }
-    ensures length { length room.new ≡ length room.old }
+    ensures { WritesAt at bytes.now result room.old room.new }
 {
     let end = at + bytes.len();
     if end > room.len() {

@@ -4,26 +4,27 @@
 //! It takes no memory: the key is written, prefix by prefix, into room that the caller has.
 #![tactic(auto)]
 
-ghost use Rattle.std.specs.Prelude.{◌+◌, ◌<◌, ◌^◌, ◌-◌, Some, filter};
+ghost use Rattle.std.specs.Prelude.{◌+◌, ◌^◌, ◌-◌, Some, length};
 ghost use Rattle.std.specs.Ordering.{as_partial_cmp};
-ghost use Rattle.std.specs.Range.Bound.{is_from_start, bound_map};
+ghost use Rattle.std.specs.Range.Bound.{is_up_to_end, bound_map};
 ghost use Rattle.rart_below.specs.Bytes.{byte_order};
-ghost use Rattle.rart_node.specs.Counts.{CountsUpTo};
 ghost use Rattle.rart_node.specs.NodeShapes.{pointer_shape};
-ghost use Rattle.rart_seeking.specs.Firsts.{Finds, found_length};
-ghost use Rattle.rart_seeking.specs.Starts.{is_from};
+ghost use Rattle.rart_seeking.specs.Firsts.{FindsFirst, TellsOfFirst};
+ghost use Rattle.rart_seeking.specs.Starts.{CanSeek, pairs_from, pairs_meeting};
 ghost use Rattle.rart_shape.specs.Trees.{IsTree, pairs_of, path_bound};
 ghost use Rattle.rart_walks.specs.Parts.{start_of};
 ghost use Rattle.rart_walks.specs.Walks.{AreShort};
 
 mod least;
 mod start;
+mod within;
 
 use least::least;
 use rart_below::Partial;
 use rart_node::{NodeRef, Work};
 use start::find_start;
 use std::ops::Bound;
+use within::least_meets;
 
 /// The first of the pairs below a pointer whose keys meet a lower bound: how many bytes its key
 /// has, and a reference to its value. `None` where there is none.
@@ -39,13 +40,10 @@ pub fn first_from<'a, P: Partial, V: Drop>(
 ) -> Option<(usize, &'a V)>
     requires tree { IsTree (pointer_shape P.bytes root.now) }
     requires short { AreShort (Some (2 ^ 64 - 1)) (pairs_of (pointer_shape P.bytes root.now)) }
-    ensures first { Finds (filter (λ pair. is_from_start (as_partial_cmp byte_order)
-        (bound_map (λ low. low.now) low.entry) pair.0)
-        (pairs_of (pointer_shape P.bytes root.now))) result room.old room.new }
-    ensures counted { CountsUpTo (path_bound (pointer_shape P.bytes root.now)
-        (start_of (bound_map (λ low. low.now) low.entry)) + found_length result) 0
-        work.old work.new }
-    ensures entered { work.old.entered < work.new.entered }
+    ensures { let from = bound_map (λ low. low.now) low.entry in
+        FindsFirst (pairs_meeting from (pointer_shape P.bytes root.now))
+        (path_bound (pointer_shape P.bytes root.now) (start_of from))
+        result room.old room.new work.old work.new }
 {
     match low {
         Bound::Included(low) => first_behind(root, low, false, room, work),
@@ -62,14 +60,62 @@ fn first_behind<'a, P: Partial, V: Drop>(
     room: &mut [u8],
     work: &mut Work,
 ) -> Option<(usize, &'a V)>
-    requires tree { IsTree (pointer_shape P.bytes root.now) }
-    requires short { AreShort (Some (2 ^ 64 - 1)) (pairs_of (pointer_shape P.bytes root.now)) }
-    ensures first { Finds (filter (λ pair. is_from is_strict low.now pair.0)
-        (pairs_of (pointer_shape P.bytes root.now))) result room.old room.new }
-    ensures counted { CountsUpTo (path_bound (pointer_shape P.bytes root.now) low.now
-        + found_length result) 0 work.old work.new }
-    ensures entered { work.old.entered < work.new.entered }
+    requires { CanSeek (pointer_shape P.bytes root.now) }
+    ensures { FindsFirst (pairs_from is_strict low.now (pointer_shape P.bytes root.now))
+        (path_bound (pointer_shape P.bytes root.now) low.now)
+        result room.old room.new work.old work.new }
 {
     let (path, start) = find_start(root, low, is_strict, work)?;
     Some(least(start, path, room, work))
+}
+
+/// Whether the first of the pairs below a pointer whose keys meet a lower bound meets an upper one.
+///
+/// At most one node is entered for each byte of both bounds, and three; and the first at least. It
+/// takes no memory.
+pub fn has_within<P: Partial, V: Drop>(
+    root: &NodeRef<P, V>,
+    low: Bound<&[u8]>,
+    high: Bound<&[u8]>,
+    work: &mut Work,
+) -> bool
+    requires tree { IsTree (pointer_shape P.bytes root.now) }
+    requires short { AreShort (Some (2 ^ 64 - 1)) (pairs_of (pointer_shape P.bytes root.now)) }
+    ensures { let from = bound_map (λ low. low.now) low.entry in
+        let to = bound_map (λ high. high.now) high.entry in
+        TellsOfFirst (pairs_meeting from (pointer_shape P.bytes root.now))
+        (is_up_to_end (as_partial_cmp byte_order) to)
+        (path_bound (pointer_shape P.bytes root.now) (start_of from) + length (start_of to) + 2)
+        result work.old work.new }
+{
+    match low {
+        Bound::Included(low) => has_behind(root, low, false, high, work),
+        Bound::Excluded(low) => has_behind(root, low, true, high, work),
+        Bound::Unbounded => has_behind(root, &[], false, high, work),
+    }
+}
+
+// Whether the first of the pairs from a string on, or behind it, meets an upper bound.
+fn has_behind<P: Partial, V: Drop>(
+    root: &NodeRef<P, V>,
+    low: &[u8],
+    is_strict: bool,
+    high: Bound<&[u8]>,
+    work: &mut Work,
+) -> bool
+    requires { CanSeek (pointer_shape P.bytes root.now) }
+    ensures { let to = bound_map (λ high. high.now) high.entry in
+        TellsOfFirst (pairs_from is_strict low.now (pointer_shape P.bytes root.now))
+        (is_up_to_end (as_partial_cmp byte_order) to)
+        (path_bound (pointer_shape P.bytes root.now) low.now + length (start_of to) + 2)
+        result work.old work.new }
+{
+    let Some((path, start)) = find_start(root, low, is_strict, work) else {
+        return false;
+    };
+    match high {
+        Bound::Included(high) => least_meets(start, path, high, false, work),
+        Bound::Excluded(high) => least_meets(start, path, high, true, work),
+        Bound::Unbounded => true,
+    }
 }

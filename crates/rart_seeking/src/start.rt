@@ -1,18 +1,13 @@
 // Ported from rart 0.11.0 (Apache-2.0), and rewritten.
 //! The way down to the node below which the first of the pairs from a bound on stands.
-ghost use Rattle.std.specs.Prelude.{◌≡◌, ◌+◌, ◌-◌, ◌^◌, ◌<◌, ◌⊎◌, ◌++◌, List, ℕ, Some, filter, length, is_some, if◌then◌else◌};
+ghost use Rattle.std.specs.Prelude.{◌≡◌, ◌+◌};
 ghost use Rattle.std.specs.Option.{option_map};
-ghost use Rattle.rart_below.specs.Bytes.{common_length};
 ghost use Rattle.rart_below.specs.Children.{child_at, children_from};
-ghost use Rattle.rart_node.specs.Counts.{CountsUpTo};
 ghost use Rattle.rart_node.specs.NodeShapes.{node_shape, pointer_shape};
-ghost use Rattle.rart_node.specs.Shape.{IsAscending, prefix_of, children_of};
+ghost use Rattle.rart_node.specs.Shape.{IsAscending, children_of};
 ghost use Rattle.rart_node.specs.VersionedNodeIter.{children_left};
-ghost use Rattle.rart_seeking.specs.Starts.{StartAt, AreTurns, IsDeep, is_from, kept_part, start_length, start_shape, turn_shape};
-ghost use Rattle.rart_seeking.specs.declared.start.Kept.TheVariants.{Inside};
-ghost use Rattle.rart_shape.specs.Trees.{IsTree, pairs_of, path_bound};
-ghost use Rattle.rart_walks.specs.Frames.{behind_path, pairs_of_all};
-ghost use Rattle.rart_walks.specs.Walks.{AreShort};
+ghost use Rattle.rart_seeking.specs.Starts.{CanSeek, FindsStart, EndsAt, Keeps, TurnsTo, OpensTurn, pairs_from, start_shape, turn_shape};
+ghost use Rattle.rart_shape.specs.Trees.{path_bound};
 
 use rart_below::Partial;
 use rart_node::{NodeRef, VersionedNode, VersionedNodeIter, Work};
@@ -33,13 +28,10 @@ pub(crate) fn find_start<'k, 'a, P: Partial, V: Drop>(
     is_strict: bool,
     work: &mut Work,
 ) -> Option<(&'k [u8], &'a VersionedNode<P, V>)>
-    requires tree { IsTree (pointer_shape P.bytes root.now) }
-    requires short { AreShort (Some (2 ^ 64 - 1)) (pairs_of (pointer_shape P.bytes root.now)) }
-    ensures start { StartAt (filter (λ pair. is_from is_strict low.now pair.0)
-        (pairs_of (pointer_shape P.bytes root.now))) (start_shape P.bytes result) }
-    ensures counted { CountsUpTo (path_bound (pointer_shape P.bytes root.now) low.now
-        + start_length (start_shape P.bytes result)) 0 work.old work.new }
-    ensures entered { work.old.entered < work.new.entered }
+    requires { CanSeek (pointer_shape P.bytes root.now) }
+    ensures { FindsStart (pairs_from is_strict low.now (pointer_shape P.bytes root.now))
+        (path_bound (pointer_shape P.bytes root.now) low.now) (start_shape P.bytes result)
+        work.old work.new }
 {
     let mut at = root;
     let mut rest = low;
@@ -71,13 +63,8 @@ fn kept_of<P: Partial, V: Drop>(
     common: usize,
     is_strict: bool,
 ) -> Kept
-    requires tree { IsTree (node_shape P.bytes node.now) }
-    requires common { common ≡ common_length (prefix_of (node_shape P.bytes node.now)) rest.now }
-    requires ends { (common ≡ length rest.now)
-        ⊎ (common < length (prefix_of (node_shape P.bytes node.now))) }
-    ensures kept { filter (λ pair. is_from is_strict rest.now pair.0)
-        (pairs_of (node_shape P.bytes node.now)) ≡ kept_part result (node_shape P.bytes node.now) }
-    ensures ended { result ≡ Inside → rest.now ≡ prefix_of (node_shape P.bytes node.now) }
+    requires { EndsAt common rest.now (node_shape P.bytes node.now) }
+    ensures { Keeps is_strict rest.now (node_shape P.bytes node.now) result }
 {
     if common < rest.len() {
         if rest[common] < node.prefix().at(common) {
@@ -121,15 +108,8 @@ fn turn_of<'k, 'a, P: Partial, V: Drop>(
     path: &'k [u8],
     turn: Option<(&'k [u8], &'a NodeRef<P, V>)>,
 ) -> Option<(&'k [u8], &'a NodeRef<P, V>)>
-    ensures start { (ahead : List (List ℕ × V)) → StartAt ahead (turn_shape P.bytes turn.entry)
-        → AreTurns (children_left P.bytes children.entry)
-        → AreShort (Some (2 ^ 64 - 1))
-        (behind_path path.now (pairs_of_all (children_left P.bytes children.entry)))
-        → StartAt (behind_path path.now (pairs_of_all (children_left P.bytes children.entry))
-        ++ ahead) (turn_shape P.bytes result) }
-    ensures deep { IsDeep (turn_shape P.bytes turn.entry)
-        → AreTurns (children_left P.bytes children.entry)
-        → IsDeep (turn_shape P.bytes result) }
+    ensures { TurnsTo path.now (children_left P.bytes children.entry)
+        (turn_shape P.bytes turn.entry) (turn_shape P.bytes result) }
 {
     match children.next_child() {
         Some(child) => Some((path, child)),
@@ -142,10 +122,8 @@ fn open_turn<'k, 'a, P: Partial, V: Drop>(
     turn: Option<(&'k [u8], &'a NodeRef<P, V>)>,
     work: &mut Work,
 ) -> Option<(&'k [u8], &'a VersionedNode<P, V>)>
-    ensures shown { start_shape P.bytes result ≡ turn_shape P.bytes turn.entry }
-    ensures entered { work.new.entered ≡ work.old.entered
-        + (if is_some (start_shape P.bytes result) then 1 else 0) }
-    ensures made { work.new.made ≡ work.old.made }
+    ensures { OpensTurn (turn_shape P.bytes turn.entry) (start_shape P.bytes result)
+        work.old work.new }
 {
     let (path, child) = turn?;
     Some((path, child.open(work)))

@@ -139,7 +139,7 @@ begins-drop [] at lt = absurd (omega (arith, lt))
 begins-drop (b ∷ p) zero lt = refl
 begins-drop (b ∷ p) (suc at) lt = begins-drop p at (omega (arith, lt))
 
--- A first byte in common is in the common beginning.
+-- A first byte in common is in the common prefix.
 pub begins-common : (p key : List ℕ) (byte : ℕ) → BeginsWith byte p → BeginsWith byte key
     → BeginsWith byte (take (common_length p key) p)
 begins-common [] key byte begins also = absurd begins

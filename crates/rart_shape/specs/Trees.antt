@@ -100,7 +100,7 @@ module _ {V : Type 0} where
   abbrev pub ending : Shape V → List ℕ → ℕ
   ending s rest = at_end rest 0 (widenings s + 1)
 
-  -- at most so many nodes are on the path that a key takes from here
+  -- the most nodes that are on the path that a key takes from here
   abbrev pub path_bound : Shape V → List ℕ → ℕ
   path_bound s key = at_end (prefix_of s) (length key + 1) (max 1 (length key))
 

@@ -1,6 +1,7 @@
 pub mod ChangesAtLemmas
 pub mod ConflictLemmas
-pub mod KeyLemmas
+pub mod TouchedKeyLemmas
+pub mod TrackedLendingLemmas
 pub mod RebaseLemmas
 pub mod ShowLemmas
 pub mod TrackingLemmas

@@ -46,7 +46,7 @@ up_to-all g Shows {answer} f members left is =
     subst (λ xs. AnswersUpTo g Shows answer f members xs f) (sym is)
     (up_to-start g Shows answer f members)
 
--- With these keys left of all, so many nodes were entered at most.
+-- With these keys left of all, how many nodes were entered at most.
 pub record AreCounted (maps : ℕ) (all left : List (List ℕ)) (start now : Counts) : Type 0 where
   pub most : now.entered + lookups_bound maps left ≤ start.entered + lookups_bound maps all
   pub grows : start.entered ≤ now.entered

@@ -14,7 +14,7 @@ use Rattle.rart_maps.specs.Pairs.{Strings}
 use Rattle.rart_maps.specs.Versions.{Version, has_key, with_key, without_key}
 use Rattle.rart_maps.proofs.OrderLemmas.{byte_order-IsAntisymmetric}
 use Rattle.rart_maps.proofs.VersionLemmas.{same_key}
-use Rattle.rart_tracked.specs.Tracking.{is_in, with_string, Keeps}
+use Rattle.rart_tracked.specs.Tracking.{is_in, with_string, IsMarked, Keeps}
 
 -- whether a string is in a set with one more
 is_in-with : (keys : Strings) (w q : List ℕ)
@@ -115,3 +115,13 @@ module _ {V : Type 0} where
       → after.number ≡ now.number + 1 → Keeps base after marked
   keeps-touched w value keeps sets keys more counted number =
       keeps-raised w value keeps sets keys more counted (omega (arith, number))
+
+  -- One more key is touched, and the version stays.
+  pub keeps-more : {base now : Version V} {touched marked : Version (Unit {0})} (w : List ℕ)
+      → Keeps base now touched → IsMarked now touched w marked → Keeps base now marked
+  keeps-more {base} {now} {touched} {marked} w keeps is = record {
+    tracked = λ q not. keeps.tracked q (not-in-with touched.content w q
+        (ap (λ (s : Strings). is_in s q) (sym is.keys) ∙ not)).1;
+    few = is.few;
+    counted = is.counted;
+  }

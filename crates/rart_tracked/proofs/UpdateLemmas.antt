@@ -104,7 +104,8 @@ same-attempt callback f before v after w answer b is same answers =
     (subst (λ u. Answers callback f u w (Ok answer) after) is answers)
 
 -- An update leaves what is tracked, but for the version, and the key where that is told.
-pub updated-view : {V : Type 0} (t now : Tracking V) (w : List ℕ) (v : Version V) (touched : Strings)
+pub updated-view : {V : Type 0} (t now : Tracking V) (w : List ℕ) (v : Version V)
+    (touched : Strings)
     (answer : Bool) → t ≡ now → touched ≡ cond answer (with_string t.touched w) t.touched
     → record { base = t.base; current = v; touched = touched } ≡ updated now w answer v
 updated-view t now w v touched answer is keys =

@@ -22,7 +22,7 @@ abbrev pub changes_at : {V : Type 0} → (V → V → Bool) → Map V → Map V 
 changes_at same old new keys =
     filter_map (λ w. change_of same w (finite.get old w) (finite.get new w)) keys
 
--- looking each of these keys up in so many maps enters at most so many nodes
+-- the most nodes that looking each of these keys up in some maps enters
 abbrev pub lookups_bound : ℕ → List (List ℕ) → ℕ
 lookups_bound maps keys = sum_by (λ w. maps * lookup_bound w) keys
 

@@ -29,6 +29,6 @@ module _ {V : Type 0} (same : V → V → Bool) where
       filter_map (λ w. conflict_at w (finite.get base w) (finite.get ours w) (finite.get theirs w))
       keys
 
--- finding the conflicts at these keys enters at most so many nodes, whatever the maps
+-- the most nodes that finding the conflicts at these keys enters, whatever the maps
 abbrev pub conflicts_bound : Strings → ℕ
 conflicts_bound keys = 2 * finite.len keys + lookups_bound 3 (listed keys)

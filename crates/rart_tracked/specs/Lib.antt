@@ -1,6 +1,8 @@
 pub mod ChangeVisits
 pub mod ConflictVisits
 pub mod KeptKeys
+pub mod Lending
+pub mod Missing
 pub mod Rebasing
 pub mod Shown
 pub mod Tracking

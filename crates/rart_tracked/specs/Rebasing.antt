@@ -10,8 +10,8 @@ abbrev pub IsWithin : Strings → Strings → Type 0
 IsWithin few many = (q : List ℕ) → IsTrue (is_in few q) → IsTrue (is_in many q)
 
 module _ {V : Type 0} where
-  -- The key has the value, or none, and no other key is touched. The number is one greater where the
-  -- key is set, or taken out where it is there.
+  -- The key has the value, or none, and no other key is touched. The number is one greater where
+  -- the key is set, or taken out where it is there.
   pub record IsSetTo (before : Tracking V) (w : List ℕ) (value : Option V) (after : Tracking V)
       : Type 0 where
     pub base : after.base ≡ before.base

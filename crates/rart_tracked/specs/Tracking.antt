@@ -1,6 +1,6 @@
 -- A tracked version: the version that it began with, the current one, and the keys that were
 -- touched in between. What a change makes of it.
-use Rattle.std.specs.Prelude.{◌≡◌, ℕ, ◌≤◌, Bool, false, List, Option, Result, Ok, Err, refl, if◌then◌else◌}
+use Rattle.std.specs.Prelude.{◌≡◌, ◌+◌, ℕ, ◌≤◌, Bool, false, List, Option, Result, Ok, Err, refl, if◌then◌else◌}
 use Rattle.std.specs.Coded.{Coded, code_by, coded×, coded_ℕ, coded_list}
 use Rattle.std.specs.FinMap as finite
 use Rattle.std.specs.FinSet as set
@@ -82,6 +82,15 @@ module _ {V : Type 0} where
 
   abbrev pub deletion : Tracking V → List ℕ → Bool × Tracking V
   deletion t w = (has_key t.current w, after_removal t w)
+
+-- The tree of touched keys with one more, where its number is how many there are, and no greater
+-- than the current number.
+pub record IsMarked {V : Type 0} (now : Version V) (before : Version (Unit {0})) (w : List ℕ)
+    (after : Version (Unit {0})) : Type 0 where
+  pub keys : after.content ≡ with_string before.content w
+  pub number : after.number ≤ before.number + 1
+  pub counted : after.number ≡ finite.len after.content
+  pub few : after.number ≤ now.number
 
 -- The trees inside: a key that was not touched is as in the base. The number of the tree of touched
 -- keys is how many there are, and no greater than the current number.

@@ -12,8 +12,8 @@ use Rattle.rart_versioned.specs.Updates.{Answers, Updates}
 
 module _ {F V : Type 0} (callback : Once F (MutBor (Slot V) × Unit {0})
     (SlotUpdate V × (MutBor (Slot V) × Unit {0}))) where
-  -- The current version is updated as a tree is, by an outcome that the callback allows, and the key
-  -- is touched where the answer is that it was there or is now. Refused, all is as before.
+  -- The current version is updated as a tree is, by an outcome that the callback allows, and the
+  -- key is touched where the answer is that it was there or is now. Refused, all is as before.
   abbrev pub TracksUpdate : {E : Type 0} → F → Tracking V → List ℕ → Result Bool E → Tracking V
       → Type 0
   TracksUpdate {E} f before w (Ok answer) after =

@@ -53,9 +53,9 @@ impl<K: KeyTrait, V: Clone + Drop> TrackedTree<K, V> {
         Ok(replaced)
     }
 
-    /// As `remove_k`, with the nodes entered and made counted into `work`: at most five more entered
-    /// than five times the bytes of the key, and at most four more made than twice these. Where the
-    /// key is absent it is looked up alone, and none is made.
+    /// As `remove_k`, with the nodes entered and made counted into `work`: at most five more
+    /// entered than five times the bytes of the key, and at most four more made than twice these.
+    /// Where the key is absent it is looked up alone, and none is made.
     pub fn remove_k_counted(&mut self, key: &K, work: &mut Work) -> Result<Option<V>, AllocError>
         requires clones { ClonesEqual V.is_clone }
         requires room { HasRoom self.old.current 1 }

@@ -6,6 +6,7 @@ mod changing;
 mod conflicts;
 mod counting;
 mod keys;
+mod lending;
 mod listing;
 mod rebasing;
 mod showing;

@@ -1,9 +1,9 @@
-//! Updates of a key's slot by a callback: the current version is updated as a tree is, and the key is
-//! touched where it was there or is now.
+//! Updates of a key's slot by a callback: the current version is updated as a tree is, and the key
+//! is touched where it was there or is now.
 ghost use Rattle.std.specs.Prelude.{◌≡◌, ◌+◌, ◌*◌, OnOk, OnErr};
 ghost use Rattle.std.specs.Fn.{FnOnceTakesAtMut};
 ghost use Rattle.rart_below.specs.Clones.{ClonesEqual};
-ghost use Rattle.rart_maps.specs.Bounds.{change_bound, lookup_bound, touch_bound};
+ghost use Rattle.rart_maps.specs.Bounds.{change_bound, lookup_bound, enter_bound};
 ghost use Rattle.rart_maps.specs.Changes.{slot_of};
 ghost use Rattle.rart_maps.specs.Versions.{HasRoom, value_at};
 ghost use Rattle.rart_tracked.specs.Updating.{TracksUpdate, TracksTry};
@@ -55,8 +55,8 @@ impl<K: KeyTrait, V: Clone + Drop> TrackedTree<K, V> {
         self.update_k(&key, f)
     }
 
-    /// As `update_k`, with the nodes entered and made counted into `work`: at most five more entered
-    /// than five times the bytes of the key, and at most four more made than twice these.
+    /// As `update_k`, with the nodes entered and made counted into `work`: at most five more
+    /// entered than five times the bytes of the key, and at most four more made than twice these.
     pub fn update_k_counted<F: FnOnce(&mut Slot<V>) -> SlotUpdate<V>>(
         &mut self,
         key: &K,
@@ -72,7 +72,7 @@ impl<K: KeyTrait, V: Clone + Drop> TrackedTree<K, V> {
             self.new.current) }
         ensures refused { OnErr result (self.new ≡ self.old) }
         ensures counted { CountsUpTo
-            (2 * lookup_bound (K.bytes key.now) + touch_bound (K.bytes key.now))
+            (2 * lookup_bound (K.bytes key.now) + enter_bound (K.bytes key.now))
             (2 * change_bound (K.bytes key.now)) work.old work.new }
     {
         let touched = marked(&self.touched, key, work)?;
@@ -139,7 +139,7 @@ impl<K: KeyTrait, V: Clone + Drop> TrackedTree<K, V> {
             self.new.current) }
         ensures refused { OnErr result (self.new.current.content ≡ self.old.current.content) }
         ensures counted { CountsUpTo
-            (2 * lookup_bound (K.bytes key.now) + touch_bound (K.bytes key.now))
+            (2 * lookup_bound (K.bytes key.now) + enter_bound (K.bytes key.now))
             (2 * change_bound (K.bytes key.now)) work.old work.new }
     {
         let touched = match marked(&self.touched, key, work) {

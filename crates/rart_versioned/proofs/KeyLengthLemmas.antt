@@ -1,4 +1,4 @@
--- How long the keys below a root are: short enough for whatever trail a walk keeps.
+-- How long the keys below a root are: short enough for whatever key path a walk keeps.
 use Rattle.std.proofs.Common.{◌≤◌, ◌-◌, ◌^◌, ℕ, List, Option, Some, None, is_some, length, sym, ap, subst, ◌∙◌, arith}
 use Rattle.std.specs.Prelude.{All, Contains}
 use Rattle.rart_below.specs.Bytes.{IsAdmitted}
@@ -9,7 +9,7 @@ use Rattle.rart_maps.proofs.ElementLemmas.{All-from_contains}
 use Rattle.rart_maps.proofs.FoundLemmas.{Contains-pairs}
 use Rattle.rart_versioned.specs.Keys.{IsKeyLength}
 use Rattle.rart_versioned.specs.Roots.{map_of, IsSound}
-use Rattle.rart_versioned.proofs.MapLemmas.{get-found, pairs-map}
+use Rattle.rart_versioned.proofs.VersionMapLemmas.{get-found, pairs-map}
 
 module _ {V : Type 0} (most : Option ℕ) (count : ℕ) (root : Shape V)
     (sound : IsSound most count (Some root)) where
@@ -22,13 +22,13 @@ module _ {V : Type 0} (most : Option ℕ) (count : ℕ) (root : Shape V)
       let value = (Contains-pairs map pair.0 pair.1).0 listed in
       (sound.1 pair.0 (ap is_some (sym (get-found (Some root) pair.0 sound.0) ∙ value))).0
 
-  -- for a trail of segments
+  -- for a key path of segments
   pub short-segments : AreShort (Some (2 ^ 64 - 1)) (pairs_of root)
   short-segments =
       All-from_contains (λ (pair : List ℕ × V). length pair.0 ≤ 2 ^ 64 - 1) (pairs_of root)
       (λ pair there. let fits = (pair-length pair there).1 in omega (arith, fits))
 
-  -- for a trail of bytes, and for none
+  -- for a key path of bytes, and for none
   pub short-any : AreShort None (pairs_of root)
   short-any = tt
 

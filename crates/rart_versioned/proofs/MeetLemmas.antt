@@ -3,7 +3,7 @@ use Rattle.std.proofs.Common.{◌≡◌, ◌≤◌, ℕ, true, List, [], ◌∷�
 use Rattle.std.specs.List.{filter_map, cons_option}
 use Rattle.std.specs.Option.{option_map}
 use Rattle.std.specs.FinMap as finite
-use Rattle.rart_lockstep.specs.Commons.{commons}
+use Rattle.rart_lockstep.specs.CommonPairs.{common_pairs}
 use Rattle.rart_maps.specs.Pairs.{common, shared}
 use Rattle.rart_maps.specs.Versions.{Version, has_no_key}
 use Rattle.rart_maps.proofs.WorkedPairLemmas.{common_of_empty}
@@ -13,10 +13,10 @@ use Rattle.rart_walks.specs.Walks.{AreShort}
 use Rattle.rart_versioned.specs.IteratorFields.{AreAdmitted}
 use Rattle.rart_versioned.specs.Meets.{AreRoots, HaveNoCommon}
 use Rattle.rart_versioned.specs.Roots.{map_of, IsSound}
-use Rattle.rart_versioned.proofs.CommonLemmas.{common-roots, shared-roots}
-use Rattle.rart_versioned.proofs.IterationLemmas.{root-sound}
+use Rattle.rart_versioned.proofs.VersionCommonLemmas.{common-roots, shared-roots}
+use Rattle.rart_versioned.proofs.VersionIterationLemmas.{root-sound}
 use Rattle.rart_versioned.proofs.KeyLengthLemmas.{admitted-pairs, short-segments}
-use Rattle.rart_versioned.proofs.MapLemmas.{pairs-map}
+use Rattle.rart_versioned.proofs.VersionMapLemmas.{pairs-map}
 use Rattle.rart_versioned.proofs.SoundLemmas.{no-key}
 
 -- no more is given than there is
@@ -37,9 +37,9 @@ module _ {V : Type 0} where
   admitted-short (Some most) list admitted = admitted
 
   -- a tree has no more keys in common with another than its version's number
-  commons-few : (most : Option ℕ) (count : ℕ) (left right : Shape V) →
-      IsSound most count (Some left) → length (commons left right) ≤ count
-  commons-few most count left right sound =
+  common_pairs-few : (most : Option ℕ) (count : ℕ) (left right : Shape V) →
+      IsSound most count (Some left) → length (common_pairs left right) ≤ count
+  common_pairs-few most count left right sound =
       let listed = filtered-few {B = List ℕ × V × V}
       (λ pair. option_map (λ x. (pair.0, pair.1, x)) (found right pair.0)) (pairs_of left) in
       let all = finite.len-entries (map_of (Some left))
@@ -103,14 +103,14 @@ module _ {A V : Type 0} (shape : A → Shape V) (count more : ℕ) (inside besid
             admitted-short most (pairs_of (shape left))
             (admitted-pairs most count (shape left) one);
         short = short-segments most count (shape left) one;
-        commons_are =
+        common_pairs_are =
             sym (common-roots (shape left) (shape right) one.0 other.0)
             ∙ (λ i. common (sym contents i) (sym others i));
         shared_are =
             sym (shared-roots (shape left) (shape right) one.0 other.0)
             ∙ (λ i. shared (sym contents i) (sym others i));
         few =
-            subst (λ n. length (commons (shape left) (shape right)) ≤ n)
+            subst (λ n. length (common_pairs (shape left) (shape right)) ≤ n)
             (ap (λ (z : Version V). z.number) shows)
-            (commons-few most count (shape left) (shape right) one);
+            (common_pairs-few most count (shape left) (shape right) one);
       }

@@ -16,7 +16,7 @@ use Rattle.rart_maps.proofs.ElementLemmas.{Contains-here}
 use Rattle.rart_maps.proofs.OrderLemmas.{begins-append}
 use Rattle.rart_maps.proofs.StartLemmas.{contains-strings_under, at_least-children, len-strings_under-append, sum_by-map, starts-all, starts-behind, starts-front, starts-back, under-all, under-byte}
 use Rattle.rart_versioned.specs.Roots.{map_of}
-use Rattle.rart_versioned.proofs.MapLemmas.{pairs-map}
+use Rattle.rart_versioned.proofs.VersionMapLemmas.{pairs-map}
 
 -- The paths of a node and of those below it, behind the bytes above.
 count-paths : (q above prefix : List ℕ) (below : List (List ℕ)) →

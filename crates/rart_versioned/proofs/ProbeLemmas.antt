@@ -1,22 +1,19 @@
 -- The pairs whose key begins a probe, one node at a time.
-use Rattle.std.proofs.Common.{◌≡◌, ◌-◌, ◌<◌, ◌≤◌, ℕ, List, [], ◌∷◌, ◌++◌, Option, Some, None, length, take, drop, refl, arith, sym, ap, ◌∙◌, append_assoc, append-nil, take-append-drop}
+use Rattle.std.proofs.Common.{◌≡◌, ◌-◌, ◌<◌, ◌≤◌, ℕ, List, [], ◌∷◌, ◌++◌, Option, Some, None, length, take, drop, refl, arith, sym, ap, ◌∙◌, append_assoc, take-append-drop}
 use Rattle.std.proofs.lemmas.List.{length-append}
-use Rattle.std.proofs.lemmas.Option.{none-some}
 use Rattle.std.specs.Prelude.{filter}
-use Rattle.rart_node.specs.Shape.{Shape, node, prefix_of, value_of, children_of, height}
-use Rattle.rart_shape.specs.Trees.{strip_prefix, IsTree, own_pair}
+use Rattle.rart_node.specs.Shape.{Shape, node, prefix_of, value_of, height}
+use Rattle.rart_shape.specs.Trees.{strip_prefix, IsTree}
 use Rattle.rart_below.specs.Bytes.{begins}
 use Rattle.rart_shape.proofs.PrefixLemmas.{strip_prefix-is}
 use Rattle.rart_shape.proofs.FindLemmas.{branch, ordered}
+use Rattle.rart_search.specs.Steps.{child_under}
+use Rattle.rart_search.proofs.StepLemmas.{take-front, own-first, under}
 use Rattle.rart_walks.specs.Frames.{behind_path, pending_pair}
-use Rattle.rart_walks.proofs.BeginningLemmas.{beginning, beginning_at, beginning-left, beginning-end, beginning-deeper}
-use Rattle.rart_walks.proofs.WalkLemmas.{behind-none, behind-behind, behind-append}
-use Rattle.rart_versioned.specs.IteratorFields.{child_on, height_in, matches_below}
+use Rattle.rart_walks.proofs.PrefixMatchLemmas.{matches_of, matches_at, matches_of-left}
+use Rattle.rart_walks.proofs.WalkLemmas.{behind-none}
+use Rattle.rart_versioned.specs.IteratorFields.{height_in, matches_below}
 use Rattle.rart_versioned.specs.Roots.{IsTreeIn, pairs_in}
-
-take-front : (front rest : List ℕ) → take (length front) (front ++ rest) ≡ front
-take-front [] rest = refl
-take-front (b ∷ front) rest = ap (λ more. b ∷ more) (take-front front rest)
 
 drop-front : (front rest : List ℕ) → drop (length front) (front ++ rest) ≡ rest
 drop-front [] rest = refl
@@ -59,40 +56,26 @@ module _ (probe : List ℕ) (depth : ℕ) (prefix rest : List ℕ)
       ∙ drop-front (take depth probe ++ prefix) rest
 
 module _ {V : Type 0} where
-  own-pending : (key : List ℕ) (value : Option V) →
-      behind_path key (own_pair value) ≡ pending_pair key value
-  own-pending key None = refl
-  own-pending key (Some value) = ap (λ k. (k, value) ∷ []) (append-nil key)
-
   -- what the child of a node has that the rest of the probe leads to
   below-is : (probe rest : List ℕ) (depth : ℕ) (key : List ℕ) (o : Option (Shape V)) →
       take depth probe ≡ key → drop depth probe ≡ rest →
-      behind_path key (beginning_at rest o) ≡ matches_below probe depth o
+      behind_path key (matches_at rest o) ≡ matches_below probe depth o
   below-is probe rest depth key None front back = refl
   below-is probe rest depth key (Some child) front back =
-      ap (λ k. behind_path k (beginning rest child)) (sym front)
-      ∙ ap (λ w. behind_path (take depth probe) (beginning w child)) (sym back)
+      ap (λ k. behind_path k (matches_of rest child)) (sym front)
+      ∙ ap (λ w. behind_path (take depth probe) (matches_of w child)) (sym back)
 
   -- At the root no byte of the probe stands above.
   pub matches-all : (probe : List ℕ) (o : Option (Shape V)) →
       matches_below probe 0 o ≡ filter (λ pair. begins pair.0 probe) (pairs_in o)
   matches-all probe None = refl
-  matches-all probe (Some s) = behind-none (beginning probe s)
+  matches-all probe (Some s) = behind-none (matches_of probe s)
 
   -- At a node whose prefix the probe leaves nothing matches.
   pub matches-left : (probe : List ℕ) (depth : ℕ) (s : Shape V) →
       strip_prefix (prefix_of s) (drop depth probe) ≡ None → matches_below probe depth (Some s) ≡ []
   matches-left probe depth s left =
-      ap (behind_path (take depth probe)) (beginning-left s (drop depth probe) left)
-
-  parts : (s : Shape V) (w rest : List ℕ) → IsTree s → strip_prefix (prefix_of s) w ≡ Some rest →
-      beginning w s
-      ≡ behind_path (prefix_of s) (own_pair (value_of s)
-      ++ beginning_at rest (child_on rest (children_of s)))
-  parts s w [] tree is =
-      beginning-end s w [] tree is refl
-      ∙ ap (behind_path (prefix_of s)) (sym (append-nil (own_pair (value_of s))))
-  parts s w (byte ∷ rest) tree is = beginning-deeper s w (byte ∷ rest) byte tree is refl
+      ap (behind_path (take depth probe)) (matches_of-left s (drop depth probe) left)
 
   -- At a node whose prefix the probe has, its own pair comes first, and then what its child has.
   pub matches-here : (probe : List ℕ) (depth : ℕ) (s : Shape V) (rest : List ℕ) → IsTree s →
@@ -100,20 +83,15 @@ module _ {V : Type 0} where
       matches_below probe depth (Some s)
       ≡ pending_pair (take (after probe depth (prefix_of s) rest is) probe) (value_of s)
       ++ matches_below probe (after probe depth (prefix_of s) rest is)
-      (child_on rest (children_of s))
+      (child_under rest s)
   matches-here probe depth s rest tree is =
       let above = take depth probe in
       let key = above ++ prefix_of s in
       let depth' = after probe depth (prefix_of s) rest is in
-      let own = own_pair (value_of s) in
-      let child = child_on rest (children_of s) in
-      let below = beginning_at rest child in
+      let child = child_under rest s in
       let front = take-after probe depth (prefix_of s) rest is in
-      ap (behind_path above) (parts s (drop depth probe) rest tree is)
-      ∙ behind-behind above (prefix_of s) (own ++ below)
-      ∙ behind-append key own below
-      ∙ ap (λ first. first ++ behind_path key below) (own-pending key (value_of s))
-      ∙ ap (λ k. pending_pair k (value_of s) ++ behind_path key below) (sym front)
+      own-first above s (drop depth probe) rest tree is
+      ∙ ap (λ k. pending_pair k (value_of s) ++ behind_path key (matches_at rest child)) (sym front)
       ∙ ap (λ later. pending_pair (take depth' probe) (value_of s) ++ later)
       (below-is probe rest depth' key child front
       (drop-after probe depth (prefix_of s) rest is))
@@ -123,15 +101,13 @@ module _ {V : Type 0} where
 
   -- The child that the rest of the probe leads to is a tree, and lower.
   pub child-tree : (s : Shape V) (rest : List ℕ) → IsTree s → (o : Option (Shape V)) →
-      o ≡ child_on rest (children_of s) → IsTreeIn o
+      o ≡ child_under rest s → IsTreeIn o
   child-tree s rest tree None here = tt
-  child-tree s [] tree (Some child) here = absurd (none-some child (sym here))
-  child-tree s (byte ∷ rest) tree (Some child) here =
-      (branch s byte child (ordered s tree) (sym here)).tree
+  child-tree s rest tree (Some child) here = let at-byte = under rest s child here in
+      (branch s at-byte.byte child (ordered s tree) (sym at-byte.here)).tree
 
   pub child-lower : (s : Shape V) (rest : List ℕ) → IsTree s → (o : Option (Shape V)) →
-      o ≡ child_on rest (children_of s) → height_in o < height s
+      o ≡ child_under rest s → height_in o < height s
   child-lower s rest tree None here = height-some s
-  child-lower s [] tree (Some child) here = absurd (none-some child (sym here))
-  child-lower s (byte ∷ rest) tree (Some child) here =
-      (branch s byte child (ordered s tree) (sym here)).lower
+  child-lower s rest tree (Some child) here = let at-byte = under rest s child here in
+      (branch s at-byte.byte child (ordered s tree) (sym at-byte.here)).lower

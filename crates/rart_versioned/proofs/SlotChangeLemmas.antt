@@ -2,6 +2,7 @@
 use Rattle.std.proofs.Common.{◌≡◌, ℕ, List, Option, Some, None, Result, Ok, Err, OnErr, inl, inr, is_some, cond, Bool, true, false, refl, sym, ap, subst, ◌∙◌}
 use Rattle.std.specs.Prelude.{◌+◌}
 use Rattle.std.specs.Borrow.{MutBor}
+use Rattle.std.specs.Result.{IsErr}
 use Rattle.std.specs.Fn.{Once}
 use Rattle.std.specs.Ordering.{is_eq, eq_by_cmp}
 use Rattle.std.specs.declared.cmp.Ordering.{Ordering}
@@ -18,7 +19,7 @@ use Rattle.rart_below.specs.declared.slot.Refusal.{Refusal}
 use Rattle.rart_below.specs.declared.slot.Refusal.TheVariants.{Callback, Memory}
 use Rattle.rart_maps.specs.Changes.{Changes, slot_of, slot_update}
 use Rattle.rart_versioned.specs.SlotChanges.{change_of, version_after, outcome_of_absent, is_occupied, rise_of, AsksMemory, IsTried, Tries, TriesAbsent}
-use Rattle.rart_versioned.specs.Updates.{Tells, Updates, TellsOrFails, TriesUpdate}
+use Rattle.rart_versioned.specs.Updates.{Tells, Updates, TellsOrFails, TriesUpdate, UpdateTakesMemory}
 use Rattle.rart_maps.specs.Versions.{Map, Version, value_at, has_key, with_rise}
 use Rattle.rart_versioned.proofs.SoundLemmas.{same-map}
 
@@ -67,7 +68,8 @@ module _ {V : Type 0} where
     none absent None is = refl
     none absent (Some value) is = absurd (false≢true (sym absent ∙ sym (ap is_some is)))
 
-    pub some : has_key v w ≡ true → (o : Option V) → o ≡ value_at v w → (value : V) × (o ≡ Some value)
+    pub some : has_key v w ≡ true → (o : Option V) → o ≡ value_at v w
+        → (value : V) × (o ≡ Some value)
     some there None is = absurd (false≢true (ap is_some is ∙ there))
     some there (Some value) is = (value, refl)
 
@@ -133,6 +135,12 @@ module _ {F V : Type 0} (callback : Once F (MutBor (Slot V) × Unit {0})
       → Updates callback {E = E} f v w (Ok true) after
   updates-there E left told after tell there is =
       (left, told, tell, ap (λ z. (true, z)) is ∙ there-updated v w left told there)
+
+  -- Refused for memory, it leaves the version.
+  pub update-stopped : {E : Type 0} (answer : Result Bool E) (after : Version V) → IsErr answer
+      → after ≡ v → UpdateTakesMemory callback f v w → Updates callback f v w answer after
+  update-stopped (Ok answer) after is same takes = absurd (false≢true is)
+  update-stopped (Err refusal) after is same takes = (same, takes)
 
   pub updates-absent : {E : Type 0} (left : Slot V) (told : SlotUpdate V) (answer : Result Bool E)
       (after : Version V) → Tells callback f v w left told → has_key v w ≡ false

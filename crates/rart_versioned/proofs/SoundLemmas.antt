@@ -1,6 +1,6 @@
 -- What a change below the root makes of the map, and that all stays in order.
-use Rattle.std.proofs.Common.{◌≡◌, ℕ, ◌+◌, ◌≤◌, List, [], Option, Some, None, IsSome, is_some, length, cond, Bool, true, false, refl, arith, sym, ap, subst, ◌∙◌}
-use Rattle.std.specs.Prelude.{IsTrue}
+use Rattle.std.proofs.Common.{◌≡◌, ℕ, suc, ◌+◌, ◌<◌, ◌≤◌, List, [], ◌∷◌, slice_index_or, Fits, w8, Option, Some, None, IsSome, is_some, length, cond, Bool, true, false, refl, arith, sym, ap, subst, ◌∙◌}
+use Rattle.std.specs.Prelude.{IsTrue, All}
 use Rattle.std.specs.Option.{option_map}
 use Rattle.std.specs.Ordering.{eq_by_cmp}
 use Rattle.std.specs.Str.{bytes_eq}
@@ -15,14 +15,22 @@ use Rattle.rart_node.specs.Shape.{Shape, node_of}
 use Rattle.rart_versioned.specs.Roots.{IsPutBelow}
 use Rattle.rart_shape.specs.Trees.{found, IsTree, IsPut}
 use Rattle.rart_versioned.specs.Roots.{found_in, map_of, IsTreeIn, IsSound}
+use Rattle.std.proofs.Math.Facts.{Fits-lt-pow}
+use Rattle.std.proofs.lemmas.List.Elements.{All-nil, All-cons}
 use Rattle.rart_maps.specs.StartLaws.{HasByteKeys}
 use Rattle.rart_maps.specs.Versions.{Version, value_at, has_key, has_no_key}
-use Rattle.rart_versioned.proofs.MapLemmas.{get-found}
+use Rattle.rart_versioned.proofs.VersionMapLemmas.{get-found}
 use Rattle.rart_shape.proofs.InsertionLemmas.{found-leaf}
 
 one-more : (t : Bool) (m n : ℕ) → m ≤ n → cond t m (m + 1) ≤ n + 1
 one-more true m n le = omega (arith, le)
 one-more false m n le = omega (arith, le)
+
+-- what a slice has are bytes
+pub all-bytes : (w : List ℕ) → ((i : ℕ) → Fits w8 (slice_index_or w i 0)) → All (λ b. b < 256) w
+all-bytes [] fits = All-nil (λ b. b < 256)
+all-bytes (b ∷ w) fits =
+    All-cons (λ b. b < 256) b w (Fits-lt-pow (fits 0)) (all-bytes w (λ i. fits (suc i)))
 
 pub no-key : (V : Type 0) (number : ℕ)
     → has_no_key (record { content = map_of {V = V} None; number = number }) ≡ true

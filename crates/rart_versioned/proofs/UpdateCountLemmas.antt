@@ -1,5 +1,5 @@
 -- How the counts rise by an update: by the look-up, and by what the answer asks for then.
-use Rattle.std.proofs.Common.{◌≡◌, ◌+◌, ℕ, List, Option, Some, None, Result, Ok, Err, Bool, true, false, inr, arith, refl, sym, ap, subst, ◌∙◌}
+use Rattle.std.proofs.Common.{◌≡◌, ◌+◌, ◌*◌, ◌<◌, ◌≤◌, ℕ, List, Option, Some, None, Result, Ok, Err, Bool, true, false, inl, inr, arith, refl, sym, ap, subst, ◌∙◌}
 use Rattle.std.specs.Borrow.{MutBor}
 use Rattle.std.specs.Fn.{Once}
 use Rattle.std.specs.Result.{IsErr}
@@ -10,10 +10,12 @@ use Rattle.rart_below.specs.declared.slot.Slot.{Slot}
 use Rattle.rart_below.specs.declared.slot.Slot.TheVariants.{Vacant, Occupied}
 use Rattle.rart_below.specs.declared.slot.SlotUpdate.{SlotUpdate}
 use Rattle.rart_below.specs.declared.slot.SlotUpdate.TheVariants.{Keep, Insert, Remove}
-use Rattle.rart_maps.specs.Bounds.{lookup_bound}
+use Rattle.rart_maps.specs.Bounds.{lookup_bound, enter_bound, change_bound}
 use Rattle.rart_maps.specs.Changes.{Changes, slot_attempt_from}
-use Rattle.rart_maps.specs.Versions.{Version, value_at, has_key}
+use Rattle.rart_maps.specs.Versions.{Version, value_at, has_key, has_no_key}
 use Rattle.rart_node.specs.Counts.{Counts, CountsUpTo}
+use Rattle.rart_shape.proofs.CountingLemmas.{counts-then, counts-most, entered-then}
+use Rattle.rart_versioned.specs.ChangeCounts.{CountsChange, MakesToInsert, MakesToTryInsert}
 use Rattle.rart_versioned.specs.declared.counted.change.Change.{Change}
 use Rattle.rart_versioned.specs.SlotChanges.{change_enters, change_makes, change_of, change_of_absent, attempt_of, attempt_of_absent, outcome_of_absent, version_after, Tries, TriesAbsent}
 use Rattle.rart_versioned.specs.UpdateCounts.{update_enters, update_makes, CountsAnswer, CountsAttempt, CountsUpdate, CountsTry}
@@ -38,6 +40,46 @@ rises a b m k n x y z first second all made =
       made_grows = omega (arith, kept, makes);
       made_at_most = omega (arith, none, makes_most, made);
     }
+
+-- ---- the look-up, and what comes after it
+
+module _ {V : Type 0} (v : Version V) (w : List ℕ) {x y : Counts}
+    (looked : CountsUpTo (lookup_bound w) 0 x y)
+    (least : has_no_key v ≡ false → x.entered < y.entered) where
+  pub looked-alone : CountsChange (enter_bound w) v w x y
+  looked-alone = record {
+    at_most = counts-most looked (omega arith) (omega arith);
+    at_least = least;
+  }
+
+  pub looked-then : {entered made : ℕ} {z : Counts} → CountsUpTo entered made y z
+      → entered ≤ 2 * lookup_bound w → made ≤ change_bound w → CountsChange (enter_bound w) v w x z
+  looked-then done few makes = record {
+    at_most = counts-then looked done (omega (arith, few)) (omega (arith, makes));
+    at_least = λ keyed. entered-then x (least keyed) done;
+  }
+
+-- A look-up makes no node, so what is made behind it is all that is made.
+pub makes-then : {E : Type 0} {entered : ℕ} {x y : Counts} (z : Counts) (answer : Result Bool E)
+    → CountsUpTo entered 0 x y → MakesToInsert answer y z → MakesToInsert answer x z
+makes-then z (Ok is_there) looked makes =
+    let kept = looked.made_grows in
+    let none = looked.made_at_most in
+    λ absent. let same = makes absent in omega (arith, same, kept, none)
+makes-then z (Err refusal) looked makes = tt
+
+pub makes-then-tried : {E : Type 0} {entered : ℕ} {x y : Counts} (z : Counts)
+    (answer : Result Bool (Refusal E)) → CountsUpTo entered 0 x y → MakesToTryInsert answer y z
+    → MakesToTryInsert answer x z
+makes-then-tried z (Ok is_there) looked makes =
+    let kept = looked.made_grows in
+    let none = looked.made_at_most in
+    λ absent. let same = makes absent in omega (arith, same, kept, none)
+makes-then-tried z (Err (Callback e)) looked makes =
+    let kept = looked.made_grows in
+    let none = looked.made_at_most in
+    omega (arith, makes, kept, none)
+makes-then-tried z (Err (Memory refusal)) looked makes = tt
 
 module _ {V : Type 0} (w : List ℕ) where
   enters-there : (old : V) (left : Slot V) (told : SlotUpdate V)
@@ -70,7 +112,8 @@ module _ {V : Type 0} (w : List ℕ) where
 module _ {V : Type 0} (v : Version V) (w : List ℕ) (x y z : Counts)
     (looked : CountsUpTo (lookup_bound w) 0 x y) where
   pub counts-there : has_key v w ≡ true → (left : Slot V) (told : SlotUpdate V)
-      → CountsUpTo (change_enters w (change_of left told)) (change_makes w (change_of left told)) y z
+      → CountsUpTo (change_enters w (change_of left told))
+      (change_makes w (change_of left told)) y z
       → CountsAnswer v w left told x z
   counts-there there left told done =
       let is = some v w there (value_at v w) refl in
@@ -130,6 +173,12 @@ module _ {F V : Type 0} (callback : Once F (MutBor (Slot V) × Unit {0})
       → CountsAnswer v w left told x z → CountsUpdate callback f v w answer after x z
   update-refused left told (Ok answer) after is tell counts = absurd (false≢true is)
   update-refused left told (Err refusal) after is tell counts = inr (left, told, tell, counts)
+
+  -- Refused for memory before that, they rose by the look-up alone.
+  pub lookup-stopped : {E : Type 0} (answer : Result Bool E) (after : Version V) → IsErr answer
+      → CountsUpTo (lookup_bound w) 0 x z → CountsUpdate callback f v w answer after x z
+  lookup-stopped (Ok answer) after is counts = absurd (false≢true is)
+  lookup-stopped (Err refusal) after is counts = inl counts
 
   pub update-absent : {E : Type 0} (left : Slot V) (told : SlotUpdate V) (answer : Result Bool E)
       (after : Version V) → Tells callback f v w left told → has_key v w ≡ false

@@ -7,8 +7,8 @@ use Rattle.rart_maps.specs.Versions.{Version, has_no_key}
 use Rattle.rart_node.specs.Counts.{Counts, CountsUpTo}
 
 module _ {V : Type 0} where
-  -- A change at w makes at most `change_bound w` nodes. It enters at most so many, and at least one
-  -- where the version has a key.
+  -- A change at w makes at most `change_bound w` nodes. It enters at most `entered`, and one
+  -- at least where the version has a key.
   pub record CountsChange (entered : ℕ) (v : Version V) (w : List ℕ) (before after : Counts)
       : Type 0 where
     pub at_most : CountsUpTo entered (change_bound w) before after

@@ -4,8 +4,8 @@ use Rattle.rart_changes.specs.ChangeLists.{changes}
 use Rattle.rart_diff.specs.Diffs.{changes_between}
 use Rattle.rart_maps.specs.FoundLaws.{KeysAscend}
 use Rattle.rart_maps.specs.Versions.{Version}
-use Rattle.rart_walks.specs.Trails.{HoldsBytes}
-use Rattle.rart_walks.specs.WalkFields.{IsWalk, position}
+use Rattle.rart_walks.specs.KeyPaths.{HoldsBytes}
+use Rattle.rart_walks.specs.WalkFields.{IsWalk, cursor}
 use Rattle.rart_walks.specs.declared.walk.Walk.{Walk}
 use Rattle.rart_versioned.specs.IteratorFields.{AreAdmitted}
 
@@ -14,9 +14,9 @@ pub record AreWalks {P V : Type 0} {partial : _} (same : V → V → Bool) (byte
     (most : Option ℕ) (v w : Version V) (old new : Walk P V (List ℕ) partial) : Type 0 where
   pub old_walk : IsWalk bytes HoldsBytes None old
   pub new_walk : IsWalk bytes HoldsBytes None new
-  pub old_ascends : KeysAscend (λ pair. pair.0) (position bytes old).pairs
-  pub new_ascends : KeysAscend (λ pair. pair.0) (position bytes new).pairs
-  pub old_admitted : AreAdmitted most (position bytes old).pairs
-  pub new_admitted : AreAdmitted most (position bytes new).pairs
-  pub changes_are : changes_between same (position bytes old).pairs (position bytes new).pairs
+  pub old_ascends : KeysAscend (λ pair. pair.0) (cursor bytes old).pairs
+  pub new_ascends : KeysAscend (λ pair. pair.0) (cursor bytes new).pairs
+  pub old_admitted : AreAdmitted most (cursor bytes old).pairs
+  pub new_admitted : AreAdmitted most (cursor bytes new).pairs
+  pub changes_are : changes_between same (cursor bytes old).pairs (cursor bytes new).pairs
       ≡ changes same v.content w.content

@@ -2,9 +2,9 @@
 use Rattle.std.specs.Prelude.{ℕ, List, [], ◌∷◌, Option, length, ⊤}
 use Rattle.std.specs.Option.{option_map}
 use Rattle.rart_below.specs.Bytes.{IsAdmitted}
-use Rattle.rart_walks.specs.WalkFields.{position}
-use Rattle.rart_versioned.specs.declared.counted.iter.Entries.{Entries}
-use Rattle.rart_versioned.specs.declared.counted.iter.Entries.TheVariants.{Empty, Entry, Walk}
+use Rattle.rart_walks.specs.WalkFields.{cursor}
+use Rattle.rart_versioned.specs.declared.iterators.iter.Entries.{Entries}
+use Rattle.rart_versioned.specs.declared.iterators.iter.Entries.TheVariants.{Empty, Entry, Walk}
 use Rattle.rart_versioned.specs.IteratorFields.{IsKeyWalk}
 
 module _ {P V : Type 0} {partial : _} (bytes : P → List ℕ) where
@@ -12,7 +12,7 @@ module _ {P V : Type 0} {partial : _} (bytes : P → List ℕ) where
   abbrev pub pairs_to_come : Entries P V partial → List (List ℕ × V)
   pairs_to_come Empty = []
   pairs_to_come (Entry key value) = (key.now, value.now) ∷ []
-  pairs_to_come (Walk walk) = (position bytes walk).pairs
+  pairs_to_come (Walk walk) = (cursor bytes walk).pairs
 
   abbrev pub entries_left : Option (Entries P V partial) → Option (List (List ℕ × V))
   entries_left entries = option_map pairs_to_come entries

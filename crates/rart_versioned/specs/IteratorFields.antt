@@ -6,16 +6,15 @@ use Rattle.std.specs.declared.ops.Bound.{Bound}
 use Rattle.std.specs.Ordering.{as_partial_cmp}
 use Rattle.std.specs.Range.Bound.{is_up_to_end}
 use Rattle.rart_below.specs.Bytes.{IsAdmitted, begins, byte_order}
-use Rattle.rart_below.specs.Children.{child_at}
 use Rattle.rart_maps.specs.FoundLaws.{KeysAscend}
 use Rattle.rart_node.specs.Shape.{Shape, height}
 use Rattle.rart_shape.specs.Trees.{pairs_of}
 use Rattle.rart_walks.specs.Frames.{behind_path}
 use Rattle.rart_walks.specs.declared.walk.Walk.{Walk}
-use Rattle.rart_walks.specs.WalkFields.{IsWalk, position}
-use Rattle.rart_walks.specs.Trails.{HoldsBytes}
+use Rattle.rart_walks.specs.WalkFields.{IsWalk, cursor}
+use Rattle.rart_walks.specs.KeyPaths.{HoldsBytes}
 
--- A trail of this greatest length keeps the way to any key.
+-- A key path of this greatest length keeps the way to any key.
 abbrev pub KeepsKeys : Option ℕ → Type 0
 KeepsKeys greatest = (count : ℕ) → count < 2 ^ 64 → IsAdmitted greatest count
 
@@ -30,18 +29,13 @@ up_to high pairs = filter (λ pair. is_up_to_end (as_partial_cmp byte_order) hig
 -- ---- along a probe
 
 module _ {V : Type 0} where
-  -- the pairs below a node, or the lack of one, whose key begins the probe, where so many bytes of
+  -- the pairs below a node, or the lack of one, whose key begins the probe, where `depth` bytes of
   -- the probe stand above the node
   abbrev pub matches_below : List ℕ → ℕ → Option (Shape V) → List (List ℕ × V)
   matches_below probe depth None = []
   matches_below probe depth (Some s) =
       behind_path (take depth probe)
       (filter (λ pair. begins pair.0 (drop depth probe)) (pairs_of s))
-
-  -- the child under the first byte of a string
-  abbrev pub child_on : List ℕ → List (ℕ × Shape V) → Option (Shape V)
-  child_on [] children = None
-  child_on (byte ∷ rest) children = child_at byte children
 
   -- The first pair has this key and this value, or there is none.
   abbrev pub ValueGives :
@@ -60,7 +54,7 @@ module _ {P V : Type 0} {partial : _} (bytes : P → List ℕ) where
   module _ {T : Type 0} where
     -- the pairs that are still to come
     abbrev pub pairs_left : Option (Walk P V T partial) → Option (List (List ℕ × V))
-    pairs_left walk = option_map (λ walk. (position bytes walk).pairs) walk
+    pairs_left walk = option_map (λ walk. (cursor bytes walk).pairs) walk
 
     -- their values
     abbrev pub values_left : Option (Walk P V T partial) → Option (List V)
@@ -69,17 +63,17 @@ module _ {P V : Type 0} {partial : _} (bytes : P → List ℕ) where
     -- the pairs that are still to come where they end with an upper bound
     abbrev pub within_left :
         Bound (List ℕ) → Option (Walk P V T partial) → Option (List (List ℕ × V))
-    within_left high walk = option_map (λ walk. up_to high (position bytes walk).pairs) walk
+    within_left high walk = option_map (λ walk. up_to high (cursor bytes walk).pairs) walk
 
   -- A walk that keeps the bytes of its keys, of each of which a key can be made.
   pub record IsKeyWalk (most : Option ℕ) (walk : Walk P V (List ℕ) partial) : Type 0 where
     pub walks : IsWalk bytes HoldsBytes None walk
-    pub admitted : AreAdmitted most (position bytes walk).pairs
+    pub admitted : AreAdmitted most (cursor bytes walk).pairs
 
   -- Its keys ascend too.
   pub record IsRangeWalk (most : Option ℕ) (walk : Walk P V (List ℕ) partial) : Type 0 where
     pub keyed : IsKeyWalk most walk
-    pub ascends : KeysAscend (λ pair. pair.0) (position bytes walk).pairs
+    pub ascends : KeysAscend (λ pair. pair.0) (cursor bytes walk).pairs
 
 module _ {K V : Type 0} (bytes : K → List ℕ) where
   -- The first pair was given, with a key of its own, or there was none.

@@ -1,4 +1,5 @@
--- A pair that was found: its key, or how many bytes of a probe that is, and a reference to its value.
+-- A pair that was found: its key, or how many bytes of a probe that is, and a reference to its
+-- value.
 use Rattle.std.specs.Prelude.{ℕ, List, Option, take}
 use Rattle.std.specs.Borrow.{Bor}
 use Rattle.std.specs.Option.{option_map}

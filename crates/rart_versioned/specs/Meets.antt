@@ -1,6 +1,6 @@
 -- What is known of two versions that are intersected, by their roots.
 use Rattle.std.specs.Prelude.{◌≡◌, ◌⊎◌, ◌^◌, ◌-◌, ◌≤◌, ℕ, true, [], Option, Some, length}
-use Rattle.rart_lockstep.specs.Commons.{commons, shared_of}
+use Rattle.rart_lockstep.specs.CommonPairs.{common_pairs, shared_of}
 use Rattle.rart_maps.specs.Pairs.{common, shared}
 use Rattle.rart_maps.specs.Versions.{Version, has_no_key}
 use Rattle.rart_node.specs.Shape.{Shape}
@@ -16,9 +16,9 @@ module _ {V : Type 0} where
     pub right_tree : IsTree right
     pub admitted : AreShort most (pairs_of left)
     pub short : AreShort (Some (2 ^ 64 - 1)) (pairs_of left)
-    pub commons_are : commons left right ≡ common one.content other.content
+    pub common_pairs_are : common_pairs left right ≡ common one.content other.content
     pub shared_are : shared_of left right ≡ shared one.content other.content
-    pub few : length (commons left right) ≤ one.number
+    pub few : length (common_pairs left right) ≤ one.number
 
   -- Either has no key, and so they have none in common.
   pub record HaveNoCommon (one other : Version V) : Type 0 where

@@ -3,7 +3,7 @@ use Rattle.std.specs.Prelude.{ℕ, ◌≤◌, List, Option, length}
 use Rattle.std.specs.Option.{option_map}
 use Rattle.rart_node.specs.NodeShapes.{pointer_shape}
 use Rattle.rart_node.specs.Shape.{Shape}
-use Rattle.rart_versioned.specs.declared.counted.prefix_match.Way.{Way}
+use Rattle.rart_versioned.specs.declared.iterators.prefix_match.Way.{Way}
 use Rattle.rart_versioned.specs.IteratorFields.{matches_below}
 use Rattle.rart_versioned.specs.Roots.{IsTreeIn}
 

@@ -8,7 +8,7 @@ use Rattle.rart_below.specs.declared.slot.Slot.{Slot}
 use Rattle.rart_below.specs.declared.slot.Slot.TheVariants.{Vacant, Occupied}
 use Rattle.rart_below.specs.declared.slot.SlotUpdate.{SlotUpdate}
 use Rattle.rart_below.specs.declared.slot.SlotUpdate.TheVariants.{Keep, Insert, Remove}
-use Rattle.rart_maps.specs.Bounds.{lookup_bound, touch_bound, change_bound}
+use Rattle.rart_maps.specs.Bounds.{lookup_bound, enter_bound, change_bound}
 use Rattle.rart_maps.specs.Changes.{slot_update, slot_attempt}
 use Rattle.rart_maps.specs.Versions.{Version, value_at}
 use Rattle.rart_node.specs.Counts.{Counts, CountsUpTo}
@@ -24,7 +24,7 @@ module _ {V : Type 0} where
   update_enters w (Some old) Vacant Keep = lookup_bound w
   update_enters w (Some old) (Occupied x) Keep = 2 * lookup_bound w
   update_enters w (Some old) left (Insert x) = 2 * lookup_bound w
-  update_enters w (Some old) left Remove = touch_bound w
+  update_enters w (Some old) left Remove = enter_bound w
 
   -- none where nothing is put in or taken out
   abbrev pub update_makes : List ℕ → Option V → Slot V → SlotUpdate V → ℕ

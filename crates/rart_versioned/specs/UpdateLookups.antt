@@ -8,8 +8,8 @@ use Rattle.rart_maps.specs.Lookups.{Sets, value_in, value_left}
 use Rattle.rart_maps.specs.Versions.{Version, value_at}
 
 module _ {F V : Type 0} where
-  -- The callback, lent a slot with the key's value, may leave the slot so and answer so. The key has
-  -- what that makes of it, and every other key has what it had.
+  -- The callback, lent a slot with the key's value, may leave the slot so and answer so. The key
+  -- has what that makes of it, and every other key has what it had.
   pub record UpdateSets (callback : Once F (MutBor (Slot V) × Unit {0})
       (SlotUpdate V × (MutBor (Slot V) × Unit {0})))
       (f : F) (before : Version V) (w : List ℕ) (after : Version V) : Type 0 where

@@ -2,11 +2,11 @@
 use Rattle.std.specs.Prelude.{ℕ, ◌+◌, ◌*◌, ◌≤◌, List, length}
 use Rattle.rart_node.specs.Counts.{Counts, CountsUpTo}
 
--- at most so many nodes are entered under p up to the key k, where so many values are visited
+-- the most nodes that are entered under p up to the key k, where a number of values are visited
 abbrev pub end_bound : List ℕ → List ℕ → ℕ → ℕ
 end_bound p k visited = length p + length k + 2 + 2 * visited
 
--- The visit ends on the last of these pairs, behind those in front of it: at most so many nodes are
+-- The visit ends on the last of these pairs, behind those in front: at most `end_bound` nodes are
 -- entered, and one at least for each of them.
 pub record EndsSoon {V : Type 0} (p : List ℕ) (before after : Counts)
     (front : List (List ℕ × V)) (last : List ℕ × V) : Type 0 where

@@ -6,16 +6,15 @@
 #![tactic(auto)]
 
 mod counted;
-mod plain;
+mod iterators;
+mod uncounted;
 
-pub use counted::{
-    VersionedAdaptiveRadixTree, VersionedIter, VersionedPrefixMatchIter, VersionedRange,
-    VersionedValuesIter,
-};
-pub use plain::InsertError;
+pub use counted::VersionedAdaptiveRadixTree;
+pub use iterators::{VersionedIter, VersionedPrefixMatchIter, VersionedRange, VersionedValuesIter};
 pub use rart_below::{
     AdaptiveRadixTree, ArrPartial, ArrayKey, DirectMapping, IndexedMapping, KeyTrait,
     LendingKeyView, NodeMapping, Partial, PlainIter, Refusal, Slot, SlotUpdate, SortedKeyedMapping,
     VectorKey, VectorPartial, VisitControl,
 };
 pub use rart_node::{GrowError, NodeRef, VersionedNode, VersionedNodeIter, Work};
+pub use uncounted::InsertError;

@@ -1,6 +1,3 @@
-pub mod AlongLemmas
-pub mod CountLemmas
-pub mod EndLemmas
-pub mod LongestLemmas
-pub mod ProbeLemmas
+pub mod VisitCountLemmas
+pub mod VisitEndLemmas
 pub mod UpToLemmas

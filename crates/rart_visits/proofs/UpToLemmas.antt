@@ -13,7 +13,7 @@ use Rattle.rart_maps.specs.FoundLaws.{KeysAscend}
 use Rattle.rart_maps.specs.Order.{IsBefore}
 use Rattle.rart_maps.proofs.RangeLemmas.{up_to, is_below, up_to-past, past-behind}
 use Rattle.rart_node.specs.Counts.{Counts, CountsUpTo}
-use Rattle.rart_walks.specs.Walks.{Position, ComesTo, GoesOnFirst, pending_pair}
+use Rattle.rart_walks.specs.Walks.{Cursor, ComesTo, GoesOnFirst, pending_pair}
 
 -- ---- paths past the bound
 longer-behind : (u : List ℕ) (c : ℕ) (more : List ℕ) → IsBefore u (u ++ (c ∷ more))
@@ -28,9 +28,9 @@ past-further high u (c ∷ more) past =
     past-behind high u (u ++ (c ∷ more)) (longer-behind u c more) past
 
 -- Each step of a walk leaves less.
-pub comes-smaller : {V : Type 0} {before after : Position V} {value : Option (Bor V)}
+pub comes-smaller : {V : Type 0} {before after : Cursor V} {value : Option (Bor V)}
     → ComesTo before value after
-    → length after.pairs + length after.places < length before.pairs + length before.places
+    → length after.pairs + length after.paths < length before.pairs + length before.paths
 comes-smaller {V} {before} {after} {value} comes =
     let pairs = ap length comes.pairs
     ∙ length-append (pending_pair (concat after.segments) (option_copied value)) after.pairs in
@@ -57,25 +57,25 @@ module _ (high : Bound (List ℕ)) where
       (subst (KeysAscend (λ pair. pair.0)) first.3 ascend) (past-further high path first.0 past)
 
   -- ---- counts
-  -- Of the places at the start no more that meet the bound were entered than are no longer left.
-  pub record IsFew (places : List (List ℕ)) (start : Counts) (left : List (List ℕ))
+  -- Of the paths at the start no more that meet the bound were entered than are no longer left.
+  pub record IsFew (paths : List (List ℕ)) (start : Counts) (left : List (List ℕ))
       (now : Counts) : Type 0 where
     pub within : now.entered + count_by (is_below high) left
-        ≤ start.entered + count_by (is_below high) places
+        ≤ start.entered + count_by (is_below high) paths
     pub grows : start.entered ≤ now.entered
     pub made : now.made ≡ start.made
 
-  pub few-start : (places : List (List ℕ)) (start : Counts) → IsFew places start places start
-  few-start places start =
+  pub few-start : (paths : List (List ℕ)) (start : Counts) → IsFew paths start paths start
+  few-start paths start =
       record { within = omega arith; grows = omega arith; made = omega arith }
 
   -- The walk goes on to a node that meets the bound.
-  pub few-next : {V : Type 0} {before after : Position V} {value : Option (Bor V)}
-      {places : List (List ℕ)} {start now later : Counts}
+  pub few-next : {V : Type 0} {before after : Cursor V} {value : Option (Bor V)}
+      {paths : List (List ℕ)} {start now later : Counts}
       → ComesTo before value after → is_below high (concat after.segments) ≡ true
-      → IsFew places start before.places now
-      → later.entered + length after.places ≡ now.entered + length before.places
-      → CountsUpTo 1 0 now later → IsFew places start after.places later
+      → IsFew paths start before.paths now
+      → later.entered + length after.paths ≡ now.entered + length before.paths
+      → CountsUpTo 1 0 now later → IsFew paths start after.paths later
   few-next {V} {before} {after} comes meets few entered counted =
       let within = few.within in
       let grows = few.grows in
@@ -89,8 +89,8 @@ module _ (high : Bound (List ℕ)) where
             (λ next.
             let one = ap (count_by (is_below high)) next
             ∙ sum_by-cons (λ path. cond (is_below high path) 1 0) (concat after.segments)
-            after.places
-            ∙ ap (λ t. cond t 1 0 + count_by (is_below high) after.places) meets in
+            after.paths
+            ∙ ap (λ t. cond t 1 0 + count_by (is_below high) after.paths) meets in
             let long = ap length next in
             omega (arith, within, entered, one, long))
             (λ stays.
@@ -103,9 +103,9 @@ module _ (high : Bound (List ℕ)) where
       }
 
   -- The last step may have been refused, or have come to a node past the bound.
-  pub few-end : {places left : List (List ℕ)} {start now after : Counts}
-      → IsFew places start left now → CountsUpTo 1 0 now after
-      → CountsUpTo (count_by (is_below high) places + 1) 0 start after
+  pub few-end : {paths left : List (List ℕ)} {start now after : Counts}
+      → IsFew paths start left now → CountsUpTo 1 0 now after
+      → CountsUpTo (count_by (is_below high) paths + 1) 0 start after
   few-end few counted =
       let within = few.within in
       let grows = few.grows in

@@ -51,12 +51,12 @@ module _ {V : Type 0} where
   MeetUpTo high pairs =
       All (λ pair. IsTrue (is_up_to_end (as_partial_cmp byte_order) high pair.0)) pairs
 
-  -- A visit of a walk that has these places left ends on the last of these pairs: it has entered at
-  -- most those of the places that meet an upper bound, whichever all of the pairs meet, and at least
-  -- one for each pair, but for so many that were at hand.
-  pub record EntersUpTo (places : List (List ℕ)) (at_hand : ℕ) (before after : Counts)
+  -- A visit of a walk that has these paths left ends on the last of these pairs: it has entered at
+  -- most those of the paths that meet an upper bound, whichever all of the pairs meet, and at least
+  -- one for each pair, but for those that were at hand.
+  pub record EntersUpTo (paths : List (List ℕ)) (at_hand : ℕ) (before after : Counts)
       (front : List (List ℕ × V)) (last : List ℕ × V) : Type 0 where
     pub at_most : (high : Bound (List ℕ)) → MeetUpTo high (front ++ last ∷ [])
-        → CountsUpTo (count_by (is_up_to_end (as_partial_cmp byte_order) high) places) 0 before
+        → CountsUpTo (count_by (is_up_to_end (as_partial_cmp byte_order) high) paths) 0 before
         after
     pub at_least : before.entered + (length front + 1) ≤ after.entered + at_hand

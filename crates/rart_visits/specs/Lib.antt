@@ -1,2 +1,2 @@
-pub mod Longest
 pub mod Ends
+pub mod Visited

@@ -5,12 +5,8 @@
 //! pointers alone, and no key type.
 #![tactic(auto)]
 
-mod longest;
-mod matches;
 mod values;
 mod views;
 
-pub use longest::longest_beginning;
-pub use matches::visit_beginnings;
 pub use values::{visit_values, visit_values_until};
 pub use views::{visit_views, visit_views_up_to};

@@ -1,35 +1,29 @@
 // Ported from rart 0.11.0 (Apache-2.0), and rewritten.
 //! Visits of values alone.
-ghost use Rattle.std.specs.Prelude.{◌+◌, ◌≤◌, map, length, Ok, Err, OnOk};
-ghost use Rattle.rart_below.specs.declared.visit.VisitControl.TheVariants.{Continue, Stop};
-ghost use Rattle.rart_maps.specs.Visits.{ByValue, Visits, Visitable, VisitsUntil, VisitableUntil};
-ghost use Rattle.rart_node.specs.Counts.{CountsUpTo};
-ghost use Rattle.rart_visits.specs.Ends.{Ends, EntersUpTo};
-ghost use Rattle.rart_walks.specs.WalkFields.{position, at_hand, IsWalk};
+ghost use Rattle.std.specs.Prelude.{map};
+ghost use Rattle.rart_maps.specs.Visits.{ByValue, Visitable, VisitableUntil};
+ghost use Rattle.rart_visits.specs.Visited.{VisitsValues, VisitsValuesUntil};
+ghost use Rattle.rart_walks.specs.WalkFields.{cursor, IsWalk};
 
 use rart_below::{Partial, Refusal, VisitControl};
 use rart_node::Work;
-use rart_walks::{Trail, Walk};
+use rart_walks::{KeyPath, Walk};
 use std::alloc::AllocError;
 
 /// Calls the closure on each value that a walk has left. It enters a node at least for each, but
 /// for one at hand.
 ///
-/// Refused for memory, it has called it on a beginning of them.
-pub fn visit_values<'a, P: Partial, V: Drop, T: Trail<'a>, F: FnMut(&V)>(
+/// Refused for memory, it has called it on a prefix of them.
+pub fn visit_values<'a, P: Partial, V: Drop, T: KeyPath<'a>, F: FnMut(&V)>(
     mut walk: Walk<'a, P, V, T>,
     f: &mut F,
     work: &mut Work,
 ) -> Result<(), AllocError>
     requires walk { IsWalk P.bytes T.holds T.greatest walk }
     requires visitable { Visitable F.FnMut ByValue f.old
-        (map (λ pair. pair.1) (position P.bytes walk).pairs) }
-    ensures visits { Visits F.FnMut ByValue result f.old
-        (map (λ pair. pair.1) (position P.bytes walk.entry).pairs) f.new }
-    ensures counted { CountsUpTo (length (position P.bytes walk.entry).places) 0
-        work.old work.new }
-    ensures least { OnOk result (work.old.entered + length (position P.bytes walk.entry).pairs
-        ≤ work.new.entered + at_hand walk.entry) }
+        (map (λ pair. pair.1) (cursor P.bytes walk).pairs) }
+    ensures { VisitsValues P.bytes F.FnMut ByValue walk.entry result f.old f.new work.old
+        work.new }
 {
     'visiting: while let Some(value) = walk.next_value(work)? {
         f(value);
@@ -41,28 +35,21 @@ pub fn visit_values<'a, P: Partial, V: Drop, T: Trail<'a>, F: FnMut(&V)>(
 /// or an error. Its error is answered as `Refusal::Callback`. It enters no node behind the one of
 /// that value.
 ///
-/// Refused for memory, the answer is `Refusal::Memory`: it has called the closure on a beginning of
+/// Refused for memory, the answer is `Refusal::Memory`: it has called the closure on a prefix of
 /// them, and each time the closure answered `Continue`.
 pub fn visit_values_until<
     'a,
     P: Partial,
     V: Drop,
-    T: Trail<'a>,
+    T: KeyPath<'a>,
     E: Drop,
     F: FnMut(&V) -> Result<VisitControl, E>,
 >(mut walk: Walk<'a, P, V, T>, f: &mut F, work: &mut Work) -> Result<(), Refusal<E>>
     requires walk { IsWalk P.bytes T.holds T.greatest walk }
     requires visitable { VisitableUntil F.FnMut ByValue f.old
-        (map (λ pair. pair.1) (position P.bytes walk).pairs) }
-    ensures visits { VisitsUntil F.FnMut ByValue result f.old
-        (map (λ pair. pair.1) (position P.bytes walk.entry).pairs) f.new }
-    ensures counted { CountsUpTo (length (position P.bytes walk.entry).places) 0
-        work.old work.new }
-    ensures ends { Ends F.FnMut ByValue
-        (work.old.entered + length (position P.bytes walk.entry).pairs
-        ≤ work.new.entered + at_hand walk.entry)
-        (EntersUpTo (position P.bytes walk.entry).places (at_hand walk.entry) work.old work.new)
-        result f.old (position P.bytes walk.entry).pairs f.new }
+        (map (λ pair. pair.1) (cursor P.bytes walk).pairs) }
+    ensures { VisitsValuesUntil P.bytes F.FnMut ByValue walk.entry result f.old f.new work.old
+        work.new }
 {
     'visiting: loop {
         let value = match walk.next_node(work) {

@@ -1,12 +1,12 @@
 -- What the nodes that are open have left, gathered from the nodes below: their pairs, or their
--- places.
+-- paths.
 use Rattle.std.proofs.Common.{◌≡◌, ℕ, List, [], ◌∷◌, ◌++◌, Option, refl, sym, ap, ◌∙◌}
 use Rattle.std.specs.List.{concat}
 use Rattle.std.proofs.lemmas.List.{append-nil, append_assoc}
 use Rattle.rart_shape.specs.Trees.{own_pair}
 use Rattle.rart_walks.specs.Frames.{OpenNode, behind_path, under_path, segments_of, pairs_ahead, paths_ahead}
 use Rattle.rart_walks.proofs.GatherLemmas.{gathered_all, all-gathered}
-use Rattle.rart_walks.proofs.PlaceLemmas.{own_place, keys_of, keys-behind, keys-append, all-places}
+use Rattle.rart_walks.proofs.CursorLemmas.{own_place, keys_of, keys-behind, keys-append, all-paths}
 use Rattle.rart_walks.proofs.WalkLemmas.{behind-append, behind-behind}
 
 -- `own` is what a node itself has, below its prefix
@@ -40,11 +40,11 @@ module _ {V : Type 0} where
   pairs-ahead (frame ∷ frames) =
       λ i. behind_path frame.0 (pairs-ahead frames i ++ all-gathered frame.1 i)
 
-  pub places-ahead : (frames : List (OpenNode V))
+  pub paths-ahead : (frames : List (OpenNode V))
       → paths_ahead frames ≡ keys_of (gathered_ahead own_place frames)
-  places-ahead [] = refl
-  places-ahead (frame ∷ frames) =
-      (λ i. under_path frame.0 (places-ahead frames i ++ all-places frame.1 i))
+  paths-ahead [] = refl
+  paths-ahead (frame ∷ frames) =
+      (λ i. under_path frame.0 (paths-ahead frames i ++ all-paths frame.1 i))
       ∙ ap (under_path frame.0)
       (sym (keys-append (gathered_ahead own_place frames) (gathered_all own_place frame.1)))
       ∙ sym (keys-behind frame.0

@@ -14,7 +14,7 @@ use Rattle.rart_walks.specs.Parts.{keeps, reaches, goes_on, is_strict}
 use Rattle.rart_walks.specs.Walks.{IsEndOf, paths_of}
 use Rattle.rart_walks.proofs.GatherLemmas.{keeping, gathered, gathered_all, gathered-is, pairs-gathered, all-gathered}
 use Rattle.rart_walks.proofs.PartLemmas.{StandsAtEnd, GoesAlong, own_pair-ends, keeps-goes, reaches-goes, keeps-itself, strict-itself, reaches-itself, parted-lower, parted-upper, parted-all, parted-inside}
-use Rattle.rart_walks.proofs.PlaceLemmas.{own_place, own_place-ends, keys_of, paths-places, paths-kept}
+use Rattle.rart_walks.proofs.CursorLemmas.{own_place, own_place-ends, keys_of, paths-are, paths-kept}
 
 -- The first list is the front of the second.
 pub record IsFront (rest prefix : List ℕ) : Type 0 where
@@ -151,23 +151,23 @@ module _ {V : Type 0} (part : Part) (s : Shape V) (rest : List ℕ) where
         ] in
         both (is_strict part) (length rest == length (prefix_of s)) refl refl
 
-    -- its places, or those behind its own
-    pub end-within-places : IsTree s → (filter (reaches part rest) (paths_of s) ≡ paths_of s)
+    -- its paths, or those behind its own
+    pub end-within-paths : IsTree s → (filter (reaches part rest) (paths_of s) ≡ paths_of s)
         ⊎ (paths_of s ≡ prefix_of s ∷ filter (reaches part rest) (paths_of s))
-    end-within-places tree = at-more front.more refl
+    end-within-paths tree = at-more front.more refl
       where
-        all-places : ((key : List ℕ) → reaches part [] (front.more ++ key) ≡ true)
+        all-paths : ((key : List ℕ) → reaches part [] (front.more ++ key) ≡ true)
             → filter (reaches part rest) (paths_of s) ≡ paths_of s
-        all-places each =
+        all-paths each =
             paths-kept (reaches part rest) s
             ∙ ap keys_of (parted-all own_place own_place-ends (reaches part) (goes_on part)
             (reaches-goes part) s rest front.more front.is each)
-            ∙ sym (paths-places s)
+            ∙ sym (paths-are s)
 
         own-first : reaches part [] [] ≡ false → front.more ≡ []
             → paths_of s ≡ prefix_of s ∷ filter (reaches part rest) (paths_of s)
         own-first strict end =
-            paths-places s ∙ ap keys_of (gathered-is own_place s)
+            paths-are s ∙ ap keys_of (gathered-is own_place s)
             ∙ (λ i. append-nil (prefix_of s) i
             ∷ keys_of (behind_path (prefix_of s) (gathered_all own_place (children_of s))))
             ∙ ap (λ kept. prefix_of s ∷ keys_of kept)
@@ -180,11 +180,11 @@ module _ {V : Type 0} (part : Part) (s : Shape V) (rest : List ℕ) where
             ⊎ (paths_of s ≡ prefix_of s ∷ filter (reaches part rest) (paths_of s))
         at-more [] end =
             ⊎_elim
-            (λ each. inl (all-places (λ key. each (front.more ++ key))))
+            (λ each. inl (all-paths (λ key. each (front.more ++ key))))
             (λ strict. inr (own-first strict end))
             (reaches-itself part)
         at-more (b ∷ more) some =
-            inl (all-places (λ key. ap (λ z. reaches part [] (z ++ key)) some
+            inl (all-paths (λ key. ap (λ z. reaches part [] (z ++ key)) some
             ∙ (reaches-goes part).inside b (more ++ key)))
 
   -- ---- the string leaves the prefix
@@ -233,7 +233,7 @@ module _ {V : Type 0} (part : Part) (s : Shape V) (rest : List ℕ) where
       paths-kept (reaches part rest) s
           ∙ ap keys_of (beside-above own_place own_place-ends (reaches part) (reaches-goes part)
           less on)
-          ∙ sym (paths-places s),
+          ∙ sym (paths-are s),
     )
 
     pub end-below : b ≤ c → (kept ≡ []) × (placed ≡ [])
@@ -252,7 +252,7 @@ module _ {V : Type 0} (part : Part) (s : Shape V) (rest : List ℕ) where
           off),
     )
 
--- The node is entered: what the part has of its places is left then, or its own is behind the walk.
+-- The node is entered: what the part has of its paths is left then, or its own is behind the walk.
 module _ {V : Type 0} (s : Shape V) where
   pub entered-end : (path first : List ℕ) (left above here : List (List ℕ))
       → first ∷ left ≡ under_path path (paths_of s) ++ above

@@ -11,10 +11,10 @@ use Rattle.rart_walks.specs.declared.walk.path.Part.{Part}
 use Rattle.rart_walks.specs.Frames.{OpenNode, behind_path, under_path, pairs_of_all, segments_of, pairs_ahead, paths_ahead, TreesAhead, pending_pair}
 use Rattle.rart_walks.specs.Parts.{keeps, reaches, goes_on}
 use Rattle.rart_walks.specs.Walks.{AreShort, paths_of}
-use Rattle.rart_walks.proofs.AheadLemmas.{gathered_ahead, gathered-push, pairs-ahead, places-ahead}
+use Rattle.rart_walks.proofs.AheadLemmas.{gathered_ahead, gathered-push, pairs-ahead, paths-ahead}
 use Rattle.rart_walks.proofs.GatherLemmas.{keeping, gathered, gathered_all, kept_at, pairs-gathered}
 use Rattle.rart_walks.proofs.PartLemmas.{StandsAtEnd, GoesAlong, own_pair-ends, keeps-goes, reaches-goes, parted-below}
-use Rattle.rart_walks.proofs.PlaceLemmas.{own_place, own_place-ends, keys_of, keys-behind, keys-append, paths-kept}
+use Rattle.rart_walks.proofs.CursorLemmas.{own_place, own_place-ends, keys_of, keys-behind, keys-append, paths-kept}
 use Rattle.rart_walks.proofs.WalkLemmas.{behind-none, behind-behind, behind-append, pairs-entered, trees-entered, path-push, ahead-push, trees-push, short-none, short-append, short-pending}
 use Rattle.rart_walks.proofs.SublistLemmas.{later-trees, later-short, child-short}
 
@@ -111,11 +111,11 @@ module _ {V : Type 0} where
       passed-pairs =
           passed-kept own_pair own_pair-ends (keeps part) (keeps-goes part) way.kept
 
-      pub passed-places : keeping (reaches part probe) (gathered own_place root)
+      pub passed-paths : keeping (reaches part probe) (gathered own_place root)
           ≡ behind_path (concat (segments_of passed))
           (kept_at own_place (reaches part (byte ∷ left)) (child_at byte (children_of s)))
           ++ gathered_ahead own_place passed
-      passed-places =
+      passed-paths =
           passed-kept own_place own_place-ends (reaches part) (reaches-goes part) way.placed
 
       pub passed-trees : TreesAhead passed
@@ -158,7 +158,7 @@ module _ {V : Type 0} where
             passed-pairs ∙ ap (λ o. behind_path (concat (segments_of passed))
             (kept_at own_pair (keeps part (byte ∷ left)) o) ++ gathered_ahead own_pair passed) here;
         placed =
-            passed-places ∙ ap (λ o. behind_path (concat (segments_of passed))
+            passed-paths ∙ ap (λ o. behind_path (concat (segments_of passed))
             (kept_at own_place (reaches part (byte ∷ left)) o) ++ gathered_ahead own_place passed)
             here;
       }
@@ -172,11 +172,11 @@ module _ {V : Type 0} where
             ∙ ap (λ o. behind_path (concat (segments_of passed))
             (kept_at own_pair (keeps part (byte ∷ left)) o) ++ gathered_ahead own_pair passed) none
             ∙ sym (pairs-ahead passed),
-        paths-kept (reaches part probe) root ∙ ap keys_of (passed-places
+        paths-kept (reaches part probe) root ∙ ap keys_of (passed-paths
             ∙ ap (λ o. behind_path (concat (segments_of passed))
             (kept_at own_place (reaches part (byte ∷ left)) o) ++ gathered_ahead own_place passed)
             none)
-            ∙ sym (places-ahead passed),
+            ∙ sym (paths-ahead passed),
       )
 
     -- what the whole way keeps, where it ends at this node
@@ -198,4 +198,4 @@ module _ {V : Type 0} where
         ∙ keys-append (behind_path path here) (gathered_ahead own_place frames)
         ∙ ap (λ z. z ++ keys_of (gathered_ahead own_place frames)) (keys-behind path here)
         ∙ (λ i. under_path path (sym (paths-kept (reaches part rest) s) i)
-        ++ sym (places-ahead frames) i)
+        ++ sym (paths-ahead frames) i)

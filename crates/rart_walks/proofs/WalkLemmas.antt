@@ -240,10 +240,10 @@ module _ {V : Type 0} where
         (sym (ahead-push frames (prefix_of s, children_of s)))
 
     -- the paths of its nodes: its own, and those that are left then
-    pub whole-places : under_path (concat (segments_of frames)) (paths_of s) ++ paths_ahead frames
+    pub whole-paths : under_path (concat (segments_of frames)) (paths_of s) ++ paths_ahead frames
         ≡ concat (segments_of (frames ++ (prefix_of s, children_of s) ∷ []))
         ∷ paths_ahead (frames ++ (prefix_of s, children_of s) ∷ [])
-    whole-places =
+    whole-paths =
         let path = concat (segments_of frames) in
         ap (λ paths. paths ++ paths_ahead frames) (paths-entered path s)
         ∙ ap (λ later. (path ++ prefix_of s) ∷ later)
@@ -305,14 +305,14 @@ module _ {V : Type 0} where
   spent-pairs (f ∷ frames) spent =
       λ i. behind_path f.0 (spent-pairs frames spent.1 i ++ pairs_of_all (spent.0 i))
 
-  spent-places : (frames : List (OpenNode V)) → AreSpent frames → paths_ahead frames ≡ []
-  spent-places [] spent = refl
-  spent-places (f ∷ frames) spent =
-      λ i. under_path f.0 (spent-places frames spent.1 i ++ paths_of_all (spent.0 i))
+  spent-paths : (frames : List (OpenNode V)) → AreSpent frames → paths_ahead frames ≡ []
+  spent-paths [] spent = refl
+  spent-paths (f ∷ frames) spent =
+      λ i. under_path f.0 (spent-paths frames spent.1 i ++ paths_of_all (spent.0 i))
 
   pub took-none : (frames after : List (OpenNode V)) → TakesAhead frames None after
       → (pairs_ahead frames ≡ []) × (paths_ahead frames ≡ [])
-  took-none frames after takes = (spent-pairs frames takes.0, spent-places frames takes.0)
+  took-none frames after takes = (spent-pairs frames takes.0, spent-paths frames takes.0)
 
   module _ (greatest : Option ℕ) (frames : List (OpenNode V)) (s : Shape V)
       (after : List (OpenNode V)) (takes : TakesAhead frames (Some s) after) where
@@ -347,14 +347,14 @@ module _ {V : Type 0} where
         (sym (ahead-push front (segment, takes.4)) ∙ ap pairs_ahead (sym takes.7))
         ∙ ap (λ path. behind_path path (pairs_of s) ++ pairs_ahead after) (sym path-after)
 
-    taken-places : paths_ahead frames
+    taken-paths : paths_ahead frames
         ≡ under_path (concat (segments_of after)) (paths_of s) ++ paths_ahead after
-    taken-places =
+    taken-paths =
         ap paths_ahead takes.6
         ∙ paths-append front ((segment, (takes.3, s) ∷ takes.4) ∷ takes.1)
         ∙ ap (λ z. under_path (concat (segments_of front))
         (under_path segment (z ++ (paths_of s ++ paths_of_all takes.4))) ++ paths_ahead front)
-        (spent-places takes.1 takes.5)
+        (spent-paths takes.1 takes.5)
         ∙ ap (λ z. z ++ paths_ahead front) (under-under (concat (segments_of front)) segment
         (paths_of s ++ paths_of_all takes.4) ∙ under-append above (paths_of s)
         (paths_of_all takes.4))
@@ -379,7 +379,7 @@ module _ {V : Type 0} where
           (behind_path (concat (segments_of after)) (pairs_of s) ++ pairs_ahead after)
       taken-short = subst (AreShort greatest) taken-pairs short
 
-      -- the trail has room for its prefix
+      -- the key path has room for its prefix
       pub taken-fits : IsAdmitted greatest (length (concat (segments_of after ++ prefix_of s ∷ [])))
       taken-fits =
           path-fits after s greatest taken-tree
@@ -396,9 +396,9 @@ module _ {V : Type 0} where
             ∙ ap (λ z. pending_pair (concat (segments_of z)) (value_of s) ++ pairs_ahead z)
             (sym opened)
 
-        pub inner-places : paths_ahead frames ≡ concat (segments_of inner) ∷ paths_ahead inner
-        inner-places =
-            taken-places ∙ whole-places after s
+        pub inner-paths : paths_ahead frames ≡ concat (segments_of inner) ∷ paths_ahead inner
+        inner-paths =
+            taken-paths ∙ whole-paths after s
             ∙ ap (λ z. concat (segments_of z) ∷ paths_ahead z) (sym opened)
 
         pub inner-first : GoesOnFirst (concat (segments_of inner)) (pairs_ahead frames)

@@ -4,7 +4,7 @@ use Rattle.std.specs.Prelude.{◌≡◌, ℕ, List, [], ◌∷◌, ◌++◌, Opt
 use Rattle.std.specs.List.{concat}
 use Rattle.rart_node.specs.Shape.{Shape, prefix_of, children_of}
 use Rattle.rart_shape.specs.Trees.{IsTree, pairs_of}
-use Rattle.rart_walks.specs.Walks.{Position, paths_of}
+use Rattle.rart_walks.specs.Walks.{Cursor, paths_of}
 pub use Rattle.rart_walks.specs.Walks.{pending_pair}
 
 abbrev pub OpenNode : Type 0 → Type 0
@@ -59,11 +59,11 @@ module _ {V : Type 0} where
   TreesAhead (frame ∷ frames) = AreTrees frame.1 × TreesAhead frames
 
   -- where a walk stands that has these nodes open and this value still to give
-  abbrev pub position_of : List (OpenNode V) → Option V → Position V
-  position_of frames pending = record {
+  abbrev pub cursor_of : List (OpenNode V) → Option V → Cursor V
+  cursor_of frames pending = record {
     segments = segments_of frames;
     pairs = pending_pair (concat (segments_of frames)) pending ++ pairs_ahead frames;
-    places = paths_ahead frames;
+    paths = paths_ahead frames;
   }
 
   -- None of these nodes has a child left.

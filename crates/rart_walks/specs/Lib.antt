@@ -2,4 +2,6 @@ pub mod Walks
 pub mod Frames
 pub mod WalkFields
 pub mod Parts
-pub mod Trails
+pub mod KeyPaths
+pub mod Walked
+pub mod Openings

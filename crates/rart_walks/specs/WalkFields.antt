@@ -6,8 +6,8 @@ use Rattle.rart_node.specs.Counts.{Counts}
 use Rattle.rart_node.specs.VersionedNodeIter.{children_left}
 use Rattle.rart_walks.specs.declared.walk.Frame.{Frame}
 use Rattle.rart_walks.specs.declared.walk.Walk.{Walk}
-use Rattle.rart_walks.specs.Walks.{Position, AreShort}
-use Rattle.rart_walks.specs.Frames.{OpenNode, segments_of, pairs_ahead, TreesAhead, position_of, with_leaf}
+use Rattle.rart_walks.specs.Walks.{Cursor, AreShort}
+use Rattle.rart_walks.specs.Frames.{OpenNode, segments_of, pairs_ahead, TreesAhead, cursor_of, with_leaf}
 
 -- `partial` is what is known of prefixes, which the types take for a ghost field
 module _ {P V T : Type 0} {partial : _} where
@@ -27,18 +27,18 @@ module _ {P V : Type 0} {partial : _} (bytes : P → List ℕ) where
     nodes_open walk = with_leaf (open_nodes walk.frames.items) (option_copied walk.leaf)
 
     -- where a walk stands, and what it has left
-    abbrev pub position : Walk P V T partial → Position V
-    position walk = position_of (nodes_open walk) (option_copied walk.pending)
+    abbrev pub cursor : Walk P V T partial → Cursor V
+    cursor walk = cursor_of (nodes_open walk) (option_copied walk.pending)
 
     -- the prefixes down to where a walk stands, joined
     abbrev pub path_to : Walk P V T partial → List ℕ
-    path_to walk = concat (position walk).segments
+    path_to walk = concat (cursor walk).segments
 
-    -- What is left of a walk are trees, no key of which is too long for the trail, and the trail
-    -- keeps the way to where the walk stands.
+    -- What is left of a walk are trees, no key of which is too long for the key path, and the key
+    -- path keeps the way to where the walk stands.
     pub record IsWalk (holds : T → List (List ℕ) → Type 0) (greatest : Option ℕ)
         (walk : Walk P V T partial) : Type 0 where
-      pub holds_way : holds walk.trail (segments_of (nodes_open walk))
+      pub holds_way : holds walk.key_path (segments_of (nodes_open walk))
       pub trees : TreesAhead (nodes_open walk)
       pub short : AreShort greatest (pairs_ahead (nodes_open walk))
 
@@ -47,5 +47,5 @@ module _ {P V : Type 0} {partial : _} (bytes : P → List ℕ) where
     abbrev pub EntersForEach :
         Walk P V T partial → Counts → Walk P V T partial → Counts → Type 0
     EntersForEach walk start later now =
-        start.entered + length (position walk).pairs + at_hand later
-        ≤ now.entered + length (position later).pairs + at_hand walk
+        start.entered + length (cursor walk).pairs + at_hand later
+        ≤ now.entered + length (cursor later).pairs + at_hand walk

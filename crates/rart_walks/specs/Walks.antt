@@ -23,22 +23,22 @@ module _ {V : Type 0} where
   AreShort (Some most) pairs = All (λ pair. length pair.0 ≤ most) pairs
 
 -- Where a walk stands, and what it has left.
-pub record Position (V : Type 0) : Type 0 where
+pub record Cursor (V : Type 0) : Type 0 where
   -- the prefixes of the nodes from the root to the one that the walk stands at
   pub segments : List (List ℕ)
   -- the pairs that are to be given
   pub pairs : List (List ℕ × V)
   -- the paths of the nodes that are to be entered
-  pub places : List (List ℕ)
+  pub paths : List (List ℕ)
 
 module _ {V : Type 0} where
   -- a walk behind its end
-  abbrev pub walk_end : Position V
-  walk_end = record { segments = []; pairs = []; places = [] }
+  abbrev pub walk_end : Cursor V
+  walk_end = record { segments = []; pairs = []; paths = [] }
 
   -- The walk gave the first pair of what was left, and stands at its node, or there was none, and
   -- it has ended.
-  abbrev pub Gives : Position V → Option (Bor V) → Position V → Type 0
+  abbrev pub Gives : Cursor V → Option (Bor V) → Cursor V → Type 0
   Gives before None after = (before.pairs ≡ []) × (after ≡ walk_end)
   Gives before (Some value) after = before.pairs ≡ (concat after.segments, value.now) ∷ after.pairs
 
@@ -55,17 +55,17 @@ module _ {V : Type 0} where
 
   -- The walk has come to a node, with this value, if it has one: it has entered it, or stood there
   -- with the value still to give. The keys below it are the first that were left.
-  pub record ComesTo (before : Position V) (value : Option (Bor V))
-      (after : Position V) : Type 0 where
+  pub record ComesTo (before : Cursor V) (value : Option (Bor V))
+      (after : Cursor V) : Type 0 where
     pub pairs : before.pairs ≡ pending_pair (concat after.segments) (option_copied value)
         ++ after.pairs
     pub first : GoesOnFirst (concat after.segments) before.pairs
-    pub place : (before.places ≡ concat after.segments ∷ after.places)
-        ⊎ ((before.places ≡ after.places) × IsSome value)
+    pub place : (before.paths ≡ concat after.segments ∷ after.paths)
+        ⊎ ((before.paths ≡ after.paths) × IsSome value)
 
   -- The walk has come to the next node, or there was none, and it has ended.
-  abbrev pub Steps : Position V → Option (Option (Bor V)) → Position V → Type 0
-  Steps before None after = (before.pairs ≡ []) × (before.places ≡ []) × (after ≡ walk_end)
+  abbrev pub Steps : Cursor V → Option (Option (Bor V)) → Cursor V → Type 0
+  Steps before None after = (before.pairs ≡ []) × (before.paths ≡ []) × (after ≡ walk_end)
   Steps before (Some value) after = ComesTo before value after
 
 -- The list is the other one, or what that has behind its first.

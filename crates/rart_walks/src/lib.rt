@@ -2,12 +2,12 @@
 //! The ordered walk over a tree of nodes.
 //!
 //! A walk goes from node to node with a stack on the heap, gives the values in the order of their
-//! keys, and keeps the way to where it stands on a trail. It knows prefixes and pointers alone, and
-//! no key type.
+//! keys, and keeps the way to where it stands on a key path. It knows prefixes and pointers alone,
+//! and no key type.
 #![tactic(auto)]
 
-mod trail;
+mod key_path;
 mod walk;
 
-pub use trail::{KeyTrail, NoTrail, SegmentTrail, Trail};
+pub use key_path::{BytesPath, KeyPath, NoPath, SegmentsPath};
 pub use walk::Walk;

@@ -1,21 +1,20 @@
 // Ported from rart 0.11.0 (Apache-2.0), and rewritten.
 //! The walk itself.
-ghost use Rattle.std.specs.Prelude.{◌≡◌, ◌+◌, ◌++◌, ◌∷◌, [], List, length, is_ok, if◌then◌else◌, None, IfOk, OnOk, OnErr};
-ghost use Rattle.std.specs.List.{concat};
-ghost use Rattle.std.specs.Option.{option_map, option_copied};
-ghost use Rattle.rart_below.specs.Bytes.{IsAdmitted};
-ghost use Rattle.rart_node.specs.Counts.{CountsUpTo};
+ghost use Rattle.std.specs.Prelude.{◌≡◌, ◌++◌, ◌∷◌, [], List, is_ok, None};
+ghost use Rattle.std.specs.Option.{option_map};
 ghost use Rattle.rart_node.specs.NodeShapes.{node_shape, pointer_shape};
 ghost use Rattle.rart_node.specs.VersionedNodeIter.{children_left};
-ghost use Rattle.rart_node.specs.Shape.{IsAscending, prefix_of, value_of, children_of};
+ghost use Rattle.rart_node.specs.Shape.{prefix_of, children_of};
 ghost use Rattle.rart_shape.specs.Trees.{IsTree, pairs_of};
-ghost use Rattle.rart_walks.specs.Walks.{Gives, Steps, AreShort, walk_end, nodes_of, paths_of};
-ghost use Rattle.rart_walks.specs.Frames.{OpenNode, TakesChild, TakesAhead, segments_of, behind_path, under_path};
-ghost use Rattle.rart_walks.specs.WalkFields.{open_nodes, nodes_open, position, path_to, IsWalk, EntersForEach};
+ghost use Rattle.rart_walks.specs.Frames.{OpenNode, TakesChild, TakesAhead, segments_of};
+ghost use Rattle.rart_walks.specs.Openings.{CanEnter, CanOpen, EntersNext, EntersPart, EntersWhole, LeavesLeaf, Opens, StandsAbove};
+ghost use Rattle.rart_walks.specs.Walked.{GivesNext, HasNothing, StartsWhole, StepsOn};
+ghost use Rattle.rart_walks.specs.WalkFields.{open_nodes, nodes_open, cursor, IsWalk};
+ghost use Rattle.rart_walks.specs.Walks.{AreShort};
 
 mod path;
 
-use crate::trail::Trail;
+use crate::key_path::KeyPath;
 use rart_below::Partial;
 use rart_node::{NodeRef, VersionedNode, VersionedNodeIter, Work};
 use std::alloc::{AllocError, Global};
@@ -34,23 +33,19 @@ struct Frame<'a, P: Partial, V> {
 /// that it has left, and the paths of the nodes that it has left to enter.
 #[derive(Drop)]
 pub struct Walk<'a, P: Partial, V, T> {
-    trail: T,
+    key_path: T,
     frames: Vec<Frame<'a, P, V>>,
     leaf: Option<&'a [u8]>,
     pending: Option<&'a V>,
 }
 
-impl<'a, P: Partial, V: Drop, T: Trail<'a>> Walk<'a, P, V, T> {
+impl<'a, P: Partial, V: Drop, T: KeyPath<'a>> Walk<'a, P, V, T> {
     /// A walk with nothing left. It takes no memory.
     pub fn new(alloc: Global) -> Walk<'a, P, V, T>
-        ensures walk { IsWalk P.bytes T.holds T.greatest result }
-        ensures ended { position P.bytes result ≡ walk_end }
-        ensures frames { open_nodes P.bytes result.frames.items ≡ [] }
-        ensures leaf { result.leaf ≡ None }
-        ensures pending { result.pending ≡ None }
+        ensures { HasNothing P.bytes T.holds T.greatest result }
     {
         Walk {
-            trail: T::new(alloc),
+            key_path: T::new(alloc),
             frames: Vec::new(alloc),
             leaf: None,
             pending: None,
@@ -59,29 +54,11 @@ impl<'a, P: Partial, V: Drop, T: Trail<'a>> Walk<'a, P, V, T> {
 
     /// Enters a node below the innermost one, whose value and children are all left then.
     fn enter_whole(&mut self, node: &'a VersionedNode<P, V>) -> Result<(), AllocError>
-        requires walk { IsWalk P.bytes T.holds T.greatest self.old }
-        requires leaf { self.old.leaf ≡ None }
-        requires pending { self.old.pending ≡ None }
-        requires tree { IsTree (node_shape P.bytes node.now) }
-        requires short { AreShort T.greatest (behind_path
-            (path_to P.bytes self.old) (pairs_of (node_shape P.bytes node.now))) }
-        ensures walk { OnOk result (IsWalk P.bytes T.holds T.greatest self.new) }
-        ensures pairs { OnOk result ((position P.bytes self.new).pairs
-            ≡ behind_path (path_to P.bytes self.old)
-            (pairs_of (node_shape P.bytes node.now))
-            ++ (position P.bytes self.old).pairs) }
-        ensures places { OnOk result (path_to P.bytes self.new ∷ (position P.bytes self.new).places
-            ≡ under_path (path_to P.bytes self.old) (paths_of (node_shape P.bytes node.now))
-            ++ (position P.bytes self.old).places) }
-        ensures frames { OnOk result (open_nodes P.bytes self.new.frames.items
-            ≡ open_nodes P.bytes self.old.frames.items
-            ++ (prefix_of (node_shape P.bytes node.now), children_of (node_shape P.bytes node.now))
-            ∷ []) }
-        ensures leaf { self.new.leaf ≡ None }
-        ensures pending { OnOk result (option_copied self.new.pending
-            ≡ value_of (node_shape P.bytes node.now)) }
+        requires { StandsAbove P.bytes T.holds T.greatest (node_shape P.bytes node.now) self.old }
+        ensures { EntersWhole P.bytes T.holds T.greatest self.old result
+            (node_shape P.bytes node.now) self.new }
     {
-        enter(&mut self.frames, &mut self.trail, node)?;
+        enter(&mut self.frames, &mut self.key_path, node)?;
         self.pending = node.value();
         Ok(())
     }
@@ -92,19 +69,12 @@ impl<'a, P: Partial, V: Drop, T: Trail<'a>> Walk<'a, P, V, T> {
         segment: &'a [u8],
         children: VersionedNodeIter<'a, P, V>,
     ) -> Result<(), AllocError>
-        requires holds { T.holds self.old.trail
-            (segments_of (open_nodes P.bytes self.old.frames.items)) }
-        requires short { IsAdmitted T.greatest (length (concat
-            (segments_of (open_nodes P.bytes self.old.frames.items) ++ segment.now ∷ []))) }
-        ensures holds { T.holds self.new.trail
-            (segments_of (open_nodes P.bytes self.new.frames.items)) }
-        ensures frames { OnOk result (open_nodes P.bytes self.new.frames.items
-            ≡ open_nodes P.bytes self.old.frames.items
-            ++ (segment.now, children_left P.bytes children.entry) ∷ []) }
-        ensures leaf { self.new.leaf ≡ self.old.leaf }
-        ensures pending { self.new.pending ≡ self.old.pending }
+        requires { CanOpen T.holds T.greatest self.old.key_path
+            (open_nodes P.bytes self.old.frames.items) segment.now }
+        ensures { EntersPart P.bytes T.holds self.old result
+            (segment.now, children_left P.bytes children.entry) self.new }
     {
-        enter_for(&mut self.frames, &mut self.trail, segment, children)
+        enter_for(&mut self.frames, &mut self.key_path, segment, children)
     }
 
     /// A walk over the whole tree: all its pairs are left. It enters the root.
@@ -117,50 +87,41 @@ impl<'a, P: Partial, V: Drop, T: Trail<'a>> Walk<'a, P, V, T> {
     ) -> Result<Walk<'a, P, V, T>, AllocError>
         requires tree { IsTree (pointer_shape P.bytes root.now) }
         requires short { AreShort T.greatest (pairs_of (pointer_shape P.bytes root.now)) }
-        ensures walk { IfOk result (IsWalk P.bytes T.holds T.greatest) }
-        ensures pairs { IfOk result (λ walk. (position P.bytes walk).pairs
-            ≡ pairs_of (pointer_shape P.bytes root.now)) }
-        ensures nodes { IfOk result (λ walk. length (position P.bytes walk).places + 1
-            ≡ nodes_of (pointer_shape P.bytes root.now)) }
-        ensures work { work.new ≡ record work.old { entered = work.old.entered + 1 } }
+        ensures { StartsWhole P.bytes T.holds T.greatest result (pointer_shape P.bytes root.now)
+            work.old work.new }
     {
         let mut walk = Walk::new(alloc);
         walk.enter_whole(root.open(work))?;
         Ok(walk)
     }
 
-    /// The trail, which keeps the way to the node that the walk stands at.
-    pub fn trail(&self) -> &T
+    /// The key path, which keeps the way to the node that the walk stands at.
+    pub fn key_path(&self) -> &T
         requires walk { IsWalk P.bytes T.holds T.greatest self.now }
-        ensures { T.holds result.now (position P.bytes self.now).segments }
+        ensures { T.holds result.now (cursor P.bytes self.now).segments }
     {
-        &self.trail
+        &self.key_path
     }
 
     /// Ends the walk: nothing is left.
     pub fn end(&mut self)
         requires walk { IsWalk P.bytes T.holds T.greatest self.old }
-        ensures walk { IsWalk P.bytes T.holds T.greatest self.new }
-        ensures ended { position P.bytes self.new ≡ walk_end }
+        ensures { HasNothing P.bytes T.holds T.greatest self.new }
     {
         self.pending = None;
         self.leave_leaf();
-        leave_all(&mut self.frames, &mut self.trail);
+        leave_all(&mut self.frames, &mut self.key_path);
     }
 
     /// Leaves the leaf that the walk stands at, if it stands at one without a frame.
     #[inline(always)]
     fn leave_leaf(&mut self)
-        requires holds { T.holds self.old.trail (segments_of (nodes_open P.bytes self.old)) }
-        ensures holds { T.holds self.new.trail
-            (segments_of (open_nodes P.bytes self.new.frames.items)) }
-        ensures frames { self.new.frames ≡ self.old.frames }
-        ensures leaf { self.new.leaf ≡ None }
-        ensures pending { self.new.pending ≡ self.old.pending }
+        requires holds { T.holds self.old.key_path (segments_of (nodes_open P.bytes self.old)) }
+        ensures { LeavesLeaf P.bytes T.holds self.old self.new }
     {
         if let Some(segment) = self.leaf {
             self.leaf = None;
-            self.trail.pop(segment);
+            self.key_path.pop(segment);
         }
     }
 
@@ -169,28 +130,17 @@ impl<'a, P: Partial, V: Drop, T: Trail<'a>> Walk<'a, P, V, T> {
     #[inline(always)]
     fn enter_next(&mut self, node: &'a VersionedNode<P, V>) -> Result<(), AllocError>
         requires leaf { self.old.leaf ≡ None }
-        requires order { IsAscending (node_shape P.bytes node.now) }
-        requires holds { T.holds self.old.trail
-            (segments_of (open_nodes P.bytes self.old.frames.items)) }
-        requires short { IsAdmitted T.greatest (length (concat
-            (segments_of (open_nodes P.bytes self.old.frames.items)
-            ++ prefix_of (node_shape P.bytes node.now) ∷ []))) }
-        ensures opened { OnOk result (nodes_open P.bytes self.new
-            ≡ open_nodes P.bytes self.old.frames.items
-            ++ (prefix_of (node_shape P.bytes node.now), children_of (node_shape P.bytes node.now))
-            ∷ []) }
-        ensures holds { OnOk result (T.holds self.new.trail
-            (segments_of (nodes_open P.bytes self.new))) }
-        ensures refused { OnErr result (T.holds self.new.trail
-            (segments_of (open_nodes P.bytes self.new.frames.items)) × (self.new.leaf ≡ None)) }
-        ensures pending { self.new.pending ≡ self.old.pending }
+        requires may { CanEnter T.holds T.greatest self.old.key_path
+            (open_nodes P.bytes self.old.frames.items) (node_shape P.bytes node.now) }
+        ensures { EntersNext P.bytes T.holds self.old result (node_shape P.bytes node.now)
+            self.new }
     {
         if node.is_leaf() {
             let segment = node.prefix().as_ref();
-            self.trail.push(segment)?;
+            self.key_path.push(segment)?;
             self.leaf = Some(segment);
         } else {
-            enter(&mut self.frames, &mut self.trail, node)?;
+            enter(&mut self.frames, &mut self.key_path, node)?;
         }
         Ok(())
     }
@@ -203,28 +153,20 @@ impl<'a, P: Partial, V: Drop, T: Trail<'a>> Walk<'a, P, V, T> {
     #[inline(always)]
     pub fn next_node(&mut self, work: &mut Work) -> Result<Option<Option<&'a V>>, AllocError>
         requires walk { IsWalk P.bytes T.holds T.greatest self.old }
-        ensures walk { IsWalk P.bytes T.holds T.greatest self.new }
-        ensures steps { IfOk result (λ value. Steps (position P.bytes self.old) value
-            (position P.bytes self.new)) }
-        ensures refused { OnErr result (position P.bytes self.new ≡ walk_end) }
-        ensures entered { OnOk result (work.new.entered + length (position P.bytes self.new).places
-            ≡ work.old.entered + length (position P.bytes self.old).places) }
-        ensures counted { CountsUpTo (length (position P.bytes self.old).places) 0
+        ensures { StepsOn P.bytes T.holds T.greatest self.old result self.new
             work.old work.new }
-        ensures one { CountsUpTo 1 0 work.old work.new }
-        ensures each { OnOk result (EntersForEach P.bytes self.old work.old self.new work.new) }
     {
         if let Some(value) = self.pending {
             self.pending = None;
             return Ok(Some(Some(value)));
         }
         self.leave_leaf();
-        let Some(child) = next_ahead(&mut self.frames, &mut self.trail) else {
+        let Some(child) = next_ahead(&mut self.frames, &mut self.key_path) else {
             return Ok(None);
         };
         let node = child.open(work);
         if let Err(refused) = self.enter_next(node) {
-            leave_all(&mut self.frames, &mut self.trail);
+            leave_all(&mut self.frames, &mut self.key_path);
             return Err(refused);
         }
         Ok(Some(node.value()))
@@ -236,15 +178,8 @@ impl<'a, P: Partial, V: Drop, T: Trail<'a>> Walk<'a, P, V, T> {
     #[inline(always)]
     pub fn next_value(&mut self, work: &mut Work) -> Result<Option<&'a V>, AllocError>
         requires walk { IsWalk P.bytes T.holds T.greatest self.old }
-        ensures walk { IsWalk P.bytes T.holds T.greatest self.new }
-        ensures gives { IfOk result (λ value. Gives (position P.bytes self.old) value
-            (position P.bytes self.new)) }
-        ensures refused { OnErr result (position P.bytes self.new ≡ walk_end) }
-        ensures entered { OnOk result (work.new.entered + length (position P.bytes self.new).places
-            ≡ work.old.entered + length (position P.bytes self.old).places) }
-        ensures counted { CountsUpTo (length (position P.bytes self.old).places) 0
+        ensures { GivesNext P.bytes T.holds T.greatest self.old result self.new
             work.old work.new }
-        ensures each { OnOk result (EntersForEach P.bytes self.old work.old self.new work.new) }
     {
         'node: while let Some(value) = self.next_node(work)? {
             if let Some(value) = value {
@@ -258,12 +193,12 @@ impl<'a, P: Partial, V: Drop, T: Trail<'a>> Walk<'a, P, V, T> {
 /// The next child of the innermost node that has one left; the nodes that have none are left.
 /// `None` where no open node has one: then none is open.
 #[inline(always)]
-fn next_ahead<'a, P: Partial, V: Drop, T: Trail<'a>>(
+fn next_ahead<'a, P: Partial, V: Drop, T: KeyPath<'a>>(
     frames: &mut Vec<Frame<'a, P, V>>,
-    trail: &mut T,
+    key_path: &mut T,
 ) -> Option<&'a NodeRef<P, V>>
-    requires holds { T.holds trail.old (segments_of (open_nodes P.bytes frames.old.items)) }
-    ensures holds { T.holds trail.new (segments_of (open_nodes P.bytes frames.new.items)) }
+    requires holds { T.holds key_path.old (segments_of (open_nodes P.bytes frames.old.items)) }
+    ensures holds { T.holds key_path.new (segments_of (open_nodes P.bytes frames.new.items)) }
     ensures takes { TakesAhead (open_nodes P.bytes frames.old.items)
         (option_map (λ child. pointer_shape P.bytes child.now) result)
         (open_nodes P.bytes frames.new.items) }
@@ -271,7 +206,7 @@ fn next_ahead<'a, P: Partial, V: Drop, T: Trail<'a>>(
     'leaving: while let Some(next) = next_child(frames) {
         match next {
             Some(child) => return Some(child),
-            None => leave(frames, trail),
+            None => leave(frames, key_path),
         }
     }
     None
@@ -293,74 +228,69 @@ fn next_child<'a, P: Partial, V: Drop>(
 
 /// Opens a node below the innermost one. Refused for memory, none is opened.
 #[inline]
-fn enter<'a, P: Partial, V: Drop, T: Trail<'a>>(
+fn enter<'a, P: Partial, V: Drop, T: KeyPath<'a>>(
     frames: &mut Vec<Frame<'a, P, V>>,
-    trail: &mut T,
+    key_path: &mut T,
     node: &'a VersionedNode<P, V>,
 ) -> Result<(), AllocError>
-    requires order { IsAscending (node_shape P.bytes node.now) }
-    requires holds { T.holds trail.old (segments_of (open_nodes P.bytes frames.old.items)) }
-    requires short { IsAdmitted T.greatest (length (concat
-        (segments_of (open_nodes P.bytes frames.old.items)
-        ++ prefix_of (node_shape P.bytes node.now) ∷ []))) }
-    ensures opened { open_nodes P.bytes frames.new.items ≡ (if is_ok result
-        then open_nodes P.bytes frames.old.items
-        ++ (prefix_of (node_shape P.bytes node.now), children_of (node_shape P.bytes node.now)) ∷ []
-        else open_nodes P.bytes frames.old.items) }
-    ensures holds { T.holds trail.new (segments_of (open_nodes P.bytes frames.new.items)) }
+    requires { CanEnter T.holds T.greatest key_path.old (open_nodes P.bytes frames.old.items)
+        (node_shape P.bytes node.now) }
+    ensures { Opens T.holds (is_ok result) (open_nodes P.bytes frames.old.items)
+        (prefix_of (node_shape P.bytes node.now), children_of (node_shape P.bytes node.now))
+        key_path.new (open_nodes P.bytes frames.new.items) }
 {
-    enter_for(frames, trail, node.prefix().as_ref(), node.iter())
+    enter_for(frames, key_path, node.prefix().as_ref(), node.iter())
 }
 
 /// Opens a node with this prefix, for these of its children. Refused for memory, none is opened.
 #[inline]
-fn enter_for<'a, P: Partial, V: Drop, T: Trail<'a>>(
+fn enter_for<'a, P: Partial, V: Drop, T: KeyPath<'a>>(
     frames: &mut Vec<Frame<'a, P, V>>,
-    trail: &mut T,
+    key_path: &mut T,
     segment: &'a [u8],
     children: VersionedNodeIter<'a, P, V>,
 ) -> Result<(), AllocError>
-    requires holds { T.holds trail.old (segments_of (open_nodes P.bytes frames.old.items)) }
-    requires short { IsAdmitted T.greatest (length (concat
-        (segments_of (open_nodes P.bytes frames.old.items) ++ segment.now ∷ []))) }
-    ensures opened { open_nodes P.bytes frames.new.items ≡ (if is_ok result
-        then open_nodes P.bytes frames.old.items
-        ++ (segment.now, children_left P.bytes children.entry) ∷ []
-        else open_nodes P.bytes frames.old.items) }
-    ensures holds { T.holds trail.new (segments_of (open_nodes P.bytes frames.new.items)) }
+    requires { CanOpen T.holds T.greatest key_path.old (open_nodes P.bytes frames.old.items)
+        segment.now }
+    ensures { Opens T.holds (is_ok result) (open_nodes P.bytes frames.old.items)
+        (segment.now, children_left P.bytes children.entry)
+        key_path.new (open_nodes P.bytes frames.new.items) }
 {
-    trail.push(segment)?;
+    key_path.push(segment)?;
     if let Err(refused) = frames.push(Frame { segment, children }) {
-        trail.pop(segment);
+        key_path.pop(segment);
         return Err(refused.into());
     }
     Ok(())
 }
 
 /// Leaves the innermost node, if there is one.
-fn leave<'a, P: Partial, V: Drop, T: Trail<'a>>(frames: &mut Vec<Frame<'a, P, V>>, trail: &mut T)
-    requires holds { T.holds trail.old (segments_of (open_nodes P.bytes frames.old.items)) }
+fn leave<'a, P: Partial, V: Drop, T: KeyPath<'a>>(
+    frames: &mut Vec<Frame<'a, P, V>>,
+    key_path: &mut T,
+)
+    requires holds { T.holds key_path.old (segments_of (open_nodes P.bytes frames.old.items)) }
     ensures left { (front : List (OpenNode V)) (last : OpenNode V) →
         open_nodes P.bytes frames.old.items ≡ front ++ last ∷ [] →
         open_nodes P.bytes frames.new.items ≡ front }
-    ensures holds { T.holds trail.new (segments_of (open_nodes P.bytes frames.new.items)) }
+    ensures holds { T.holds key_path.new (segments_of (open_nodes P.bytes frames.new.items)) }
 {
     if let Some(frame) = frames.pop() {
-        trail.pop(frame.segment);
+        key_path.pop(frame.segment);
     }
 }
 
 /// Leaves every node.
 #[cold]
-fn leave_all<'a, P: Partial, V: Drop, T: Trail<'a>>(
+fn leave_all<'a, P: Partial, V: Drop, T: KeyPath<'a>>(
     frames: &mut Vec<Frame<'a, P, V>>,
-    trail: &mut T,
+    key_path: &mut T,
 )
-    requires holds { T.holds trail.old (segments_of (open_nodes P.bytes frames.old.items)) }
+    requires holds { T.holds key_path.old (segments_of (open_nodes P.bytes frames.old.items)) }
     ensures left { open_nodes P.bytes frames.new.items ≡ [] }
-    ensures holds { T.holds trail.new [] }
+    ensures holds { T.holds key_path.new [] }
 {
     'leaving: while let Some(frame) = frames.pop() {
-        trail.pop(frame.segment);
+        key_path.pop(frame.segment);
     }
 }

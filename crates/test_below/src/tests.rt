@@ -183,7 +183,7 @@ fn assert_prefix_shows_its_bytes<P: Partial>(
     Ok(())
 }
 
-// Whether a prefix may have so many bytes.
+// Whether a prefix may have `count` bytes.
 fn has_room<P: Partial>(length: usize) -> bool
     ensures { IsTrue result → IsAdmitted P.MAXIMUM_SIZE length }
 {

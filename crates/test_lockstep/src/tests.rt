@@ -4,10 +4,10 @@ ghost use Rattle.rart_node.specs.Shape.{node, node_of, bare, grown};
 
 use rart_below::{ArrPartial, ArrayKey, KeyTrait, LendingKeyView, Partial};
 use rart_lockstep::{
-    ViewTrail, count_common, visit_common, visit_common_keys, visit_common_values,
+    ViewsPath, count_common, visit_common, visit_common_keys, visit_common_values,
 };
 use rart_node::{NodeRef, VersionedNode, Work};
-use rart_walks::Trail;
+use rart_walks::KeyPath;
 use std::alloc::{AllocError, Global};
 use std::test::Fail;
 
@@ -159,9 +159,9 @@ fn views_are_of_the_whole_key(rt: HostRuntime) -> Result<(), Fail> {
     let right = stems(rt.alloc(), &mut work)?;
     let mut keys = 0u64;
     let mut values = 0u64;
-    let trail: ViewTrail<'_, u64> = ViewTrail::new(rt.alloc());
+    let key_path: ViewsPath<'_, u64> = ViewsPath::new(rt.alloc());
     visit_common(
-        trail,
+        key_path,
         &left,
         &right,
         &mut |key: LendingKeyView<'_, '_>, left: &u64, right: &u64| {

@@ -53,7 +53,7 @@ fn views_are_shown(before: &Tree, after: &Tree, list: &[Change]) -> Result<bool,
     Ok(shown.is_whole())
 }
 
-// Whether a visit that ends so on the change after so many others goes as far as to that, and tells
+// Whether a visit that ends so on the change after `count` others goes as far as to that, and tells
 // an error.
 fn ends(
     before: &Tree,
@@ -76,7 +76,7 @@ fn ends(
         },
     );
     let reached = list.len().min(last.saturating_add(1));
-    let is_met = shown.is_beginning() && shown.count() == reached;
+    let is_met = shown.is_prefix() && shown.count() == reached;
     match ended {
         Ok(()) => Ok(is_met && (end.is_ok() || last >= list.len())),
         Err(Refusal::Callback(error)) => Ok(is_met && end.is_err() && error == 7),

@@ -26,8 +26,8 @@ impl<'a, E> Shown<'a, E> {
         self.count
     }
 
-    /// Whether what was shown is a beginning of the list.
-    pub fn is_beginning(&self) -> bool {
+    /// Whether what was shown is a prefix of the list.
+    pub fn is_prefix(&self) -> bool {
         self.agrees && self.count <= self.wanted.len()
     }
 

@@ -42,7 +42,7 @@ impl Source {
     }
 
     /// A key of few letters, so that keys begin one another and part at each length. One in eight
-    /// has a long beginning, and one in four ends with a byte of any kind.
+    /// has a long prefix, and one in four ends with a byte of any kind.
     pub fn key(&mut self) -> Result<Key, AllocError> {
         let mut bytes = Vec::new(self.alloc);
         if self.below(8) == 0 {

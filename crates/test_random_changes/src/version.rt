@@ -20,7 +20,7 @@ impl Version {
         }
     }
 
-    /// One of up to so many changes on nothing.
+    /// One of up to `most` changes on nothing.
     pub fn drawn(source: &mut Source, most: u32) -> Result<Version, AllocError> {
         let mut version = Version::new(source.alloc());
         version.change(source, most)?;
@@ -64,7 +64,7 @@ impl Version {
         Ok(version)
     }
 
-    // Up to so many changes, one in three of which takes a key out.
+    // Up to `most` changes, one in three of which takes a key out.
     fn change(&mut self, source: &mut Source, most: u32) -> Result<(), AllocError> {
         for _ in 0..source.below(most) {
             let key = source.key()?;

@@ -7,7 +7,7 @@ use std::alloc::{AllocError, Global};
 pub type Entry = (Vec<u8>, u64);
 
 /// A key by its bytes, and its values in two versions.
-pub type Meeting = (Vec<u8>, u64, u64);
+pub type CommonEntry = (Vec<u8>, u64, u64);
 
 /// A reply, its keys by their bytes.
 #[derive(PartialEq, Drop)]
@@ -20,7 +20,7 @@ pub enum Answer {
     Entries(Vec<Entry>),
     Values(Vec<u64>),
     Stopped(Vec<u64>, bool),
-    Pairs(Vec<Meeting>),
+    Pairs(Vec<CommonEntry>),
     ValuePairs(Vec<(u64, u64)>),
     Count(usize),
     Failed,
@@ -40,7 +40,7 @@ pub fn answer_of(alloc: Global, reply: LineReply) -> Result<Answer, AllocError> 
         LineReply::Entries(entries) => Answer::Entries(entries_of(alloc, &entries)?),
         LineReply::Values(values) => Answer::Values(values),
         LineReply::Stopped { values, failed } => Answer::Stopped(values, failed),
-        LineReply::Pairs(entries) => Answer::Pairs(meetings_of(alloc, &entries)?),
+        LineReply::Pairs(entries) => Answer::Pairs(common_entries(alloc, &entries)?),
         LineReply::ValuePairs(pairs) => Answer::ValuePairs(pairs),
         LineReply::Count(count) => Answer::Count(count),
         LineReply::Failed => Answer::Failed,
@@ -58,7 +58,10 @@ fn entries_of(alloc: Global, entries: &[(Key, u64)]) -> Result<Vec<Entry>, Alloc
     Ok(listed)
 }
 
-fn meetings_of(alloc: Global, entries: &[(Key, u64, u64)]) -> Result<Vec<Meeting>, AllocError> {
+fn common_entries(
+    alloc: Global,
+    entries: &[(Key, u64, u64)],
+) -> Result<Vec<CommonEntry>, AllocError> {
     let mut listed = Vec::with_capacity(alloc, entries.len())?;
     for (key, left, right) in entries {
         listed.push((bytes_of(alloc, key)?, *left, *right))?;

@@ -1,6 +1,6 @@
 //! Separate sorted maps, each copied when its version is made: what a family's replies are compared
 //! with. It is std's `BTreeMap`, and knows nothing of trees.
-use crate::answer::{Answer, Entry, Meeting, bytes_of};
+use crate::answer::{Answer, CommonEntry, Entry, bytes_of};
 use crate::script::{Key, LineCommand};
 use rart_family::{Command, KeyTrait, SlotUpdate};
 use std::alloc::{AllocError, Global};
@@ -71,7 +71,7 @@ impl Model {
     }
 
     // The keys of two versions, which are looked up one by one, if both are there.
-    fn common(&self, left: usize, right: usize) -> Result<Option<Vec<Meeting>>, AllocError> {
+    fn common(&self, left: usize, right: usize) -> Result<Option<Vec<CommonEntry>>, AllocError> {
         let (Some(Some(one)), Some(Some(other))) = (
             self.versions.get(left),
             self.versions.get(right),
@@ -318,11 +318,11 @@ impl Version {
                 Ok(Answer::Values(values(alloc, &self.under(alloc, prefix)?)?))
             }
             Command::Matches { key, .. } | Command::MatchesEach { key, .. } => {
-                Ok(Answer::Entries(self.beginning(alloc, key)?))
+                Ok(Answer::Entries(self.prefix_matches(alloc, key)?))
             }
             Command::Longest { key, .. } => {
                 let mut longest = Vec::new(alloc);
-                if let Some(entry) = self.beginning(alloc, key)?.pop() {
+                if let Some(entry) = self.prefix_matches(alloc, key)?.pop() {
                     longest.push(entry)?;
                 }
                 Ok(Answer::Entries(longest))
@@ -350,7 +350,7 @@ impl Version {
         Ok(listed)
     }
 
-    fn beginning(&self, alloc: Global, probe: &Key) -> Result<Vec<Entry>, AllocError> {
+    fn prefix_matches(&self, alloc: Global, probe: &Key) -> Result<Vec<Entry>, AllocError> {
         let mut listed = Vec::new(alloc);
         for (key, value) in &self.pairs {
             if probe.as_ref().starts_with(key) {
@@ -388,7 +388,7 @@ fn meets(key: &[u8], bound: &Bound<Key>, side: Ordering) -> bool {
     }
 }
 
-fn value_pairs(alloc: Global, common: &[Meeting]) -> Result<Vec<(u64, u64)>, AllocError> {
+fn value_pairs(alloc: Global, common: &[CommonEntry]) -> Result<Vec<(u64, u64)>, AllocError> {
     let mut pairs = Vec::with_capacity(alloc, common.len())?;
     for (_key, left, right) in common {
         pairs.push((*left, *right))?;

@@ -28,7 +28,7 @@ impl Order {
         }
     }
 
-    /// The place of the key that goes after so many others.
+    /// The place of the key that goes after `count` others.
     fn place(self, step: usize, count: usize) -> usize {
         match self {
             Order::Ascending => step,
@@ -48,7 +48,7 @@ fn dense(alloc: Global) -> Result<Vec<Vec<u8>>, AllocError> {
 }
 
 // 0 to 999 as digits, so that many begin others, in the order of strings.
-fn sharing_beginnings(alloc: Global) -> Result<Vec<Vec<u8>>, AllocError> {
+fn sharing_prefixes(alloc: Global) -> Result<Vec<Vec<u8>>, AllocError> {
     let mut keys = Vec::new(alloc);
     for number in 0..1000u16 {
         keys.push(format!(in alloc; "{number}")?.as_bytes().to_vec(alloc)?)?;
@@ -128,9 +128,9 @@ fn remove_in_each_order(rt: &HostRuntime, kind: &str, keys: &[Vec<u8>]) -> anyho
     Ok(())
 }
 
-/// Removes dense keys and keys that share beginnings, and says what was compared.
+/// Removes dense keys and keys that share prefixes, and says what was compared.
 pub(crate) fn remove_all(rt: &HostRuntime) -> anyhow::Result<()> {
     remove_in_each_order(rt, "dense keys", &dense(rt.alloc())?)?;
-    let sharing = sharing_beginnings(rt.alloc())?;
-    remove_in_each_order(rt, "keys that share beginnings", &sharing)
+    let sharing = sharing_prefixes(rt.alloc())?;
+    remove_in_each_order(rt, "keys that share prefixes", &sharing)
 }

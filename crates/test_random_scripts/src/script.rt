@@ -64,7 +64,7 @@ impl Source {
     }
 
     // A key of few letters, so that keys begin one another and part at each length. One in eight
-    // has a beginning that is long, and one in four ends with a byte of any kind, so that nodes of
+    // has a prefix that is long, and one in four ends with a byte of any kind, so that nodes of
     // each width come.
     fn key(&mut self) -> Result<Key, AllocError> {
         let mut bytes = Vec::new(self.alloc);
@@ -121,7 +121,7 @@ impl Source {
         }
     }
 
-    /// A command for a family of so many places.
+    /// A command for a family of `places` places.
     pub fn command(&mut self, places: usize) -> Result<LineCommand, AllocError> {
         let place = self.place(places);
         match self.below(KINDS) {

@@ -4,12 +4,12 @@ ghost use Rattle.rart_node.specs.NodeShapes.{pointer_shape};
 ghost use Rattle.rart_node.specs.Shape.{node, node_of, bare, grown};
 ghost use Rattle.rart_shape.specs.Trees.{IsTree, pairs_of};
 ghost use Rattle.rart_walks.specs.Walks.{AreShort};
-ghost use Rattle.rart_walks.specs.WalkFields.{IsWalk, position};
-ghost use Rattle.rart_walks.specs.Trails.{HoldsBytes, HoldsSegments};
+ghost use Rattle.rart_walks.specs.WalkFields.{IsWalk, cursor};
+ghost use Rattle.rart_walks.specs.KeyPaths.{HoldsBytes, HoldsSegments};
 
 use rart_below::{ArrPartial, ArrayKey, KeyTrait, Partial};
 use rart_node::{NodeRef, VersionedNode, Work};
-use rart_walks::{KeyTrail, NoTrail, SegmentTrail, Trail, Walk};
+use rart_walks::{BytesPath, KeyPath, NoPath, SegmentsPath, Walk};
 use std::alloc::{AllocError, Global};
 use std::ops::Bound;
 use std::test::Fail;
@@ -49,7 +49,7 @@ fn branching(alloc: Global, work: &mut Work) -> Result<NodeRef<ArrPartial<16>, u
 }
 
 // The values that a walk has left.
-fn values_left<'a, P: Partial, T: Trail<'a>>(
+fn values_left<'a, P: Partial, T: KeyPath<'a>>(
     alloc: Global,
     mut walk: Walk<'a, P, u64, T>,
     work: &mut Work,
@@ -73,9 +73,9 @@ fn first_key<'a, P: Partial, V: Drop>(
     ensures { IfOk result (λ first. option_map (λ pair. (pair.0.items, pair.1.now)) first
         ≡ slice_get (pairs_of (pointer_shape P.bytes root.now)) 0) }
 {
-    let mut walk: Walk<'_, P, V, KeyTrail> = Walk::whole(alloc, root, work)?;
+    let mut walk: Walk<'_, P, V, BytesPath> = Walk::whole(alloc, root, work)?;
     match walk.next_value(work)? {
-        Some(value) => Ok(Some((walk.trail().as_slice().to_vec(alloc)?, value))),
+        Some(value) => Ok(Some((walk.key_path().as_slice().to_vec(alloc)?, value))),
         None => Ok(None),
     }
 }
@@ -89,9 +89,9 @@ fn first_length<'a, P: Partial, V: Drop>(
     requires tree { IsTree (pointer_shape P.bytes root.now) }
     requires short { AreShort (Some (2 ^ 64 - 1)) (pairs_of (pointer_shape P.bytes root.now)) }
 {
-    let mut walk: Walk<'_, P, V, SegmentTrail<'_>> = Walk::whole(alloc, root, work)?;
+    let mut walk: Walk<'_, P, V, SegmentsPath<'_>> = Walk::whole(alloc, root, work)?;
     let _value = walk.next_value(work)?;
-    Ok(walk.trail().len())
+    Ok(walk.key_path().len())
 }
 
 #[test]
@@ -113,7 +113,7 @@ fn leaf_has_its_key_and_value(rt: HostRuntime) -> Result<(), Fail> {
 fn whole_walk_gives_values_in_key_order(rt: HostRuntime) -> Result<(), Fail> {
     let mut work = Work::new();
     let root = branching(rt.alloc(), &mut work)?;
-    let walk: Walk<'_, ArrPartial<16>, u64, NoTrail> = Walk::whole(rt.alloc(), &root, &mut work)?;
+    let walk: Walk<'_, ArrPartial<16>, u64, NoPath> = Walk::whole(rt.alloc(), &root, &mut work)?;
     let values = values_left(rt.alloc(), walk, &mut work)?;
     assert_eq!(rt; values.as_slice(), [0, 1, 2].as_slice());
     Ok(())
@@ -123,7 +123,7 @@ fn whole_walk_gives_values_in_key_order(rt: HostRuntime) -> Result<(), Fail> {
 fn prefix_may_end_inside_a_node(rt: HostRuntime) -> Result<(), Fail> {
     let mut work = Work::new();
     let root = branching(rt.alloc(), &mut work)?;
-    let walk: Walk<'_, ArrPartial<16>, u64, NoTrail> = Walk::under(
+    let walk: Walk<'_, ArrPartial<16>, u64, NoPath> = Walk::under(
         rt.alloc(),
         &root,
         b"ab",
@@ -139,7 +139,7 @@ fn excluded_start_is_passed(rt: HostRuntime) -> Result<(), Fail> {
     let mut work = Work::new();
     let root = branching(rt.alloc(), &mut work)?;
     let low: &[u8] = b"abc";
-    let walk: Walk<'_, ArrPartial<16>, u64, KeyTrail> = Walk::from(
+    let walk: Walk<'_, ArrPartial<16>, u64, BytesPath> = Walk::from(
         rt.alloc(),
         &root,
         Bound::Excluded(low),

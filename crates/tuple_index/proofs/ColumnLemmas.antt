@@ -1,4 +1,4 @@
--- Columns as bytes, the greatest byte first: their order and their beginnings are those of the
+-- Columns as bytes, the greatest byte first: their order and their prefixes are those of the
 -- columns.
 use Rattle.std.proofs.Common.{◌≡◌, ◌+◌, ◌*◌, ◌<◌, ◌^◌, ◌&&◌, ℕ, zero, suc, Bool, true, false, List, [], ◌∷◌, ◌++◌, refl, arith, sym, ap, ◌∙◌}
 use Rattle.std.specs.Prelude.{◌==◌, All}

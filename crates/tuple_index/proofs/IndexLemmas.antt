@@ -25,7 +25,7 @@ use Rattle.tuple_index.specs.declared.tuple.Tuple.{Tuple}
 use Rattle.tuple_index.specs.Decoding.{tuple_at}
 use Rattle.tuple_index.specs.Indexes.{AreTupleKeys, IsNarrow, IsTupleKey, Pair, entry_of, index_of, tuples_in}
 use Rattle.tuple_index.specs.Tuples.{Index, bytes_of, columns_of, has_columns, has_tuple, key_of, listed, no_tuple, tuple_order, with_tuple, without_tuple}
-use Rattle.tuple_index.proofs.KeyLemmas.{columns-kept, key-tuple, narrow-columns, order-kept}
+use Rattle.tuple_index.proofs.TupleKeyLemmas.{columns-kept, key-tuple, narrow-columns, order-kept}
 
 total : IsTotalOrder tuple_order
 total = on_total columns_of nat_list_cmp_total

@@ -1,4 +1,4 @@
 pub mod ColumnLemmas
 pub mod IndexLemmas
 pub mod JoinLemmas
-pub mod KeyLemmas
+pub mod TupleKeyLemmas

@@ -80,7 +80,8 @@ two_at name p (inl n) = else_right (λ none. no_two name p (λ m h. none))
     ((codes "new-at", NewAt n.0) ∷ (codes "snapshot", Snapshot n.0) ∷
     (codes "clone", Duplicate n.0) ∷ (codes "discard", Discard n.0) ∷
     (codes "version", Version n.0) ∷ (codes "empty", IsEmpty n.0) ∷ (codes "iter", Iter n.0) ∷
-    (codes "values", Values n.0) ∷ (codes "views", Views n.0) ∷ (codes "flatten", Flatten n.0) ∷ []) (
+    (codes "values", Values n.0) ∷ (codes "views", Views n.0) ∷ (codes "flatten", Flatten n.0)
+    ∷ []) (
       (λ e. (e, n.1)),
       (
         (λ e. (e, n.1)),

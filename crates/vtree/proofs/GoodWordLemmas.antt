@@ -185,7 +185,8 @@ good_words_are_own (name ∷ p ∷ k ∷ v ∷ []) (GetMut a b c) h = own_value 
 good_words_are_own (name ∷ p ∷ k ∷ v ∷ []) (Insert a b c) h = own_value name _ p k v a b c h
 good_words_are_own (name ∷ p ∷ k ∷ v ∷ []) (Replace a b c) h = own_value name _ p k v a b c h
 good_words_are_own (name ∷ p ∷ b ∷ c ∷ []) (Range a lo hi) h = own_bounds name _ p b c a lo hi h
-good_words_are_own (name ∷ p ∷ b ∷ c ∷ []) (RangeViews a lo hi) h = own_bounds name _ p b c a lo hi h
+good_words_are_own (name ∷ p ∷ b ∷ c ∷ []) (RangeViews a lo hi) h = own_bounds name _ p b c a
+    lo hi h
 good_words_are_own (name ∷ p ∷ q ∷ []) (Intersect a b) h = own_places name _ p q a b h
 good_words_are_own (name ∷ p ∷ q ∷ []) (IntersectViews a b) h = own_places name _ p q a b h
 good_words_are_own (name ∷ p ∷ q ∷ []) (IntersectValues a b) h = own_places name _ p q a b h

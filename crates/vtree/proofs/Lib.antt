@@ -13,8 +13,8 @@ pub mod FoundLineLemmas
 pub mod TranscriptLemmas
 pub mod WorkedCommandLemmas
 pub mod WorkedLineLemmas
-pub mod WorkedRunLemmas
+pub mod WorkedTranscriptLemmas
 pub mod ReplyTextLemmas
-pub mod StepLemmas
+pub mod ReplyStepLemmas
 pub mod ServeLemmas
 pub mod ServingLawLemmas

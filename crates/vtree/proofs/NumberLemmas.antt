@@ -17,7 +17,7 @@ pub value_grows : (n : ℕ) (ys : List ℕ) → n ≤ value_from n ys
 value_grows n [] = omega arith
 value_grows n (y ∷ ys) = omega (arith, value_grows (n * 10 + (y - 48)) ys)
 
--- the value of a beginning is no more
+-- the value of a prefix is no more
 pub value_front : (word : List ℕ) (i : ℕ) → value_from 0 (take i word) ≤ value_from 0 word
 value_front word i =
     let e : value_from 0 word ≡ value_from (value_from 0 (take i word)) (drop i word) =

@@ -42,7 +42,7 @@ HasFailed old before behind =
     (taken : List ℕ) (origin : Option (List ℕ)) → Serving taken old origin before →
     Gains origin behind (Stops (lines_of taken))
 
--- these bytes of the input are taken, and so many more may be
+-- these bytes of the input are taken, and `more` others may be
 pub record Midst (input : List ℕ) (left : Option (List ℕ)) (count : ℕ) (session : Session)
     (origin now : Option (List ℕ)) : Type 0 where
   pub taken : List ℕ
@@ -82,7 +82,7 @@ midst_byte (Some input) left left' count count' byte old new origin before behin
       serving = takes h.taken origin h.serving;
     }
 
--- what is read of an input, where a beginning of it is taken
+-- what is read of an input, where a prefix of it is taken
 pub input_taken : (taken rest : List ℕ) (count : ℕ) → 2 ^ 64 - 1 ≡ length taken + count →
     input_lines (taken ++ rest) ≡ lines_of (taken ++ take count rest)
 input_taken taken rest count n = ap (λ k. lines_of (take k (taken ++ rest))) n

@@ -9,15 +9,15 @@ use Rattle.rart_maps.specs.Versions.{Version, empty_at, with_rise, value_at, has
 use Rattle.rart_family.specs.declared.family.command.Failure.{Failure}
 use Rattle.rart_family.specs.declared.family.command.Command.TheVariants.{New, NewAt, Snapshot, Duplicate, Discard, Version as NumberOf, IsEmpty, Get, GetMut, Insert, Replace, Remove, Delete, Update, TryUpdate, Iter, Values as ValuesOf, Range, Prefix, Matches, MatchesEach, Views, PrefixViews, RangeViews, PrefixValues, Until, Intersect, IntersectViews, IntersectValues, IntersectCount, Flatten, Longest}
 use Rattle.rart_family.specs.Replies.{Reply, Place, Discarded, Number, Flag, Value, Entries, Values, Stopped, Pairs, ValuePairs, Count, Failed, NoVersion, NoRoom, NoMemory}
-use Rattle.rart_family.specs.Families.{Family, Outcome, version_at, call_outcome, at_place, with_room, placement, read_outcome, meet_outcome, change_outcome, tried_reply, outcome}
+use Rattle.rart_family.specs.Families.{Family, Outcome, version_at, call_outcome, at_place, with_room, placement, read_outcome, intersection_outcome, change_outcome, tried_reply, outcome}
 use Rattle.rart_family.proofs.LawLemmas.{no_want}
-use Rattle.rart_family.proofs.WantLemmas.{no_want_without_memory, no_want_before_lack}
+use Rattle.rart_family.proofs.OutOfMemoryLemmas.{no_want_without_memory, no_want_before_lack}
 use Rattle.vtree.specs.Lines.{lines_of}
 use Rattle.vtree.specs.Grammar.{Said}
 use Rattle.vtree.specs.ReplyTexts.{number_text, entry_text, pair_text, value_pair_text, line, reply_line}
 use Rattle.vtree.specs.Laws.{NoneRefused}
 use Rattle.vtree.specs.Transcript.{LineGives, Transcript}
-use Rattle.vtree.specs.ServingLaws.{InputIsRead, RefusalsChangeNothing, RefusalsAreOfMemory, WritingIsBehind, AreWholeLines, WholeLinesAreWritten, FailedReadsLeaveABeginning, FailedWritesLeaveABeginning, ReadingTakesNoMemory}
+use Rattle.vtree.specs.ServingLaws.{InputIsRead, RefusalsChangeNothing, RefusalsAreOfMemory, WritingIsBehind, AreWholeLines, WholeLinesAreWritten, FailedReadsLeaveAPrefix, FailedWritesLeaveAPrefix, ReadingTakesNoMemory}
 use Rattle.vtree.proofs.TranscriptLemmas.{line_agrees, transcripts_agree}
 
 pub input_is_read : InputIsRead
@@ -80,9 +80,9 @@ read_stays : (f : Family ℕ) (place : ℕ) (reply : Version ℕ → Reply ℕ) 
 read_stays f place reply =
     call_stays f (λ v. (reply v, f)) (version_at f place) (λ v lack. refl)
 
-meet_stays : (f : Family ℕ) (left right : ℕ) (reply : Version ℕ → Version ℕ → Reply ℕ) →
-    Stays f (meet_outcome f left right reply)
-meet_stays f left right reply =
+intersection_stays : (f : Family ℕ) (left right : ℕ) (reply : Version ℕ → Version ℕ → Reply ℕ) →
+    Stays f (intersection_outcome f left right reply)
+intersection_stays f left right reply =
     call_stays f (λ one. at_place f right (λ other. (reply one other, f))) (version_at f left)
     (λ one. call_stays f (λ other. (reply one other, f)) (version_at f right) (λ other lack. refl))
 
@@ -126,10 +126,10 @@ lack_stays f (PrefixViews place prefix) = read_stays f place _
 lack_stays f (RangeViews place lo hi) = read_stays f place _
 lack_stays f (PrefixValues place prefix) = read_stays f place _
 lack_stays f (Until place prefix visits fails) = read_stays f place _
-lack_stays f (Intersect left right) = meet_stays f left right _
-lack_stays f (IntersectViews left right) = meet_stays f left right _
-lack_stays f (IntersectValues left right) = meet_stays f left right _
-lack_stays f (IntersectCount left right) = meet_stays f left right _
+lack_stays f (Intersect left right) = intersection_stays f left right _
+lack_stays f (IntersectViews left right) = intersection_stays f left right _
+lack_stays f (IntersectValues left right) = intersection_stays f left right _
+lack_stays f (IntersectCount left right) = intersection_stays f left right _
 lack_stays f (Flatten place) = read_stays f place _
 lack_stays f (Longest place key) = read_stays f place _
 
@@ -262,8 +262,8 @@ whole_lines_are_written lines written = (
       (texts_are_whole [] begins.family begins.done begins.texts begins.run),
 )
 
-pub failed_reads_leave_a_beginning : FailedReadsLeaveABeginning
-failed_reads_leave_a_beginning lines served all written whole early clear other =
+pub failed_reads_leave_a_prefix : FailedReadsLeaveAPrefix
+failed_reads_leave_a_prefix lines served all written whole early clear other =
     let p = parted [] whole.family early.done early.rest whole.texts
     (subst (λ (ls : List (List ℕ)). Transcript [] ls whole.texts whole.family) early.first
     whole.run) in
@@ -275,7 +275,7 @@ failed_reads_leave_a_beginning lines served all written whole early clear other 
           ∙ ap (λ s. s ++ concat p.last) (sym early.all),
     )
 
--- what stands behind a beginning of the next line's text
+-- what stands behind a prefix of the next line's text
 pub next_text : (mid new family : Family ℕ) (line text : List ℕ) (rest last : List (List ℕ)) →
     Transcript mid (line ∷ rest) last family → LineGives mid line text new → NoneRefused last →
     text ≢ reply_line NoMemory → (behind : List ℕ) × (concat last ≡ text ++ behind)
@@ -284,8 +284,8 @@ next_text mid new family line text rest (t ∷ ts) h gives clear other =
     let same = line_agrees mid h.0 new line t text h.1 gives clear.0 other in
     (concat ts, ap (λ s. s ++ concat ts) same.0)
 
-pub failed_writes_leave_a_beginning : FailedWritesLeaveABeginning
-failed_writes_leave_a_beginning lines served all written whole early clear other text =
+pub failed_writes_leave_a_prefix : FailedWritesLeaveAPrefix
+failed_writes_leave_a_prefix lines served all written whole early clear other text =
     let p = parted [] whole.family early.done (early.line ∷ early.rest) whole.texts
     (subst (λ (ls : List (List ℕ)). Transcript [] ls whole.texts whole.family) early.first
     whole.run) in
@@ -300,8 +300,8 @@ failed_writes_leave_a_beginning lines served all written whole early clear other
           ∙ ap (λ ts. concat ts ++ concat p.last) same.0
           ∙ ap (λ s. concat early.texts ++ s)
           (next.1 ∙ ap (λ s. s ++ next.0) early.part
-          ∙ append_assoc early.beginning early.lost next.0)
-          ∙ sym (append_assoc (concat early.texts) early.beginning (early.lost ++ next.0))
+          ∙ append_assoc early.prefix early.lost next.0)
+          ∙ sym (append_assoc (concat early.texts) early.prefix (early.lost ++ next.0))
           ∙ ap (λ s. s ++ (early.lost ++ next.0)) (sym early.all),
     )
 
@@ -314,7 +314,7 @@ pub ruleset ends = (
   refusals_change_nothing,
   writing_is_behind,
   whole_lines_are_written,
-  failed_reads_leave_a_beginning,
-  failed_writes_leave_a_beginning,
+  failed_reads_leave_a_prefix,
+  failed_writes_leave_a_prefix,
   reading_takes_no_memory,
 )

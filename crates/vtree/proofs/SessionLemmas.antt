@@ -201,7 +201,7 @@ stops_line taken old new origin before behind ends h lines rest are =
         mid = old.family;
         text = text;
         new = new.family;
-        beginning = wrote.part;
+        prefix = wrote.part;
         lost = wrote.rest;
         first = are h;
         run = h.run;
@@ -267,7 +267,8 @@ pub serves_last : (taken : List ℕ) (old new : Session) (origin before behind :
     Serving taken old origin before → Gains origin behind (Serves (lines_of taken) new.served)
 serves_last taken old new origin before behind some ends h =
     let (text, ended, wrote) = ends h.front h.reading in
-    let all : lines_of taken ≡ h.done ++ h.front ∷ [] = split_last taken old origin before some h in (
+    let all : lines_of taken ≡ h.done ++ h.front
+    ∷ [] = split_last taken old origin before some h in (
       concat h.texts ++ text,
       appends_twice origin before behind (concat h.texts) text h.written wrote,
       record {

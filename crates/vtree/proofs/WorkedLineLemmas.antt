@@ -225,7 +225,8 @@ bad_21 command h = absurd (alike_names (codes "until") (codes "until") (name_of 
 bad_22 : (command : Said) → IsLineOf (codes "update 0 'a - kept") command → ⊥
 bad_22 (Update a k w answer) h = kept_no_answer answer h.1.4
 bad_22 command h = absurd (alike_names (codes "update") (codes "update") (name_of command) refl
-    (says_name command (codes "update") (codes "0" ∷ codes "'a" ∷ codes "-" ∷ codes "kept" ∷ []) h.1))
+    (says_name command (codes "update")
+    (codes "0" ∷ codes "'a" ∷ codes "-" ∷ codes "kept" ∷ []) h.1))
 
 bad_23 : (command : Said) → IsLineOf (codes "get 0 '" ++ 9 ∷ []) command → ⊥
 bad_23 (Get a key) h = not_graphic 9 key refl h.1.2

@@ -30,7 +30,8 @@ abbrev pub RefusalsAreOfMemory : Type 0
 RefusalsAreOfMemory =
     (old new : Family ℕ) (command : Said)
     → TakesNoMemory (List ℕ) ℕ (λ key. key) old command
-    ⊎ ((reply_to (λ key. key) old command ≡ NoVersion) ⊎ (reply_to (λ key. key) old command ≡ NoRoom))
+    ⊎ ((reply_to (λ key. key) old command ≡ NoVersion)
+    ⊎ (reply_to (λ key. key) old command ≡ NoRoom))
     → ¬ Replies old command NoMemory new
 
 -- What a writer held stays, and what was written stands behind it.
@@ -51,23 +52,23 @@ WholeLinesAreWritten =
     → ((served : Served) → Serves lines served written → AreWholeLines written)
     × (EndsBy Read lines written → AreWholeLines written)
 
--- Where reading failed, what is written is a beginning of what the whole serving writes, unless
+-- Where reading failed, what is written is a prefix of what the whole serving writes, unless
 -- memory is refused.
-abbrev pub FailedReadsLeaveABeginning : Type 0
-FailedReadsLeaveABeginning =
+abbrev pub FailedReadsLeaveAPrefix : Type 0
+FailedReadsLeaveAPrefix =
     (lines : List (List ℕ)) (served : Served) (all written : List ℕ)
     (whole : Serves lines served all) (early : EndsBy Read lines written)
     → NoneRefused whole.texts → NoneRefused early.texts
     → (lost : List ℕ) × (all ≡ written ++ lost)
 
 -- So it is where writing failed.
-abbrev pub FailedWritesLeaveABeginning : Type 0
-FailedWritesLeaveABeginning =
+abbrev pub FailedWritesLeaveAPrefix : Type 0
+FailedWritesLeaveAPrefix =
     (lines : List (List ℕ)) (served : Served) (all written : List ℕ)
     (whole : Serves lines served all) (early : EndsBy Write lines written)
     → NoneRefused whole.texts → NoneRefused early.texts → early.text ≢ reply_line NoMemory
     → (lost : List ℕ) × (all ≡ written ++ lost)
 
--- No serving ends for want of memory for what it reads.
+-- No serving ends for memory for what it reads.
 abbrev pub ReadingTakesNoMemory : Type 0
 ReadingTakesNoMemory = (lines : List (List ℕ)) (written : List ℕ) → EndsBy Memory lines written → ⊥

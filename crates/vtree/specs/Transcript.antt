@@ -67,7 +67,7 @@ pub record Begins (lines : List (List ℕ)) (written : List ℕ) : Type 0 where
   pub all : written ≡ concat texts
 
 -- Some first lines were served, and the next one was done; what is written are their texts, and of
--- the next one's a beginning.
+-- the next one's a prefix.
 pub record Stops (lines : List (List ℕ)) (written : List ℕ) : Type 0 where
   pub done : List (List ℕ)
   pub line : List ℕ
@@ -76,13 +76,13 @@ pub record Stops (lines : List (List ℕ)) (written : List ℕ) : Type 0 where
   pub mid : Family ℕ
   pub text : List ℕ
   pub new : Family ℕ
-  pub beginning : List ℕ
+  pub prefix : List ℕ
   pub lost : List ℕ
   pub first : lines ≡ done ++ line ∷ rest
   pub run : Transcript [] done texts mid
   pub last : LineGives mid line text new
-  pub part : text ≡ beginning ++ lost
-  pub all : written ≡ concat texts ++ beginning
+  pub part : text ≡ prefix ++ lost
+  pub all : written ≡ concat texts ++ prefix
 
 -- Why the serving of lines ended before these did.
 abbrev pub EndsBy : ServeError → List (List ℕ) → List ℕ → Type 0

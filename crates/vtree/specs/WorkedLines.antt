@@ -32,10 +32,10 @@ WorkedSplits =
 
 -- Bad lines: an empty line, a word too many, a word too few, no such word, a carriage return, two
 -- spaces, a space at the end, 2^64, 21 digits, keys for bounds, a key without its apostrophe, a
--- visit that failed, an update that fails, seven words, bytes 127, 233, 9 and 13 in a key, keys of 17
--- bytes, one alone, and one of a bound of each kind; no word for a write, a bound that is no word,
--- and other words for an end and an answer; bounds that lack their key, updates that lack what is
--- written and answered, a comment, and the longest good line with a word behind it.
+-- visit that failed, an update that fails, seven words, bytes 127, 233, 9 and 13 in a key, keys of
+-- 17 bytes, one alone, and one of a bound of each kind; no word for a write, a bound that is no
+-- word, and other words for an end and an answer; bounds that lack their key, updates that lack
+-- what is written and answered, a comment, and the longest good line with a word behind it.
 abbrev pub WorkedBadLines : Type 0
 WorkedBadLines =
     IsBad []

@@ -58,7 +58,8 @@ great_number_replies =
 
 -- Other runs: no line; a last line without its line feed; a bad line among good ones; an empty line
 -- behind a good one; a carriage return before the line feed; two spaces; more than 200 bytes. A bad
--- key, no word, and a place that isn't there; keys of 16, 17 and no bytes; and the greatest numbers.
+-- key, no word, and a place that isn't there; keys of 16, 17 and no bytes; and the greatest
+-- numbers.
 abbrev pub WorkedRuns : Type 0
 WorkedRuns =
     RunsTo [] Clean []

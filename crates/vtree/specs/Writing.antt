@@ -2,14 +2,14 @@
 use Rattle.std.specs.Prelude.{◌≡◌, ℕ, List, ◌++◌, Result, Option, MatchResult}
 use Rattle.std.specs.Io.KnownBytes.{Appends}
 
--- Known bytes grew by a beginning of the text.
+-- Known bytes grew by a prefix of the text.
 pub record AppendsPart (old new : Option (List ℕ)) (text : List ℕ) : Type 0 where
   pub part : List ℕ
   pub rest : List ℕ
   pub whole : text ≡ part ++ rest
   pub appended : Appends old new part
 
--- On `Ok` known bytes grew by the text, on `Err` by a beginning of it.
+-- On `Ok` known bytes grew by the text, on `Err` by a prefix of it.
 abbrev pub Writes : {T E : Type 0} →
     Result T E → Option (List ℕ) → Option (List ℕ) → List ℕ → Type 0
 Writes result old new text =
@@ -21,7 +21,7 @@ pub record Follows (old new : Option (List ℕ)) (held kept : List ℕ) (text : 
   pub appended : Appends old new sent
   pub all : held ++ text ≡ sent ++ kept
 
--- On `Ok` the text stands behind what was held, on `Err` a beginning of both was written.
+-- On `Ok` the text stands behind what was held, on `Err` a prefix of both was written.
 abbrev pub Puts : {T E : Type 0} →
     Result T E → Option (List ℕ) → Option (List ℕ) → List ℕ → List ℕ → List ℕ → Type 0
 Puts result old new held kept text =

@@ -1,6 +1,6 @@
 //! What the definitions of lines, replies and transcripts mean: laws, each the contract of a
 //! function that does nothing.
-ghost use Rattle.vtree.specs.ServingLaws.{InputIsRead, RefusalsChangeNothing, RefusalsAreOfMemory, WritingIsBehind, WholeLinesAreWritten, FailedReadsLeaveABeginning, FailedWritesLeaveABeginning, ReadingTakesNoMemory};
+ghost use Rattle.vtree.specs.ServingLaws.{InputIsRead, RefusalsChangeNothing, RefusalsAreOfMemory, WritingIsBehind, WholeLinesAreWritten, FailedReadsLeaveAPrefix, FailedWritesLeaveAPrefix, ReadingTakesNoMemory};
 ghost use Rattle.vtree.specs.WorkedLines.{WorkedNumbers, WorkedSplits, WorkedBadLines, WorkedTexts};
 ghost use Rattle.vtree.specs.WorkedCommandLines.{WorkedChangeLines, WorkedReadLines, WorkedWalkLines, WorkedIntersectionLines};
 ghost use Rattle.vtree.specs.WorkedRuns.{FirstRun, WorkedRuns};
@@ -60,7 +60,7 @@ pub fn worked_lines()
     ensures texts { WorkedTexts }
 {}
 
-#[tactic(auto, using(crate::proofs::WorkedRunLemmas::runs))]
+#[tactic(auto, using(crate::proofs::WorkedTranscriptLemmas::runs))]
 /// The first run, and others with bad lines: an input is served so, and in no other way where
 /// memory isn't refused.
 pub fn worked_runs()
@@ -85,14 +85,14 @@ pub fn refusals_are_of_memory()
 {}
 
 #[tactic(auto, using(crate::proofs::ServingLawLemmas::ends))]
-/// What is left where an input ends, and where its serving ends early: a beginning of what the
+/// What is left where an input ends, and where its serving ends early: a prefix of what the
 /// whole one writes, unless memory is refused; and whole lines, unless writing failed.
-pub fn early_ends_leave_a_beginning()
+pub fn early_ends_leave_a_prefix()
     ensures input { InputIsRead }
     ensures refusals { RefusalsChangeNothing }
     ensures writing { WritingIsBehind }
     ensures whole { WholeLinesAreWritten }
-    ensures reads { FailedReadsLeaveABeginning }
-    ensures writes { FailedWritesLeaveABeginning }
+    ensures reads { FailedReadsLeaveAPrefix }
+    ensures writes { FailedWritesLeaveAPrefix }
     ensures memory { ReadingTakesNoMemory }
 {}

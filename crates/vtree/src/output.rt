@@ -18,7 +18,7 @@ pub struct WriteFailed;
 
 #[tactic(auto, using(crate::proofs::KnownLemmas::bytes))]
 /// Writes all the bytes; a write that was interrupted is tried again. Where writing fails, a
-/// beginning of them is written.
+/// prefix of them is written.
 pub fn write_bytes<W: Write>(writer: &mut W, bytes: &[u8]) -> Result<(), WriteFailed>
     ensures { Writes result (W.contents writer.old) (W.contents writer.new) bytes.now }
 {
@@ -82,7 +82,7 @@ impl Page {
         self.put(writer, Buffer::new().format(number).as_bytes())
     }
 
-    /// Writes what is held. Where writing fails, a beginning of it is written.
+    /// Writes what is held. Where writing fails, a prefix of it is written.
     pub fn send<W: Write>(&mut self, writer: &mut W) -> Result<(), WriteFailed>
         ensures written { Writes result (W.contents writer.old) (W.contents writer.new)
             self.old.bytes.items }

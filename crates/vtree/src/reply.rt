@@ -12,7 +12,7 @@ use rart_family::{KeyTrait, Reply};
 use std::io::Write;
 
 /// Writes the line of a reply: a word or two, and what the reply has, each behind a space. Where
-/// writing fails, a beginning of the line is written. No memory is taken.
+/// writing fails, a prefix of the line is written. No memory is taken.
 pub fn write_reply<K: KeyTrait, W: Write>(
     reply: &Reply<K, u64>,
     writer: &mut W,

@@ -17,7 +17,7 @@ use std::io::{Read, Write};
 /// feed. `2^64 - 1` bytes read count as the end of input.
 ///
 /// `Read` comes where reading failed, and the texts of some first lines are written; `Write` where
-/// writing failed, and of the next line's text a beginning too. No memory is taken for lines and
+/// writing failed, and of the next line's text a prefix too. No memory is taken for lines and
 /// texts, so `Memory` doesn't come.
 pub fn serve<R: Read + Drop, W: Write>(
     alloc: Global,

@@ -48,7 +48,7 @@ impl Session {
         }
     }
 
-    /// Takes a byte; a line feed ends its line. Where writing the line's text fails, a beginning of
+    /// Takes a byte; a line feed ends its line. Where writing the line's text fails, a prefix of
     /// it is written.
     pub fn take<W: Write>(&mut self, byte: u8, writer: &mut W) -> Result<(), WriteFailed>
         ensures { Takes byte self.old self.new result

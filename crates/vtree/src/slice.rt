@@ -10,7 +10,7 @@ use std::alloc::{AllocError, Global};
 /// Serves the lines of an input, and appends what is written to a vector.
 ///
 /// `Err` comes where memory for the output was refused: the texts of some first lines are appended
-/// then, and of the next one's a beginning.
+/// then, and of the next one's a prefix.
 pub fn serve_slice(alloc: Global, input: &[u8], output: &mut Vec<u8>) -> Result<Served, AllocError>
     ensures ok { IfOk result (λ served. (written : List ℕ)
         × (output.new.items ≡ output.old.items ++ written)

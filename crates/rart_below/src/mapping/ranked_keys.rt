@@ -140,7 +140,8 @@ impl<const WIDTH: usize> RankedKeys<WIDTH> {
     #[inline]
     pub(crate) fn place_of(&self, byte: u8) -> Option<usize>
         requires { rank byte self.now.items ≤ byte }
-        ensures { MatchOption result (IsAbsent byte self.now.items) (IsPlaceOf byte self.now.items) }
+        ensures { MatchOption result (IsAbsent byte self.now.items)
+            (IsPlaceOf byte self.now.items) }
     {
         let place = self.rank_of(byte);
         let keys = self.as_slice();

@@ -125,7 +125,7 @@ pub(crate) fn read(found: Option<&Bytes>, into: &mut [u8], len: &mut usize) -> u
     DONE
 }
 
-/// The same of a key that was found by its beginning, and tells how long that is.
+/// The same of a key that was found by its prefix, and tells how long that is.
 fn read_longest(
     found: Option<(usize, &Bytes)>,
     key_len: &mut usize,

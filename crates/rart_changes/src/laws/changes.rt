@@ -3,8 +3,8 @@ ghost use Rattle.rart_changes.specs.ChangeLaws.{ChangesAscend, ChangesAreFound, 
 ghost use Rattle.rart_changes.specs.ChangeLaws.{ChangesReverse, NoChangeIsTheSame};
 ghost use Rattle.rart_changes.specs.ChangeLaws.{PatchesSetWhatChanged, PatchesGiveTheNew};
 
-/// The changes ascend strictly by key, and a change stands among them exactly where it should. So no
-/// other list is theirs.
+/// The changes ascend strictly by key, and a change stands among them exactly where it should. So
+/// no other list is theirs.
 pub fn changes_are_found<V: Eq>()
     ensures ascend { ChangesAscend V.eq }
     ensures found { ChangesAreFound V.eq }

@@ -9,8 +9,8 @@ pub fn conflicts_are_found<V: Eq>()
     ensures found { ConflictsAreFound V.eq }
 {}
 
-/// A merge has at a key the answer where there is a conflict, else what the side that changed it has
-/// there, and else what the base has. Without a conflict it is the same from both sides.
+/// A merge has at a key the answer where there is a conflict, else what the side that changed it
+/// has there, and else what the base has. Without a conflict it is the same from both sides.
 pub fn merges_are_by_key<V: Eq>()
     ensures by_key { MergesAreByKey V.eq }
     ensures agree { SidesAgree V.eq }

@@ -3,7 +3,7 @@ ghost use Rattle.std.specs.Prelude.{◌≡◌, IfOk, IfSome, IsSome, IsSomeAnd, 
 ghost use Rattle.rart_versioned.specs.Clones.{ClonesEqual};
 ghost use Rattle.rart_maps.specs.Versions.{HasRoom, value_at};
 ghost use Rattle.rart_maps.specs.Changes.{slot_of, slot_update, slot_attempt};
-ghost use Rattle.rart_maps.specs.Bounds.{touch_bound};
+ghost use Rattle.rart_maps.specs.Bounds.{enter_bound};
 ghost use Rattle.rart_family.specs.Attempts.{Tries, reply_or_want};
 ghost use Rattle.rart_family.specs.Costs.{CountsChanges};
 ghost use Rattle.rart_family.specs.Families.{version_at, value_after_write, callback_answer};
@@ -119,7 +119,7 @@ fn update_at<K: KeyTrait, V: Clone + Drop>(
         answer) }
     ensures refused { OnErr result (IfSome (version_at versions.old place) (λ v.
         IsThereOrSet v (K.bytes key.now) (Some answer))) }
-    ensures counted { CountsChangeAt (touch_bound (K.bytes key.now)) versions.old place
+    ensures counted { CountsChangeAt (enter_bound (K.bytes key.now)) versions.old place
         (K.bytes key.now) changes.old changes.new }
 {
     let Some(version) = &mut versions[place] else {
@@ -151,7 +151,7 @@ fn try_update_at<K: KeyTrait, V: Clone + Drop>(
         (callback_answer answer)) }
     ensures refused { OnErr result (IfSome (version_at versions.old place) (λ v.
         IsThereOrSet v (K.bytes key.now) answer)) }
-    ensures counted { CountsChangeAt (touch_bound (K.bytes key.now)) versions.old place
+    ensures counted { CountsChangeAt (enter_bound (K.bytes key.now)) versions.old place
         (K.bytes key.now) changes.old changes.new }
 {
     let Some(version) = &mut versions[place] else {

@@ -1,7 +1,7 @@
 // Commands that list what a version has, by its visitors.
 ghost use Rattle.std.specs.Prelude.{◌≡◌, length, IfOk};
 ghost use Rattle.std.specs.Range.Bound.{bound_map};
-ghost use Rattle.rart_maps.specs.Pairs.{pairs, under, within, beginnings};
+ghost use Rattle.rart_maps.specs.Pairs.{pairs, under, within, prefix_matches};
 ghost use Rattle.rart_versioned.specs.Clones.{ClonesEqual};
 ghost use Rattle.rart_family.specs.Attempts.{Tries};
 ghost use Rattle.rart_family.specs.Collections.{pairs_of};
@@ -17,7 +17,11 @@ use std::alloc::{AllocError, Global};
 use std::ops::Bound;
 
 impl<K: KeyTrait, V: Clone + Drop> Family<K, V> {
-    pub(super) fn matches_each(&self, place: usize, key: &K) -> Result<Reply<K, V>, AllocError>
+    pub(super) fn prefix_matches_each(
+        &self,
+        place: usize,
+        key: &K,
+    ) -> Result<Reply<K, V>, AllocError>
         requires clones { ClonesEqual V.is_clone }
         ensures { Tries K.bytes self.now (MatchesEach place key.now) result self.now }
     {
@@ -102,7 +106,7 @@ fn entries_by_slices<K: KeyTrait, V: Clone + Drop>(
 ) -> Result<Vec<(K, V)>, AllocError>
     requires clones { ClonesEqual V.is_clone }
     ensures { IfOk result (λ entries.
-        pairs_of K.bytes entries.items ≡ beginnings version.now.content (K.bytes probe.now)) }
+        pairs_of K.bytes entries.items ≡ prefix_matches version.now.content (K.bytes probe.now)) }
 {
     // (its contract says that each key has a length that keys may have)
     let _number = version.version();

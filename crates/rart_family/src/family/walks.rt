@@ -65,7 +65,7 @@ impl<K: KeyTrait, V: Clone + Drop> Family<K, V> {
         Ok(Reply::Entries(entries))
     }
 
-    pub(super) fn matches(&self, place: usize, key: &K) -> Result<Reply<K, V>, AllocError>
+    pub(super) fn prefix_matches(&self, place: usize, key: &K) -> Result<Reply<K, V>, AllocError>
         requires clones { ClonesEqual V.is_clone }
         ensures { Tries K.bytes self.now (Matches place key.now) result self.now }
     {

@@ -1,54 +1,66 @@
-use Rattle.std.proofs.Common.{◌-◌, ◌<◌, ◌≤◌, ◌++◌, length, drop, refl, sym, ap, subst, ◌∙◌, arith}
+use Rattle.std.proofs.Common.{◌≡◌, ◌<◌, ◌≤◌, ◌++◌, Some, slice_get, length, drop, sym, ap, subst, ◌∙◌, arith}
+use Rattle.rart_below.specs.Bytes.{IsAdmitted}
+use Rattle.rart_below.specs.Children.{child_at}
 use Rattle.rart_node.specs.NodeShapes.{node_shape}
 use Rattle.rart_node.specs.Shape.{Shape, prefix_of, children_of}
-use Rattle.rart_below.specs.Children.{child_at}
 use Rattle.rart_shape.specs.Trees.{IsOrdered, IsPut, found, cut_at, ending}
 use Rattle.rart_shape.proofs.CountingLemmas.{counts-then, ending-cut}
-use Rattle.rart_insertion.proofs.CutLemmas.{cut-ordered, cut-child}
-use Rattle.rart_insertion.proofs.InsertionStepLemmas.{matched, cut-at-absent, put-at-cut, found-at-cut}
+use Rattle.rart_insertion.proofs.CutLemmas.{cut-ordered, cut-child, cut-absent, put-cut}
+use Rattle.rart_insertion.proofs.InsertionStepLemmas.{common-fits, rest-admitted, found-at-cut}
 use Rattle.rart_insertion.proofs.split.Goals as goal
 
-pub finish-requires-clause-some : goal.finish-requires-clause-some
-finish-requires-clause-some g c none =
-    subst (λ (z : Shape g.row.V.Denot). 0 < length (children_of z)) (sym c.in_ok-upper.ensures.cut)
-    (cut-child (node_shape g.K.PartialType.Partial.bytes c.args.node.now) _)
+pub rest_of-requires : goal.rest_of-requires
+rest_of-requires g c =
+    common-fits (node_shape g.P.Partial.bytes c.args.node.now) c.args.key.now c.args.common
+    c.requires.leaves.is
 
-pub finish-requires-clause-order : goal.finish-requires-clause-order
-finish-requires-clause-order g c =
-    subst IsOrdered (sym c.in_ok-upper.ensures.cut)
-    (cut-ordered (node_shape g.K.PartialType.Partial.bytes c.args.node.now) _ c.requires.tree
-    c.requires.inside)
+pub finish-requires : goal.finish-requires
+finish-requires g c =
+    let s = node_shape g.P.Partial.bytes c.args.node.now in
+    let key = c.args.key.now in
+    record {
+      admitted = subst (λ rest. IsAdmitted g.P.Partial.MAXIMUM_SIZE (length rest))
+          (sym c.rest_of.ensures)
+          (rest-admitted s key c.args.common c.requires.leaves.is _ c.requires.may.admitted);
+      order = subst IsOrdered (sym c.in_ok-upper.ensures.told)
+          (cut-ordered s _ c.requires.may.tree c.requires.leaves.inside);
+      some = λ none. subst (λ (z : Shape g.row.V.Denot). 0 < length (children_of z))
+          (sym c.in_ok-upper.ensures.told) (cut-child s _);
+      absent = λ byte next. ap (λ z. child_at byte (children_of z)) c.in_ok-upper.ensures.told
+          ∙ cut-absent s c.args.common key byte c.requires.leaves.is c.requires.leaves.inside
+          (subst (λ rest. slice_get rest 0 ≡ Some byte) c.rest_of.ensures next);
+    }
 
-pub finish-requires-clause-absent : goal.finish-requires-clause-absent
-finish-requires-clause-absent g c byte next =
-    let s = node_shape g.K.PartialType.Partial.bytes c.args.node.now in
-    ap (λ z. child_at byte (children_of z)) c.in_ok-upper.ensures.cut
-    ∙ cut-at-absent (matched refl c.requires.depth c.requires.end) byte
-    c.requires.inside next
-
-pub returns-clause-puts : goal.returns-clause-puts
-returns-clause-puts g c =
-    let s = node_shape g.K.PartialType.Partial.bytes c.args.node.now in
-    let after = node_shape g.K.PartialType.Partial.bytes c.finish.new.node in
-    let rest = drop c.args.end (g.K.KeyTrait.bytes c.args.key.now) in
-    let m = matched refl c.requires.depth c.requires.end in
-    let puts : IsPut (prefix_of (cut_at (c.args.end - c.args.depth) s) ++ rest) c.args.value
-    (cut_at (c.args.end - c.args.depth) s) after =
+pub returns : goal.returns
+returns g c =
+    let s = node_shape g.P.Partial.bytes c.args.node.now in
+    let after = node_shape g.P.Partial.bytes c.finish.new.node in
+    let key = c.args.key.now in
+    let rest = drop c.args.common key in
+    let left = c.rest_of.ensures in
+    let puts : IsPut (prefix_of (cut_at c.args.common s) ++ rest) c.args.value
+    (cut_at c.args.common s) after =
     subst (λ (z : Shape g.row.V.Denot). IsPut (prefix_of z ++ rest) c.args.value z after)
-    c.in_ok-upper.ensures.cut c.in_ok-old.ensures.puts.0 in (
-      put-at-cut m after c.args.value c.requires.inside puts,
-      c.in_ok-old.ensures.puts.1
-          ∙ ap (λ (z : Shape g.row.V.Denot). found z (prefix_of z ++ rest))
-          c.in_ok-upper.ensures.cut
-          ∙ found-at-cut m c.requires.inside,
-    )
-
-pub returns-clause-counted : goal.returns-clause-counted
-returns-clause-counted g c =
-    let s = node_shape g.K.PartialType.Partial.bytes c.args.node.now in
-    let rest = drop c.args.end (g.K.KeyTrait.bytes c.args.key.now) in
+    c.in_ok-upper.ensures.told
+    (subst (λ rest. IsPut (prefix_of (node_shape g.P.Partial.bytes c.in_ok-upper.upper) ++ rest)
+    c.args.value (node_shape g.P.Partial.bytes c.in_ok-upper.upper) after) left
+    c.in_ok-old.ensures.puts.0) in
     let most =
-    subst (λ (z : Shape g.row.V.Denot). ending z rest ≤ length rest)
-    (sym c.in_ok-upper.ensures.cut) (ending-cut s (c.args.end - c.args.depth) rest) in
-    counts-then c.in_ok-upper.ensures.counted c.in_ok-old.ensures.counted (omega arith)
-    (omega (arith, most))
+    subst (λ (z : Shape g.row.V.Denot). ending z c.rest_of.result.now ≤ length rest)
+    (sym c.in_ok-upper.ensures.told)
+    (subst (λ r. ending (cut_at c.args.common s) r ≤ length rest) (sym left)
+    (ending-cut s c.args.common rest)) in
+    record {
+      puts = (
+        put-cut s after c.args.common key c.args.value c.requires.leaves.is
+            c.requires.leaves.inside puts,
+        c.in_ok-old.ensures.puts.1
+            ∙ ap (λ (z : Shape g.row.V.Denot). found z (prefix_of z ++ c.rest_of.result.now))
+            c.in_ok-upper.ensures.told
+            ∙ ap (λ r. found (cut_at c.args.common s)
+            (prefix_of (cut_at c.args.common s) ++ r)) left
+            ∙ found-at-cut s key c.args.common c.requires.leaves.is c.requires.leaves.inside,
+      );
+      counted = counts-then c.in_ok-upper.ensures.counted c.in_ok-old.ensures.counted (omega arith)
+          (omega (arith, most));
+    }

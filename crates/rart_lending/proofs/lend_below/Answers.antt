@@ -4,9 +4,10 @@ use Rattle.std.specs.Result.{is_ok}
 use Rattle.std.proofs.lemmas.Option.{same_Some}
 use Rattle.rart_node.specs.NodeShapes.{node_shape, pointer_shape}
 use Rattle.rart_node.specs.Shape.{prefix_of, with_value}
-use Rattle.rart_lending.specs.Paths.{path_end, graft}
+use Rattle.rart_lending.specs.Grafts.{graft}
+use Rattle.rart_search.specs.Paths.{path_end}
 use Rattle.rart_shape.specs.Trees.{strip_prefix, IsTree, IsPut}
-use Rattle.rart_lending.proofs.PathLemmas.{tree-along, found-along, put-along, found-ended, put-ended}
+use Rattle.rart_lending.proofs.LentPathLemmas.{tree-along, found-along, put-along, found-ended, put-ended}
 use Rattle.rart_lending.proofs.lend_below.Goals as goal
 
 pub returns : goal.returns
@@ -17,7 +18,7 @@ returns g c =
     let steps = c.args.steps in
     let node = node_shape bytes c.in_ok-node.node.now in
     let left = drop c.down.new.depth w in
-    let reached : path_end steps w s ≡ Some (node, left) = c.in_ok-node.ensures.reached in
+    let reached : path_end steps w s ≡ Some (node, left) = c.in_ok-node.ensures.reaches.reached in
     let same : c.requires.arrives.0 ≡ (node, left) =
     same_Some c.requires.arrives.0 (node, left) (sym c.requires.arrives.1 ∙ reached) in
     let ended : strip_prefix (prefix_of node) left ≡ Some [] =
@@ -45,6 +46,6 @@ returns g c =
         writes_back = tt;
         value = found-along steps w s (node, left) reached ∙ found-ended node left ended
             ∙ sym c.in-Some.ensures.value;
-        counted = c.in_ok-node.ensures.counted;
+        counted = c.in_ok-node.ensures.reaches.counted;
       },
     )

@@ -2,8 +2,8 @@
 ghost use Rattle.rart_maps.specs.LookupLaws.{EmptyLacksAll, SetsFixTheMap};
 ghost use Rattle.rart_maps.specs.LookupLaws.{SlotsHaveTheirValue, UpdatesSetWhatIsLeft, ChangesTell, RoomIsBelowTheLast};
 
-/// What a key has after a change, and that all others have what they had, fixes the map. Exactly the
-/// empty map lacks all keys.
+/// What a key has after a change, and that all others have what they had, fixes the map. Exactly
+/// the empty map lacks all keys.
 pub fn lookups_fix_the_map<V>()
     ensures sets { SetsFixTheMap V }
     ensures empty { EmptyLacksAll V }

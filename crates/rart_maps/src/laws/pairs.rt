@@ -1,25 +1,25 @@
 //! What is read off maps: in what order, and which pairs.
-ghost use Rattle.rart_maps.specs.FoundLaws.{PairsAscendByKey, WithinAscends, UnderAscends, BeginningsAscend, PairsAreFound, WithinIsFound, UnderIsFound, BeginningsAreFound, LongestIsFound, CommonIsFound, CommonAscends, AscendingListsAreFixed};
-ghost use Rattle.rart_maps.specs.PairLaws.{PairsAscend, WithinIsSublist, UnderIsSublist, BeginningsIsSublist, CommonSwaps};
+ghost use Rattle.rart_maps.specs.FoundLaws.{PairsAscendByKey, WithinAscends, UnderAscends, PrefixMatchesAscend, PairsAreFound, WithinIsFound, UnderIsFound, PrefixMatchesAreFound, LongestIsFound, CommonIsFound, CommonAscends, AscendingListsAreFixed};
+ghost use Rattle.rart_maps.specs.PairLaws.{PairsAscend, WithinIsSublist, UnderIsSublist, PrefixMatchesIsSublist, CommonSwaps};
 
 /// The pairs ascend strictly by key. Those within bounds, those under a prefix and those whose key
 /// begins a string are some of them, in their order.
-#[tactic(auto, using(crate::proofs::PairLawLemmas::pairs_ascend, crate::proofs::PairLawLemmas::within_is_sublist, crate::proofs::PairLawLemmas::under_is_sublist, crate::proofs::PairLawLemmas::beginnings_is_sublist))]
+#[tactic(auto, using(crate::proofs::PairLawLemmas::pairs_ascend, crate::proofs::PairLawLemmas::within_is_sublist, crate::proofs::PairLawLemmas::under_is_sublist, crate::proofs::PairLawLemmas::prefix_matches_is_sublist))]
 pub fn pairs_are_in_order<V>()
     ensures ascending { PairsAscend V }
     ensures within { WithinIsSublist V }
     ensures under { UnderIsSublist V }
-    ensures beginnings { BeginningsIsSublist V }
+    ensures prefix_matches { PrefixMatchesIsSublist V }
 {}
 
 /// The keys ascend strictly, each before each later one, also of the pairs within bounds, under a
 /// prefix and of those whose key begins a string.
-#[tactic(auto, using(crate::proofs::FoundLemmas::pairs_ascend_by_key, crate::proofs::FoundLemmas::within_ascends, crate::proofs::FoundLemmas::under_ascends, crate::proofs::FoundLemmas::beginnings_ascend))]
+#[tactic(auto, using(crate::proofs::FoundLemmas::pairs_ascend_by_key, crate::proofs::FoundLemmas::within_ascends, crate::proofs::FoundLemmas::under_ascends, crate::proofs::FoundLemmas::prefix_matches_ascend))]
 pub fn keys_ascend<V>()
     ensures pairs { PairsAscendByKey V }
     ensures within { WithinAscends V }
     ensures under { UnderAscends V }
-    ensures beginnings { BeginningsAscend V }
+    ensures prefix_matches { PrefixMatchesAscend V }
 {}
 
 /// A pair stands among all exactly where the map has the value at the key. It stands within two
@@ -29,7 +29,7 @@ pub fn pairs_are_found<V>()
     ensures pairs { PairsAreFound V }
     ensures within { WithinIsFound V }
     ensures under { UnderIsFound V }
-    ensures beginnings { BeginningsAreFound V }
+    ensures prefix_matches { PrefixMatchesAreFound V }
 {}
 
 /// The longest of the pairs whose key begins a string is exactly the one of them whose key no other

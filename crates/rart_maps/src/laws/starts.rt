@@ -2,10 +2,10 @@
 ghost use Rattle.rart_maps.specs.PairLaws.{StartsShorten, SharedShorten, SharedIsEmpty};
 ghost use Rattle.rart_maps.specs.StartLaws.{StartsBeginKeys, SharedAreInBoth, StringsUnderSplit, StringsUnderAreApart, StringsUnderAddUp, StartsAddUp, SharedAddUp};
 
-/// A beginning of a string that begins a key begins that key too. No string begins a key of both
+/// A prefix of a string that begins a key begins that key too. No string begins a key of both
 /// maps exactly where either has no key.
 #[tactic(auto, using(crate::proofs::PairLawLemmas::starts_shorten, crate::proofs::PairLawLemmas::shared_shorten, crate::proofs::PairLawLemmas::shared_is_empty))]
-pub fn beginnings_shorten<V>()
+pub fn prefix_matches_shorten<V>()
     ensures starts { StartsShorten V }
     ensures shared { SharedShorten V }
     ensures empty { SharedIsEmpty V }

@@ -2,8 +2,8 @@
 ghost use Rattle.rart_maps.specs.Order.{OrderIsOfFirstDifference, BeginsIsOfRest};
 
 /// One string stands before another exactly where the other goes on where the one ends, or has the
-/// greater byte where they first differ. Only equal strings tie, and of two others one stands before
-/// the other.
+/// greater byte where they first differ. Only equal strings tie, and of two others one stands
+/// before the other.
 #[tactic(auto, using(crate::proofs::OrderLemmas::order_is_of_first_difference))]
 pub fn order_is_of_first_difference()
     ensures { OrderIsOfFirstDifference }

@@ -6,7 +6,7 @@ use rart_below::{KeyTrait, VisitControl};
 
 /// A visit of nothing leaves its closure as it was, a visit of one member is one call on it, and a
 /// visit of two lists, one behind the other, is one of the first and then one of the second. A
-/// refused visit leaves what the visit of a beginning leaves. What may be called on the members in
+/// refused visit leaves what the visit of a prefix leaves. What may be called on the members in
 /// turn may be called on the first and then on the others. A visitor that takes memory tells by its
 /// answer which of the two it has made.
 pub fn visits_go_part_by_part<V, F: FnMut(&V)>()
@@ -20,7 +20,7 @@ pub fn visits_go_part_by_part<V, F: FnMut(&V)>()
 {}
 
 /// A visit that may end goes on behind a member where the answer is `Continue`, and else ends
-/// there. A refused one leaves what a visit of a beginning leaves that goes on to its end. What may
+/// there. A refused one leaves what a visit of a prefix leaves that goes on to its end. What may
 /// be called on the members in turn may be called on the first and then on the others.
 pub fn visits_end_at_the_first_other_answer<V, E, F: FnMut(&V) -> Result<VisitControl, E>>()
     ensures nothing { UntilNothing F.FnMut ByValue }
@@ -32,7 +32,7 @@ pub fn visits_end_at_the_first_other_answer<V, E, F: FnMut(&V) -> Result<VisitCo
 /// What a visitor that may end, and that takes memory, has done, by its answer. `Ok`: the closure
 /// was called on all members and answered `Continue` on each, or on those up to one on which it
 /// answered `Stop`. An error of the closure: on those up to one on which it gave that error.
-/// Refused for memory: on a beginning of them, and it answered `Continue` on each.
+/// Refused for memory: on a prefix of them, and it answered `Continue` on each.
 pub fn visits_tell_where_they_end<V, E, F: FnMut(&V) -> Result<VisitControl, E>>()
     ensures done { UntilDone F.FnMut ByValue }
     ensures callback { UntilCallbackRefuses F.FnMut ByValue }

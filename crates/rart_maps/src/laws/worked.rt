@@ -1,6 +1,6 @@
 //! Worked values of what is read off maps and of the bounds, found by hand.
-ghost use Rattle.rart_maps.specs.WorkedBounds.{LookupOfNoByte, LookupOfThreeBytes, ChangeOfNoByte, ChangeOfThreeBytes, TouchOfNoByte, TouchOfThreeBytes, MeetOfTwo, MeetBelowOne, MeetWithItself, MeetOfEmpty, ReachOfTwo, ReachOfAll, ReachOfNone, MeetOfDistinct, MeetInsideKeys, ReachOfFive, ReachOfOne, ReachPastKeys, WalkOfThree, WalkOfOneBelowOther, WalkOfNone, ScanOfTwo, ScanOfAll, ScanOfNone, ScanOfThree, RangeOfTwo, RangeOfAll, RangeReversed, RangeOfNone, RangeOfNoneBelow};
-ghost use Rattle.rart_maps.specs.WorkedPairs.{WithinIncluded, WithinExcluded, WithinOtherKeys, WithinLowAlone, WithinHighAlone, WithinReversed, WithinOneKey, WithinNoKey, UnderTwo, UnderOne, UnderItself, UnderEmpty, UnderNone, BeginningsShortestFirst, BeginningsOfKey, BeginningsNone, LongestInside, LongestIsItself, LongestIsEmpty, LongestNone, CommonLeftFirst, CommonNone, CommonOfTwo, CommonOfOne, CommonOfEmpty, SharedOfTwo, SharedOfOne, SharedOfEmpty};
+ghost use Rattle.rart_maps.specs.WorkedBounds.{LookupOfNoByte, LookupOfThreeBytes, ChangeOfNoByte, ChangeOfThreeBytes, TouchOfNoByte, TouchOfThreeBytes, MeetOfTwo, MeetBelowOne, MeetWithItself, MeetOfEmpty, ReachOfTwo, ReachOfAll, ReachOfNone, MeetOfDistinct, MeetInsideKeys, ReachOfFive, ReachOfOne, ReachPastKeys, WalkOfThree, WalkOfOneBelowOther, WalkOfNone, ReachByPairsOfTwo, ReachByPairsOfAll, ReachByPairsOfNone, ReachByPairsOfThree, RangeOfTwo, RangeOfAll, RangeReversed, RangeOfNone, RangeOfNoneBelow};
+ghost use Rattle.rart_maps.specs.WorkedPairs.{WithinIncluded, WithinExcluded, WithinOtherKeys, WithinLowAlone, WithinHighAlone, WithinReversed, WithinOneKey, WithinNoKey, UnderTwo, UnderOne, UnderItself, UnderEmpty, UnderNone, PrefixMatchesShortestFirst, PrefixMatchesOfKey, PrefixMatchesNone, LongestInside, LongestIsItself, LongestIsEmpty, LongestNone, CommonLeftFirst, CommonNone, CommonOfTwo, CommonOfOne, CommonOfEmpty, SharedOfTwo, SharedOfOne, SharedOfEmpty};
 
 /// Worked values: the pairs within two bounds, that include or exclude their key, one bound alone,
 /// the other way round, and of one key twice.
@@ -25,10 +25,10 @@ pub fn worked_under()
 {}
 
 /// Worked values: the pairs whose key begins a string, the shortest first.
-pub fn worked_beginnings()
-    ensures shortest_first { BeginningsShortestFirst }
-    ensures of_key { BeginningsOfKey }
-    ensures none { BeginningsNone }
+pub fn worked_prefix_matches()
+    ensures shortest_first { PrefixMatchesShortestFirst }
+    ensures of_key { PrefixMatchesOfKey }
+    ensures none { PrefixMatchesNone }
 {}
 
 /// Worked values: the last of the pairs whose key begins a string.
@@ -85,10 +85,10 @@ pub fn worked_walks()
     ensures three { WalkOfThree }
     ensures one_below_other { WalkOfOneBelowOther }
     ensures none { WalkOfNone }
-    ensures two_under { ScanOfTwo }
-    ensures all_under { ScanOfAll }
-    ensures none_under { ScanOfNone }
-    ensures three_under { ScanOfThree }
+    ensures two_under { ReachByPairsOfTwo }
+    ensures all_under { ReachByPairsOfAll }
+    ensures none_under { ReachByPairsOfNone }
+    ensures three_under { ReachByPairsOfThree }
     ensures two_within { RangeOfTwo }
     ensures all_within { RangeOfAll }
     ensures reversed { RangeReversed }

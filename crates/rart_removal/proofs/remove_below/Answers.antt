@@ -1,13 +1,30 @@
-use Rattle.std.proofs.Common.{subst}
+use Rattle.std.proofs.Common.{[], is_some, refl, sym, ap, arith, subst, ◌∙◌}
 use Rattle.rart_node.specs.NodeShapes.{pointer_shape}
-use Rattle.rart_removal.specs.Plans.{IsPlan}
-use Rattle.rart_removal.proofs.PlanLemmas.{leaf-alone}
+use Rattle.rart_removal.specs.Plans.{IsPlan, plan_cost}
+use Rattle.rart_removal.proofs.PlanLemmas.{leaf-alone, not-none, counts-carried}
+use Rattle.rart_shape.proofs.CountingLemmas.{entered-then}
+use Rattle.rart_shape.proofs.MatchLemmas.{found-here}
 use Rattle.rart_removal.proofs.remove_below.Goals as goal
 
-pub returns-in_ok-take-in-Leaf-clause-taken : goal.returns-in_ok-take-in-Leaf-clause-taken
-returns-in_ok-take-in-Leaf-clause-taken g c =
+pub returns-in_ok-take-in-Leaf : goal.returns-in_ok-take-in-Leaf
+returns-in_ok-take-in-Leaf g c =
     let s = pointer_shape g.P.Partial.bytes c.args.root.now in
-    leaf-alone s (pointer_shape g.P.Partial.bytes c.take.new.at) c.args.key.now c.requires.tree
-    (subst (λ z. IsPlan g.P.Partial.bytes z c.args.key.now s) c.in-Leaf.is
-    c.in_ok-plan_below.ensures.plan)
-    c.in_ok-take-in-Leaf.ensures.taken
+    let key = c.args.key.now in
+    let leaf =
+    subst (λ z. IsPlan g.P.Partial.bytes z key s) c.in-Leaf.is c.in_ok-plan_below.ensures.plan in
+    let here = found-here s key [] leaf.2 refl in
+    let there = ap is_some here ∙ leaf.1 in
+    let cost = ap plan_cost c.in-Leaf.is in
+    record {
+      taken = leaf-alone s (pointer_shape g.P.Partial.bytes c.take.new.at) key c.requires.tree leaf
+          c.in_ok-take-in-Leaf.ensures.taken;
+      value = c.in_ok-take-in-Leaf.ensures.value ∙ sym here;
+      refused = tt;
+      present = tt;
+      counted = counts-carried c.in_ok-plan_below.ensures.counted
+          c.in_ok-take-in-Leaf.ensures.counted (omega (arith, cost));
+      entered = entered-then c.args.work.now c.in_ok-plan_below.ensures.entered
+          c.in_ok-take-in-Leaf.ensures.counted;
+      absent = λ none. absurd (not-none _ there none);
+      absent_makes_none = λ none. absurd (not-none _ there none);
+    }

@@ -1,9 +1,15 @@
-use Rattle.std.proofs.Common.{arith}
+use Rattle.std.proofs.Common.{arith, rules}
 use Rattle.rart_shape.proofs.CountingLemmas.{counts-then}
 use Rattle.rart_seeking.proofs.first_behind.Goals as goal
 
-pub returns-clause-counted : goal.returns-clause-counted
-returns-clause-counted g c =
+pub returns : goal.returns
+returns g c =
     let longer = c.least.ensures.longer in
-    counts-then c.in_ok-path.ensures.counted c.least.ensures.counted (omega (arith, longer))
-    (omega arith)
+    let before = c.in_ok-path.ensures.entered in
+    let grows = c.least.ensures.counted.entered_grows in
+    record {
+      first = search rules;
+      counted = counts-then c.in_ok-path.ensures.counted c.least.ensures.counted
+          (omega (arith, longer)) (omega arith);
+      entered = omega (arith, before, grows);
+    }

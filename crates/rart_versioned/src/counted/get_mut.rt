@@ -1,23 +1,25 @@
 // Ported from rart 0.11.0 (Apache-2.0), and rewritten.
 //! A value lent for writing.
-ghost use Rattle.std.specs.Prelude.{◌≡◌, ◌+◌, ◌*◌, ◌<◌, ◌^◌, Some, None, IsSome, IsTrue, IfOk, IfErr, OnOk, OnErr};
 ghost use Rattle.std.specs.Borrow.{sem};
 ghost use Rattle.std.specs.Option.{option_map};
+ghost use Rattle.std.specs.Prelude.{◌≡◌, ◌+◌, ◌*◌, ◌<◌, Some, None, IsSome, IsTrue, IfOk, IfErr, OnOk, OnErr};
 ghost use Rattle.rart_below.specs.Clones.{ClonesEqual};
-ghost use Rattle.rart_node.specs.NodeShapes.{pointer_shape};
-ghost use Rattle.rart_node.specs.Counts.{CountsUpTo};
 ghost use Rattle.rart_maps.specs.Bounds.{lookup_bound};
+ghost use Rattle.rart_maps.specs.Versions.{has_key, value_at, HasRoom};
+ghost use Rattle.rart_node.specs.Counts.{CountsUpTo};
+ghost use Rattle.rart_node.specs.NodeShapes.{pointer_shape};
+ghost use Rattle.rart_versioned.specs.Asks.{CanLend};
 ghost use Rattle.rart_versioned.specs.ChangeCounts.{CountsChange};
 ghost use Rattle.rart_versioned.specs.Lent.{LendsValue, LendsFound};
 ghost use Rattle.rart_versioned.specs.Missing.{Explains};
-ghost use Rattle.rart_versioned.specs.Roots.{LendsBelow, IsTreeIn, found_in};
-ghost use Rattle.rart_maps.specs.Versions.{HasRoom, has_key, value_at};
+ghost use Rattle.rart_versioned.specs.Roots.{LendsBelow, found_in};
 
 use crate::counted::missing::{Missing, found_of};
 use crate::counted::tree::VersionedAdaptiveRadixTree;
 use rart_below::{KeyTrait, Partial};
-use rart_lending::{lend_below, path_length};
+use rart_lending::lend_below;
 use rart_node::{NodeRef, Work};
+use rart_search::path_length;
 use std::alloc::AllocError;
 
 /// Lends the value of a key below a root for writing, and then raises the number by one. Refused
@@ -28,9 +30,7 @@ fn lend_in<'a, P: Partial, V: Clone + Drop>(
     key: &[u8],
     work: &mut Work,
 ) -> Result<&'a mut V, Missing>
-    requires clones { ClonesEqual V.is_clone }
-    requires room { number.old + 1 < 2 ^ 64 }
-    requires tree { IsTreeIn (option_map (pointer_shape P.bytes) root.old) }
+    requires { CanLend V.is_clone (option_map (pointer_shape P.bytes) root.old) number.old }
     ensures* writes_back { sem 𝓛 (LendsBelow P.row V.row P.bytes root.entry key.now result) }
     ensures value { IfOk result (λ value.
         found_in (option_map (pointer_shape P.bytes) root.old) key.now

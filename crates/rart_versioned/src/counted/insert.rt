@@ -1,11 +1,8 @@
 // Ported from rart 0.11.0 (Apache-2.0), and rewritten.
 //! Insertion of a value at a key.
-ghost use Rattle.std.specs.Prelude.{◌<◌, ◌≤◌, All, OnOk};
-ghost use Rattle.rart_below.specs.Clones.{ClonesEqual};
-ghost use Rattle.rart_maps.specs.Bounds.{lookup_bound};
-ghost use Rattle.rart_maps.specs.Changes.{Changes, insertion, replacement, replacement_by};
-ghost use Rattle.rart_maps.specs.Versions.{HasRoom};
-ghost use Rattle.rart_versioned.specs.ChangeCounts.{CountsChange};
+ghost use Rattle.rart_maps.specs.Changes.{insertion, replacement, replacement_by};
+ghost use Rattle.rart_versioned.specs.Asks.{CanChange, CanPut, CanSet};
+ghost use Rattle.rart_versioned.specs.KeyChanges.{PutsCounting};
 
 use crate::counted::tree::VersionedAdaptiveRadixTree;
 use rart_below::{KeyTrait, Partial};
@@ -22,15 +19,12 @@ impl<K: KeyTrait, V: Clone + Drop> VersionedAdaptiveRadixTree<K, V> {
         value: V,
         work: &mut Work,
     ) -> Result<bool, AllocError>
-        requires clones { ClonesEqual V.is_clone }
-        requires room { HasRoom self.old 1 }
-        ensures changes { Changes result self.old self.new
-            (insertion self.old (K.bytes key.now) value) }
-        ensures counted { CountsChange (lookup_bound (K.bytes key.now)) self.old
-            (K.bytes key.now) work.old work.new }
-        ensures made { OnOk result (work.old.made < work.new.made) }
+        requires { CanChange V.is_clone self.old 1 }
+        ensures { PutsCounting result self.old self.new
+            (insertion self.old (K.bytes key.now) value) (K.bytes key.now) work.old work.new }
     {
-        Ok(self.put_in(key, value, 1, work)?.is_some())
+        let replaced = self.put_in(key.as_ref(), value, 1, work)?;
+        Ok(replaced.is_some())
     }
 
     /// As `insert_and_replace_k`, counted as by `insert_k_counted`.
@@ -40,13 +34,23 @@ impl<K: KeyTrait, V: Clone + Drop> VersionedAdaptiveRadixTree<K, V> {
         value: V,
         work: &mut Work,
     ) -> Result<Option<V>, AllocError>
-        requires clones { ClonesEqual V.is_clone }
-        requires room { HasRoom self.old 1 }
-        ensures changes { Changes result self.old self.new
-            (replacement self.old (K.bytes key.now) value) }
-        ensures counted { CountsChange (lookup_bound (K.bytes key.now)) self.old
-            (K.bytes key.now) work.old work.new }
-        ensures made { OnOk result (work.old.made < work.new.made) }
+        requires { CanChange V.is_clone self.old 1 }
+        ensures { PutsCounting result self.old self.new
+            (replacement self.old (K.bytes key.now) value) (K.bytes key.now) work.old work.new }
+    {
+        self.insert_and_replace_slice_counted(key.as_ref(), value, work)
+    }
+
+    /// As `insert_and_replace_slice`, counted as by `insert_k_counted`.
+    pub fn insert_and_replace_slice_counted(
+        &mut self,
+        key: &[u8],
+        value: V,
+        work: &mut Work,
+    ) -> Result<Option<V>, AllocError>
+        requires { CanSet V.is_clone K.MAXIMUM_SIZE self.old key.now }
+        ensures { PutsCounting result self.old self.new
+            (replacement self.old key.now value) key.now work.old work.new }
     {
         self.put_in(key, value, 1, work)
     }
@@ -55,47 +59,28 @@ impl<K: KeyTrait, V: Clone + Drop> VersionedAdaptiveRadixTree<K, V> {
     /// Refused for memory, map and number are as before.
     pub(crate) fn put_in(
         &mut self,
-        key: &K,
+        key: &[u8],
         value: V,
         more: u64,
         work: &mut Work,
     ) -> Result<Option<V>, AllocError>
-        requires clones { ClonesEqual V.is_clone }
-        requires room { HasRoom self.old more }
-        requires raised { 1 ≤ more }
-        ensures changes { Changes result self.old self.new
-            (replacement_by more self.old (K.bytes key.now) value) }
-        ensures counted { CountsChange (lookup_bound (K.bytes key.now)) self.old
-            (K.bytes key.now) work.old work.new }
-        ensures made { OnOk result (work.old.made < work.new.made) }
+        requires { CanPut V.is_clone K.MAXIMUM_SIZE self.old key.now more }
+        ensures { PutsCounting result self.old self.new
+            (replacement_by more self.old key.now value) key.now work.old work.new }
     {
-        // Read for the invariant alone: a length is a number of 64 bits, and a byte one of 8.
-        let _length = key.length_at(0);
-        read_bytes(key.as_ref());
         let version = self.version + more;
         match &mut self.root {
             None => {
-                let leaf = leaf_of(self.alloc, key, 0, value, version, work)?;
+                let leaf = leaf_of(self.alloc, key, value, version, work)?;
                 self.root = Some(leaf);
                 self.version = version;
                 Ok(None)
             }
             Some(root) => {
-                let old = insert_below(self.alloc, root, key, 0, value, version, work)?;
+                let old = insert_below(self.alloc, root, key, value, version, work)?;
                 self.version = version;
                 Ok(old)
             }
         }
-    }
-}
-
-/// Reads each byte, and does nothing with it: so it is known that each is one.
-fn read_bytes(bytes: &[u8])
-    ensures { All (λ b. b < 256) bytes.now }
-{
-    let mut index = 0;
-    'reading: while index < bytes.len() {
-        let _byte = bytes[index];
-        index += 1;
     }
 }

@@ -12,10 +12,10 @@ ghost use Rattle.rart_versioned.specs.Meets.{AreRoots, HaveNoCommon};
 use crate::counted::tree::VersionedAdaptiveRadixTree;
 use rart_below::{KeyTrait, LendingKeyView, Partial};
 use rart_lockstep::{
-    ViewTrail, count_common, visit_common, visit_common_keys, visit_common_values,
+    ViewsPath, count_common, visit_common, visit_common_keys, visit_common_values,
 };
 use rart_node::{NodeRef, Work};
-use rart_walks::Trail;
+use rart_walks::KeyPath;
 use std::alloc::AllocError;
 
 impl<K: KeyTrait, V: Clone + Drop> VersionedAdaptiveRadixTree<K, V> {
@@ -63,8 +63,8 @@ impl<K: KeyTrait, V: Clone + Drop> VersionedAdaptiveRadixTree<K, V> {
         match self.both_roots(other) {
             None => Ok(()),
             Some((left, right)) => {
-                let trail: ViewTrail<'a, V> = ViewTrail::new(self.alloc);
-                visit_common(trail, left, right, f, work)
+                let key_path: ViewsPath<'a, V> = ViewsPath::new(self.alloc);
+                visit_common(key_path, left, right, f, work)
             }
         }
     }

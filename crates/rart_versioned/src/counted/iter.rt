@@ -1,52 +1,21 @@
 // Ported from rart 0.11.0 (Apache-2.0), and rewritten.
-//! The pairs of a tree, in the order of their keys: all of them, or those under a prefix. What
-//! their iterator is, and how it is made.
-ghost use Rattle.std.specs.Prelude.{◌≡◌, ◌+◌, ◌<◌, [], ◌∷◌, Some, false, IfSome, IfOk, length};
+//! How the iterator over the pairs of a tree, or under a prefix, is made.
+ghost use Rattle.std.specs.Prelude.{◌≡◌, ◌+◌, ◌<◌, [], ◌∷◌, false, IfSome, IfOk, length};
 ghost use Rattle.rart_maps.specs.Pairs.{pairs, under};
 ghost use Rattle.rart_maps.specs.Versions.{has_no_key};
 ghost use Rattle.rart_node.specs.Counts.{CountsUpTo};
 ghost use Rattle.rart_node.specs.NodeShapes.{pointer_shape};
 ghost use Rattle.rart_shape.specs.Trees.{pairs_of};
 ghost use Rattle.rart_versioned.specs.Entries.{HasKeys, pairs_to_come};
+ghost use Rattle.rart_versioned.specs.Starts.{StartsPairs};
 
 use crate::counted::tree::VersionedAdaptiveRadixTree;
+use crate::iterators::iter::{Entries, VersionedIter};
 use rart_below::{KeyTrait, Partial};
 use rart_node::{NodeRef, Work};
-use rart_walks::{KeyTrail, Walk};
-use std::alloc::{AllocError, Global};
-use std::marker::{Model, PhantomData};
-
-/// The pairs that are still to come.
-#[derive(Drop)]
-pub(crate) enum Entries<'a, P: Partial, V> {
-    /// None: of a tree without a key, or behind the one.
-    Empty,
-    /// One: of a root without children.
-    Entry(&'a [u8], &'a V),
-    /// That of the node where the walk starts, if it has a value, and then those of its children.
-    Walk(Walk<'a, P, V, KeyTrail>),
-}
-
-/// The pairs of a tree, or of a part of it, in the order of their keys.
-///
-/// Contracts see the pairs that are still to come, or `None` behind the end and behind a refusal.
-#[derive(Drop)]
-pub struct VersionedIter<'a, K: KeyTrait, P: Partial, V> {
-    pub(crate) alloc: Global,
-    pub(crate) entries: Option<Entries<'a, P, V>>,
-    key: PhantomData<K>,
-}
-
-impl<'a, K: KeyTrait, P: Partial, V> Model for VersionedIter<'a, K, P, V> {
-    ghost use Rattle.std.specs.Prelude.{List, ℕ, Option, IfSome};
-    ghost use Rattle.rart_versioned.specs.Entries.{HasKeys, entries_left};
-
-    ghost Value = { Option (List (List ℕ × V)) };
-
-    ghost view = { λ iter. entries_left P.bytes iter.entries };
-
-    ghost invariant = { λ iter. IfSome iter.entries (HasKeys P.bytes K.MAXIMUM_SIZE) };
-}
+use rart_walks::Walk;
+use std::alloc::AllocError;
+use std::marker::PhantomData;
 
 /// The pair of a root without children. It enters the root.
 fn entry_of<'a, P: Partial, V: Drop>(
@@ -72,9 +41,7 @@ impl<K: KeyTrait, V: Clone + Drop> VersionedAdaptiveRadixTree<K, V> {
         &self,
         work: &mut Work,
     ) -> Result<VersionedIter<'_, K, K::PartialType, V>, AllocError>
-        ensures pairs { IfOk result (λ iter. iter ≡ Some (pairs self.now.content)) }
-        ensures counted { CountsUpTo 2 0 work.old work.new }
-        ensures entered { has_no_key self.now ≡ false → work.old.entered < work.new.entered }
+        ensures { StartsPairs self.now 2 result (pairs self.now.content) work.old work.new }
     {
         let entries = self.entries(work)?;
         Ok(VersionedIter {
@@ -109,10 +76,8 @@ impl<K: KeyTrait, V: Clone + Drop> VersionedAdaptiveRadixTree<K, V> {
         prefix: &K,
         work: &mut Work,
     ) -> Result<VersionedIter<'_, K, K::PartialType, V>, AllocError>
-        ensures pairs { IfOk result (λ iter. iter
-            ≡ Some (under self.now.content (K.bytes prefix.now))) }
-        ensures counted { CountsUpTo (length (K.bytes prefix.now) + 1) 0 work.old work.new }
-        ensures entered { has_no_key self.now ≡ false → work.old.entered < work.new.entered }
+        ensures { StartsPairs self.now (length (K.bytes prefix.now) + 1) result
+            (under self.now.content (K.bytes prefix.now)) work.old work.new }
     {
         let walk = self.walk_under(prefix.as_ref(), work)?;
         Ok(VersionedIter {

@@ -1,16 +1,17 @@
 // Ported from rart 0.11.0 (Apache-2.0), and rewritten.
 //! The longest of the keys that begin a probe.
-ghost use Rattle.std.specs.Prelude.{◌≡◌, ◌≤◌, ◌<◌, false, length, IfOk, IfSome, IsSome, OnErr};
+ghost use Rattle.std.specs.Prelude.{◌≡◌, ◌<◌, false, IfOk, IsSome, OnErr};
 ghost use Rattle.rart_maps.specs.Bounds.{lookup_bound};
-ghost use Rattle.rart_maps.specs.Pairs.{longest_beginning};
+ghost use Rattle.rart_maps.specs.Pairs.{longest_prefix_match};
 ghost use Rattle.rart_maps.specs.Versions.{has_no_key};
 ghost use Rattle.rart_node.specs.Counts.{CountsUpTo};
-ghost use Rattle.rart_versioned.specs.Longest.{entry_found, prefix_found};
+ghost use Rattle.rart_versioned.specs.Longest.{entry_found};
+ghost use Rattle.rart_versioned.specs.Reads.{FindsLongest};
 
 use crate::counted::tree::VersionedAdaptiveRadixTree;
 use rart_below::{KeyTrait, Partial};
 use rart_node::{NodeRef, Work};
-use rart_visits::longest_beginning;
+use rart_search::longest_prefix_match;
 use std::alloc::AllocError;
 
 impl<K: KeyTrait, V: Clone + Drop> VersionedAdaptiveRadixTree<K, V> {
@@ -22,9 +23,9 @@ impl<K: KeyTrait, V: Clone + Drop> VersionedAdaptiveRadixTree<K, V> {
         work: &mut Work,
     ) -> Result<Option<(K, &V)>, AllocError>
         ensures found { IfOk result (λ found. entry_found K.bytes found
-            ≡ longest_beginning self.now.content (K.bytes probe.now)) }
+            ≡ longest_prefix_match self.now.content (K.bytes probe.now)) }
         ensures present { OnErr result
-            (IsSome (longest_beginning self.now.content (K.bytes probe.now))) }
+            (IsSome (longest_prefix_match self.now.content (K.bytes probe.now))) }
         ensures counted { CountsUpTo (lookup_bound (K.bytes probe.now)) 0 work.old work.new }
         ensures entered { has_no_key self.now ≡ false → work.old.entered < work.new.entered }
     {
@@ -38,15 +39,11 @@ impl<K: KeyTrait, V: Clone + Drop> VersionedAdaptiveRadixTree<K, V> {
 
     /// As `longest_slice`, counted as by `longest_prefix_match_k_counted`.
     pub fn longest_slice_counted(&self, probe: &[u8], work: &mut Work) -> Option<(usize, &V)>
-        ensures found { prefix_found probe.now result
-            ≡ longest_beginning self.now.content probe.now }
-        ensures within { IfSome result (λ found. found.0 ≤ length probe.now) }
-        ensures counted { CountsUpTo (lookup_bound probe.now) 0 work.old work.new }
-        ensures entered { has_no_key self.now ≡ false → work.old.entered < work.new.entered }
+        ensures { FindsLongest self.now probe.now result work.old work.new }
     {
         match &self.root {
             None => None,
-            Some(root) => longest_beginning(root, probe, work),
+            Some(root) => longest_prefix_match(root, probe, work),
         }
     }
 }

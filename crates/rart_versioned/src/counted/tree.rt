@@ -1,7 +1,6 @@
 // Ported from rart 0.11.0 (Apache-2.0), and rewritten.
 //! The tree itself, what contracts see of it, and the calls that make one or read its number.
-ghost use Rattle.std.specs.Prelude.{◌≡◌, ◌≤◌, ℕ, List, length, IfOk, IsTrue};
-ghost use Rattle.std.specs.FinMap as finite;
+ghost use Rattle.std.specs.Prelude.{◌≡◌, ◌≤◌, IfOk};
 
 use rart_below::{KeyTrait, Partial};
 use rart_node::NodeRef;
@@ -51,23 +50,19 @@ impl<K: KeyTrait, V: Clone> Model for VersionedAdaptiveRadixTree<K, V> {
 }
 
 impl<K: KeyTrait, V: Clone + Drop> VersionedAdaptiveRadixTree<K, V> {
-    ghost use Rattle.rart_maps.specs.Lookups.{LacksAll};
-    ghost use Rattle.rart_maps.specs.StartLaws.{HasByteKeys};
-    ghost use Rattle.rart_maps.specs.Versions.{empty_at, with_rise, has_no_key, has_key, HasRoom};
-    ghost use Rattle.rart_versioned.specs.Keys.{IsKeyLength};
+    ghost use Rattle.rart_maps.specs.Versions.{with_rise, has_no_key, HasRoom};
+    ghost use Rattle.rart_versioned.specs.Numbers.{StartsEmpty, TellsNumber};
 
     /// A map without a key, its number 0.
     pub fn new(alloc: Global) -> VersionedAdaptiveRadixTree<K, V>
-        ensures empty { result ≡ empty_at 0 }
-        ensures lacks_all { LacksAll result }
+        ensures { StartsEmpty 0 result }
     {
         VersionedAdaptiveRadixTree::new_at(alloc, 0)
     }
 
     /// As `new`. In Rust this is the trait `Default`.
     pub fn default(alloc: Global) -> VersionedAdaptiveRadixTree<K, V>
-        ensures empty { result ≡ empty_at 0 }
-        ensures lacks_all { LacksAll result }
+        ensures { StartsEmpty 0 result }
     {
         VersionedAdaptiveRadixTree::new(alloc)
     }
@@ -75,8 +70,7 @@ impl<K: KeyTrait, V: Clone + Drop> VersionedAdaptiveRadixTree<K, V> {
     /// A map without a key, with this number. The Rust has no such call: there a new tree has
     /// number 0.
     pub fn new_at(alloc: Global, number: u64) -> VersionedAdaptiveRadixTree<K, V>
-        ensures empty { result ≡ empty_at number }
-        ensures lacks_all { LacksAll result }
+        ensures { StartsEmpty number result }
     {
         VersionedAdaptiveRadixTree {
             alloc,
@@ -98,11 +92,7 @@ impl<K: KeyTrait, V: Clone + Drop> VersionedAdaptiveRadixTree<K, V> {
     /// The number. The map has at most as many keys, and each is a string of bytes, as long as the
     /// key type admits and shorter than 2^64.
     pub fn version(&self) -> u64
-        ensures number { result ≡ self.now.number }
-        ensures keys { finite.len self.now.content ≤ result }
-        ensures lengths { (key : List ℕ) → IsTrue (has_key self.now key)
-            → IsKeyLength K.MAXIMUM_SIZE (length key) }
-        ensures bytes { HasByteKeys self.now.content }
+        ensures { TellsNumber K.MAXIMUM_SIZE result self.now }
     {
         self.version
     }

@@ -1,16 +1,11 @@
 // Ported from rart 0.11.0 (Apache-2.0), and rewritten.
 //! Updates of a key's slot by a callback.
-ghost use Rattle.std.specs.Prelude.{◌≡◌, ◌<◌, IsTrue, IfOk, OnErr, false};
-ghost use Rattle.std.specs.Fn.{FnOnceTakesAtMut};
+ghost use Rattle.std.specs.Prelude.{◌≡◌};
 ghost use Rattle.rart_below.specs.Clones.{ClonesEqual};
-ghost use Rattle.rart_node.specs.Counts.{CountsUpTo};
-ghost use Rattle.rart_maps.specs.Bounds.{lookup_bound, touch_bound, change_bound};
-ghost use Rattle.rart_maps.specs.Changes.{Changes, slot_of};
-ghost use Rattle.rart_maps.specs.Versions.{HasRoom, has_key, value_at, has_no_key};
-ghost use Rattle.rart_versioned.specs.ChangeCounts.{CountsChange, MakesToInsert};
-ghost use Rattle.rart_versioned.specs.SlotChanges.{outcome_of_absent, AsksMemory, change_enters, change_makes, change_of_absent, is_occupied};
-ghost use Rattle.rart_versioned.specs.UpdateCounts.{CountsUpdate};
-ghost use Rattle.rart_versioned.specs.Updates.{Updates};
+ghost use Rattle.rart_versioned.specs.Asks.{CanSettleAbsent, CanUpdate};
+ghost use Rattle.rart_versioned.specs.KeyChanges.{CopiesSlot, SettlesAbsent};
+ghost use Rattle.rart_versioned.specs.KeyUpdates.{UpdatesCounting};
+ghost use Rattle.rart_versioned.specs.SlotChanges.{is_occupied};
 
 use crate::counted::change::Change;
 use crate::counted::tree::VersionedAdaptiveRadixTree;
@@ -31,17 +26,9 @@ impl<K: KeyTrait, V: Clone + Drop> VersionedAdaptiveRadixTree<K, V> {
         f: F,
         work: &mut Work,
     ) -> Result<bool, AllocError>
-        requires clones { ClonesEqual V.is_clone }
-        requires room { HasRoom self.old 1 }
-        requires callable { FnOnceTakesAtMut F.FnOnce f
-            (slot_of (value_at self.old (K.bytes key.now))) }
-        ensures updates { Updates F.FnOnce f self.old (K.bytes key.now) result self.new }
-        ensures counted { CountsChange (touch_bound (K.bytes key.now)) self.old
-            (K.bytes key.now) work.old work.new }
-        ensures absent_makes_none { has_key self.old (K.bytes key.now) ≡ false
-            → MakesToInsert result work.old work.new }
-        ensures counted_by_answer { CountsUpdate F.FnOnce f self.old (K.bytes key.now) result
-            self.new work.old work.new }
+        requires { CanUpdate V.is_clone F.FnOnce f self.old (K.bytes key.now) 1 }
+        ensures { UpdatesCounting F.FnOnce f self.old (K.bytes key.now) result self.new
+            work.old work.new }
     {
         let mut slot = self.slot_at(key, work)?;
         let was_there = is_occupied(&slot);
@@ -56,10 +43,7 @@ impl<K: KeyTrait, V: Clone + Drop> VersionedAdaptiveRadixTree<K, V> {
     /// The slot that a callback is lent, with a copy of the value.
     pub(crate) fn slot_at(&self, key: &K, work: &mut Work) -> Result<Slot<V>, AllocError>
         requires clones { ClonesEqual V.is_clone }
-        ensures slot { IfOk result (λ slot. slot ≡ slot_of (value_at self.now (K.bytes key.now))) }
-        ensures present { OnErr result (IsTrue (has_key self.now (K.bytes key.now))) }
-        ensures counted { CountsUpTo (lookup_bound (K.bytes key.now)) 0 work.old work.new }
-        ensures entered_least { has_no_key self.now ≡ false → work.old.entered < work.new.entered }
+        ensures { CopiesSlot result self.now (K.bytes key.now) work.old work.new }
     {
         match self.get_k_counted(key, work) {
             None => Ok(Slot::Vacant),
@@ -74,22 +58,12 @@ impl<K: KeyTrait, V: Clone + Drop> VersionedAdaptiveRadixTree<K, V> {
         told: SlotUpdate<V>,
         work: &mut Work,
     ) -> Result<bool, AllocError>
-        requires clones { ClonesEqual V.is_clone }
-        requires room { HasRoom self.old 1 }
-        requires absent { has_key self.old (K.bytes key.now) ≡ false }
-        ensures changes { Changes result self.old self.new
-            (outcome_of_absent self.old (K.bytes key.now) told) }
-        ensures memory { OnErr result (AsksMemory told) }
-        ensures counted { CountsUpTo (lookup_bound (K.bytes key.now))
-            (change_bound (K.bytes key.now)) work.old work.new }
-        ensures makes_to_insert { MakesToInsert result work.old work.new }
-        ensures counted_by_answer { CountsUpTo
-            (change_enters (K.bytes key.now) (change_of_absent told))
-            (change_makes (K.bytes key.now) (change_of_absent told)) work.old work.new }
+        requires { CanSettleAbsent V.is_clone self.old (K.bytes key.now) }
+        ensures { SettlesAbsent result self.old self.new (K.bytes key.now) told work.old work.new }
     {
         match told {
             SlotUpdate::Insert(value) => {
-                self.put_in(key, value, 1, work)?;
+                self.put_in(key.as_ref(), value, 1, work)?;
                 Ok(true)
             }
             SlotUpdate::Keep => Ok(false),

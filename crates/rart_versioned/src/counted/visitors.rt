@@ -1,29 +1,28 @@
 // Ported from rart 0.11.0 (Apache-2.0), and rewritten.
 //! Visitors over a tree, and their counts.
-ghost use Rattle.std.specs.Prelude.{◌≡◌, ◌+◌, ◌<◌, ◌≤◌, false, length, map, OnOk};
+ghost use Rattle.std.specs.Prelude.{◌+◌, ◌≤◌, length, map};
 ghost use Rattle.std.specs.Range.Bound.{bound_map};
-ghost use Rattle.rart_maps.specs.Bounds.{range_bound, reach_bound, scan_bound, walk_cost};
 ghost use Rattle.rart_maps.specs.Pairs.{pairs, under, within};
-ghost use Rattle.rart_maps.specs.Versions.{has_no_key};
 ghost use Rattle.rart_maps.specs.Visits.{ByValue, ByView, Visits, Visitable, VisitsUntil, VisitableUntil};
-ghost use Rattle.rart_node.specs.Counts.{CountsUpTo};
-ghost use Rattle.rart_versioned.specs.VisitCounts.{EndsSoon};
 ghost use Rattle.rart_visits.specs.Ends.{Ends};
+ghost use Rattle.rart_versioned.specs.TreeVisits.{VisitsAll, VisitsUnder, VisitsUnderUntil, VisitsWithin};
+ghost use Rattle.rart_versioned.specs.VisitCounts.{EndsSoon};
 
 use crate::counted::tree::VersionedAdaptiveRadixTree;
 use crate::counted::walks::bytes_of;
 use rart_below::{KeyTrait, LendingKeyView, Partial, Refusal, VisitControl};
 use rart_node::Work;
 use rart_visits::{visit_values, visit_values_until, visit_views, visit_views_up_to};
-use rart_walks::{NoTrail, SegmentTrail, Walk};
+use rart_walks::{NoPath, SegmentsPath, Walk};
 use std::alloc::AllocError;
 use std::ops::Bound;
 
 impl<K: KeyTrait, V: Clone + Drop> VersionedAdaptiveRadixTree<K, V> {
     /// As `prefix_for_each_view_k`, with the nodes entered counted into `work`: at most one more
     /// than the prefix has bytes, and one for each string that the prefix begins and that begins a
-    /// key; and at most one more than the prefix has bytes, and two for each key that it begins. One
-    /// at least where there is a key in the map, and, where it isn't refused, one for each pair.
+    /// key; and at most one more than the prefix has bytes, and two for each key that it begins.
+    /// One at least where there is a key in the map, and, where it isn't refused, one for each
+    /// pair.
     pub fn prefix_for_each_view_k_counted<F: FnMut(LendingKeyView<'_, '_>, &V)>(
         &self,
         prefix: &K,
@@ -32,15 +31,9 @@ impl<K: KeyTrait, V: Clone + Drop> VersionedAdaptiveRadixTree<K, V> {
     ) -> Result<(), AllocError>
         requires visitable { Visitable F.FnMut ByView f.old
             (under self.now.content (K.bytes prefix.now)) }
-        ensures visits { Visits F.FnMut ByView result f.old
-            (under self.now.content (K.bytes prefix.now)) f.new }
-        ensures counted { CountsUpTo (reach_bound self.now.content (K.bytes prefix.now)) 0
-            work.old work.new }
-        ensures counted_by_pairs { CountsUpTo (scan_bound self.now.content (K.bytes prefix.now)) 0
-            work.old work.new }
-        ensures entered { has_no_key self.now ≡ false → work.old.entered < work.new.entered }
-        ensures each { OnOk result (work.old.entered
-            + length (under self.now.content (K.bytes prefix.now)) ≤ work.new.entered) }
+        ensures { VisitsUnder (Visits F.FnMut ByView result f.old
+            (under self.now.content (K.bytes prefix.now)) f.new)
+            result (K.bytes prefix.now) self.now work.old work.new }
     {
         let walk = self.walk_under(prefix.as_ref(), work)?;
         visit_views(walk, f, work)
@@ -56,17 +49,11 @@ impl<K: KeyTrait, V: Clone + Drop> VersionedAdaptiveRadixTree<K, V> {
     ) -> Result<(), AllocError>
         requires visitable { Visitable F.FnMut ByValue f.old
             (map (λ pair. pair.1) (under self.now.content (K.bytes prefix.now))) }
-        ensures visits { Visits F.FnMut ByValue result f.old
-            (map (λ pair. pair.1) (under self.now.content (K.bytes prefix.now))) f.new }
-        ensures counted { CountsUpTo (reach_bound self.now.content (K.bytes prefix.now)) 0
-            work.old work.new }
-        ensures counted_by_pairs { CountsUpTo (scan_bound self.now.content (K.bytes prefix.now)) 0
-            work.old work.new }
-        ensures entered { has_no_key self.now ≡ false → work.old.entered < work.new.entered }
-        ensures each { OnOk result (work.old.entered
-            + length (under self.now.content (K.bytes prefix.now)) ≤ work.new.entered) }
+        ensures { VisitsUnder (Visits F.FnMut ByValue result f.old
+            (map (λ pair. pair.1) (under self.now.content (K.bytes prefix.now))) f.new)
+            result (K.bytes prefix.now) self.now work.old work.new }
     {
-        let walk: Walk<'_, K::PartialType, V, NoTrail> = self.walk_under(prefix.as_ref(), work)?;
+        let walk: Walk<'_, K::PartialType, V, NoPath> = self.walk_under(prefix.as_ref(), work)?;
         visit_values(walk, f, work)
     }
 
@@ -83,20 +70,16 @@ impl<K: KeyTrait, V: Clone + Drop> VersionedAdaptiveRadixTree<K, V> {
     ) -> Result<(), Refusal<E>>
         requires visitable { VisitableUntil F.FnMut ByValue f.old
             (map (λ pair. pair.1) (under self.now.content (K.bytes prefix.now))) }
-        ensures visits { VisitsUntil F.FnMut ByValue result f.old
-            (map (λ pair. pair.1) (under self.now.content (K.bytes prefix.now))) f.new }
-        ensures counted { CountsUpTo (reach_bound self.now.content (K.bytes prefix.now)) 0
-            work.old work.new }
-        ensures counted_by_pairs { CountsUpTo (scan_bound self.now.content (K.bytes prefix.now)) 0
-            work.old work.new }
-        ensures entered { has_no_key self.now ≡ false → work.old.entered < work.new.entered }
-        ensures ends { Ends F.FnMut ByValue
+        ensures { VisitsUnderUntil (VisitsUntil F.FnMut ByValue result f.old
+            (map (λ pair. pair.1) (under self.now.content (K.bytes prefix.now))) f.new)
+            (Ends F.FnMut ByValue
             (work.old.entered + length (under self.now.content (K.bytes prefix.now))
             ≤ work.new.entered)
             (EndsSoon (K.bytes prefix.now) work.old work.new)
-            result f.old (under self.now.content (K.bytes prefix.now)) f.new }
+            result f.old (under self.now.content (K.bytes prefix.now)) f.new)
+            (K.bytes prefix.now) self.now work.old work.new }
     {
-        let walk: Result<Walk<'_, K::PartialType, V, NoTrail>, AllocError> = self.walk_under(
+        let walk: Result<Walk<'_, K::PartialType, V, NoPath>, AllocError> = self.walk_under(
             prefix.as_ref(),
             work,
         );
@@ -116,11 +99,8 @@ impl<K: KeyTrait, V: Clone + Drop> VersionedAdaptiveRadixTree<K, V> {
         work: &mut Work,
     ) -> Result<(), AllocError>
         requires visitable { Visitable F.FnMut ByView f.old (pairs self.now.content) }
-        ensures visits { Visits F.FnMut ByView result f.old (pairs self.now.content) f.new }
-        ensures counted { CountsUpTo (walk_cost self.now.content) 0 work.old work.new }
-        ensures entered { OnOk result (work.new.entered
-            ≡ work.old.entered + walk_cost self.now.content) }
-        ensures entered_least { has_no_key self.now ≡ false → work.old.entered < work.new.entered }
+        ensures { VisitsAll (Visits F.FnMut ByView result f.old (pairs self.now.content) f.new)
+            result self.now work.old work.new }
     {
         let walk = self.whole_walk(work)?;
         visit_views(walk, f, work)
@@ -138,13 +118,10 @@ impl<K: KeyTrait, V: Clone + Drop> VersionedAdaptiveRadixTree<K, V> {
     ) -> Result<(), AllocError>
         requires visitable { Visitable F.FnMut ByView f.old (within self.now.content
             (bound_map K.bytes range.0) (bound_map K.bytes range.1)) }
-        ensures visits { Visits F.FnMut ByView result f.old (within self.now.content
-            (bound_map K.bytes range.0) (bound_map K.bytes range.1)) f.new }
-        ensures counted { CountsUpTo (range_bound self.now.content
-            (bound_map K.bytes range.0) (bound_map K.bytes range.1)) 0 work.old work.new }
-        ensures entered { has_no_key self.now ≡ false → work.old.entered < work.new.entered }
-        ensures each { OnOk result (work.old.entered + length (within self.now.content
-            (bound_map K.bytes range.0) (bound_map K.bytes range.1)) ≤ work.new.entered) }
+        ensures { VisitsWithin (Visits F.FnMut ByView result f.old (within self.now.content
+            (bound_map K.bytes range.0) (bound_map K.bytes range.1)) f.new)
+            result (bound_map K.bytes range.0) (bound_map K.bytes range.1) self.now
+            work.old work.new }
     {
         let (low, high) = range;
         self.visit_range(bytes_of(&low), bytes_of(&high), f, work)
@@ -160,16 +137,11 @@ impl<K: KeyTrait, V: Clone + Drop> VersionedAdaptiveRadixTree<K, V> {
     ) -> Result<(), AllocError>
         requires visitable { Visitable F.FnMut ByView f.old (within self.now.content
             (bound_map (λ low. low.now) low) (bound_map (λ high. high.now) high)) }
-        ensures visits { Visits F.FnMut ByView result f.old (within self.now.content
+        ensures { VisitsWithin (Visits F.FnMut ByView result f.old (within self.now.content
             (bound_map (λ low. low.now) low.entry) (bound_map (λ high. high.now) high.entry))
-            f.new }
-        ensures counted { CountsUpTo (range_bound self.now.content
-            (bound_map (λ low. low.now) low.entry) (bound_map (λ high. high.now) high.entry)) 0
-            work.old work.new }
-        ensures entered { has_no_key self.now ≡ false → work.old.entered < work.new.entered }
-        ensures each { OnOk result (work.old.entered + length (within self.now.content
-            (bound_map (λ low. low.now) low.entry) (bound_map (λ high. high.now) high.entry))
-            ≤ work.new.entered) }
+            f.new) result
+            (bound_map (λ low. low.now) low.entry) (bound_map (λ high. high.now) high.entry)
+            self.now work.old work.new }
     {
         let walk = self.walk_from(low, work)?;
         visit_views_up_to(walk, high, f, work)

@@ -1,24 +1,22 @@
 // Ported from rart 0.11.0 (Apache-2.0), and rewritten.
 //! The ways down to where a walk starts.
-ghost use Rattle.std.specs.Prelude.{◌≡◌, ◌+◌, ◌<◌, ◌≤◌, ◌⊎◌, ◌&&◌, [], ◌∷◌, ◌++◌, List, length, filter, count_by, if◌then◌else◌, IfOk, OnOk, None};
-ghost use Rattle.std.specs.Option.{option_copied};
+ghost use Rattle.std.specs.Prelude.{◌≡◌, ◌+◌, ◌&&◌, [], length, if◌then◌else◌};
 ghost use Rattle.std.specs.Ordering.{as_partial_cmp, is_lt};
 ghost use Rattle.std.specs.Range.Bound.{is_from_start, bound_map};
-ghost use Rattle.rart_below.specs.Bytes.{begins, byte_order, common_length};
+ghost use Rattle.rart_below.specs.Bytes.{begins, byte_order};
 ghost use Rattle.rart_below.specs.Children.{children_from};
-ghost use Rattle.rart_node.specs.Counts.{CountsUpTo};
 ghost use Rattle.rart_node.specs.NodeShapes.{node_shape, pointer_shape};
-ghost use Rattle.rart_node.specs.Shape.{IsAscending, prefix_of, children_of};
+ghost use Rattle.rart_node.specs.Shape.{IsAscending, children_of};
 ghost use Rattle.rart_node.specs.VersionedNodeIter.{children_left};
 ghost use Rattle.rart_shape.specs.Trees.{IsTree, pairs_of, path_bound};
-ghost use Rattle.std.specs.List.{concat};
-ghost use Rattle.rart_walks.specs.Frames.{behind_path, under_path, pairs_inside};
-ghost use Rattle.rart_walks.specs.WalkFields.{open_nodes, position, path_to, at_hand, IsWalk};
+ghost use Rattle.rart_walks.specs.Frames.{pairs_inside};
+ghost use Rattle.rart_walks.specs.Openings.{EndsIn, EntersEnd, Finishes, StandsAbove};
 ghost use Rattle.rart_walks.specs.Parts.{keeps, reaches, goes_on, is_strict, start_of};
-ghost use Rattle.rart_walks.specs.Walks.{AreShort, IsEndOf, paths_of};
+ghost use Rattle.rart_walks.specs.Walked.{StartsWithin};
+ghost use Rattle.rart_walks.specs.Walks.{AreShort};
 
 use super::Walk;
-use crate::trail::Trail;
+use crate::key_path::KeyPath;
 use rart_below::Partial;
 use rart_node::{NodeRef, VersionedNode, VersionedNodeIter, Work};
 use rart_shape::rest_of;
@@ -58,7 +56,7 @@ impl Part {
     }
 }
 
-impl<'a, P: Partial, V: Drop, T: Trail<'a>> Walk<'a, P, V, T> {
+impl<'a, P: Partial, V: Drop, T: KeyPath<'a>> Walk<'a, P, V, T> {
     /// A walk over the keys that a prefix begins. It enters the nodes on the way down to them: at
     /// most one for each byte of the prefix, and one; and the root at least.
     ///
@@ -71,17 +69,9 @@ impl<'a, P: Partial, V: Drop, T: Trail<'a>> Walk<'a, P, V, T> {
     ) -> Result<Walk<'a, P, V, T>, AllocError>
         requires tree { IsTree (pointer_shape P.bytes root.now) }
         requires short { AreShort T.greatest (pairs_of (pointer_shape P.bytes root.now)) }
-        ensures walk { IfOk result (IsWalk P.bytes T.holds T.greatest) }
-        ensures pairs { IfOk result (λ walk. (position P.bytes walk).pairs
-            ≡ filter (λ p. begins prefix.now p.0) (pairs_of (pointer_shape P.bytes root.now))) }
-        ensures nodes { IfOk result (λ walk. length (position P.bytes walk).places
-            ≤ count_by (begins prefix.now) (paths_of (pointer_shape P.bytes root.now))) }
-        ensures places { IfOk result (λ walk. IsEndOf (position P.bytes walk).places
-            (filter (begins prefix.now) (paths_of (pointer_shape P.bytes root.now)))) }
-        ensures counted { CountsUpTo (length prefix.now + 1) 0 work.old work.new }
-        ensures entered { work.old.entered < work.new.entered }
-        ensures at_hand { IfOk result (λ walk. work.old.entered + at_hand walk
-            ≤ work.new.entered) }
+        ensures { StartsWithin P.bytes T.holds T.greatest result (begins prefix.now)
+            (begins prefix.now) (length prefix.now + 1) (pointer_shape P.bytes root.now)
+            work.old work.new }
     {
         along_path(alloc, root, Part::Under, prefix, work)
     }
@@ -98,20 +88,11 @@ impl<'a, P: Partial, V: Drop, T: Trail<'a>> Walk<'a, P, V, T> {
     ) -> Result<Walk<'a, P, V, T>, AllocError>
         requires tree { IsTree (pointer_shape P.bytes root.now) }
         requires short { AreShort T.greatest (pairs_of (pointer_shape P.bytes root.now)) }
-        ensures walk { IfOk result (IsWalk P.bytes T.holds T.greatest) }
-        ensures pairs { IfOk result (λ walk. (position P.bytes walk).pairs
-            ≡ filter (λ pair. is_from_start (as_partial_cmp byte_order)
-            (bound_map (λ low. low.now) low.entry) pair.0)
-            (pairs_of (pointer_shape P.bytes root.now))) }
-        ensures places { IfOk result (λ walk. IsEndOf (position P.bytes walk).places
-            (filter (λ path. is_lt (byte_order
-            (start_of (bound_map (λ low. low.now) low.entry)) path))
-            (paths_of (pointer_shape P.bytes root.now)))) }
-        ensures counted { CountsUpTo
-            (length (start_of (bound_map (λ low. low.now) low.entry)) + 1) 0 work.old work.new }
-        ensures entered { work.old.entered < work.new.entered }
-        ensures at_hand { IfOk result (λ walk. work.old.entered + at_hand walk
-            ≤ work.new.entered) }
+        ensures { StartsWithin P.bytes T.holds T.greatest result
+            (is_from_start (as_partial_cmp byte_order) (bound_map (λ low. low.now) low.entry))
+            (λ path. is_lt (byte_order (start_of (bound_map (λ low. low.now) low.entry)) path))
+            (length (start_of (bound_map (λ low. low.now) low.entry)) + 1)
+            (pointer_shape P.bytes root.now) work.old work.new }
     {
         match low {
             Bound::Included(low) => along_path(alloc, root, Part::From, low, work),
@@ -122,7 +103,7 @@ impl<'a, P: Partial, V: Drop, T: Trail<'a>> Walk<'a, P, V, T> {
 }
 
 // The way down to the part of a tree that a string picks.
-fn along_path<'a, P: Partial, V: Drop, T: Trail<'a>>(
+fn along_path<'a, P: Partial, V: Drop, T: KeyPath<'a>>(
     alloc: Global,
     root: &'a NodeRef<P, V>,
     part: Part,
@@ -131,14 +112,9 @@ fn along_path<'a, P: Partial, V: Drop, T: Trail<'a>>(
 ) -> Result<Walk<'a, P, V, T>, AllocError>
     requires tree { IsTree (pointer_shape P.bytes root.now) }
     requires short { AreShort T.greatest (pairs_of (pointer_shape P.bytes root.now)) }
-    ensures walk { IfOk result (IsWalk P.bytes T.holds T.greatest) }
-    ensures pairs { IfOk result (λ walk. (position P.bytes walk).pairs
-        ≡ filter (λ p. keeps part probe.now p.0) (pairs_of (pointer_shape P.bytes root.now))) }
-    ensures places { IfOk result (λ walk. IsEndOf (position P.bytes walk).places
-        (filter (reaches part probe.now) (paths_of (pointer_shape P.bytes root.now)))) }
-    ensures counted { CountsUpTo (path_bound (pointer_shape P.bytes root.now) probe.now) 0
-        work.old work.new }
-    ensures entered { work.old.entered < work.new.entered }
+    ensures { StartsWithin P.bytes T.holds T.greatest result (keeps part probe.now)
+        (reaches part probe.now) (path_bound (pointer_shape P.bytes root.now) probe.now)
+        (pointer_shape P.bytes root.now) work.old work.new }
 {
     let mut walk = Walk::new(alloc);
     let mut at = root;
@@ -163,31 +139,18 @@ fn along_path<'a, P: Partial, V: Drop, T: Trail<'a>>(
 
 // Ends a way at a node, of whose prefix the string has not the whole, or has no more: what is in
 // the part of its pairs is left then.
-fn finish<'a, P: Partial, V: Drop, T: Trail<'a>>(
+fn finish<'a, P: Partial, V: Drop, T: KeyPath<'a>>(
     walk: &mut Walk<'a, P, V, T>,
     node: &'a VersionedNode<P, V>,
     part: Part,
     rest: &[u8],
     common: usize,
 ) -> Result<(), AllocError>
-    requires walk { IsWalk P.bytes T.holds T.greatest walk.old }
-    requires leaf { walk.old.leaf ≡ None }
-    requires pending { walk.old.pending ≡ None }
-    requires tree { IsTree (node_shape P.bytes node.now) }
-    requires short { AreShort T.greatest (behind_path (concat (position P.bytes walk.old).segments)
-        (pairs_of (node_shape P.bytes node.now))) }
-    requires common { common ≡ common_length (prefix_of (node_shape P.bytes node.now)) rest.now }
-    requires ends { (common ≡ length rest.now)
-        ⊎ (common < length (prefix_of (node_shape P.bytes node.now))) }
-    ensures walk { OnOk result (IsWalk P.bytes T.holds T.greatest walk.new) }
-    ensures pairs { OnOk result ((position P.bytes walk.new).pairs
-        ≡ behind_path (concat (position P.bytes walk.old).segments)
-        (filter (λ pair. keeps part rest.now pair.0) (pairs_of (node_shape P.bytes node.now)))
-        ++ (position P.bytes walk.old).pairs) }
-    ensures places { OnOk result (IsEndOf (position P.bytes walk.new).places
-        (under_path (concat (position P.bytes walk.old).segments)
-        (filter (reaches part rest.now) (paths_of (node_shape P.bytes node.now)))
-        ++ (position P.bytes walk.old).places)) }
+    requires above { StandsAbove P.bytes T.holds T.greatest (node_shape P.bytes node.now)
+        walk.old }
+    requires here { EndsIn common rest.now (node_shape P.bytes node.now) }
+    ensures { Finishes P.bytes T.holds T.greatest walk.old result part rest.now
+        (node_shape P.bytes node.now) walk.new }
 {
     if common == rest.len() {
         let is_passed = passes_own(part, common == node.prefix().len());
@@ -211,26 +174,15 @@ fn passes_own(part: Part, is_whole: bool) -> bool
 
 // Enters the node at the end of a way. Its children are left then, and its value, unless that is
 // passed.
-fn enter_end<'a, P: Partial, V: Drop, T: Trail<'a>>(
+fn enter_end<'a, P: Partial, V: Drop, T: KeyPath<'a>>(
     walk: &mut Walk<'a, P, V, T>,
     node: &'a VersionedNode<P, V>,
     is_passed: bool,
 ) -> Result<(), AllocError>
-    requires walk { IsWalk P.bytes T.holds T.greatest walk.old }
-    requires leaf { walk.old.leaf ≡ None }
-    requires pending { walk.old.pending ≡ None }
-    requires tree { IsTree (node_shape P.bytes node.now) }
-    requires short { AreShort T.greatest (behind_path (concat (position P.bytes walk.old).segments)
-        (pairs_of (node_shape P.bytes node.now))) }
-    ensures walk { OnOk result (IsWalk P.bytes T.holds T.greatest walk.new) }
-    ensures pairs { OnOk result ((position P.bytes walk.new).pairs
-        ≡ behind_path (concat (position P.bytes walk.old).segments)
+    requires { StandsAbove P.bytes T.holds T.greatest (node_shape P.bytes node.now) walk.old }
+    ensures { EntersEnd P.bytes T.holds T.greatest walk.old result (node_shape P.bytes node.now)
         (if is_passed then pairs_inside (node_shape P.bytes node.now)
-        else pairs_of (node_shape P.bytes node.now))
-        ++ (position P.bytes walk.old).pairs) }
-    ensures places { OnOk result (path_to P.bytes walk.new ∷ (position P.bytes walk.new).places
-        ≡ under_path (concat (position P.bytes walk.old).segments)
-        (paths_of (node_shape P.bytes node.now)) ++ (position P.bytes walk.old).places) }
+        else pairs_of (node_shape P.bytes node.now)) walk.new }
 {
     walk.enter_whole(node)?;
     if is_passed {

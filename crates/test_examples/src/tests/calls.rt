@@ -1,9 +1,9 @@
 //! The functions that show the calls of a tree.
 
+use example_tree::in_common::{PricedTwice, prices_both_ways, prices_of_both};
 use example_tree::listing::{
     all_prices, follows_a_refusal, listing, listing_along, listing_between, listing_under,
 };
-use example_tree::meeting::{PricedTwice, prices_both_ways, prices_of_both};
 use example_tree::prices::{
     PriceList, before_and_after, set_price, set_price_counted, try_set_price,
 };

@@ -6,7 +6,7 @@ use rart_family::{KeyTrait, Reply, VectorKey};
 pub type Pair<'a> = (&'a [u8], u64);
 
 /// A key and its values in two versions.
-pub type Meeting<'a> = (&'a [u8], u64, u64);
+pub type OnCommonKey<'a> = (&'a [u8], u64, u64);
 
 /// A reply of a family that succeeded.
 #[derive(Clone, Copy)]
@@ -19,7 +19,7 @@ pub enum Answer<'a> {
     Entries(&'a [Pair<'a>]),
     Values(&'a [u64]),
     Stopped(&'a [u64], bool),
-    Pairs(&'a [Meeting<'a>]),
+    Pairs(&'a [OnCommonKey<'a>]),
     ValuePairs(&'a [(u64, u64)]),
     Count(usize),
     Failed,
@@ -72,7 +72,7 @@ fn are_values(values: &[Fragile], wanted: &[u64]) -> bool {
     values.len() == wanted.len()
 }
 
-fn are_meetings(entries: &[(VectorKey, Fragile, Fragile)], wanted: &[Meeting]) -> bool {
+fn are_meetings(entries: &[(VectorKey, Fragile, Fragile)], wanted: &[OnCommonKey]) -> bool {
     for ((key, left, right), meeting) in entries.iter().zip(wanted) {
         if key.as_ref() != meeting.0 || left.number() != meeting.1 || right.number() != meeting.2 {
             return false;

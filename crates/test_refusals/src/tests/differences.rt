@@ -1,4 +1,4 @@
-// Each call that tells what changed between two versions: what it tells is a beginning of the
+// Each call that tells what changed between two versions: what it tells is a prefix of the
 // changes, and all of them where it is not refused. `checks/refusals` looks for what these tests
 // print: that each of the calls was refused.
 ghost use Rattle.std.specs.Prelude.{IsTrue};
@@ -149,29 +149,29 @@ fn assert_tells<R: Abort + Print>(rt: &R, alloc: Global, diff: Diff) -> Result<(
     for _ in 0..2 {
         let mut told = Told::new(CHANGES);
         let answer = diff.tell(&versions.before, &versions.after, &mut told);
-        assert!(rt; told.is_beginning());
+        assert!(rt; told.is_prefix());
         if answer.is_ok() {
             assert!(rt; told.is_whole());
             return Ok(());
         }
         print_refusal(rt, diff.name())?;
     }
-    assert!(rt; false, "want of memory that is there");
+    assert!(rt; false, "out of memory where there is some");
     Ok(())
 }
 
 #[test]
-fn diff_tells_a_beginning(rt: HostRuntime) -> Result<(), Fail> {
+fn diff_tells_a_prefix(rt: HostRuntime) -> Result<(), Fail> {
     assert_tells(&rt, rt.alloc(), Diff::Keys)
 }
 
 #[test]
-fn diff_by_views_tells_a_beginning(rt: HostRuntime) -> Result<(), Fail> {
+fn diff_by_views_tells_a_prefix(rt: HostRuntime) -> Result<(), Fail> {
     assert_tells(&rt, rt.alloc(), Diff::Views)
 }
 
 #[test]
-fn diff_that_may_end_tells_a_beginning(rt: HostRuntime) -> Result<(), Fail> {
+fn diff_that_may_end_tells_a_prefix(rt: HostRuntime) -> Result<(), Fail> {
     assert_tells(&rt, rt.alloc(), Diff::ViewsUntil)
 }
 
@@ -185,7 +185,7 @@ fn count_of_changes_survives_refusals(rt: HostRuntime) -> Result<(), Fail> {
         }
         print_refusal(&rt, "diff_count")?;
     }
-    assert!(rt; false, "want of memory that is there");
+    assert!(rt; false, "out of memory where there is some");
     Ok(())
 }
 
@@ -203,7 +203,7 @@ fn assert_equals<R: Abort + Print>(
         }
         print_refusal(rt, "equals")?;
     }
-    assert!(rt; false, "want of memory that is there");
+    assert!(rt; false, "out of memory where there is some");
     Ok(())
 }
 

@@ -1,4 +1,4 @@
-// An iterator whose memory is refused on its way gives a beginning of its list, tells that once,
+// An iterator whose memory is refused on its way gives a prefix of its list, tells that once,
 // and is over. `checks/refusals` looks for what these tests print: that each of the five was
 // refused on its way.
 ghost use Rattle.std.specs.Prelude.{IsTrue};

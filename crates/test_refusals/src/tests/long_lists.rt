@@ -59,7 +59,7 @@ fn make_keys(alloc: Global, family: &mut Numbers) -> Result<(), AllocError> {
 
 const CHAIN: &[u8] = b"aaaaaaaaaaaaaaaa";
 
-// At place 2 the beginnings of a key of 16 bytes, but the empty one.
+// At place 2 the prefixes of a key of 16 bytes, but the empty one.
 fn make_chain(alloc: Global, family: &mut Numbers) -> Result<(), AllocError> {
     replied(family, &Command::New)?;
     for (start, _byte) in CHAIN.iter().enumerate() {
@@ -130,7 +130,7 @@ fn chains(alloc: Global) -> Result<Vec<NumberCommand>, AllocError> {
     Ok(chains)
 }
 
-// Whether each command is replied a list of so many.
+// Whether each command is replied a list of `count`.
 fn each_lists(
     family: &mut Numbers,
     commands: &[NumberCommand],

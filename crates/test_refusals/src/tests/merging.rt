@@ -188,7 +188,7 @@ fn assert_made<R: Abort + Print>(
             println!(rt; "{} was refused", call.name())?;
         }
     }
-    assert!(rt; false, "want of memory that is there");
+    assert!(rt; false, "out of memory where there is some");
     Ok(false)
 }
 

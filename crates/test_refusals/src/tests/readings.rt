@@ -1,4 +1,4 @@
-// Each call that reads in order and takes memory for it: what it shows or gives is a beginning of
+// Each call that reads in order and takes memory for it: what it shows or gives is a prefix of
 // its list, and the whole list where it is not refused.
 ghost use Rattle.std.specs.Iterator.{IsFinite};
 
@@ -158,49 +158,49 @@ fn assert_reads<'a>(
         for _ in 0..2 {
             let mut seen = Seen::new(wanted);
             let answer = read(alloc, left, right, reading, &mut seen);
-            assert!(rt; seen.is_beginning());
+            assert!(rt; seen.is_prefix());
             if answer.is_ok() {
                 assert!(rt; seen.is_whole());
                 return Ok(());
             }
         }
     }
-    assert!(rt; false, "want of memory that is there");
+    assert!(rt; false, "out of memory where there is some");
     Ok(())
 }
 
 #[test]
-fn iterator_gives_a_beginning(rt: HostRuntime) -> Result<(), Fail> {
+fn iterator_gives_a_prefix(rt: HostRuntime) -> Result<(), Fail> {
     assert_reads(&rt, rt.alloc(), Reading::Iter, ABC_ABD_ABE)
 }
 
 #[test]
-fn iterator_over_values_gives_a_beginning(rt: HostRuntime) -> Result<(), Fail> {
+fn iterator_over_values_gives_a_prefix(rt: HostRuntime) -> Result<(), Fail> {
     assert_reads(&rt, rt.alloc(), Reading::ValuesIter, ABC_ABD_ABE)
 }
 
 #[test]
-fn iterator_over_a_range_gives_a_beginning(rt: HostRuntime) -> Result<(), Fail> {
+fn iterator_over_a_range_gives_a_prefix(rt: HostRuntime) -> Result<(), Fail> {
     assert_reads(&rt, rt.alloc(), Reading::Range, &[(b"abd", 2), (b"abe", 3)])
 }
 
 #[test]
-fn iterator_under_a_prefix_gives_a_beginning(rt: HostRuntime) -> Result<(), Fail> {
+fn iterator_under_a_prefix_gives_a_prefix(rt: HostRuntime) -> Result<(), Fail> {
     assert_reads(&rt, rt.alloc(), Reading::PrefixIter, ABC_ABD_ABE)
 }
 
 #[test]
-fn iterator_along_a_probe_gives_a_beginning(rt: HostRuntime) -> Result<(), Fail> {
+fn iterator_along_a_probe_gives_a_prefix(rt: HostRuntime) -> Result<(), Fail> {
     assert_reads(&rt, rt.alloc(), Reading::PrefixMatchIter, &[(b"abd", 2)])
 }
 
 #[test]
-fn visitor_shows_a_beginning(rt: HostRuntime) -> Result<(), Fail> {
+fn visitor_shows_a_prefix(rt: HostRuntime) -> Result<(), Fail> {
     assert_reads(&rt, rt.alloc(), Reading::Views, ABC_ABD_ABE)
 }
 
 #[test]
-fn visitor_of_a_range_shows_a_beginning(rt: HostRuntime) -> Result<(), Fail> {
+fn visitor_of_a_range_shows_a_prefix(rt: HostRuntime) -> Result<(), Fail> {
     assert_reads(
         &rt,
         rt.alloc(),
@@ -210,27 +210,27 @@ fn visitor_of_a_range_shows_a_beginning(rt: HostRuntime) -> Result<(), Fail> {
 }
 
 #[test]
-fn visitor_under_a_prefix_shows_a_beginning(rt: HostRuntime) -> Result<(), Fail> {
+fn visitor_under_a_prefix_shows_a_prefix(rt: HostRuntime) -> Result<(), Fail> {
     assert_reads(&rt, rt.alloc(), Reading::PrefixViews, ABC_ABD_ABE)
 }
 
 #[test]
-fn visitor_of_values_shows_a_beginning(rt: HostRuntime) -> Result<(), Fail> {
+fn visitor_of_values_shows_a_prefix(rt: HostRuntime) -> Result<(), Fail> {
     assert_reads(&rt, rt.alloc(), Reading::PrefixValues, ABC_ABD_ABE)
 }
 
 #[test]
-fn visitor_that_may_end_shows_a_beginning(rt: HostRuntime) -> Result<(), Fail> {
+fn visitor_that_may_end_shows_a_prefix(rt: HostRuntime) -> Result<(), Fail> {
     assert_reads(&rt, rt.alloc(), Reading::TryPrefixValues, ABC_ABD_ABE)
 }
 
 #[test]
-fn intersection_shows_a_beginning(rt: HostRuntime) -> Result<(), Fail> {
+fn intersection_shows_a_prefix(rt: HostRuntime) -> Result<(), Fail> {
     assert_reads(&rt, rt.alloc(), Reading::Intersect, ABC_ABD)
 }
 
 #[test]
-fn intersection_by_views_shows_a_beginning(rt: HostRuntime) -> Result<(), Fail> {
+fn intersection_by_views_shows_a_prefix(rt: HostRuntime) -> Result<(), Fail> {
     assert_reads(&rt, rt.alloc(), Reading::IntersectLending, ABC_ABD)
 }
 
@@ -259,7 +259,7 @@ fn assert_handed_back(rt: &impl Abort, alloc: Global, clone: u64) -> Result<bool
         assert_eq!(rt; version.version(), 3);
         assert!(rt; has_pairs(&version, ABC_ABD_ABE)?);
     }
-    assert!(rt; false, "want of memory that is there");
+    assert!(rt; false, "out of memory where there is some");
     Ok(false)
 }
 

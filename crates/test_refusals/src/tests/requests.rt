@@ -5,6 +5,7 @@ ghost use Rattle.rart_maps.specs.Versions.{HasRoom};
 
 use rart_family::{KeyTrait, Slot, SlotUpdate, VectorKey, VersionedAdaptiveRadixTree};
 use std::alloc::{AllocError, Global};
+use std::ops::Bound;
 use std::process::Abort;
 use std::test::Fail;
 
@@ -47,6 +48,7 @@ fn read(rt: &impl Abort, it: &Prepared) {
     assert_eq!(rt; it.tree.get_k(&it.present).copied(), Some(0));
     assert_eq!(rt; it.tree.get_slice(b"team").copied(), Some(1));
     assert!(rt; it.tree.longest_slice(b"teapot").is_some());
+    assert!(rt; it.tree.has_within(Bound::Excluded(b"te"), Bound::Unbounded));
     assert!(rt; matches!(it.tree.longest_prefix_match_k(&it.absent), Ok(None)));
     it.tree.prefix_match_for_each_k(
         &it.longer,

@@ -9,7 +9,7 @@ use std::cmp::Ordering;
 pub struct Seen<'a> {
     wanted: &'a [Pair<'a>],
     seen: usize,
-    is_beginning: bool,
+    is_prefix: bool,
 }
 
 impl<'a> Seen<'a> {
@@ -18,36 +18,36 @@ impl<'a> Seen<'a> {
         Seen {
             wanted,
             seen: 0,
-            is_beginning: true,
+            is_prefix: true,
         }
     }
 
-    /// Whether what was seen is a beginning of the list.
-    pub fn is_beginning(&self) -> bool {
-        self.is_beginning
+    /// Whether what was seen is a prefix of the list.
+    pub fn is_prefix(&self) -> bool {
+        self.is_prefix
     }
 
     /// Whether what was seen is the list.
     pub fn is_whole(&self) -> bool {
-        self.is_beginning && self.seen == self.wanted.len()
+        self.is_prefix && self.seen == self.wanted.len()
     }
 
     /// Something was seen that can't be in the list.
     pub fn see_something_else(&mut self) {
-        self.is_beginning = false;
+        self.is_prefix = false;
     }
 
     pub fn see_key(&mut self, key: &[u8], value: &Fragile) {
-        self.is_beginning = match self.next() {
-            Some((bytes, number)) => self.is_beginning && key == bytes && value.number() == number,
+        self.is_prefix = match self.next() {
+            Some((bytes, number)) => self.is_prefix && key == bytes && value.number() == number,
             None => false,
         };
     }
 
     pub fn see_view(&mut self, key: &LendingKeyView<'_, '_>, value: &Fragile) {
-        self.is_beginning = match self.next() {
+        self.is_prefix = match self.next() {
             Some((bytes, number)) => {
-                self.is_beginning
+                self.is_prefix
                     && key.cmp_slice(bytes) == Ordering::Equal
                     && value.number() == number
             }
@@ -56,8 +56,8 @@ impl<'a> Seen<'a> {
     }
 
     pub fn see_value(&mut self, value: &Fragile) {
-        self.is_beginning = match self.next() {
-            Some((_bytes, number)) => self.is_beginning && value.number() == number,
+        self.is_prefix = match self.next() {
+            Some((_bytes, number)) => self.is_prefix && value.number() == number,
             None => false,
         };
     }

@@ -10,7 +10,7 @@ pub type Change<'a> = (&'a [u8], Option<u64>, Option<u64>);
 pub struct Told<'a> {
     wanted: &'a [Change<'a>],
     told: usize,
-    is_beginning: bool,
+    is_prefix: bool,
 }
 
 impl<'a> Told<'a> {
@@ -19,24 +19,24 @@ impl<'a> Told<'a> {
         Told {
             wanted,
             told: 0,
-            is_beginning: true,
+            is_prefix: true,
         }
     }
 
-    /// Whether what was told is a beginning of the changes.
-    pub fn is_beginning(&self) -> bool {
-        self.is_beginning
+    /// Whether what was told is a prefix of the changes.
+    pub fn is_prefix(&self) -> bool {
+        self.is_prefix
     }
 
     /// Whether what was told is all changes.
     pub fn is_whole(&self) -> bool {
-        self.is_beginning && self.told == self.wanted.len()
+        self.is_prefix && self.told == self.wanted.len()
     }
 
     pub fn tell_key(&mut self, key: &VectorKey, before: Option<&u64>, after: Option<&u64>) {
-        self.is_beginning = match self.next() {
+        self.is_prefix = match self.next() {
             Some((bytes, old, new)) => {
-                self.is_beginning
+                self.is_prefix
                     && key.as_ref() == bytes
                     && before.copied() == old
                     && after.copied() == new
@@ -51,9 +51,9 @@ impl<'a> Told<'a> {
         before: Option<&u64>,
         after: Option<&u64>,
     ) {
-        self.is_beginning = match self.next() {
+        self.is_prefix = match self.next() {
             Some((bytes, old, new)) => {
-                self.is_beginning
+                self.is_prefix
                     && key.cmp_slice(bytes) == Ordering::Equal
                     && before.copied() == old
                     && after.copied() == new

@@ -55,7 +55,7 @@ fn assert_answered(rt: &impl Abort, alloc: Global, case: &Case, clone: u64) -> R
             Err(AllocError) => assert!(rt; has_places(&family, MADE)?),
         }
     }
-    assert!(rt; false, "want of memory that is there");
+    assert!(rt; false, "out of memory where there is some");
     Ok(false)
 }
 

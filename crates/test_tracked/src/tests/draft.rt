@@ -39,6 +39,9 @@ pub enum Step {
     Number(u64),
     /// The key is set to a value, and this one is replaced.
     Set(&'static [u8], u64, Option<u64>),
+    /// This value is written through the reference to the key's value, if one is lent, and says
+    /// whether one is.
+    Write(&'static [u8], u64, bool),
     /// The key is taken out, and this is its value.
     Take(&'static [u8], Option<u64>),
     /// The current version becomes the base again.
@@ -92,6 +95,7 @@ pub fn assert_steps(
 fn take(alloc: Global, tracked: &mut Tracked, step: Step) -> Result<bool, AllocError> {
     match step {
         Step::Set(bytes, value, wanted) => set(alloc, tracked, bytes, value, wanted),
+        Step::Write(bytes, value, wanted) => write(alloc, tracked, bytes, value, wanted),
         Step::Take(bytes, wanted) => take_out(alloc, tracked, bytes, wanted),
         Step::Undo => {
             tracked.undo()?;
@@ -130,6 +134,26 @@ fn set(
     }
     let replaced = tracked.insert_and_replace(key_of(alloc, bytes)?, value)?;
     Ok(replaced == wanted)
+}
+
+fn write(
+    alloc: Global,
+    tracked: &mut Tracked,
+    bytes: &[u8],
+    value: u64,
+    wanted: bool,
+) -> Result<bool, AllocError> {
+    if tracked.current().version() == u64::MAX {
+        return Ok(false);
+    }
+    let is_lent = match tracked.get_mut_k(&key_of(alloc, bytes)?)? {
+        Some(old) => {
+            *old = value;
+            true
+        }
+        None => false,
+    };
+    Ok(is_lent == wanted)
 }
 
 fn take_out(

@@ -1,6 +1,6 @@
 //! Tables of steps.
 use crate::tests::draft::Step::{
-    Commit, Has, Meets, Number, Rebase, Set, Shows, Take, Try, TryInVain, Undo, Update,
+    Commit, Has, Meets, Number, Rebase, Set, Shows, Take, Try, TryInVain, Undo, Update, Write,
 };
 use crate::tests::draft::Told::{Leave, Remove, Store};
 use crate::tests::draft::{Pair, Step, assert_steps};
@@ -221,4 +221,26 @@ const TRIED: &[Step] = &[
 #[test]
 fn failed_updates_touch_nothing(rt: HostRuntime) -> Result<(), Fail> {
     assert_steps(&rt, rt.alloc(), FOUR, TRIED)
+}
+
+// A value that is written through a reference is a change, an absent key has no reference.
+const WRITTEN: &[Step] = &[
+    Write(b"b", 7, true),
+    Number(4),
+    Has(b"b", Some(7), true),
+    Write(b"x", 7, false),
+    Number(4),
+    Has(b"x", None, false),
+    Write(b"a", 1, true),
+    Number(5),
+    Has(b"a", Some(1), true),
+    Shows(&[(b"b", Some(2), Some(7))]),
+    Undo,
+    Has(b"b", Some(2), false),
+    Shows(&[]),
+];
+
+#[test]
+fn writes_through_a_reference_are_changes(rt: HostRuntime) -> Result<(), Fail> {
+    assert_steps(&rt, rt.alloc(), FOUR, WRITTEN)
 }

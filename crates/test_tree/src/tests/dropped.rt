@@ -18,14 +18,14 @@ enum Walk {
     Values,
     Within,
     Under,
-    Beginning,
+    PrefixMatches,
 }
 
 fn key_of(alloc: Global, bytes: &[u8]) -> Result<VectorKey, AllocError> {
     VectorKey::new_from_slice(alloc, bytes)
 }
 
-// How many items come, of so many that are asked for.
+// How many items come, of those that are asked for.
 fn given(alloc: Global, tree: &Tree, walk: Walk, asked: usize) -> Result<usize, AllocError> {
     match walk {
         Walk::All => count(tree.iter()?, asked),
@@ -35,7 +35,7 @@ fn given(alloc: Global, tree: &Tree, walk: Walk, asked: usize) -> Result<usize, 
             count(tree.range((low, Bound::Unbounded))?, asked)
         }
         Walk::Under => count(tree.prefix_iter(key_of(alloc, b"a")?)?, asked),
-        Walk::Beginning => count(tree.prefix_match_iter(key_of(alloc, b"abc")?)?, asked),
+        Walk::PrefixMatches => count(tree.prefix_match_iter(key_of(alloc, b"abc")?)?, asked),
     }
 }
 
@@ -89,7 +89,7 @@ fn version_changes_after_an_iterator_is_dropped(rt: HostRuntime) -> Result<(), F
         Walk::Values,
         Walk::Within,
         Walk::Under,
-        Walk::Beginning,
+        Walk::PrefixMatches,
     ] {
         for asked in 0..3 {
             assert_eq!(rt; given(alloc, &tree, walk, asked)?, asked);

@@ -39,7 +39,7 @@ pub fn assert_steps(rt: &impl Abort, alloc: Global, steps: &[Step]) -> Result<()
 }
 
 /// Runs steps with keys of a type over no version at first, and stops at the first answer that is
-/// not the wanted one, with the index of its step and of its row there. Want of memory is an error.
+/// not the wanted one, with the index of its step and of its row there. Out of memory is an error.
 ///
 /// The steps are run once for each form. In each run the rows take the forms in turn, and each run
 /// begins with another one: so each row is run in each form, after rows in the others.

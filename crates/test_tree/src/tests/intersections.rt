@@ -4,7 +4,7 @@ use crate::tests::interpreter::Call::*;
 use crate::tests::interpreter::Change::*;
 use crate::tests::interpreter::Keys::{Byte, Decimal, FourBytes};
 use crate::tests::interpreter::Step::{Each, Rows};
-use crate::tests::interpreter::Walk::Beginning;
+use crate::tests::interpreter::Walk::PrefixMatches;
 use crate::tests::interpreter::{Both, Row, Step, Sweep, assert_runs, assert_steps};
 use std::test::Fail;
 
@@ -121,7 +121,7 @@ fn snapshots_meet_as_they_were(rt: HostRuntime) -> Result<(), Fail> {
 }
 
 // The keys of either begin keys of the other, and both have the empty one.
-const BEGINNINGS: &[Row] = &[
+const PREFIX_MATCHES: &[Row] = &[
     (New, Place(0)),
     (At(0, b"", Insert(1)), Flag(false)),
     (At(0, b"ab", Insert(2)), Flag(false)),
@@ -152,7 +152,7 @@ const BEGINNINGS: &[Row] = &[
 
 #[test]
 fn keys_that_begin_others_are_not_common(rt: HostRuntime) -> Result<(), Fail> {
-    assert_runs(&rt, rt.alloc(), BEGINNINGS)
+    assert_runs(&rt, rt.alloc(), PREFIX_MATCHES)
 }
 
 // The one key of both goes on behind a key of the other one, inside the bytes that all keys of
@@ -272,7 +272,7 @@ const LENGTHS: &[Row] = &[
     (
         Gives(
             0,
-            Beginning(b"aaaaaaaaaaaaaaaa"),
+            PrefixMatches(b"aaaaaaaaaaaaaaaa"),
             &[
                 (b"", 0),
                 (b"a", 1),

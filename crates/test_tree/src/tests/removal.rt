@@ -50,7 +50,7 @@ const LONGER_KEY: &[Row] = &[
 ];
 
 #[test]
-fn longer_key_is_absent_where_its_beginning_is_there(rt: HostRuntime) -> Result<(), Fail> {
+fn longer_key_is_absent_where_its_prefix_is_there(rt: HostRuntime) -> Result<(), Fail> {
     assert_runs(&rt, rt.alloc(), LONGER_KEY)
 }
 

@@ -3,6 +3,7 @@ ghost use Rattle.std.specs.Prelude.{◌≡◌, IfOk};
 
 use rart_versioned::{KeyTrait, VectorKey, VersionedAdaptiveRadixTree, Work};
 use std::alloc::{AllocError, Global};
+use std::ops::Bound;
 use std::process::Abort;
 use std::test::Fail;
 
@@ -59,5 +60,32 @@ fn removals_by_bytes(rt: HostRuntime) -> Result<(), Fail> {
     assert_eq!(rt; tree.version(), 6);
     assert_eq!(rt; tree.get_slice(b"abd").copied(), Some(3));
     assert_eq!(rt; tree.get_slice(b"b").copied(), Some(4));
+    Ok(())
+}
+
+#[test]
+fn insertions_by_bytes(rt: HostRuntime) -> Result<(), Fail> {
+    let mut tree = four(rt.alloc())?;
+    assert!(rt; !tree.insert_slice(b"ab", 5)?);
+    assert!(rt; tree.insert_slice(b"abc", 6)?);
+    assert_eq!(rt; tree.insert_and_replace_slice(b"", 7)?, None);
+    assert_eq!(rt; tree.insert_and_replace_slice(b"b", 8)?, Some(4));
+    let replaced = tree.insert_and_replace_slice_counted(b"ab", 9, &mut Work::new())?;
+    assert_eq!(rt; replaced, Some(5));
+    assert_eq!(rt; tree.version(), 9);
+    assert_eq!(rt; tree.get_slice(b"ab").copied(), Some(9));
+    assert_eq!(rt; tree.get_slice(b"abc").copied(), Some(6));
+    assert_eq!(rt; tree.get_slice(b"").copied(), Some(7));
+    Ok(())
+}
+
+#[test]
+fn pairs_within_bounds_by_bytes(rt: HostRuntime) -> Result<(), Fail> {
+    let tree = four(rt.alloc())?;
+    assert!(rt; tree.has_within(Bound::Included(b"abd"), Bound::Excluded(b"b")));
+    assert!(rt; !tree.has_within(Bound::Excluded(b"abd"), Bound::Excluded(b"b")));
+    assert!(rt; !tree.has_within(Bound::Excluded(b"b"), Bound::Unbounded));
+    let work = &mut Work::new();
+    assert!(rt; tree.has_within_counted(Bound::Unbounded, Bound::Included(b"a"), work));
     Ok(())
 }

@@ -57,7 +57,7 @@ fn clone_keeps_the_number_and_is_its_own(rt: HostRuntime) -> Result<(), Fail> {
 }
 
 // Keys that begin one another, the empty one among them.
-const BEGINNINGS: &[Row] = &[
+const PREFIX_MATCHES: &[Row] = &[
     (New, Place(0)),
     (At(0, b"alphabet", Insert(3)), Flag(false)),
     (At(0, b"", Insert(0)), Flag(false)),
@@ -86,7 +86,7 @@ const BEGINNINGS: &[Row] = &[
 
 #[test]
 fn keys_that_begin_one_another_keep_apart_in_snapshots(rt: HostRuntime) -> Result<(), Fail> {
-    assert_runs(&rt, rt.alloc(), BEGINNINGS)
+    assert_runs(&rt, rt.alloc(), PREFIX_MATCHES)
 }
 
 const FORMS: &[Row] = &[

@@ -82,7 +82,7 @@ fn version_without_a_key_becomes_plain(rt: HostRuntime) -> Result<(), Fail> {
     assert_runs(&rt, rt.alloc(), NO_KEY)
 }
 
-const BEGINNINGS: &[Row] = &[
+const PREFIX_MATCHES: &[Row] = &[
     (New, Place(0)),
     (At(0, b"apple", Insert(1)), Flag(false)),
     (At(0, b"application", Insert(2)), Flag(false)),
@@ -112,7 +112,7 @@ const BEGINNINGS: &[Row] = &[
 
 #[test]
 fn plain_tree_is_as_one_that_was_filled(rt: HostRuntime) -> Result<(), Fail> {
-    assert_runs(&rt, rt.alloc(), BEGINNINGS)
+    assert_runs(&rt, rt.alloc(), PREFIX_MATCHES)
 }
 
 const GROWTH: &[Step] = &[

@@ -13,7 +13,7 @@ const NO_KEY: &[Row] = &[
     (GivesValues(0, &[]), Flag(true)),
     (Gives(0, Under(b""), &[]), Flag(true)),
     (Gives(0, Within(Unbounded, Unbounded), &[]), Flag(true)),
-    (Gives(0, Beginning(b"a"), &[]), Flag(true)),
+    (Gives(0, PrefixMatches(b"a"), &[]), Flag(true)),
 ];
 
 #[test]
@@ -27,8 +27,11 @@ const ONE_KEY: &[Row] = &[
     (Gives(0, All, &[(b"only", 7)]), Flag(true)),
     (GivesValues(0, &[7]), Flag(true)),
     (Gives(0, Under(b"on"), &[(b"only", 7)]), Flag(true)),
-    (Gives(0, Beginning(b"only"), &[(b"only", 7)]), Flag(true)),
-    (Gives(0, Beginning(b"onl"), &[]), Flag(true)),
+    (
+        Gives(0, PrefixMatches(b"only"), &[(b"only", 7)]),
+        Flag(true),
+    ),
+    (Gives(0, PrefixMatches(b"onl"), &[]), Flag(true)),
 ];
 
 #[test]
@@ -49,7 +52,7 @@ fn traversal_gives_a_key_that_begins_another(rt: HostRuntime) -> Result<(), Fail
     assert_runs(&rt, rt.alloc(), LONGER_KEY)
 }
 
-const BEGINNINGS: &[Row] = &[
+const PREFIX_MATCHES: &[Row] = &[
     (New, Place(0)),
     (At(0, b"", Insert(0)), Flag(false)),
     (At(0, b"a", Insert(1)), Flag(false)),
@@ -60,7 +63,7 @@ const BEGINNINGS: &[Row] = &[
     (
         Gives(
             0,
-            Beginning(b"alphabet"),
+            PrefixMatches(b"alphabet"),
             &[(b"", 0), (b"a", 1), (b"alpha", 2), (b"alphabet", 3)],
         ),
         Flag(true),
@@ -69,7 +72,7 @@ const BEGINNINGS: &[Row] = &[
 
 #[test]
 fn prefix_match_gives_the_shortest_first(rt: HostRuntime) -> Result<(), Fail> {
-    assert_runs(&rt, rt.alloc(), BEGINNINGS)
+    assert_runs(&rt, rt.alloc(), PREFIX_MATCHES)
 }
 
 const LONGEST: &[Row] = &[
@@ -89,7 +92,7 @@ const LONGEST: &[Row] = &[
 ];
 
 #[test]
-fn longest_match_is_the_last_beginning(rt: HostRuntime) -> Result<(), Fail> {
+fn longest_match_is_the_last_prefix_match(rt: HostRuntime) -> Result<(), Fail> {
     assert_runs(&rt, rt.alloc(), LONGEST)
 }
 

@@ -71,7 +71,7 @@ fn keys_that_begin_others_are_in_no_intersection(rt: HostRuntime) -> Result<(), 
 
 // The keys of either begin keys of the other, and both have the empty key.
 #[test]
-fn beginnings_go_both_ways(rt: HostRuntime) -> Result<(), Fail> {
+fn prefix_matches_go_both_ways(rt: HostRuntime) -> Result<(), Fail> {
     assert_served(
         &rt,
         rt.alloc(),

@@ -24,7 +24,7 @@ impl Read for FailingReader {
     }
 }
 
-// Takes one byte a call, so many in all, and then fails.
+// Takes one byte a call, up to a number in all, and then fails.
 #[derive(Drop)]
 struct FailingWriter {
     taken: Vec<u8>,
@@ -86,7 +86,7 @@ fn interrupted_write_is_tried_again(rt: HostRuntime) -> Result<(), Fail> {
     Ok(())
 }
 
-// Is interrupted so many times before it takes what it is given.
+// Is interrupted some times before it takes what it is given.
 #[derive(Drop)]
 struct LateWriter {
     taken: Vec<u8>,

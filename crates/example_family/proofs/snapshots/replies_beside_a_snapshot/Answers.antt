@@ -29,7 +29,8 @@ returns g c =
     record {
       one_each = IfOk-weaker c.run.result _ _
           (λ replies run. sym (length-map replies.items see)
-          ∙ one_each g.row.K.Denot g.row.V.Denot bytes [] c.run.new.self told (map see replies.items)
+          ∙ one_each g.row.K.Denot g.row.V.Denot bytes [] c.run.new.self told
+          (map see replies.items)
           (run_of bytes _ _ _ told (map see replies.items) c.new-family.ensures given run))
           c.run.ensures.run;
       snapshot_keeps_value = IfOk-weaker c.run.result _ _

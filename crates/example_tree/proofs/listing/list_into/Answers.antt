@@ -12,8 +12,8 @@ on-err : {A E Q : Type 0} (r : Result A E) → Q → OnErr r Q
 on-err (Ok x) holds = tt
 on-err (Err e) holds = holds
 
-pub returns-in_err-item-items-clause-beginning : goal.returns-in_err-item-items-clause-beginning
-returns-in_err-item-items-clause-beginning c =
+pub returns-in_err-item-items-clause-prefix : goal.returns-in_err-item-items-clause-prefix
+returns-in_err-item-items-clause-prefix c =
     on-err c.from_residual.result (pairs c.args.list.now.content, rw c.requires.empty refl)
 
 pub loop-item-preserved : goal.loop-item-preserved

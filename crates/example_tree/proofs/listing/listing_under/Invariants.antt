@@ -6,5 +6,5 @@ use Rattle.example_tree.proofs.listing.listing_under.Given as goal
 
 abbrev pub invariant-loop-item : goal.invariant-loop-item
 invariant-loop-item l =
-    IsTakenFrom (under l.list.content l.beginning.bytes.items)
+    IsTakenFrom (under l.list.content l.prefix.bytes.items)
     (map line_of l.lines.items) l.item-iterator

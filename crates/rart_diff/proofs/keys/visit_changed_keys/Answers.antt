@@ -2,8 +2,8 @@ use Rattle.std.proofs.Common.{rules, [], length, refl, sym, subst, ◌∙◌}
 use Rattle.rart_below.specs.Bytes.{IsAdmitted}
 use Rattle.rart_changes.specs.ChangeVisits.{ByKeyChange}
 use Rattle.rart_maps.proofs.VisitLemmas.{callable-next, up_to-next}
-use Rattle.rart_walks.specs.WalkFields.{position}
-use Rattle.rart_diff.proofs.CountLemmas.{counted-next, counted-start}
+use Rattle.rart_walks.specs.WalkFields.{cursor}
+use Rattle.rart_diff.proofs.DiffCountLemmas.{counted-next, counted-start}
 use Rattle.rart_diff.proofs.DiffLemmas.{next-admitted}
 use Rattle.rart_diff.proofs.keys.visit_changed_keys.Goals as goal
 
@@ -23,9 +23,9 @@ new_from_slice-requires g c =
     let gives = rw c.in-Some.is at c.in_ok-before.ensures.gives in
     let calls = c.visiting.invariant.calls in
     subst (λ k. IsAdmitted most (length k)) (sym c.key.ensures)
-    (next-admitted g.V.PartialEq.eq most (position bytes c.args.old).pairs
-    (position bytes c.args.new).pairs c.requires.old_admitted c.requires.new_admitted calls.0
-    _ _ _ calls.1 gives)
+    (next-admitted g.V.PartialEq.eq most (cursor bytes c.args.old).pairs
+    (cursor bytes c.args.new).pairs c.requires.keys.old_admitted c.requires.keys.new_admitted
+    calls.0 _ _ _ calls.1 gives)
 
 pub f-requires : goal.f-requires
 f-requires g c =

@@ -3,7 +3,7 @@ use Rattle.std.specs.Option.{option_copied}
 use Rattle.rart_changes.specs.ChangeVisits.{ByViewChange}
 use Rattle.rart_maps.specs.Visits.{CallableOn, CalledOn}
 use Rattle.rart_maps.proofs.VisitLemmas.{callable-next, up_to-next}
-use Rattle.rart_diff.proofs.CountLemmas.{counted-next}
+use Rattle.rart_diff.proofs.DiffCountLemmas.{counted-next}
 use Rattle.rart_diff.proofs.views.visit_changed_views.Goals as goal
 
 pub show-requires : goal.show-requires

@@ -1,23 +1,20 @@
-use Rattle.std.proofs.Common.{◌+◌, length}
+use Rattle.std.proofs.Common.{length}
 use Rattle.rart_changes.specs.ChangeVisits.{ByViewChange}
 use Rattle.rart_maps.specs.Visits.{AnswersUpTo}
-use Rattle.rart_walks.specs.WalkFields.{position}
 use Rattle.rart_diff.specs.ChangeFields.{IsChangeWalk, changes_left, nodes_to_enter}
-use Rattle.rart_diff.specs.Diffs.{changes_between}
-use Rattle.rart_diff.proofs.CountLemmas.{IsCounted}
+use Rattle.rart_diff.specs.TwoWalks.{changes_ahead, nodes_ahead}
+use Rattle.rart_diff.proofs.DiffCountLemmas.{IsCounted}
 use Rattle.rart_diff.proofs.views.visit_changed_views.Given as goal
 
 abbrev pub invariant-visiting : goal.invariant-visiting
 invariant-visiting g l =
     let bytes = g.P.Partial.bytes in
     let same = g.V.PartialEq.eq in
-    let old = position bytes l.fn.old in
-    let new = position bytes l.fn.new in
     record {
       walk : IsChangeWalk bytes l.changes;
       calls : AnswersUpTo g.F.FnMut ByViewChange tt l.fn.f
-          (changes_between same old.pairs new.pairs) (changes_left bytes same l.changes) l.f;
-      counted : IsCounted (length old.places + length new.places) l.fn.work
+          (changes_ahead bytes same l.fn.old l.fn.new) (changes_left bytes same l.changes) l.f;
+      counted : IsCounted (nodes_ahead bytes l.fn.old l.fn.new) l.fn.work
           (nodes_to_enter bytes l.changes) l.work;
     }
 

@@ -4,7 +4,7 @@ use Rattle.rart_below.specs.declared.visit.VisitControl.TheVariants.{Continue, S
 use Rattle.rart_changes.specs.ChangeVisits.{ByViewChange}
 use Rattle.rart_maps.specs.Visits.{CallableOn, CalledOn}
 use Rattle.rart_maps.proofs.VisitLemmas.{callable-next, up_to-next, visit_up_to-next}
-use Rattle.rart_diff.proofs.CountLemmas.{counted-next}
+use Rattle.rart_diff.proofs.DiffCountLemmas.{counted-next}
 use Rattle.rart_diff.proofs.views.visit_changed_views_until.Goals as goal
 
 pub show-requires : goal.show-requires

@@ -1,4 +1,4 @@
-use Rattle.rart_family.proofs.WantLemmas.{no_want_without_memory}
+use Rattle.rart_family.proofs.OutOfMemoryLemmas.{no_want_without_memory}
 use Rattle.rart_family.proofs.laws.want_of_memory_is_bounded.Goals as goal
 
 pub returns-clause-without_memory : goal.returns-clause-without_memory

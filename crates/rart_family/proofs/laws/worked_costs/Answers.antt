@@ -1,4 +1,4 @@
-use Rattle.rart_family.proofs.WorkedCostLemmas.{snapshot_costs, changes_apart_cost, clone_costs, replacements_cost, absent_removal_costs, deletion_costs, failed_update_costs, discarded_place_costs, written_and_inserted_costs, room_for_one_costs, room_for_two_costs, insertion_by_update_costs, written_and_removed_costs, refused_memory_costs, refused_memory_is_a_run, numbers_of_removals_cost, updates_of_an_absent_key_cost, lists_cost, visits_cost, flattening_costs, intersections_cost, intersection_after_deletion_costs, empty_intersections_cost, beginnings_cost, lost_places_cost, longest_matches_cost, second_value_costs, absent_deletion_costs, discarding_costs, greatest_number_costs, greatest_number_with_a_key_costs, settings_cost, removals_cost, last_snapshot_costs, vacant_slot_costs, prefix_costs, matches_cost, bounds_cost, one_key_costs, refusals_cost}
+use Rattle.rart_family.proofs.WorkedCostLemmas.{snapshot_costs, changes_apart_cost, clone_costs, replacements_cost, absent_removal_costs, deletion_costs, failed_update_costs, discarded_place_costs, written_and_inserted_costs, room_for_one_costs, room_for_two_costs, insertion_by_update_costs, written_and_removed_costs, refused_memory_costs, refused_memory_is_a_run, numbers_of_removals_cost, updates_of_an_absent_key_cost, lists_cost, visits_cost, flattening_costs, intersections_cost, intersection_after_deletion_costs, empty_intersections_cost, prefix_matches_cost, lost_places_cost, longest_matches_cost, second_value_costs, absent_deletion_costs, discarding_costs, greatest_number_costs, greatest_number_with_a_key_costs, settings_cost, removals_cost, last_snapshot_costs, vacant_slot_costs, prefix_costs, matches_cost, bounds_cost, one_key_costs, refusals_cost}
 use Rattle.rart_family.proofs.laws.worked_costs.Goals as goal
 
 pub returns-clause-snapshot_costs : goal.returns-clause-snapshot_costs
@@ -71,8 +71,8 @@ returns-clause-intersection_after_deletion_costs c = intersection_after_deletion
 pub returns-clause-empty_intersections_cost : goal.returns-clause-empty_intersections_cost
 returns-clause-empty_intersections_cost c = empty_intersections_cost
 
-pub returns-clause-beginnings_cost : goal.returns-clause-beginnings_cost
-returns-clause-beginnings_cost c = beginnings_cost
+pub returns-clause-prefix_matches_cost : goal.returns-clause-prefix_matches_cost
+returns-clause-prefix_matches_cost c = prefix_matches_cost
 
 pub returns-clause-lost_places_cost : goal.returns-clause-lost_places_cost
 returns-clause-lost_places_cost c = lost_places_cost

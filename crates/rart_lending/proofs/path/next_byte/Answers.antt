@@ -1,7 +1,7 @@
 use Rattle.std.proofs.Common.{◌≡◌, ◌+◌, length, refl, ap, ◌∙◌, arith}
 use Rattle.rart_node.specs.NodeShapes.{node_shape}
 use Rattle.rart_node.specs.Shape.{prefix_of}
-use Rattle.rart_lending.proofs.PathLemmas.{step-long, step-next}
+use Rattle.rart_lending.proofs.LentPathLemmas.{step-first, step-long, step-next}
 use Rattle.rart_lending.proofs.path.next_byte.Goals as goal
 
 pub overflow_add-depth : goal.overflow_add-depth
@@ -20,18 +20,17 @@ bounds-key-depth g c =
     c.len.ensures ∙ ap length c.prefix.ensures in
     omega (arith, long, of_prefix)
 
-pub returns-clause-next : goal.returns-clause-next
-returns-clause-next g c =
-    let s = node_shape g.P.Partial.bytes c.args.node.now in
-    let of_prefix : c.len.result ≡ length (prefix_of s) =
-    c.len.ensures ∙ ap length c.prefix.ensures in
-    step-next s c.args.key.now c.args.depth.now c.requires.depth c.requires.there _ _
-    (ap (λ n. c.args.depth.now + n) of_prefix) refl
-
-pub returns-clause-within : goal.returns-clause-within
-returns-clause-within g c =
+pub returns : goal.returns
+returns g c =
     let s = node_shape g.P.Partial.bytes c.args.node.now in
     let long = step-long s c.args.key.now c.args.depth.now c.requires.depth c.requires.there in
     let of_prefix : c.len.result ≡ length (prefix_of s) =
     c.len.ensures ∙ ap length c.prefix.ensures in
-    omega (arith, long, of_prefix)
+    let end = ap (λ n. c.args.depth.now + n) of_prefix in
+    record {
+      next = step-next s c.args.key.now c.args.depth.now c.requires.depth c.requires.there _ _ end
+          refl;
+      first = step-first s c.args.key.now c.args.depth.now c.requires.depth c.requires.there _ _ end
+          refl;
+      within = omega (arith, long, of_prefix);
+    }

@@ -2,8 +2,8 @@ use Rattle.std.proofs.Common.{◌≡◌, ◌+◌, ◌<◌, ◌^◌, ℕ, List, r
 use Rattle.std.proofs.lemmas.List.{length-map}
 use Rattle.rart_maps.proofs.VisitLemmas.{answers-keep}
 use Rattle.rart_node.specs.NodeShapes.{pointer_shape}
-use Rattle.rart_lockstep.specs.Commons.{commons}
-use Rattle.rart_lockstep.proofs.VisitLemmas.{answers-count, callable-count}
+use Rattle.rart_lockstep.specs.CommonPairs.{common_pairs}
+use Rattle.rart_lockstep.proofs.CommonVisitLemmas.{answers-count, callable-count}
 use Rattle.rart_lockstep.proofs.count.count_common.Goals as goal
 
 pub visit_common_values-requires : goal.visit_common_values-requires
@@ -11,7 +11,7 @@ visit_common_values-requires g c κs =
     let s = pointer_shape g.P.Partial.bytes c.args.left.now in
     let t = pointer_shape g.P.Partial.bytes c.args.right.now in
     let fits = c.requires.fits in
-    let same = length-map {B = g.row.V.Denot × g.row.V.Denot} (commons s t)
+    let same = length-map {B = g.row.V.Denot × g.row.V.Denot} (common_pairs s t)
     (λ (entry : List ℕ × g.row.V.Denot × g.row.V.Denot). (entry.1, entry.2)) in (
       (refl, tt),
       (
@@ -30,13 +30,13 @@ pub returns-clause-count : goal.returns-clause-count
 returns-clause-count g c =
     let s = pointer_shape g.P.Partial.bytes c.args.left.now in
     let t = pointer_shape g.P.Partial.bytes c.args.right.now in
-    let same = length-map {B = g.row.V.Denot × g.row.V.Denot} (commons s t)
+    let same = length-map {B = g.row.V.Denot × g.row.V.Denot} (common_pairs s t)
     (λ (entry : List ℕ × g.row.V.Denot × g.row.V.Denot). (entry.1, entry.2)) in
     let visit = c.visit_common_values.ensures.visits in
     let counted = answers-count _ _ (λ f. f.0.now) (λ f x f' called. search (rules, of_calls))
     _ _ _ visit in
     let name = answers-keep _ _ _ (λ f f'. f'.0.ghost_name ≡ f.0.ghost_name) (λ f. refl)
     (λ f x f' last called later. search (rules, of_calls)) _ _ _ visit in
-    let total : c.visit_common_values.new.f.0.now ≡ length (commons s t) =
+    let total : c.visit_common_values.new.f.0.now ≡ length (common_pairs s t) =
     omega (arith, counted, same) in
     search (rules, total, name)

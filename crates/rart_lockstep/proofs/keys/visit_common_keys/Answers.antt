@@ -1,18 +1,19 @@
 use Rattle.rart_maps.specs.Visits.{ByKeyPair}
 use Rattle.rart_node.specs.NodeShapes.{pointer_shape}
-use Rattle.rart_walks.specs.Trails.{HoldsBytes}
+use Rattle.rart_walks.specs.KeyPaths.{HoldsBytes}
 use Rattle.rart_lockstep.specs.declared.keys.KeyMaker.{KeyMaker}
-use Rattle.rart_lockstep.proofs.MeetingLemmas.{may-start, met-end, counted-roots}
+use Rattle.rart_lockstep.proofs.IntersectionLemmas.{may-start, met-end, counted-roots}
 use Rattle.rart_lockstep.proofs.keys.visit_common_keys.Goals as goal
 
-pub meet_below-requires-clause-meets : goal.meet_below-requires-clause-meets
-meet_below-requires-clause-meets g c =
+pub intersect_below-requires-clause-meets : goal.intersect_below-requires-clause-meets
+intersect_below-requires-clause-meets g c =
     let s = pointer_shape g.P.Partial.bytes c.args.left.now in
     let t = pointer_shape g.P.Partial.bytes c.args.right.now in
     let opened = c.open-at.ensures in
     may-start g.F.FnMut (ByKeyPair g.K.KeyTrait.bytes)
-    (λ (maker : KeyMaker g.row.K.Denot g.row.V.Denot). HoldsBytes maker.trail) s t _ _ opened.left opened.right
-    g.K.KeyTrait.MAXIMUM_SIZE _ c.args.f.now c.new-trail.ensures c.requires.admitted
+    (λ (maker : KeyMaker g.row.K.Denot g.row.V.Denot). HoldsBytes maker.key_path) s t _ _
+    opened.left opened.right
+    g.K.KeyTrait.MAXIMUM_SIZE _ c.args.f.now c.new-key_path.ensures c.requires.admitted
     c.requires.visitable
 
 pub returns-clause-visits : goal.returns-clause-visits
@@ -21,9 +22,11 @@ returns-clause-visits g c =
     let t = pointer_shape g.P.Partial.bytes c.args.right.now in
     let opened = c.open-at.ensures in
     met-end g.F.FnMut (ByKeyPair g.K.KeyTrait.bytes)
-    (λ (maker : KeyMaker g.row.K.Denot g.row.V.Denot). HoldsBytes maker.trail) s t _ _ opened.left opened.right
+    (λ (maker : KeyMaker g.row.K.Denot g.row.V.Denot). HoldsBytes maker.key_path) s t _ _
+    opened.left opened.right
     _ _
-    c.args.f.now c.meet_below.new.f c.meet_below.result c.new-trail.ensures c.meet_below.ensures.met
+    c.args.f.now c.intersect_below.new.f c.intersect_below.result c.new-key_path.ensures
+    c.intersect_below.ensures.met
 
 pub returns-clause-counted : goal.returns-clause-counted
 returns-clause-counted g c =
@@ -31,4 +34,4 @@ returns-clause-counted g c =
     let t = pointer_shape g.P.Partial.bytes c.args.right.now in
     let opened = c.open-at.ensures in
     counted-roots s t _ _ opened.left opened.right c.args.work.now _ _ opened.work
-    c.meet_below.ensures.enters
+    c.intersect_below.ensures.enters

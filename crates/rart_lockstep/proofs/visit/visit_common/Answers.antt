@@ -1,14 +1,15 @@
 use Rattle.rart_node.specs.NodeShapes.{pointer_shape}
-use Rattle.rart_lockstep.proofs.MeetingLemmas.{may-start, met-end, counted-roots}
+use Rattle.rart_lockstep.proofs.IntersectionLemmas.{may-start, met-end, counted-roots}
 use Rattle.rart_lockstep.proofs.visit.visit_common.Goals as goal
 
-pub meet_below-requires-clause-meets : goal.meet_below-requires-clause-meets
-meet_below-requires-clause-meets g c =
+pub intersect_below-requires-clause-meets : goal.intersect_below-requires-clause-meets
+intersect_below-requires-clause-meets g c =
     let s = pointer_shape g.P.Partial.bytes c.args.left.now in
     let t = pointer_shape g.P.Partial.bytes c.args.right.now in
     let opened = c.open-at.ensures in
-    may-start g.T.MeetTrail.calls g.T.MeetTrail.Shows g.T.Trail.holds s t _ _ opened.left
-    opened.right g.T.Trail.greatest _ c.args.f.now c.requires.empty c.requires.admitted
+    may-start g.T.IntersectionPath.calls g.T.IntersectionPath.Shows g.T.KeyPath.holds s t _ _
+    opened.left
+    opened.right g.T.KeyPath.greatest _ c.args.f.now c.requires.empty c.requires.admitted
     c.requires.visitable
 
 pub returns-clause-visits : goal.returns-clause-visits
@@ -16,9 +17,10 @@ returns-clause-visits g c =
     let s = pointer_shape g.P.Partial.bytes c.args.left.now in
     let t = pointer_shape g.P.Partial.bytes c.args.right.now in
     let opened = c.open-at.ensures in
-    met-end g.T.MeetTrail.calls g.T.MeetTrail.Shows g.T.Trail.holds s t _ _ opened.left
-    opened.right _ _ c.args.f.now c.meet_below.new.f c.meet_below.result c.requires.empty
-    c.meet_below.ensures.met
+    met-end g.T.IntersectionPath.calls g.T.IntersectionPath.Shows g.T.KeyPath.holds s t _ _
+    opened.left
+    opened.right _ _ c.args.f.now c.intersect_below.new.f c.intersect_below.result c.requires.empty
+    c.intersect_below.ensures.met
 
 pub returns-clause-counted : goal.returns-clause-counted
 returns-clause-counted g c =
@@ -26,4 +28,4 @@ returns-clause-counted g c =
     let t = pointer_shape g.P.Partial.bytes c.args.right.now in
     let opened = c.open-at.ensures in
     counted-roots s t _ _ opened.left opened.right c.args.work.now _ _ opened.work
-    c.meet_below.ensures.enters
+    c.intersect_below.ensures.enters

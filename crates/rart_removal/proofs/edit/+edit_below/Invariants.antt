@@ -1,5 +1,3 @@
-use Rattle.rart_node.specs.NodeShapes.{pointer_shape}
-use Rattle.rart_node.specs.Shape.{height}
 use Rattle.rart_removal.proofs.edit.+edit_below.Given as goal
 
 abbrev pub decreases-edit_below : goal.decreases-edit_below

@@ -30,8 +30,8 @@ write_at-len-requires-in-down g c =
     let long = c.down.invariant.long in
     omega (arith, fits, segment, long)
 
-pub returns-in-Some-clause-first : goal.returns-in-Some-clause-first
-returns-in-Some-clause-first g c =
+pub returns-in-Some : goal.returns-in-Some
+returns-in-Some g c =
     let s = node_shape g.P.Partial.bytes c.down.node.now in
     let above = c.down.invariant.above in
     let len = c.write_at-len-in-down.result in
@@ -41,38 +41,26 @@ returns-in-Some-clause-first g c =
     let count = ap length segment in
     let joined = length-append above (prefix_of s) in
     let room = c.down.auto.room in
-    first-here _ above s c.down.invariant.at c.in-Some.value.now (sym c.in-Some.ensures) len
-    c.args.room.now c.write_at-len-in-down.new.room
-    (omega (arith, end, long, count, joined))
-    (λ fits. c.write_at-len-in-down.ensures.written (omega (arith, fits, room))
-    ∙ ap (λ z. z ++ c.as_ref.result.now)
-    (c.down.invariant.written (omega (arith, fits, end)))
-    ∙ ap (λ z. above ++ z) segment)
-    (c.write_at-len-in-down.ensures.behind len (le_refl len)
-    ∙ c.down.invariant.behind len (omega (arith, end)))
-
-pub returns-in-Some-clause-longer : goal.returns-in-Some-clause-longer
-returns-in-Some-clause-longer g c =
-    let end = c.write_at-len-in-down.ensures.end in
-    let long = c.down.invariant.long in
-    let count = ap length (c.as_ref.ensures ∙ c.prefix.ensures) in
-    let grows = c.down.invariant.grows in
-    let most = c.down.invariant.most in
-    omega (arith, end, long, count, grows, most)
-
-pub returns-in-Some-clause-counted : goal.returns-in-Some-clause-counted
-returns-in-Some-clause-counted g c =
-    let end = c.write_at-len-in-down.ensures.end in
-    let long = c.down.invariant.long in
-    let count = ap length (c.as_ref.ensures ∙ c.prefix.ensures) in
     let grows = c.down.invariant.grows in
     let most = c.down.invariant.most in
     let made = c.down.invariant.made in
     record {
-      entered_grows = grows;
-      entered_at_most = omega (arith, end, long, count, grows, most);
-      made_grows = omega (arith, made);
-      made_at_most = omega (arith, made);
+      first = first-here _ above s c.down.invariant.at c.in-Some.value.now
+          (sym c.in-Some.ensures) len c.args.room.now c.write_at-len-in-down.new.room
+          (omega (arith, end, long, count, joined))
+          (λ fits. c.write_at-len-in-down.ensures.written (omega (arith, fits, room))
+          ∙ ap (λ z. z ++ c.as_ref.result.now)
+          (c.down.invariant.written (omega (arith, fits, end)))
+          ∙ ap (λ z. above ++ z) segment)
+          (c.write_at-len-in-down.ensures.behind len (le_refl len)
+          ∙ c.down.invariant.behind len (omega (arith, end)));
+      longer = omega (arith, end, long, count, grows, most);
+      counted = record {
+        entered_grows = grows;
+        entered_at_most = omega (arith, end, long, count, grows, most);
+        made_grows = omega (arith, made);
+        made_at_most = omega (arith, made);
+      };
     }
 
 pub down-smaller : goal.down-smaller

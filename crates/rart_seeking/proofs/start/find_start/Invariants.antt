@@ -2,7 +2,7 @@ use Rattle.std.proofs.Common.{ℕ, List}
 use Rattle.rart_node.specs.NodeShapes.{pointer_shape}
 use Rattle.rart_node.specs.Shape.{height}
 use Rattle.rart_seeking.specs.Starts.{StartAt, IsDeep, turn_shape}
-use Rattle.rart_seeking.proofs.StartLemmas.{IsSeekAt}
+use Rattle.rart_seeking.proofs.SeekStartLemmas.{IsSeekAt}
 use Rattle.rart_seeking.proofs.start.find_start.Given as goal
 
 abbrev pub invariant-down : goal.invariant-down

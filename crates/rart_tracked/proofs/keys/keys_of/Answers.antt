@@ -2,7 +2,7 @@ use Rattle.std.proofs.Common.{◌≡◌, refl, sym, subst, length, rules, of_cal
 use Rattle.rart_below.specs.Bytes.{IsAdmitted}
 use Rattle.rart_maps.specs.Pairs.{pairs}
 use Rattle.rart_maps.proofs.VisitLemmas.{answers-keep}
-use Rattle.rart_tracked.proofs.KeyLemmas.{key-admitted, callable-each, visit-keeps, kept-all, counted-keys}
+use Rattle.rart_tracked.proofs.TouchedKeyLemmas.{key-admitted, callable-each, visit-keeps, kept-all, counted-keys}
 use Rattle.rart_tracked.proofs.keys.keys_of.Goals as goal
 
 pub for_each_view_counted-requires : goal.for_each_view_counted-requires

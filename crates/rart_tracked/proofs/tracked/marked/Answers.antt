@@ -14,7 +14,8 @@ returns-clause-keys g c =
           ap (λ (v : Version (Unit {0})). v.content) (branch.marked-is ∙ c.in_ok-marked.ensures)
           ∙ sym (with-again c.args.touched.now.content w
           (ap (λ (v : Version (Unit {0})). is_some (value_at v w)) (sym c.in_ok-marked.ensures)
-          ∙ sym (ap is_some c.get_k_counted.ensures.value) ∙ sym (copied-some c.get_k_counted.result)
+          ∙ sym (ap is_some c.get_k_counted.ensures.value)
+          ∙ sym (copied-some c.get_k_counted.result)
           ∙ branch.if-is_none.ensures))
     ]
 

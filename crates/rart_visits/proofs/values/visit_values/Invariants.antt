@@ -1,21 +1,21 @@
 use Rattle.std.proofs.Common.{length, map}
 use Rattle.rart_maps.specs.Visits.{ByValue, AnswersUpTo}
-use Rattle.rart_walks.specs.WalkFields.{position, IsWalk, EntersForEach}
-use Rattle.rart_visits.proofs.CountLemmas.{IsCounted}
+use Rattle.rart_walks.specs.WalkFields.{cursor, IsWalk, EntersForEach}
+use Rattle.rart_visits.proofs.VisitCountLemmas.{IsCounted}
 use Rattle.rart_visits.proofs.values.visit_values.Given as goal
 
 abbrev pub invariant-visiting : goal.invariant-visiting
 invariant-visiting g l =
     let bytes = g.P.Partial.bytes in
-    let left = position bytes l.walk in
-    let start = position bytes l.fn.walk in
+    let left = cursor bytes l.walk in
+    let start = cursor bytes l.fn.walk in
     record {
-      walk : IsWalk bytes g.T.Trail.holds g.T.Trail.greatest l.walk;
+      walk : IsWalk bytes g.T.KeyPath.holds g.T.KeyPath.greatest l.walk;
       calls : AnswersUpTo g.F.FnMut ByValue tt l.fn.f (map (λ pair. pair.1) start.pairs)
           (map (λ pair. pair.1) left.pairs) l.f;
-      counted : IsCounted (length start.places) l.fn.work (length left.places) l.work;
+      counted : IsCounted (length start.paths) l.fn.work (length left.paths) l.work;
       each : EntersForEach bytes l.fn.walk l.fn.work l.walk l.work;
     }
 
 abbrev pub decreases-visiting : goal.decreases-visiting
-decreases-visiting g l = length (position g.P.Partial.bytes l.walk).pairs
+decreases-visiting g l = length (cursor g.P.Partial.bytes l.walk).pairs

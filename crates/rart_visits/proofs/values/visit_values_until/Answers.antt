@@ -3,8 +3,8 @@ use Rattle.std.proofs.lemmas.Fn.{called}
 use Rattle.rart_below.specs.declared.visit.VisitControl.TheVariants.{Continue, Stop}
 use Rattle.rart_maps.specs.Visits.{ByValue}
 use Rattle.rart_maps.proofs.VisitLemmas.{callable-next, up_to-next, up_to-part, visit_up_to-next}
-use Rattle.rart_visits.proofs.CountLemmas.{counted-next}
-use Rattle.rart_visits.proofs.EndLemmas.{goes-past, goes-next, goes-end}
+use Rattle.rart_visits.proofs.VisitCountLemmas.{counted-next, counted-end}
+use Rattle.rart_visits.proofs.VisitEndLemmas.{goes-past, goes-next, goes-end}
 use Rattle.rart_visits.proofs.values.visit_values_until.Goals as goal
 
 pub visiting-preserved-in-Ok-Some-None : goal.visiting-preserved-in-Ok-Some-None
@@ -49,36 +49,34 @@ visiting-preserved g c =
           c.in-Ok-Some-Some.value some _ walked.each (_, call, refl);
     }
 
-pub returns-in-Ok-Stop-clause-visits : goal.returns-in-Ok-Stop-clause-visits
-returns-in-Ok-Stop-clause-visits g c =
-    let comes = rw c.in-Ok-Some-Some.field-0-is at c.in-Ok-Some-Some.ensures.steps in
-    let gives = rw c.in-Ok-Some-Some.field-0-0-is at comes.pairs in
-    let same = ap (map (λ pair. pair.1)) gives in
-    let told = c.in-Ok-Stop.is ∙ ap Ok c.in-Ok-Stop.field-0-is in
-    let call = called g.F.FnMut c.f.ensures told in
-    (Stop, visit_up_to-next g.F.FnMut ByValue _ _ same c.visiting.invariant.calls (_, call, refl))
-
-pub returns-in-Ok-Stop-clause-ends : goal.returns-in-Ok-Stop-clause-ends
-returns-in-Ok-Stop-clause-ends g c =
+pub returns-in-Ok-Stop : goal.returns-in-Ok-Stop
+returns-in-Ok-Stop g c =
     let walked = c.in-Ok-Some-Some.ensures in
     let comes = rw c.in-Ok-Some-Some.field-0-is at walked.steps in
+    let some = c.in-Ok-Some-Some.field-0-0-is in
+    let same = ap (map (λ pair. pair.1)) (rw some at comes.pairs) in
     let told = c.in-Ok-Stop.is ∙ ap Ok c.in-Ok-Stop.field-0-is in
     let call = called g.F.FnMut c.f.ensures told in
-    inr (goes-end g.F.FnMut _ _ _ _ _ c.visiting.invariant.goes comes walked.entered walked.one
-    c.in-Ok-Some-Some.value c.in-Ok-Some-Some.field-0-0-is _ walked.each (_, call, refl))
+    let before = c.visiting.invariant in
+    record {
+      visits =
+          (Stop, visit_up_to-next g.F.FnMut ByValue _ _ same before.calls (_, call, refl));
+      counted = counted-end before.counted walked.counted;
+      ends = inr (goes-end g.F.FnMut _ _ _ _ _ before.goes comes walked.entered walked.one
+          c.in-Ok-Some-Some.value some _ walked.each (_, call, refl));
+    }
 
-pub returns-in-Err-f-clause-visits : goal.returns-in-Err-f-clause-visits
-returns-in-Err-f-clause-visits g c =
-    let comes = rw c.in-Ok-Some-Some.field-0-is at c.in-Ok-Some-Some.ensures.steps in
-    let gives = rw c.in-Ok-Some-Some.field-0-0-is at comes.pairs in
-    let same = ap (map (λ pair. pair.1)) gives in
-    let call = called g.F.FnMut c.f.ensures c.in-Err-f.is in
-    visit_up_to-next g.F.FnMut ByValue _ _ same c.visiting.invariant.calls (_, call, refl)
-
-pub returns-in-Err-f-clause-ends : goal.returns-in-Err-f-clause-ends
-returns-in-Err-f-clause-ends g c =
+pub returns-in-Err-f : goal.returns-in-Err-f
+returns-in-Err-f g c =
     let walked = c.in-Ok-Some-Some.ensures in
     let comes = rw c.in-Ok-Some-Some.field-0-is at walked.steps in
+    let some = c.in-Ok-Some-Some.field-0-0-is in
+    let same = ap (map (λ pair. pair.1)) (rw some at comes.pairs) in
     let call = called g.F.FnMut c.f.ensures c.in-Err-f.is in
-    goes-end g.F.FnMut _ _ _ _ _ c.visiting.invariant.goes comes walked.entered walked.one
-    c.in-Ok-Some-Some.value c.in-Ok-Some-Some.field-0-0-is _ walked.each (_, call, refl)
+    let before = c.visiting.invariant in
+    record {
+      visits = visit_up_to-next g.F.FnMut ByValue _ _ same before.calls (_, call, refl);
+      counted = counted-end before.counted walked.counted;
+      ends = goes-end g.F.FnMut _ _ _ _ _ before.goes comes walked.entered walked.one
+          c.in-Ok-Some-Some.value some _ walked.each (_, call, refl);
+    }

@@ -5,18 +5,29 @@ use Rattle.rart_maps.specs.FoundLaws.{KeysAscend}
 use Rattle.rart_maps.specs.Visits.{ByView}
 use Rattle.rart_maps.proofs.RangeLemmas.{up_to, is_below, up_to-first, ascends-rest}
 use Rattle.rart_maps.proofs.VisitLemmas.{callable-next, up_to-next, up_to-over, up_to-part}
-use Rattle.rart_visits.proofs.CountLemmas.{counted-next}
-use Rattle.rart_visits.proofs.UpToLemmas.{none-past, few-next}
+use Rattle.rart_visits.proofs.VisitCountLemmas.{counted-next, counted-end}
+use Rattle.rart_visits.proofs.UpToLemmas.{none-past, few-next, few-end}
 use Rattle.rart_visits.proofs.views.visit_views_up_to.Goals as goal
 
-pub returns-then-not-is_up_to-clause-visits : goal.returns-then-not-is_up_to-clause-visits
-returns-then-not-is_up_to-clause-visits g c =
+pub returns-then-not-is_up_to : goal.returns-then-not-is_up_to
+returns-then-not-is_up_to g c =
     let high = bound_map (λ high. high.now) c.args.high in
     let comes = rw c.in-Some.is at c.in_ok-value.ensures.steps in
-    let path = c.view_of-path.ensures ∙ ap concat c.trail.ensures in
+    let path = c.view_of-path.ensures ∙ ap concat c.key_path.ensures in
     let past = ap (is_below high) (sym path) ∙ sym c.if-not-is_up_to.ensures in
     let none = none-past high _ _ comes.first c.visiting.invariant.ascend past in
-    up_to-over g.F.FnMut ByView tt none c.visiting.invariant.calls
+    let walked = c.in_ok-value.ensures in
+    let before = c.visiting.invariant in
+    record {
+      visits = up_to-over g.F.FnMut ByView tt none before.calls;
+      counted = counted-end before.counted walked.counted;
+      few = few-end high before.few walked.one;
+      least =
+          let each = before.each in
+          let over = ap length none in
+          let grows = walked.one.entered_grows in
+          omega (arith, each, over, grows);
+    }
 
 pub f-requires : goal.f-requires
 f-requires g c =
@@ -24,7 +35,7 @@ f-requires g c =
     let comes = rw c.in-Some.is at c.in_ok-value.ensures.steps in
     let gives = rw c.in-Some-value.is at comes.pairs in
     let ascend = subst (KeysAscend (λ pair. pair.0)) gives c.visiting.invariant.ascend in
-    let path = c.view_of-path.ensures ∙ ap concat c.trail.ensures in
+    let path = c.view_of-path.ensures ∙ ap concat c.key_path.ensures in
     let meets = ap (is_below high) (sym path) ∙ sym c.if-not-is_up_to.ensures in
     let first = ap (up_to high) gives ∙ up_to-first high _ _ ascend meets in
     let before = c.visiting.invariant.calls in
@@ -38,7 +49,7 @@ visiting-preserved-in-Some-value g c =
     let comes = rw c.in-Some.is at c.in_ok-value.ensures.steps in
     let gives = rw c.in-Some-value.is at comes.pairs in
     let ascend = subst (KeysAscend (λ pair. pair.0)) gives c.visiting.invariant.ascend in
-    let path = c.view_of-path.ensures ∙ ap concat c.trail.ensures in
+    let path = c.view_of-path.ensures ∙ ap concat c.key_path.ensures in
     let meets = ap (is_below high) (sym path) ∙ sym c.if-not-is_up_to.ensures in
     let first = ap (up_to high) gives ∙ up_to-first high _ _ ascend meets in
     let walked = c.in_ok-value.ensures in
@@ -62,7 +73,7 @@ visiting-preserved g c =
     let high = bound_map (λ high. high.now) c.args.high in
     let comes = rw c.in-Some.is at c.in_ok-value.ensures.steps in
     let same = rw c.in_default-value.is at comes.pairs in
-    let path = c.view_of-path.ensures ∙ ap concat c.trail.ensures in
+    let path = c.view_of-path.ensures ∙ ap concat c.key_path.ensures in
     let meets = ap (is_below high) (sym path) ∙ sym c.if-not-is_up_to.ensures in
     let walked = c.in_ok-value.ensures in
     let before = c.visiting.invariant in
@@ -80,14 +91,20 @@ visiting-preserved g c =
           omega (arith, each, next, given, met);
     }
 
-pub returns-then-not-is_up_to-clause-least : goal.returns-then-not-is_up_to-clause-least
-returns-then-not-is_up_to-clause-least g c =
+pub returns : goal.returns
+returns g c =
     let high = bound_map (λ high. high.now) c.args.high in
-    let comes = rw c.in-Some.is at c.in_ok-value.ensures.steps in
-    let path = c.view_of-path.ensures ∙ ap concat c.trail.ensures in
-    let past = ap (is_below high) (sym path) ∙ sym c.if-not-is_up_to.ensures in
-    let none = ap length (none-past high _ _ comes.first c.visiting.invariant.ascend past) in
-    let each = c.visiting.invariant.each in
-    let one = c.in_ok-value.ensures.one in
-    let grows = one.entered_grows in
-    omega (arith, each, none, grows)
+    let over = rw c.in_default.is at c.in_ok-value.ensures.steps in
+    let none = ap (up_to high) over.0 in
+    let walked = c.in_ok-value.ensures in
+    let before = c.visiting.invariant in
+    record {
+      visits = up_to-over g.F.FnMut ByView tt none before.calls;
+      counted = counted-end before.counted walked.counted;
+      few = few-end high before.few walked.one;
+      least =
+          let each = before.each in
+          let no_pair = ap length none in
+          let grows = walked.one.entered_grows in
+          omega (arith, each, no_pair, grows);
+    }

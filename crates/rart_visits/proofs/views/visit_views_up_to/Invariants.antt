@@ -3,29 +3,29 @@ use Rattle.std.specs.Range.Bound.{bound_map}
 use Rattle.rart_maps.specs.FoundLaws.{KeysAscend}
 use Rattle.rart_maps.specs.Visits.{ByView, AnswersUpTo}
 use Rattle.rart_maps.proofs.RangeLemmas.{up_to}
-use Rattle.rart_walks.specs.WalkFields.{position, at_hand, IsWalk}
-use Rattle.rart_walks.specs.Trails.{HoldsSegments}
-use Rattle.rart_visits.proofs.CountLemmas.{IsCounted}
+use Rattle.rart_walks.specs.WalkFields.{cursor, at_hand, IsWalk}
+use Rattle.rart_walks.specs.KeyPaths.{HoldsSegments}
+use Rattle.rart_visits.proofs.VisitCountLemmas.{IsCounted}
 use Rattle.rart_visits.proofs.UpToLemmas.{IsFew}
 use Rattle.rart_visits.proofs.views.visit_views_up_to.Given as goal
 
 abbrev pub invariant-visiting : goal.invariant-visiting
 invariant-visiting g l =
     let bytes = g.P.Partial.bytes in
-    let left = position bytes l.walk in
-    let start = position bytes l.fn.walk in
+    let left = cursor bytes l.walk in
+    let start = cursor bytes l.fn.walk in
     let high = bound_map (λ high. high.now) l.high in
     record {
       walk : IsWalk bytes HoldsSegments (Some (2 ^ 64 - 1)) l.walk;
       ascend : KeysAscend (λ pair. pair.0) left.pairs;
       calls : AnswersUpTo g.F.FnMut ByView tt l.fn.f (up_to high start.pairs)
           (up_to high left.pairs) l.f;
-      counted : IsCounted (length start.places) l.fn.work (length left.places) l.work;
-      few : IsFew high start.places l.fn.work left.places l.work;
+      counted : IsCounted (length start.paths) l.fn.work (length left.paths) l.work;
+      few : IsFew high start.paths l.fn.work left.paths l.work;
       each : l.fn.work.entered + length (up_to high start.pairs) + at_hand l.walk
           ≤ l.work.entered + length (up_to high left.pairs) + at_hand l.fn.walk;
     }
 
 abbrev pub decreases-visiting : goal.decreases-visiting
 decreases-visiting g l =
-    let left = position g.P.Partial.bytes l.walk in length left.pairs + length left.places
+    let left = cursor g.P.Partial.bytes l.walk in length left.pairs + length left.paths

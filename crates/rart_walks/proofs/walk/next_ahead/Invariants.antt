@@ -7,7 +7,7 @@ abbrev pub invariant-leaving : goal.invariant-leaving
 invariant-leaving g l =
     let bytes = g.P.Partial.bytes in
     record {
-      holds : g.T.Trail.holds l.trail (segments_of (open_nodes bytes l.frames.items));
+      holds : g.T.KeyPath.holds l.key_path (segments_of (open_nodes bytes l.frames.items));
       spent : (left : List (OpenNode g.row.V.Denot)) × AreSpent left
           × (open_nodes bytes l.initial.frames.items ≡ open_nodes bytes l.frames.items ++ left);
     }

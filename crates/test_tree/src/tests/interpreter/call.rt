@@ -83,7 +83,7 @@ pub enum Walk<'a> {
     /// `prefix_iter` of this prefix.
     Under(&'a [u8]),
     /// `prefix_match_iter` of this probe.
-    Beginning(&'a [u8]),
+    PrefixMatches(&'a [u8]),
     /// `longest_prefix_match` of this probe: one pair at most.
     Longest(&'a [u8]),
 }

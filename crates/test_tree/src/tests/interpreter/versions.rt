@@ -31,7 +31,7 @@ impl<K: KeyTrait> Versions<K> {
         }
     }
 
-    /// What a call is answered, made in this form if it has a key. An error is want of memory.
+    /// What a call is answered, made in this form if it has a key. An error is out of memory.
     pub fn answer(&mut self, form: Form, call: &Call) -> Result<Answer, AllocError> {
         match *call {
             Call::New => self.put(Tree::new(self.alloc)),

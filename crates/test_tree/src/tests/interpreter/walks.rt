@@ -20,7 +20,7 @@ pub fn gives<K: KeyTrait>(
         Walk::All => Ok(Answer::Flag(are_pairs(tree.iter()?, wanted)?)),
         Walk::Within(low, high) => within(alloc, tree, low, high, wanted),
         Walk::Under(prefix) => under(alloc, tree, form, prefix, wanted),
-        Walk::Beginning(probe) => beginning(alloc, tree, form, probe, wanted),
+        Walk::PrefixMatches(probe) => prefix(alloc, tree, form, probe, wanted),
         Walk::Longest(probe) => longest(alloc, tree, form, probe, wanted),
     }
 }
@@ -92,7 +92,7 @@ fn under<K: KeyTrait>(
     Ok(Answer::Flag(are_these))
 }
 
-fn beginning<K: KeyTrait>(
+fn prefix<K: KeyTrait>(
     alloc: Global,
     tree: &Tree<K>,
     form: Form,

@@ -1,9 +1,9 @@
 use Rattle.std.proofs.Common.{length}
-use Rattle.rart_walks.specs.WalkFields.{position, IsWalk}
+use Rattle.rart_walks.specs.WalkFields.{cursor, IsWalk}
 use Rattle.test_walks.proofs.tests.values_left.Given as goal
 
 abbrev pub invariant-walking : goal.invariant-walking
-invariant-walking g l = IsWalk g.P.Partial.bytes g.T.Trail.holds g.T.Trail.greatest l.walk
+invariant-walking g l = IsWalk g.P.Partial.bytes g.T.KeyPath.holds g.T.KeyPath.greatest l.walk
 
 abbrev pub decreases-walking : goal.decreases-walking
-decreases-walking g l = length (position g.P.Partial.bytes l.walk).pairs
+decreases-walking g l = length (cursor g.P.Partial.bytes l.walk).pairs

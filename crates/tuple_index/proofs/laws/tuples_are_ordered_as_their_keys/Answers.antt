@@ -1,5 +1,5 @@
 use Rattle.std.proofs.Common.{sym, ◌∙◌}
-use Rattle.tuple_index.proofs.KeyLemmas.{compared, keys-order}
+use Rattle.tuple_index.proofs.TupleKeyLemmas.{compared, keys-order}
 use Rattle.tuple_index.proofs.laws.tuples_are_ordered_as_their_keys.Goals as goal
 
 pub returns-clause-keys : goal.returns-clause-keys

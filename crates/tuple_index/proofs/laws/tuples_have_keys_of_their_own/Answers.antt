@@ -1,4 +1,4 @@
-use Rattle.tuple_index.proofs.KeyLemmas.{own-keys}
+use Rattle.tuple_index.proofs.TupleKeyLemmas.{own-keys}
 use Rattle.tuple_index.proofs.laws.tuples_have_keys_of_their_own.Goals as goal
 
 pub returns : goal.returns

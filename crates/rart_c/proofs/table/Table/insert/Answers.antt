@@ -5,13 +5,13 @@ use Rattle.rart_c.proofs.table.Table.insert.Goals as goal
 pub invariant_of-self-then-is_none : goal.invariant_of-self-then-is_none
 invariant_of-self-then-is_none g c =
     ap (λ n. n + 1) c.self.invariant
-    ∙ one-more c.self.inside.tree c.insert_and_replace_k.new.self c.in-Ok.key.bytes.items
-    c.in-Ok-insert_and_replace_k.replaced c.args.value
-    c.in-Ok-insert_and_replace_k.ensures.changes c.if-is_none.ensures
+    ∙ one-more c.self.inside.tree c.insert_and_replace_slice.new.self c.args.key.now
+    c.in-Ok.replaced c.args.value
+    c.in-Ok.ensures.changes c.if-is_none.ensures
 
 pub invariant_of-self-else-is_none : goal.invariant_of-self-else-is_none
 invariant_of-self-else-is_none g c =
-    c.self.invariant ∙ as-many c.self.inside.tree c.insert_and_replace_k.new.self
-    c.in-Ok.key.bytes.items
-    c.in-Ok-insert_and_replace_k.replaced c.args.value
-    c.in-Ok-insert_and_replace_k.ensures.changes c.if-is_none.ensures
+    c.self.invariant ∙ as-many c.self.inside.tree c.insert_and_replace_slice.new.self
+    c.args.key.now
+    c.in-Ok.replaced c.args.value
+    c.in-Ok.ensures.changes c.if-is_none.ensures

@@ -1,7 +1,7 @@
 use Rattle.std.proofs.Common.{◌≡◌, ◌+◌, length}
 use Rattle.rart_diff.specs.ChangeFields.{IsChangeWalk, changes_left, nodes_to_enter}
 use Rattle.rart_diff.specs.SideFields.{pairs_left}
-use Rattle.rart_diff.proofs.CountLemmas.{IsCounted}
+use Rattle.rart_diff.proofs.DiffCountLemmas.{IsCounted}
 use Rattle.rart_diff.proofs.changes.ChangeWalk.next.Given as goal
 
 abbrev pub invariant-merging : goal.invariant-merging

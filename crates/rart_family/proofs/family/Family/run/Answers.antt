@@ -1,7 +1,7 @@
 use Rattle.std.proofs.Common.{◌≡◌, ◌+◌, take, map, ◌∷◌, [], ◌++◌, arith, sym, ap, ◌∙◌, rules}
 use Rattle.std.proofs.lemmas.List.{take_more, map-append}
 use Rattle.rart_family.specs.Replies.{reply_value}
-use Rattle.rart_family.specs.Costs.{read_cost_of, read_least_of, change_cost_of, change_least_of, touch_least_of}
+use Rattle.rart_family.specs.Costs.{read_cost_of, read_least_of, change_cost_of, change_least_of, enter_least_of}
 use Rattle.rart_family.proofs.RunLemmas.{run_more, along_more}
 use Rattle.rart_family.proofs.family.Family.run.Goals as goal
 
@@ -30,7 +30,7 @@ loop-command-preserved g c =
     let read_few = more (read_least_of bytes) in
     let change_most = more (change_cost_of bytes) in
     let change_few = more (change_least_of bytes) in
-    let touch_few = more (touch_least_of bytes) in
+    let touch_few = more (enter_least_of bytes) in
     record {
       run =
           rw (commands, replies) (run_more bytes old mid _ done so_far item reply before.run

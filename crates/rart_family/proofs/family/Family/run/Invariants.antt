@@ -2,7 +2,7 @@ use Rattle.std.proofs.Common.{◌≡◌, ◌≤◌, map, take, length, vec_len}
 use Rattle.std.specs.Vec.{vec_capacity}
 use Rattle.rart_family.specs.Replies.{reply_value}
 use Rattle.rart_family.specs.Runs.{Run}
-use Rattle.rart_family.specs.Costs.{read_cost, read_least, change_cost, change_least, touch_least, ReadsBetween, ChangesBetween}
+use Rattle.rart_family.specs.Costs.{read_cost, read_least, change_cost, change_least, enter_least, ReadsBetween, ChangesBetween}
 use Rattle.rart_family.proofs.family.Family.run.Given as goal
 
 abbrev pub invariant-loop-command : goal.invariant-loop-command
@@ -17,7 +17,7 @@ invariant-loop-command g l =
           (read_cost bytes old done replies) l.fn.reads l.reads;
       changes : ChangesBetween (change_least bytes old done replies)
           (change_cost bytes old done replies)
-          (touch_least bytes old done replies) l.fn.changes l.changes;
+          (enter_least bytes old done replies) l.fn.changes l.changes;
       count : vec_len l.replies ≡ l.command-index;
       room : length l.commands ≤ vec_capacity l.replies;
     }

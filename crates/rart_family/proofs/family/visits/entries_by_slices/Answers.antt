@@ -1,6 +1,6 @@
 use Rattle.std.proofs.Common.{◌≡◌, refl, sym, subst, length, rules, of_calls}
 use Rattle.rart_versioned.specs.Bytes.{IsAdmitted}
-use Rattle.rart_maps.specs.Pairs.{beginnings}
+use Rattle.rart_maps.specs.Pairs.{prefix_matches}
 use Rattle.rart_maps.proofs.VisitLemmas.{answers-keep}
 use Rattle.rart_family.specs.Collections.{pairs_of}
 use Rattle.rart_family.proofs.CollectionLemmas.{filtered-admitted, callable_each, visit_keeps, kept_all}
@@ -22,7 +22,7 @@ prefix_match_for_each_k-requires g c =
 pub returns : goal.returns
 returns g c =
     let seen = pairs_of {V = g.row.V.Denot} g.K.KeyTrait.bytes in
-    let found = beginnings c.args.version.now.content (g.K.KeyTrait.bytes c.args.probe.now) in
+    let found = prefix_matches c.args.version.now.content (g.K.KeyTrait.bytes c.args.probe.now) in
     let visit = c.prefix_match_for_each_k.ensures.visits in
     let keeps = visit_keeps _ _ seen (λ f. f.0.now.kept)
     (λ f pair f' called. let shows = called.2 in search (rules, of_calls)) found _ _ visit in

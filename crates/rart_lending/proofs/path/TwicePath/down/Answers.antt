@@ -8,16 +8,18 @@ use Rattle.rart_node.specs.declared.node.VersionedNode.{VersionedNode}
 use Rattle.rart_node.specs.declared.node_ref.NodeRef.{NodeRef}
 use Rattle.rart_node.specs.NodeShapes.{node_shape, pointer_shape}
 use Rattle.rart_node.specs.Shape.{children_of, with_replaced}
-use Rattle.rart_lending.specs.Paths.{step, path_end, graft, first_byte}
+use Rattle.rart_lending.specs.Grafts.{graft}
+use Rattle.rart_search.specs.Paths.{step, path_end, first_byte}
 use Rattle.rart_shape.specs.Trees.{IsTree}
 use Rattle.rart_shape.proofs.CountingLemmas.{counts-then}
 use Rattle.rart_shape.proofs.FindLemmas.{branch, ordered, ascending}
 use Rattle.rart_shape.proofs.InsertionLemmas.{replaced-same}
-use Rattle.rart_lending.proofs.PathLemmas.{front-there, back-is, step-there, below-is, tree-along, graft-add, graft-below, graft-same}
+use Rattle.rart_search.proofs.LookupPathLemmas.{back-is}
+use Rattle.rart_lending.proofs.LentPathLemmas.{front-there, step-there, below-is, tree-along, graft-add, graft-below, graft-same}
 use Rattle.rart_lending.proofs.path.TwicePath.down.Goals as goal
 
-pub down-requires-clause-there : goal.down-requires-clause-there
-down-requires-clause-there g c =
+pub down-requires : goal.down-requires
+down-requires g c =
     let bytes = g.P.Partial.bytes in
     let w = c.args.key.now in
     let s = pointer_shape bytes c.args.at.now in
@@ -25,11 +27,18 @@ down-requires-clause-there g c =
     let steps = c.args.steps in
     let half = (steps - 1) / 2 in
     let rest = steps - 1 - half in
+    let few = c.requires.few in
     let parts : steps ≡ half + suc rest = omega (arith, c.if-steps-eq0.false) in
-    front-there half (suc rest) steps key s parts c.requires.there
+    record {
+      clones = c.requires.clones;
+      depth = c.requires.depth;
+      tree = c.requires.tree;
+      few = omega (arith, few);
+      there = front-there half (suc rest) steps key s parts c.requires.there;
+    }
 
-pub next_byte-byte-requires-clause-there : goal.next_byte-byte-requires-clause-there
-next_byte-byte-requires-clause-there g c =
+pub next_byte-byte-requires : goal.next_byte-byte-requires
+next_byte-byte-requires g c =
     let bytes = g.P.Partial.bytes in
     let w = c.args.key.now in
     let s = pointer_shape bytes c.args.at.now in
@@ -40,11 +49,15 @@ next_byte-byte-requires-clause-there g c =
     let parts : steps ≡ half + suc rest = omega (arith, c.if-steps-eq0.false) in
     let middle = node_shape bytes c.in_ok-middle.middle.now in
     let left = drop c.down.new.depth w in
-    let reached : path_end half key s ≡ Some (middle, left) = c.in_ok-middle.ensures.reached in
+    let reached : path_end half key s ≡ Some (middle, left) =
+    c.in_ok-middle.ensures.reaches.reached in
     let further : IsSome (path_end (suc rest) left middle) =
     subst IsSome (back-is half (suc rest) steps key s (middle, left) parts reached)
     c.requires.there in
-    step-there rest left middle further
+    record {
+      depth = c.in_ok-middle.ensures.reaches.within;
+      there = step-there rest left middle further;
+    }
 
 pub seek_child_mut-requires : goal.seek_child_mut-requires
 seek_child_mut-requires g c =
@@ -58,12 +71,13 @@ seek_child_mut-requires g c =
     let parts : steps ≡ half + suc rest = omega (arith, c.if-steps-eq0.false) in
     let middle = node_shape bytes c.in_ok-middle.middle.now in
     let left = drop c.down.new.depth w in
-    let reached : path_end half key s ≡ Some (middle, left) = c.in_ok-middle.ensures.reached in
+    let reached : path_end half key s ≡ Some (middle, left) =
+    c.in_ok-middle.ensures.reaches.reached in
     let tree : IsTree middle = tree-along half key s (middle, left) c.requires.tree reached in
     ascending middle (ordered middle tree)
 
-pub down-requires-in-Some-clause-tree : goal.down-requires-in-Some-clause-tree
-down-requires-in-Some-clause-tree g c =
+pub down-requires-in-Some : goal.down-requires-in-Some
+down-requires-in-Some g c =
     let bytes = g.P.Partial.bytes in
     let w = c.args.key.now in
     let s = pointer_shape bytes c.args.at.now in
@@ -74,29 +88,8 @@ down-requires-in-Some-clause-tree g c =
     let parts : steps ≡ half + suc rest = omega (arith, c.if-steps-eq0.false) in
     let middle = node_shape bytes c.in_ok-middle.middle.now in
     let left = drop c.down.new.depth w in
-    let reached : path_end half key s ≡ Some (middle, left) = c.in_ok-middle.ensures.reached in
-    let tree : IsTree middle = tree-along half key s (middle, left) c.requires.tree reached in
-    let byte = c.next_byte-byte.result in
-    let child = pointer_shape bytes c.in-Some.child.now in
-    let below = drop c.next_byte-byte.new.depth w in
-    let here : child_at byte (children_of middle) ≡ Some child = sym c.in-Some.ensures.value in
-    let goes : step left middle ≡ Some (child, below) =
-    c.next_byte-byte.ensures.next ∙ ap (option_map (λ z. (z, below))) here in
-    (branch middle byte child (ordered middle tree) here).tree
-
-pub down-requires-in-Some-clause-there : goal.down-requires-in-Some-clause-there
-down-requires-in-Some-clause-there g c =
-    let bytes = g.P.Partial.bytes in
-    let w = c.args.key.now in
-    let s = pointer_shape bytes c.args.at.now in
-    let key = drop c.args.depth.now w in
-    let steps = c.args.steps in
-    let half = (steps - 1) / 2 in
-    let rest = steps - 1 - half in
-    let parts : steps ≡ half + suc rest = omega (arith, c.if-steps-eq0.false) in
-    let middle = node_shape bytes c.in_ok-middle.middle.now in
-    let left = drop c.down.new.depth w in
-    let reached : path_end half key s ≡ Some (middle, left) = c.in_ok-middle.ensures.reached in
+    let reached : path_end half key s ≡ Some (middle, left) =
+    c.in_ok-middle.ensures.reaches.reached in
     let further : IsSome (path_end (suc rest) left middle) =
     subst IsSome (back-is half (suc rest) steps key s (middle, left) parts reached)
     c.requires.there in
@@ -106,7 +99,15 @@ down-requires-in-Some-clause-there g c =
     let here : child_at byte (children_of middle) ≡ Some child = sym c.in-Some.ensures.value in
     let goes : step left middle ≡ Some (child, below) =
     c.next_byte-byte.ensures.next ∙ ap (option_map (λ z. (z, below))) here in
-    subst IsSome (below-is rest left middle (child, below) goes) further
+    let tree : IsTree middle = tree-along half key s (middle, left) c.requires.tree reached in
+    let few = c.requires.few in
+    record {
+      clones = c.requires.clones;
+      depth = c.next_byte-byte.ensures.within;
+      tree = (branch middle byte child (ordered middle tree) here).tree;
+      few = omega (arith, few);
+      there = subst IsSome (below-is rest left middle (child, below) goes) further;
+    }
 
 pub unreachable-requires : goal.unreachable-requires
 unreachable-requires g c =
@@ -120,7 +121,8 @@ unreachable-requires g c =
     let parts : steps ≡ half + suc rest = omega (arith, c.if-steps-eq0.false) in
     let middle = node_shape bytes c.in_ok-middle.middle.now in
     let left = drop c.down.new.depth w in
-    let reached : path_end half key s ≡ Some (middle, left) = c.in_ok-middle.ensures.reached in
+    let reached : path_end half key s ≡ Some (middle, left) =
+    c.in_ok-middle.ensures.reaches.reached in
     let further : IsSome (path_end (suc rest) left middle) =
     subst IsSome (back-is half (suc rest) steps key s (middle, left) parts reached)
     c.requires.there in
@@ -141,7 +143,8 @@ returns g c =
     let parts : steps ≡ half + suc rest = omega (arith, c.if-steps-eq0.false) in
     let middle = node_shape bytes c.in_ok-middle.middle.now in
     let left = drop c.down.new.depth w in
-    let reached : path_end half key s ≡ Some (middle, left) = c.in_ok-middle.ensures.reached in
+    let reached : path_end half key s ≡ Some (middle, left) =
+    c.in_ok-middle.ensures.reaches.reached in
     let further : IsSome (path_end (suc rest) left middle) =
     subst IsSome (back-is half (suc rest) steps key s (middle, left) parts reached)
     c.requires.there in
@@ -192,13 +195,14 @@ returns g c =
       ),
       record {
         writes_back = tt;
-        reached =
-            IfOk-weaker c.down-in-Some.result _ _
-            (λ end there. back-is half (suc rest) steps key s (middle, left) parts reached
-            ∙ below-is rest left middle (child, below) goes ∙ there) c.down-in-Some.ensures.reached;
-        within = c.down-in-Some.ensures.within;
-        counted =
-            counts-then c.in_ok-middle.ensures.counted c.down-in-Some.ensures.counted
-            (omega (arith, parts)) (omega (arith, parts));
+        reaches = record {
+          reached = IfOk-weaker c.down-in-Some.result _ _
+              (λ end there. back-is half (suc rest) steps key s (middle, left) parts reached
+              ∙ below-is rest left middle (child, below) goes ∙ there)
+              c.down-in-Some.ensures.reaches.reached;
+          within = c.down-in-Some.ensures.reaches.within;
+          counted = counts-then c.in_ok-middle.ensures.reaches.counted
+              c.down-in-Some.ensures.reaches.counted (omega (arith, parts)) (omega (arith, parts));
+        };
       },
     )

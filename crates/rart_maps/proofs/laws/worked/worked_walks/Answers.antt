@@ -1,5 +1,5 @@
 use Rattle.rart_maps.proofs.laws.worked.worked_walks.Goals as goal
-use Rattle.rart_maps.proofs.WorkedBoundLemmas.{walk_of_three, walk_of_one_below_other, walk_of_none, scan_of_two, scan_of_all, scan_of_none, scan_of_three, range_of_two, range_of_all, range_reversed, range_of_none, range_of_none_below}
+use Rattle.rart_maps.proofs.WorkedBoundLemmas.{walk_of_three, walk_of_one_below_other, walk_of_none, reach_by_pairs_of_two, reach_by_pairs_of_all, reach_by_pairs_of_none, reach_by_pairs_of_three, range_of_two, range_of_all, range_reversed, range_of_none, range_of_none_below}
 
 pub returns-clause-three : goal.returns-clause-three
 returns-clause-three c = walk_of_three
@@ -11,7 +11,7 @@ pub returns-clause-none : goal.returns-clause-none
 returns-clause-none c = walk_of_none
 
 pub returns-clause-two_under : goal.returns-clause-two_under
-returns-clause-two_under c = scan_of_two
+returns-clause-two_under c = reach_by_pairs_of_two
 
 pub returns-clause-two_within : goal.returns-clause-two_within
 returns-clause-two_within c = range_of_two
@@ -26,13 +26,13 @@ pub returns-clause-none_within : goal.returns-clause-none_within
 returns-clause-none_within c = range_of_none
 
 pub returns-clause-all_under : goal.returns-clause-all_under
-returns-clause-all_under c = scan_of_all
+returns-clause-all_under c = reach_by_pairs_of_all
 
 pub returns-clause-none_under : goal.returns-clause-none_under
-returns-clause-none_under c = scan_of_none
+returns-clause-none_under c = reach_by_pairs_of_none
 
 pub returns-clause-three_under : goal.returns-clause-three_under
-returns-clause-three_under c = scan_of_three
+returns-clause-three_under c = reach_by_pairs_of_three
 
 pub returns-clause-none_below : goal.returns-clause-none_below
 returns-clause-none_below c = range_of_none_below

@@ -25,5 +25,6 @@ returns-in_ok-clone-in-Node48 g c =
 pub returns-in_ok-clone-in-Node256 : goal.returns-in_ok-clone-in-Node256
 returns-in_ok-clone-in-Node256 g c =
     let copied = (c.in_ok-clone-in-Node256.ensures {u = tt}).cases in
-    rw c.new-in-Node256.ensures (content_shape-copies g.P.Partial.bytes 256 _ _ _ _ copied.0 copied.1
+    rw c.new-in-Node256.ensures
+    (content_shape-copies g.P.Partial.bytes 256 _ _ _ _ copied.0 copied.1
     ∙ ap (λ k. shapes_of_content g.P.Partial.bytes (content_shape k)) (sym c.in-Node256.is))

@@ -2,7 +2,7 @@ use Rattle.std.proofs.Common.{◌≡◌, ◌+◌, ◌++◌, length, ap, subst, s
 use Rattle.rart_below.specs.Bytes.{IsAdmitted}
 use Rattle.rart_node.specs.NodeShapes.{node_shape, pointer_shape}
 use Rattle.rart_node.specs.Shape.{merged, prefix_of, with_prefix}
-use Rattle.rart_node.proofs.MergeLemmas.{if-ok, one-ascending, one-first, one-only, only-child}
+use Rattle.rart_node.proofs.NodeMergeLemmas.{if-ok, one-ascending, one-first, one-only, only-child}
 use Rattle.rart_node.proofs.node.VersionedNode.merge_child.Goals as goal
 
 pub next_from-requires : goal.next_from-requires

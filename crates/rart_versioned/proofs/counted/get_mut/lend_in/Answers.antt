@@ -8,7 +8,7 @@ use Rattle.rart_shape.specs.Trees.{found, IsPut}
 use Rattle.rart_versioned.specs.Roots.{found_in, IsSound}
 use Rattle.rart_shape.proofs.CountingLemmas.{counts-then, counts-most, made-none, entered-then, path-most}
 use Rattle.rart_versioned.proofs.SoundLemmas.{sound-again}
-use Rattle.rart_lending.proofs.PathLemmas.{there-arrived}
+use Rattle.rart_lending.proofs.LentPathLemmas.{there-arrived}
 use Rattle.rart_versioned.proofs.counted.get_mut.lend_in.Goals as goal
 
 pub returns-in-None-path_length : goal.returns-in-None-path_length

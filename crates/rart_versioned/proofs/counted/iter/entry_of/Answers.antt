@@ -3,7 +3,7 @@ use Rattle.std.proofs.lemmas.Bool.{eqb-true}
 use Rattle.std.specs.Option.{option_copied}
 use Rattle.rart_node.specs.NodeShapes.{node_shape, pointer_shape}
 use Rattle.rart_node.specs.Shape.{Shape, prefix_of, value_of, children_of, width_of}
-use Rattle.rart_versioned.proofs.IterationLemmas.{lone-pair}
+use Rattle.rart_versioned.proofs.VersionIterationLemmas.{lone-pair}
 use Rattle.rart_versioned.proofs.counted.iter.entry_of.Goals as goal
 
 pub returns-clause-pair : goal.returns-clause-pair

@@ -4,8 +4,8 @@ use Rattle.std.specs.List.{concat}
 use Rattle.rart_node.specs.NodeShapes.{node_shape, pointer_shape}
 use Rattle.rart_shape.specs.Trees.{pairs_of}
 use Rattle.rart_walks.specs.Frames.{behind_path, under_path}
-use Rattle.rart_walks.specs.Walks.{Position, paths_of}
-use Rattle.rart_walks.proofs.PlaceLemmas.{nodes-paths}
+use Rattle.rart_walks.specs.Walks.{Cursor, paths_of}
+use Rattle.rart_walks.proofs.CursorLemmas.{nodes-paths}
 use Rattle.rart_walks.proofs.WalkLemmas.{behind-none}
 use Rattle.rart_walks.proofs.walk.Walk.whole.Goals as goal
 
@@ -14,45 +14,39 @@ enter_whole-requires g c =
     let s = pointer_shape g.P.Partial.bytes c.args.root.now in
     λ _. (
       (refl, tt),
-      (
-        c.new-walk.ensures.walk,
-        (
+      record {
+        walk = c.new-walk.ensures.walk;
+        leaf = c.new-walk.ensures.leaf;
+        pending = c.new-walk.ensures.pending;
+        tree = rw c.open.ensures.shown c.requires.tree;
+        short = rw (
+          c.open.ensures.shown,
           c.new-walk.ensures.leaf,
-          (
-            c.new-walk.ensures.pending,
-            (
-              rw c.open.ensures.shown c.requires.tree,
-              rw (
-                c.open.ensures.shown,
-                c.new-walk.ensures.leaf,
-                c.new-walk.ensures.frames,
-                behind-none (pairs_of s),
-              ) c.requires.short,
-            ),
-          ),
-        ),
-      ),
+          c.new-walk.ensures.frames,
+          behind-none (pairs_of s),
+        ) c.requires.short;
+      },
     )
 
-pub returns-clause-pairs : goal.returns-clause-pairs
-returns-clause-pairs g c =
+pub returns : goal.returns
+returns g c =
     let s = pointer_shape g.P.Partial.bytes c.args.root.now in
     let start = c.new-walk.ensures.ended in
-    c.in_ok-enter_whole.ensures.pairs
-    ∙ ap (λ (at : Position g.row.V.Denot). behind_path (concat at.segments)
-    (pairs_of (node_shape g.P.Partial.bytes c.open.result.now)) ++ at.pairs) start
-    ∙ append-nil _ ∙ ap (λ z. behind_path [] (pairs_of z)) c.open.ensures.shown
-    ∙ behind-none (pairs_of s)
-
-pub returns-clause-nodes : goal.returns-clause-nodes
-returns-clause-nodes g c =
-    let s = pointer_shape g.P.Partial.bytes c.args.root.now in
-    let start = c.new-walk.ensures.ended in
-    let places = c.in_ok-enter_whole.ensures.places
-    ∙ ap (λ (at : Position g.row.V.Denot). under_path (concat at.segments)
-    (paths_of (node_shape g.P.Partial.bytes c.open.result.now)) ++ at.places) start
-    ∙ append-nil _ ∙ ap (λ z. under_path [] (paths_of z)) c.open.ensures.shown in
-    let long = ap length places in
-    let paths = length-map (paths_of s) (λ path. [] ++ path) in
-    let nodes = nodes-paths s in
-    omega (arith, long, paths, nodes)
+    record {
+      walk = c.in_ok-enter_whole.ensures.walk;
+      pairs = c.in_ok-enter_whole.ensures.pairs
+          ∙ ap (λ (at : Cursor g.row.V.Denot). behind_path (concat at.segments)
+          (pairs_of (node_shape g.P.Partial.bytes c.open.result.now)) ++ at.pairs) start
+          ∙ append-nil _ ∙ ap (λ z. behind_path [] (pairs_of z)) c.open.ensures.shown
+          ∙ behind-none (pairs_of s);
+      nodes =
+          let paths = c.in_ok-enter_whole.ensures.paths
+          ∙ ap (λ (at : Cursor g.row.V.Denot). under_path (concat at.segments)
+          (paths_of (node_shape g.P.Partial.bytes c.open.result.now)) ++ at.paths) start
+          ∙ append-nil _ ∙ ap (λ z. under_path [] (paths_of z)) c.open.ensures.shown in
+          let long = ap length paths in
+          let paths = length-map (paths_of s) (λ path. [] ++ path) in
+          let nodes = nodes-paths s in
+          omega (arith, long, paths, nodes);
+      work = c.open.ensures.work;
+    }

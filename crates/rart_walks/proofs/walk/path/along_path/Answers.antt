@@ -1,17 +1,34 @@
-use Rattle.std.proofs.Common.{inl, ◌≡◌, ◌+◌, cond, [], length, refl, arith, sym, ap, subst, ◌∙◌}
-use Rattle.std.specs.Prelude.{slice_index_or}
+use Rattle.std.proofs.Common.{inl, ◌≡◌, ◌+◌, ◌<◌, ◌≤◌, ℕ, Bool, List, Option, Some, None, filter, is_some, cond, [], length, refl, arith, sym, ap, subst, ◌∙◌}
+use Rattle.std.specs.Prelude.{slice_index_or, count_by}
+use Rattle.std.proofs.lemmas.List.Sums.{length-filter}
+use Rattle.std.proofs.lemmas.Result.{IfOk-from_err}
 use Rattle.rart_below.specs.Bytes.{common_length}
 use Rattle.rart_below.specs.Children.{children_from}
 use Rattle.rart_node.specs.NodeShapes.{node_shape, pointer_shape}
-use Rattle.rart_node.specs.Shape.{prefix_of, children_of}
+use Rattle.rart_node.specs.Shape.{Shape, prefix_of, children_of}
 use Rattle.rart_node.specs.VersionedNodeIter.{children_left}
 use Rattle.rart_shape.proofs.PrefixLemmas.{common_fits}
 use Rattle.rart_walks.specs.WalkFields.{open_nodes}
-use Rattle.rart_walks.specs.Parts.{goes_on}
-use Rattle.rart_walks.specs.Walks.{IsEndOf}
-use Rattle.rart_walks.proofs.StepLemmas.{goes-on, goes-some, step-counted, step-fits, step-lower, step-child, step-missing, step-trees, step-short}
+use Rattle.rart_walks.specs.Parts.{reaches, goes_on}
+use Rattle.rart_walks.specs.Walks.{IsEndOf, paths_of}
+use Rattle.rart_walks.proofs.EndLemmas.{end-fewer}
+use Rattle.rart_walks.proofs.WalkStepLemmas.{goes-on, goes-some, step-counted, step-entered, step-fits, step-lower, step-child, step-missing, step-trees, step-short}
 use Rattle.rart_walks.proofs.PathLemmas.{IsOnWay, way-start, way-kept, way-placed}
 use Rattle.rart_walks.proofs.walk.path.along_path.Goals as goal
+
+-- How many nodes are left, where the paths are an end of those that a test keeps.
+few-left : {V : Type 0} (test : List ℕ → Bool) (s : Shape V) {left : List (List ℕ)}
+    → IsEndOf left (filter test (paths_of s)) → length left ≤ count_by test (paths_of s)
+few-left test s end =
+    let fewer = end-fewer end in
+    let kept = length-filter test (paths_of s) in
+    omega (arith, fewer, kept)
+
+-- One pair is at hand at most.
+hand-fits : {A : Type 0} (pending : Option A) (start now : ℕ) → start < now
+    → start + cond (is_some pending) 1 0 ≤ now
+hand-fits None start now less = omega (arith, less)
+hand-fits (Some value) start now less = omega (arith, less)
 
 pub down-init : goal.down-init
 down-init g c =
@@ -19,50 +36,59 @@ down-init g c =
     record {
       holds_way = rw c.new-walk.ensures.leaf at c.new-walk.ensures.walk.holds_way;
       way =
-          subst (λ f. IsOnWay c.args.part g.T.Trail.greatest c.args.probe.now root c.args.work.now
+          subst (λ f. IsOnWay c.args.part g.T.KeyPath.greatest c.args.probe.now root c.args.work.now
           root c.args.probe.now f c.args.work.now) (sym c.new-walk.ensures.frames)
-          (way-start c.args.part g.T.Trail.greatest c.args.probe.now root c.args.work.now
+          (way-start c.args.part g.T.KeyPath.greatest c.args.probe.now root c.args.work.now
           c.requires.tree c.requires.short);
       leaf = c.new-walk.ensures.leaf;
       none = c.new-walk.ensures.pending;
     }
 
-pub returns-in_err-finish-clause-counted : goal.returns-in_err-finish-clause-counted
-returns-in_err-finish-clause-counted g c =
+pub returns-in_err-finish : goal.returns-in_err-finish
+returns-in_err-finish g c =
     let bytes = g.P.Partial.bytes in
     let s = pointer_shape bytes c.down.at.now in
     let o = node_shape bytes c.open-node.result.now in
     let same : o ≡ s = c.open-node.ensures.shown in
-    step-counted _ _ _ _ _ _ _ _ _ c.down.invariant.way o c.open-node.new.work
-    c.open-node.ensures.work same
+    let refused = c.from_residual.ensures.0 in
+    record {
+      walk = IfOk-from_err _ _ refused;
+      pairs = IfOk-from_err _ _ refused;
+      nodes = IfOk-from_err _ _ refused;
+      paths = IfOk-from_err _ _ refused;
+      counted = step-counted _ _ _ _ _ _ _ _ _ c.down.invariant.way o c.open-node.new.work
+          c.open-node.ensures.work same;
+      entered = step-entered _ _ _ _ _ _ _ _ _ c.down.invariant.way o c.open-node.new.work
+          c.open-node.ensures.work same;
+      at_hand = IfOk-from_err _ _ refused;
+    }
 
-pub returns-then-common-rest-clause-pairs : goal.returns-then-common-rest-clause-pairs
-returns-then-common-rest-clause-pairs g c =
+pub returns-then-common-rest : goal.returns-then-common-rest
+returns-then-common-rest g c =
     let bytes = g.P.Partial.bytes in
     let s = pointer_shape bytes c.down.at.now in
     let o = node_shape bytes c.open-node.result.now in
     let same : o ≡ s = c.open-node.ensures.shown in
+    let root = pointer_shape bytes c.args.root.now in
     let kept = way-kept _ _ _ _ _ _ _ _ _ c.down.invariant.way in
-    (rw (c.down.invariant.leaf, c.down.invariant.none, same) at c.in_ok-finish.ensures.pairs)
-    ∙ sym kept
-
-pub returns-then-common-rest-clause-places : goal.returns-then-common-rest-clause-places
-returns-then-common-rest-clause-places g c =
-    let bytes = g.P.Partial.bytes in
-    let o = node_shape bytes c.open-node.result.now in
-    let same : o ≡ pointer_shape bytes c.down.at.now = c.open-node.ensures.shown in
     let whole = way-placed _ _ _ _ _ _ _ _ _ c.down.invariant.way in
-    subst (IsEndOf _) (sym whole)
-    (rw (c.down.invariant.leaf, same) at c.in_ok-finish.ensures.places)
-
-pub returns-then-common-rest-clause-counted : goal.returns-then-common-rest-clause-counted
-returns-then-common-rest-clause-counted g c =
-    let bytes = g.P.Partial.bytes in
-    let s = pointer_shape bytes c.down.at.now in
-    let o = node_shape bytes c.open-node.result.now in
-    let same : o ≡ s = c.open-node.ensures.shown in
-    step-counted _ _ _ _ _ _ _ _ _ c.down.invariant.way o c.open-node.new.work
-    c.open-node.ensures.work same
+    let paths = subst (IsEndOf _) (sym whole)
+    (rw (c.down.invariant.leaf, same) at c.in_ok-finish.ensures.paths) in
+    let entered =
+    step-entered _ _ _ _ _ _ _ _ _ c.down.invariant.way o c.open-node.new.work
+    c.open-node.ensures.work same in
+    record {
+      walk = c.in_ok-finish.ensures.walk;
+      pairs =
+          (rw (c.down.invariant.leaf, c.down.invariant.none, same)
+          at c.in_ok-finish.ensures.pairs) ∙ sym kept;
+      nodes = few-left (reaches c.args.part c.args.probe.now) root paths;
+      paths = paths;
+      counted = step-counted _ _ _ _ _ _ _ _ _ c.down.invariant.way o c.open-node.new.work
+          c.open-node.ensures.work same;
+      entered = entered;
+      at_hand = hand-fits c.finish.new.walk.pending _ _ entered;
+    }
 
 pub rest_of-rest-requires : goal.rest_of-rest-requires
 rest_of-rest-requires g c =
@@ -96,60 +122,34 @@ enter_part-requires g c =
     let same : o ≡ s = c.open-node.ensures.shown in
     λ _. (
       (refl, tt),
-      (
-        c.down.invariant.holds_way,
-        step-fits _ _ _ _ _ _ _ _ _ c.down.invariant.way o c.open-node.new.work
-            c.open-node.ensures.work same _ (c.as_ref.ensures ∙ c.prefix-in-down.ensures),
-      ),
+      record {
+        holds = c.down.invariant.holds_way;
+        short = step-fits _ _ _ _ _ _ _ _ _ c.down.invariant.way o c.open-node.new.work
+            c.open-node.ensures.work same _ (c.as_ref.ensures ∙ c.prefix-in-down.ensures);
+      },
     )
 
-pub returns-in_err-enter_part-clause-counted : goal.returns-in_err-enter_part-clause-counted
-returns-in_err-enter_part-clause-counted g c =
+pub returns-in_err-enter_part : goal.returns-in_err-enter_part
+returns-in_err-enter_part g c =
     let bytes = g.P.Partial.bytes in
     let s = pointer_shape bytes c.down.at.now in
     let o = node_shape bytes c.open-node.result.now in
     let same : o ≡ s = c.open-node.ensures.shown in
-    step-counted _ _ _ _ _ _ _ _ _ c.down.invariant.way o c.open-node.new.work
-    c.open-node.ensures.work same
-
-pub returns-in-None-clause-walk : goal.returns-in-None-clause-walk
-returns-in-None-clause-walk g c =
-    let bytes = g.P.Partial.bytes in
-    let s = pointer_shape bytes c.down.at.now in
-    let o = node_shape bytes c.open-node.result.now in
-    let same : o ≡ s = c.open-node.ensures.shown in
-    let matched : c.prefix_length_slice-common.result
-    ≡ common_length (prefix_of o) c.down.rest.now = c.prefix_length_slice-common.ensures
-    ∙ ap (λ p. common_length p c.down.rest.now) c.prefix.ensures in
-    let long : c.len.result ≡ length (prefix_of o) =
-    c.len.ensures ∙ ap length c.prefix-else-common-rest.ensures in
-    let goes =
-    goes-on (prefix_of o) c.down.rest.now c.rest_of-rest.result.now
-    c.prefix_length_slice-common.result c.rest_of-rest.ensures matched c.if-common-rest.false
-    (let most = c.if-common-len.false in omega (arith, long, most)) in
-    let leaves : children_left bytes c.later_children-later.result
-    ≡ cond (goes_on c.args.part) (children_from
-    (slice_index_or c.rest_of-rest.result.now 0 0 + 1) (children_of o)) [] =
-    c.later_children-later.ensures
-    ∙ ap (λ t. cond t (children_from (slice_index_or c.rest_of-rest.result.now 0 0 + 1)
-    (children_of o)) []) c.goes_on.ensures in
-    let inner = open_nodes bytes c.enter_part.new.self.frames.items in
-    let segment = c.as_ref.ensures ∙ c.prefix-in-down.ensures in
-    let none = c.in_ok-enter_part.ensures.leaf ∙ c.down.invariant.leaf in
+    let refused = c.from_residual-in_err-enter_part.ensures.0 in
     record {
-      holds_way = rw none c.in_ok-enter_part.ensures.holds;
-      trees =
-          rw none (step-trees _ _ _ _ _ _ _ _ _ c.down.invariant.way o c.open-node.new.work
-          c.open-node.ensures.work same _ _ goes inner _ _ c.in_ok-enter_part.ensures.frames segment
-          leaves);
-      short =
-          rw none (step-short _ _ _ _ _ _ _ _ _ c.down.invariant.way o c.open-node.new.work
-          c.open-node.ensures.work same _ _ goes inner _ _ c.in_ok-enter_part.ensures.frames segment
-          leaves);
+      walk = IfOk-from_err _ _ refused;
+      pairs = IfOk-from_err _ _ refused;
+      nodes = IfOk-from_err _ _ refused;
+      paths = IfOk-from_err _ _ refused;
+      counted = step-counted _ _ _ _ _ _ _ _ _ c.down.invariant.way o c.open-node.new.work
+          c.open-node.ensures.work same;
+      entered = step-entered _ _ _ _ _ _ _ _ _ c.down.invariant.way o c.open-node.new.work
+          c.open-node.ensures.work same;
+      at_hand = IfOk-from_err _ _ refused;
     }
 
-pub returns-in-None-clause-pairs : goal.returns-in-None-clause-pairs
-returns-in-None-clause-pairs g c =
+pub returns-in-None : goal.returns-in-None
+returns-in-None g c =
     let bytes = g.P.Partial.bytes in
     let s = pointer_shape bytes c.down.at.now in
     let o = node_shape bytes c.open-node.result.now in
@@ -175,49 +175,31 @@ returns-in-None-clause-pairs g c =
     step-missing _ _ _ _ _ _ _ _ _ c.down.invariant.way o c.open-node.new.work
     c.open-node.ensures.work same _ _ goes inner _ _ c.in_ok-enter_part.ensures.frames segment
     leaves c.in-None.ensures in
-    rw (
-      c.in_ok-enter_part.ensures.leaf,
-      c.down.invariant.leaf,
-      c.in_ok-enter_part.ensures.pending,
-      c.down.invariant.none,
-    ) (sym missing.0)
-
-pub returns-in-None-clause-places : goal.returns-in-None-clause-places
-returns-in-None-clause-places g c =
-    let bytes = g.P.Partial.bytes in
-    let s = pointer_shape bytes c.down.at.now in
-    let o = node_shape bytes c.open-node.result.now in
-    let same : o ≡ s = c.open-node.ensures.shown in
-    let matched : c.prefix_length_slice-common.result
-    ≡ common_length (prefix_of o) c.down.rest.now = c.prefix_length_slice-common.ensures
-    ∙ ap (λ p. common_length p c.down.rest.now) c.prefix.ensures in
-    let long : c.len.result ≡ length (prefix_of o) =
-    c.len.ensures ∙ ap length c.prefix-else-common-rest.ensures in
-    let goes =
-    goes-on (prefix_of o) c.down.rest.now c.rest_of-rest.result.now
-    c.prefix_length_slice-common.result c.rest_of-rest.ensures matched c.if-common-rest.false
-    (let most = c.if-common-len.false in omega (arith, long, most)) in
-    let leaves : children_left bytes c.later_children-later.result
-    ≡ cond (goes_on c.args.part) (children_from
-    (slice_index_or c.rest_of-rest.result.now 0 0 + 1) (children_of o)) [] =
-    c.later_children-later.ensures
-    ∙ ap (λ t. cond t (children_from (slice_index_or c.rest_of-rest.result.now 0 0 + 1)
-    (children_of o)) []) c.goes_on.ensures in
-    let inner = open_nodes bytes c.enter_part.new.self.frames.items in
-    let segment = c.as_ref.ensures ∙ c.prefix-in-down.ensures in
-    rw (c.in_ok-enter_part.ensures.leaf, c.down.invariant.leaf)
-    (inl (step-missing _ _ _ _ _ _ _ _ _ c.down.invariant.way o c.open-node.new.work
-    c.open-node.ensures.work same _ _ goes inner _ _ c.in_ok-enter_part.ensures.frames segment
-    leaves c.in-None.ensures).1)
-
-pub returns-in-None-clause-counted : goal.returns-in-None-clause-counted
-returns-in-None-clause-counted g c =
-    let bytes = g.P.Partial.bytes in
-    let s = pointer_shape bytes c.down.at.now in
-    let o = node_shape bytes c.open-node.result.now in
-    let same : o ≡ s = c.open-node.ensures.shown in
-    step-counted _ _ _ _ _ _ _ _ _ c.down.invariant.way o c.open-node.new.work
-    c.open-node.ensures.work same
+    let part = c.in_ok-enter_part.ensures in
+    let none = part.leaf ∙ c.down.invariant.leaf in
+    let paths = inl missing.1 in
+    let entered =
+    step-entered _ _ _ _ _ _ _ _ _ c.down.invariant.way o c.open-node.new.work
+    c.open-node.ensures.work same in
+    record {
+      walk = record {
+        holds_way = rw none part.holds;
+        trees =
+            rw none (step-trees _ _ _ _ _ _ _ _ _ c.down.invariant.way o c.open-node.new.work
+            c.open-node.ensures.work same _ _ goes inner _ _ part.frames segment leaves);
+        short =
+            rw none (step-short _ _ _ _ _ _ _ _ _ c.down.invariant.way o c.open-node.new.work
+            c.open-node.ensures.work same _ _ goes inner _ _ part.frames segment leaves);
+      };
+      pairs = rw (none, part.pending, c.down.invariant.none) (sym missing.0);
+      nodes = few-left (reaches c.args.part c.args.probe.now)
+          (pointer_shape bytes c.args.root.now) (rw none paths);
+      paths = rw none paths;
+      counted = step-counted _ _ _ _ _ _ _ _ _ c.down.invariant.way o c.open-node.new.work
+          c.open-node.ensures.work same;
+      entered = entered;
+      at_hand = hand-fits c.enter_part.new.self.pending _ _ entered;
+    }
 
 pub down-smaller : goal.down-smaller
 down-smaller g c =

@@ -8,9 +8,9 @@ use Rattle.rart_walks.proofs.walk.path.along_path.Given as goal
 
 abbrev pub invariant-down : goal.invariant-down
 invariant-down g l = record {
-  holds_way : g.T.Trail.holds l.walk.trail
+  holds_way : g.T.KeyPath.holds l.walk.key_path
       (segments_of (open_nodes g.P.Partial.bytes l.walk.frames.items));
-  way : IsOnWay l.part g.T.Trail.greatest l.fn.probe
+  way : IsOnWay l.part g.T.KeyPath.greatest l.fn.probe
       (pointer_shape g.P.Partial.bytes l.fn.root) l.fn.work
       (pointer_shape g.P.Partial.bytes l.at) l.rest
       (open_nodes g.P.Partial.bytes l.walk.frames.items) l.work;

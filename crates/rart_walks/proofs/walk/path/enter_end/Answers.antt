@@ -7,18 +7,28 @@ use Rattle.rart_walks.specs.WalkFields.{open_nodes}
 use Rattle.rart_walks.proofs.WalkLemmas.{ahead-push, behind-behind}
 use Rattle.rart_walks.proofs.walk.path.enter_end.Goals as goal
 
-pub returns-then-is_passed-clause-pairs : goal.returns-then-is_passed-clause-pairs
-returns-then-is_passed-clause-pairs g c =
+pub returns-then-is_passed : goal.returns-then-is_passed
+returns-then-is_passed g c =
     let frames = open_nodes g.P.Partial.bytes c.args.walk.now.frames.items in
     let s = node_shape g.P.Partial.bytes c.args.node.now in
     let path = concat (segments_of frames) in
-    rw (
-      c.if-is_passed.true,
-      c.requires.leaf,
-      c.requires.pending,
-      c.in_ok-enter_whole.ensures.leaf,
-      c.in_ok-enter_whole.ensures.frames,
-    )
-    (ahead-push frames (prefix_of s, children_of s)
-    ∙ ap (λ z. z ++ pairs_ahead frames)
-    (sym (behind-behind path (prefix_of s) (pairs_of_all (children_of s)))))
+    let enters = c.in_ok-enter_whole.ensures in
+    record {
+      walk = record {
+        holds_way = enters.walk.holds_way;
+        trees = enters.walk.trees;
+        short = enters.walk.short;
+      };
+      pairs =
+          rw (
+            c.if-is_passed.true,
+            c.requires.leaf,
+            c.requires.pending,
+            enters.leaf,
+            enters.frames,
+          )
+          (ahead-push frames (prefix_of s, children_of s)
+          ∙ ap (λ z. z ++ pairs_ahead frames)
+          (sym (behind-behind path (prefix_of s) (pairs_of_all (children_of s)))));
+      paths = enters.paths;
+    }

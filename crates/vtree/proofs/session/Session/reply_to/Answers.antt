@@ -1,4 +1,4 @@
-use Rattle.vtree.proofs.StepLemmas.{replies_once}
+use Rattle.vtree.proofs.ReplyStepLemmas.{replies_once}
 use Rattle.vtree.proofs.session.Session.reply_to.Goals as goal
 
 pub returns-clause-reply : goal.returns-clause-reply

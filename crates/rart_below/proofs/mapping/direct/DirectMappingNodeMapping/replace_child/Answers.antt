@@ -12,7 +12,8 @@ unreachable-requires g c =
 pub returns-clause-order : goal.returns-clause-order
 returns-clause-order g c =
     let kept =
-    kept_from_order c.args.self.now.children.slots c.args.self.now.count c.args.self.now.bytes c.requires.order in
+    kept_from_order c.args.self.now.children.slots c.args.self.now.count c.args.self.now.bytes
+    c.requires.order in
     (replaced c.args.byte c.args.child _ _ _ _ _ kept (omega (arith, c.ranges.byte.fits))
     (c.in-Some.ensures {u = tt}).value (c.in-Some.ensures {u = tt}).after).0
 
@@ -24,6 +25,7 @@ returns-clause-value g c =
 pub returns-clause-children : goal.returns-clause-children
 returns-clause-children g c =
     let kept =
-    kept_from_order c.args.self.now.children.slots c.args.self.now.count c.args.self.now.bytes c.requires.order in
+    kept_from_order c.args.self.now.children.slots c.args.self.now.count c.args.self.now.bytes
+    c.requires.order in
     (replaced c.args.byte c.args.child _ _ _ _ _ kept (omega (arith, c.ranges.byte.fits))
     (c.in-Some.ensures {u = tt}).value (c.in-Some.ensures {u = tt}).after).1

@@ -3,8 +3,11 @@ use Rattle.rart_below.proofs.SortedMappingLemmas.{rank-in_order, kept_from_order
 use Rattle.rart_below.proofs.mapping.sorted.SortedKeyedMappingNodeMapping.add_child.Goals as goal
 
 pub rank_of-place-requires : goal.rank_of-place-requires
-rank_of-place-requires g c =
-    (search rules, rank-in_order g.row.WIDTH c.args.byte c.args.self.now.keys.items c.args.self.now.children.slots c.requires.order)
+rank_of-place-requires g c = (
+  search rules,
+  rank-in_order g.row.WIDTH c.args.byte c.args.self.now.keys.items
+      c.args.self.now.children.slots c.requires.order,
+)
 
 pub count-len-requires : goal.count-len-requires
 count-len-requires g c = (

@@ -3,8 +3,11 @@ use Rattle.rart_below.proofs.SortedMappingLemmas.{rank-in_order, kept_from_order
 use Rattle.rart_below.proofs.mapping.sorted.SortedKeyedMappingNodeMapping.delete_child.Goals as goal
 
 pub place_of-requires : goal.place_of-requires
-place_of-requires g c =
-    (search rules, rank-in_order g.row.WIDTH c.args.byte c.args.self.now.keys.items c.args.self.now.children.slots c.requires)
+place_of-requires g c = (
+  search rules,
+  rank-in_order g.row.WIDTH c.args.byte c.args.self.now.keys.items
+      c.args.self.now.children.slots c.requires,
+)
 
 pub returns-in_err-place-clause-value : goal.returns-in_err-place-clause-value
 returns-in_err-place-clause-value g c =

@@ -3,8 +3,11 @@ use Rattle.rart_below.proofs.SortedMappingLemmas.{rank-in_order, kept_from_order
 use Rattle.rart_below.proofs.mapping.sorted.SortedKeyedMappingNodeMapping.next_from.Goals as goal
 
 pub rank_from-place-requires : goal.rank_from-place-requires
-rank_from-place-requires g c =
-    (search rules, λ byte. rank-in_order g.row.WIDTH byte c.args.self.now.keys.items c.args.self.now.children.slots c.requires)
+rank_from-place-requires g c = (
+  search rules,
+  λ byte. rank-in_order g.row.WIDTH byte c.args.self.now.keys.items
+      c.args.self.now.children.slots c.requires,
+)
 
 pub unreachable-requires : goal.unreachable-requires
 unreachable-requires g c =

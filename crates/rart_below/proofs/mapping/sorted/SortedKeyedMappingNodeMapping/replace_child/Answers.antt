@@ -3,8 +3,11 @@ use Rattle.rart_below.proofs.SortedMappingLemmas.{rank-in_order, kept_from_order
 use Rattle.rart_below.proofs.mapping.sorted.SortedKeyedMappingNodeMapping.replace_child.Goals as goal
 
 pub place_of-requires : goal.place_of-requires
-place_of-requires g c =
-    (search rules, rank-in_order g.row.WIDTH c.args.byte c.args.self.now.keys.items c.args.self.now.children.slots c.requires.order)
+place_of-requires g c = (
+  search rules,
+  rank-in_order g.row.WIDTH c.args.byte c.args.self.now.keys.items
+      c.args.self.now.children.slots c.requires.order,
+)
 
 pub unreachable-requires : goal.unreachable-requires
 unreachable-requires g c =

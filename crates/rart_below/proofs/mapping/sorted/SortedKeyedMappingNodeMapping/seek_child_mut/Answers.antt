@@ -4,8 +4,11 @@ use Rattle.rart_below.proofs.LentLemmas.{of_lent, set_as_was}
 use Rattle.rart_below.proofs.mapping.sorted.SortedKeyedMappingNodeMapping.seek_child_mut.Goals as goal
 
 pub place_of-requires : goal.place_of-requires
-place_of-requires g c =
-    (search rules, rank-in_order g.row.WIDTH c.args.byte c.args.self.now.keys.items c.args.self.now.children.slots c.requires)
+place_of-requires g c = (
+  search rules,
+  rank-in_order g.row.WIDTH c.args.byte c.args.self.now.keys.items
+      c.args.self.now.children.slots c.requires,
+)
 
 pub returns-in_default : goal.returns-in_default
 returns-in_default g c =

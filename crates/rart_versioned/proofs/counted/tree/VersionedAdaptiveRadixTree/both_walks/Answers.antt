@@ -1,10 +1,41 @@
-use Rattle.rart_versioned.proofs.DiffLemmas.{walks-are}
+use Rattle.std.proofs.Common.{arith, rules}
+use Rattle.rart_shape.proofs.CountingLemmas.{counts-most, counts-then, entered-then}
+use Rattle.rart_versioned.proofs.VersionDiffLemmas.{walks-are}
 use Rattle.rart_versioned.proofs.counted.tree.VersionedAdaptiveRadixTree.both_walks.Goals as goal
 
-pub returns-clause-walks : goal.returns-clause-walks
-returns-clause-walks g c =
+pub returns-in_err-old : goal.returns-in_err-old
+returns-in_err-old g c =
+    let refused = c.from_residual.ensures.0 in
+    record {
+      walks = search (rules, refused);
+      nodes = search (rules, refused);
+      counted = counts-most c.whole_walk.ensures.counted (omega arith) (omega arith);
+      entered = c.whole_walk.ensures.entered;
+    }
+
+pub returns-in_err-new : goal.returns-in_err-new
+returns-in_err-new g c =
+    let refused = c.from_residual-in_err-new.ensures.0 in
+    let one = c.whole_walk.ensures in
+    let other = c.whole_walk-2.ensures in
+    record {
+      walks = search (rules, refused);
+      nodes = search (rules, refused);
+      counted = counts-then one.counted other.counted (omega arith) (omega arith);
+      entered = λ keyed. entered-then c.args.work.now (one.entered keyed) other.counted;
+    }
+
+pub returns : goal.returns
+returns g c =
     let one = c.in_ok-old.ensures in
     let other = c.in_ok-new.ensures in
-    walks-are g.V.PartialEq.eq g.K.PartialType.Partial.bytes g.K.KeyTrait.MAXIMUM_SIZE
-    c.args.self.now c.args.other.now c.in_ok-old.old c.in_ok-new.new
-    one.walk other.walk one.pairs other.pairs one.admitted other.admitted
+    let first = one.nodes in
+    let second = other.nodes in
+    record {
+      walks = walks-are g.V.PartialEq.eq g.K.PartialType.Partial.bytes g.K.KeyTrait.MAXIMUM_SIZE
+          c.args.self.now c.args.other.now c.in_ok-old.old c.in_ok-new.new
+          one.walk other.walk one.pairs other.pairs one.admitted other.admitted;
+      nodes = omega (arith, first, second);
+      counted = counts-then one.counted other.counted (omega arith) (omega arith);
+      entered = λ keyed. entered-then c.args.work.now (one.entered keyed) other.counted;
+    }

@@ -1,5 +1,8 @@
-use Rattle.std.proofs.Common.{length, arith, ap}
-use Rattle.rart_versioned.proofs.DiffLemmas.{changes-few}
+use Rattle.std.proofs.Common.{rules, ◌∙◌, length, arith, ap}
+use Rattle.rart_versioned.proofs.VersionDiffLemmas.{changes-few}
+use Rattle.std.proofs.lemmas.Result.{IfOk-weaker}
+use Rattle.rart_shape.proofs.CountingLemmas.{entered-then}
+use Rattle.rart_versioned.proofs.VersionVisitLemmas.{counts-through}
 use Rattle.rart_versioned.proofs.counted.tree.VersionedAdaptiveRadixTree.diff_count_counted.Goals as goal
 
 pub count_changes-requires-clause-fits : goal.count_changes-requires-clause-fits
@@ -7,3 +10,23 @@ count_changes-requires-clause-fits g c =
     let same = ap length c.in_ok-old.ensures.walks.changes_are in
     let few = changes-few g.V.PartialEq.eq c.args.self.now.content c.args.other.now.content in
     omega (arith, same, few)
+
+pub returns-in_err-old : goal.returns-in_err-old
+returns-in_err-old g c =
+    let refused = c.from_residual.ensures.0 in
+    record {
+      count = search (rules, refused);
+      counted = c.both_walks.ensures.counted;
+      entered = c.both_walks.ensures.entered;
+    }
+
+pub returns : goal.returns
+returns g c =
+    let both = c.in_ok-old.ensures in
+    let told = c.count_changes.ensures in
+    record {
+      count = IfOk-weaker c.count_changes.result _ _
+          (λ count is. is ∙ ap length both.walks.changes_are) told.count;
+      counted = counts-through both.counted both.nodes told.counted;
+      entered = λ keyed. entered-then c.args.work.now (both.entered keyed) told.counted;
+    }

@@ -1,7 +1,7 @@
 use Rattle.std.proofs.Common.{sym, ◌∙◌}
 use Rattle.rart_node.specs.NodeShapes.{pointer_shape}
-use Rattle.rart_versioned.proofs.IterationLemmas.{content-admitted, first-admitted, no-pairs, root-pairs}
-use Rattle.rart_versioned.proofs.VisitLemmas.{none-keyed}
+use Rattle.rart_versioned.proofs.VersionIterationLemmas.{content-admitted, first-admitted, no-pairs, root-pairs}
+use Rattle.rart_versioned.proofs.VersionVisitLemmas.{none-keyed}
 use Rattle.rart_versioned.proofs.counted.tree.VersionedAdaptiveRadixTree.entries.Goals as goal
 
 pub returns-in_default-clause-pairs : goal.returns-in_default-clause-pairs

@@ -12,3 +12,6 @@ visit_range-requires g c =
     let same = ap (λ (low : Bound (List ℕ)). within m low high) (sym c.bytes_of.ensures)
     ∙ ap (within m (bound_map (λ bytes. bytes.now) c.bytes_of.result)) (sym c.bytes_of-2.ensures) in
     record { visitable = subst (Visitable g.F.FnMut ByView c.args.f.now) same c.requires.visitable }
+
+pub returns : goal.returns
+returns g c = rw (c.bytes_of.ensures, c.bytes_of-2.ensures) at c.visit_range.ensures

@@ -1,14 +1,47 @@
-use Rattle.std.proofs.Common.{sym, subst}
-use Rattle.rart_maps.specs.Visits.{ByView, Visitable}
+use Rattle.std.proofs.Common.{arith, rules, sym, subst}
+use Rattle.rart_maps.specs.Visits.{ByView, Visitable, Visits}
 use Rattle.rart_maps.proofs.VisitLemmas.{up_to-start, visits-refused}
+use Rattle.rart_shape.proofs.CountingLemmas.{entered-then}
+use Rattle.rart_versioned.proofs.VersionVisitLemmas.{OnOk-weaker}
 use Rattle.rart_versioned.proofs.counted.tree.VersionedAdaptiveRadixTree.for_each_view_counted.Goals as goal
-
-pub returns-in_err-walk-clause-visits : goal.returns-in_err-walk-clause-visits
-returns-in_err-walk-clause-visits g c =
-    let start = up_to-start g.F.FnMut ByView tt c.args.f.now _ in
-    visits-refused g.F.FnMut ByView c.from_residual.result c.from_residual.ensures.0 (_, start)
 
 pub visit_views-requires-clause-visitable : goal.visit_views-requires-clause-visitable
 visit_views-requires-clause-visitable g c =
     subst (Visitable g.F.FnMut ByView c.args.f.now) (sym c.in_ok-walk.ensures.pairs)
     c.requires.visitable
+
+pub returns-in_err-walk : goal.returns-in_err-walk
+returns-in_err-walk g c =
+    let start = up_to-start g.F.FnMut ByView tt c.args.f.now _ in
+    let refused = c.from_residual.ensures.0 in
+    record {
+      visits = visits-refused g.F.FnMut ByView c.from_residual.result refused (_, start);
+      counted = c.whole_walk.ensures.counted;
+      entered = search (rules, refused);
+      entered_least = c.whole_walk.ensures.entered;
+    }
+
+pub returns : goal.returns
+returns g c =
+    let walk = c.in_ok-walk.ensures in
+    let visit = c.visit_views.ensures in
+    let nodes = walk.nodes in
+    let way_grows = walk.counted.entered_grows in
+    let way_made = walk.counted.made_grows in
+    let way_none = walk.counted.made_at_most in
+    let grows = visit.counted.entered_grows in
+    let most = visit.counted.entered_at_most in
+    let made = visit.counted.made_grows in
+    let none = visit.counted.made_at_most in
+    record {
+      visits = subst (λ list. Visits g.F.FnMut ByView c.visit_views.result c.args.f.now list
+          c.visit_views.new.f) walk.pairs visit.visits;
+      counted = record {
+        entered_grows = omega (arith, way_grows, grows);
+        entered_at_most = omega (arith, nodes, most);
+        made_grows = omega (arith, way_made, made);
+        made_at_most = omega (arith, way_none, none);
+      };
+      entered = OnOk-weaker c.visit_views.result (λ all. omega (arith, all, nodes)) visit.entered;
+      entered_least = λ keyed. entered-then c.args.work.now (walk.entered keyed) visit.counted;
+    }

@@ -18,7 +18,7 @@ use Rattle.std.proofs.option.Option.TheLaws as Option-laws
 use Rattle.std.proofs.alloc.AllocError.TheLaws as Err-laws
 use Rattle.rart_below.specs.Clones.{ClonesEqual}
 use Rattle.rart_versioned.proofs.ProofSteps.{reference-laws}
-use Rattle.rart_versioned.proofs.FoundLemmas.{same-name, found-was, refused-there}
+use Rattle.rart_versioned.proofs.VersionFoundLemmas.{same-name, found-was, refused-there}
 use Rattle.rart_versioned.proofs.counted.missing.Missing.TheLaws as Missing-laws
 use Rattle.rart_versioned.specs.Lent.{LendsValue, found_name}
 use Rattle.rart_versioned.specs.Missing.{Explains, found_value}

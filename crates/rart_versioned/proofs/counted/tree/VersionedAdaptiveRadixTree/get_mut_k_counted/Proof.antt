@@ -15,7 +15,7 @@ use Rattle.rart_node.specs.contracts.work.Work.{the_row as work_row}
 use Rattle.rart_maps.specs.Bounds.{lookup_bound}
 use Rattle.rart_versioned.specs.ChangeCounts.{CountsChange}
 use Rattle.rart_versioned.proofs.ProofSteps.{reference-laws}
-use Rattle.rart_versioned.proofs.FoundLemmas.{same-name, found-was, refused-there}
+use Rattle.rart_versioned.proofs.VersionFoundLemmas.{same-name, found-was, refused-there}
 use Rattle.rart_versioned.proofs.counted.missing.Missing.TheLaws as Missing-laws
 use Rattle.rart_versioned.specs.Lent.{LendsValue, found_name}
 use Rattle.rart_versioned.specs.Missing.{Explains, found_value}

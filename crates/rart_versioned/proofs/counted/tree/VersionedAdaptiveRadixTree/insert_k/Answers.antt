@@ -1,7 +1,10 @@
 use Rattle.rart_maps.proofs.LookupLemmas.{insertion-sets}
 use Rattle.rart_versioned.proofs.counted.tree.VersionedAdaptiveRadixTree.insert_k.Goals as goal
 
-pub returns-clause-sets : goal.returns-clause-sets
-returns-clause-sets g c =
-    insertion-sets c.args.self.now c.insert_k_counted.new.self (g.K.KeyTrait.bytes c.args.key.now) c.args.value
-    c.insert_k_counted.result c.insert_k_counted.ensures.changes
+pub returns : goal.returns
+returns g c = record {
+  changes = c.insert_k_counted.ensures.changes;
+  sets = insertion-sets c.args.self.now c.insert_k_counted.new.self
+      (g.K.KeyTrait.bytes c.args.key.now) c.args.value c.insert_k_counted.result
+      c.insert_k_counted.ensures.changes;
+}

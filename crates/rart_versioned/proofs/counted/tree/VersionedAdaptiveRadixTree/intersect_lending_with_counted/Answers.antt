@@ -5,6 +5,20 @@ use Rattle.rart_versioned.proofs.counted.tree.VersionedAdaptiveRadixTree.interse
 pub visit_common-requires : goal.visit_common-requires
 visit_common-requires g c κs =
     let roots = c.in-Some.ensures.both in
-    let visitable = subst (Visitable g.F.FnMut ByViewPair c.args.f.now) (sym roots.commons_are)
-    c.requires.visitable in
-    ((refl, tt), (roots.left_tree, (roots.right_tree, (c.new-trail.ensures, (roots.short, visitable)))))
+    let visitable = subst (Visitable g.F.FnMut ByViewPair c.args.f.now) (sym roots.common_pairs_are)
+    c.requires.visitable in (
+      (refl, tt),
+      (
+        roots.left_tree,
+        (
+          roots.right_tree,
+          (
+            c.new-key_path.ensures,
+            (
+              roots.short,
+              visitable,
+            ),
+          ),
+        ),
+      ),
+    )

@@ -7,5 +7,5 @@ visit_common_values-requires g c κs =
     let roots = c.in-Some.ensures.both in
     let visitable =
     subst (λ list. Visitable g.F.FnMut ByValuePair c.args.f.now
-    (map (λ entry. (entry.1, entry.2)) list)) (sym roots.commons_are) c.requires.visitable in
+    (map (λ entry. (entry.1, entry.2)) list)) (sym roots.common_pairs_are) c.requires.visitable in
     ((refl, tt), (roots.left_tree, (roots.right_tree, visitable)))

@@ -6,6 +6,7 @@ pub visit_common_keys-requires : goal.visit_common_keys-requires
 visit_common_keys-requires g c κs =
     let roots = c.in-Some.ensures.both in
     let visitable =
-    subst (Visitable g.F.FnMut (ByKeyPair g.K.KeyTrait.bytes) c.args.f.now) (sym roots.commons_are)
+    subst (Visitable g.F.FnMut (ByKeyPair g.K.KeyTrait.bytes) c.args.f.now)
+    (sym roots.common_pairs_are)
     c.requires.visitable in
     ((refl, tt), (roots.left_tree, (roots.right_tree, (roots.admitted, visitable))))

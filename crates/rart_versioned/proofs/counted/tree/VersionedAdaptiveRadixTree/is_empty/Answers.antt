@@ -2,7 +2,7 @@ use Rattle.std.proofs.Common.{Some, sym, subst}
 use Rattle.std.specs.Option.{option_map}
 use Rattle.rart_node.specs.NodeShapes.{pointer_shape}
 use Rattle.rart_versioned.specs.Roots.{IsSound}
-use Rattle.rart_versioned.proofs.KeyLemmas.{some-key}
+use Rattle.rart_versioned.proofs.VersionKeyLemmas.{some-key}
 use Rattle.rart_versioned.proofs.SoundLemmas.{no-key}
 use Rattle.rart_versioned.proofs.counted.tree.VersionedAdaptiveRadixTree.is_empty.Goals as goal
 

@@ -4,12 +4,21 @@ use Rattle.std.specs.FinMap as finite
 use Rattle.std.proofs.lemmas.Result.{IfOk-weaker, IfErr-weaker}
 use Rattle.rart_node.specs.NodeShapes.{pointer_shape}
 use Rattle.rart_versioned.specs.Roots.{map_of, found_in}
-use Rattle.rart_maps.specs.Versions.{value_at}
+use Rattle.rart_maps.specs.Versions.{Version, HasRoom, value_at}
 use Rattle.rart_versioned.specs.Missing.{Explains}
 use Rattle.rart_shape.proofs.CountingLemmas.{counts-most}
 use Rattle.rart_versioned.proofs.LendingLemmas.{same-ends, at-ok, both-at-err, not-fallen}
 use Rattle.rart_versioned.proofs.SoundLemmas.{map-below, sound-later, tree-in, value-in, has-root}
 use Rattle.rart_versioned.proofs.counted.tree.VersionedAdaptiveRadixTree.lent_k_counted.Goals as goal
+
+pub lend_in-requires : goal.lend_in-requires
+lend_in-requires g c = record {
+  clones = c.requires.clones;
+  room = subst (λ (v : Version g.row.V.Denot). HasRoom v 1) (sym c.self.view_is) c.requires.room;
+  tree = tree-in g.K.KeyTrait.MAXIMUM_SIZE c.self.inside.version
+      (option_map (pointer_shape g.K.PartialType.Partial.bytes) c.self.inside.root)
+      c.self.invariant;
+}
 
 pub invariant_of-self-lent : goal.invariant_of-self-lent
 invariant_of-self-lent g c =

@@ -1,16 +1,46 @@
-use Rattle.std.proofs.Common.{sym, subst, ap, ◌∙◌}
+use Rattle.std.proofs.Common.{arith, rules, length, sym, subst, ap, ◌∙◌}
 use Rattle.rart_maps.specs.Pairs.{under}
-use Rattle.rart_maps.specs.Visits.{ByView, Visitable}
+use Rattle.rart_maps.specs.Visits.{ByView, Visitable, Visits}
 use Rattle.rart_maps.proofs.VisitLemmas.{up_to-start, visits-refused}
+use Rattle.rart_shape.proofs.CountingLemmas.{counts-most, counts-then, entered-then}
+use Rattle.rart_versioned.proofs.VersionVisitLemmas.{OnOk-weaker}
 use Rattle.rart_versioned.proofs.counted.tree.VersionedAdaptiveRadixTree.prefix_for_each_view_k_counted.Goals as goal
-
-pub returns-in_err-walk-clause-visits : goal.returns-in_err-walk-clause-visits
-returns-in_err-walk-clause-visits g c =
-    let start = up_to-start g.F.FnMut ByView tt c.args.f.now _ in
-    visits-refused g.F.FnMut ByView c.from_residual.result c.from_residual.ensures.0 (_, start)
 
 pub visit_views-requires-clause-visitable : goal.visit_views-requires-clause-visitable
 visit_views-requires-clause-visitable g c =
     let same = c.in_ok-walk.ensures.pairs
     ∙ ap (under c.args.self.now.content) c.as_ref.ensures in
     subst (Visitable g.F.FnMut ByView c.args.f.now) (sym same) c.requires.visitable
+
+pub returns-in_err-walk : goal.returns-in_err-walk
+returns-in_err-walk g c =
+    let start = up_to-start g.F.FnMut ByView tt c.args.f.now _ in
+    let refused = c.from_residual.ensures.0 in
+    let way = rw c.as_ref.ensures at c.walk_under.ensures.counted in
+    record {
+      visits = visits-refused g.F.FnMut ByView c.from_residual.result refused (_, start);
+      counted = counts-most way (omega arith) (omega arith);
+      counted_by_pairs = counts-most way (omega arith) (omega arith);
+      entered = c.walk_under.ensures.entered;
+      each = search (rules, refused);
+    }
+
+pub returns : goal.returns
+returns g c =
+    let walk = c.in_ok-walk.ensures in
+    let same = walk.pairs ∙ ap (under c.args.self.now.content) c.as_ref.ensures in
+    let way = rw c.as_ref.ensures at walk.counted in
+    let nodes = rw c.as_ref.ensures at walk.nodes in
+    let few = rw c.as_ref.ensures at walk.few in
+    let hand = walk.at_hand in
+    let long = ap length same in
+    let visit = c.visit_views.ensures in
+    record {
+      visits = subst (λ list. Visits g.F.FnMut ByView c.visit_views.result c.args.f.now
+          list c.visit_views.new.f) same visit.visits;
+      counted = counts-then way visit.counted (omega (arith, nodes)) (omega arith);
+      counted_by_pairs = counts-then way visit.counted (omega (arith, few)) (omega arith);
+      entered = λ keyed. entered-then c.args.work.now (walk.entered keyed) visit.counted;
+      each = OnOk-weaker c.visit_views.result (λ least. omega (arith, least, hand, long))
+          visit.least;
+    }

@@ -1,48 +1,57 @@
-use Rattle.std.proofs.Common.{◌+◌, ◌≤◌, ℕ, List, length, sym, subst, arith}
+use Rattle.std.proofs.Common.{rules, ◌+◌, ◌≤◌, ℕ, List, length, sym, subst, arith}
 use Rattle.rart_maps.specs.Visits.{BySlice, Visit, Visitable}
 use Rattle.rart_maps.proofs.VisitLemmas.{up_to-over, up_to-start}
 use Rattle.rart_node.specs.NodeShapes.{pointer_shape}
 use Rattle.rart_shape.specs.Trees.{path_bound}
 use Rattle.rart_shape.proofs.CountingLemmas.{counts-most, path-most}
-use Rattle.rart_versioned.proofs.VisitLemmas.{none-keyed, none-begins, root-begins}
+use Rattle.rart_versioned.proofs.VersionVisitLemmas.{none-keyed, none-prefix_matches, root-prefix_matches}
 use Rattle.rart_versioned.proofs.counted.tree.VersionedAdaptiveRadixTree.prefix_match_for_each_k_counted.Goals as goal
 
-pub returns-in-None-clause-visits : goal.returns-in-None-clause-visits
-returns-in-None-clause-visits g c =
-    let none = none-begins (pointer_shape g.K.PartialType.Partial.bytes) g.K.KeyTrait.MAXIMUM_SIZE
-    c.self.inside.version
-    c.self.inside.root c.args.self.now c.self.invariant c.self.view_is
-    (g.K.KeyTrait.bytes c.args.probe.now) c.in-None.is in
-    up_to-over g.F.FnMut BySlice tt none (up_to-start g.F.FnMut BySlice tt c.args.f.now _)
-
-pub returns-in-None-clause-entered : goal.returns-in-None-clause-entered
-returns-in-None-clause-entered g c keyed =
-    absurd (none-keyed (pointer_shape g.K.PartialType.Partial.bytes) g.K.KeyTrait.MAXIMUM_SIZE
-    c.self.inside.version
-    c.self.inside.root c.args.self.now c.self.invariant c.self.view_is
-    c.in-None.is keyed)
-
-pub visit_beginnings-requires-clause-visitable : goal.visit_beginnings-requires-clause-visitable
-visit_beginnings-requires-clause-visitable g c =
-    let same = root-begins (pointer_shape g.K.PartialType.Partial.bytes) g.K.KeyTrait.MAXIMUM_SIZE
+pub visit_prefix_matches-requires-clause-visitable :
+    goal.visit_prefix_matches-requires-clause-visitable
+visit_prefix_matches-requires-clause-visitable g c =
+    let same = root-prefix_matches (pointer_shape g.K.PartialType.Partial.bytes)
+    g.K.KeyTrait.MAXIMUM_SIZE
     c.self.inside.version
     c.self.inside.root c.args.self.now c.self.invariant c.self.view_is
     c.in-Some.root c.in-Some.is _ _ c.as_ref.ensures in
     subst (Visitable g.F.FnMut BySlice c.args.f.now) same c.requires.visitable
 
-pub returns-in-Some-clause-visits : goal.returns-in-Some-clause-visits
-returns-in-Some-clause-visits g c =
-    let same = root-begins (pointer_shape g.K.PartialType.Partial.bytes) g.K.KeyTrait.MAXIMUM_SIZE
-    c.self.inside.version
-    c.self.inside.root c.args.self.now c.self.invariant c.self.view_is
-    c.in-Some.root c.in-Some.is _ _ c.as_ref.ensures in
-    subst (λ list. Visit g.F.FnMut BySlice c.args.f.now list c.visit_beginnings.new.f) (sym same)
-    c.visit_beginnings.ensures.visits
+pub returns-in-None : goal.returns-in-None
+returns-in-None g c =
+    record {
+      visits =
+          let none = none-prefix_matches (pointer_shape g.K.PartialType.Partial.bytes)
+          g.K.KeyTrait.MAXIMUM_SIZE
+          c.self.inside.version
+          c.self.inside.root c.args.self.now c.self.invariant c.self.view_is
+          (g.K.KeyTrait.bytes c.args.probe.now) c.in-None.is in
+          up_to-over g.F.FnMut BySlice tt none (up_to-start g.F.FnMut BySlice tt c.args.f.now _);
+      counted = search rules;
+      entered = λ keyed.
+          absurd (none-keyed (pointer_shape g.K.PartialType.Partial.bytes) g.K.KeyTrait.MAXIMUM_SIZE
+          c.self.inside.version
+          c.self.inside.root c.args.self.now c.self.invariant c.self.view_is
+          c.in-None.is keyed);
+    }
 
-pub returns-in-Some-clause-counted : goal.returns-in-Some-clause-counted
-returns-in-Some-clause-counted g c =
-    let s = pointer_shape g.K.PartialType.Partial.bytes c.in-Some.root in
-    let probe = c.as_ref.result.now in
-    let most = subst (λ (k : List ℕ). path_bound s probe ≤ length k + 1) c.as_ref.ensures
-    (path-most s probe) in
-    counts-most c.visit_beginnings.ensures.counted most (omega arith)
+pub returns-in-Some : goal.returns-in-Some
+returns-in-Some g c =
+    record {
+      visits =
+          let same = root-prefix_matches (pointer_shape g.K.PartialType.Partial.bytes)
+          g.K.KeyTrait.MAXIMUM_SIZE
+          c.self.inside.version
+          c.self.inside.root c.args.self.now c.self.invariant c.self.view_is
+          c.in-Some.root c.in-Some.is _ _ c.as_ref.ensures in
+          subst (λ list. Visit g.F.FnMut BySlice c.args.f.now list c.visit_prefix_matches.new.f)
+          (sym same)
+          c.visit_prefix_matches.ensures.visits;
+      counted =
+          let s = pointer_shape g.K.PartialType.Partial.bytes c.in-Some.root in
+          let probe = c.as_ref.result.now in
+          let most = subst (λ (k : List ℕ). path_bound s probe ≤ length k + 1) c.as_ref.ensures
+          (path-most s probe) in
+          counts-most c.visit_prefix_matches.ensures.counted most (omega arith);
+      entered = λ keyed. c.visit_prefix_matches.ensures.entered;
+    }

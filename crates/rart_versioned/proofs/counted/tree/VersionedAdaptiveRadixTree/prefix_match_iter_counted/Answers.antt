@@ -5,7 +5,7 @@ use Rattle.std.specs.Option.{option_map, option_copied}
 use Rattle.rart_below.specs.Bytes.{begins}
 use Rattle.rart_node.specs.NodeShapes.{pointer_shape}
 use Rattle.rart_versioned.specs.IteratorFields.{matches_below}
-use Rattle.rart_versioned.proofs.IterationLemmas.{content-pairs}
+use Rattle.rart_versioned.proofs.VersionIterationLemmas.{content-pairs}
 use Rattle.rart_versioned.proofs.ProbeLemmas.{matches-all}
 use Rattle.rart_versioned.proofs.counted.tree.VersionedAdaptiveRadixTree.prefix_match_iter_counted.Goals as goal
 

@@ -1,4 +1,4 @@
-use Rattle.std.proofs.Common.{Some, ℕ, List, sym, ap, subst, ◌∙◌}
+use Rattle.std.proofs.Common.{rules, Some, ℕ, List, sym, ap, subst, ◌∙◌}
 use Rattle.std.specs.Range.Bound.{bound_map}
 use Rattle.rart_maps.specs.FoundLaws.{KeysAscend}
 use Rattle.rart_maps.specs.Pairs.{pairs}
@@ -18,12 +18,26 @@ invariant_of-result g c =
           (sym c.in_ok-walk.ensures.pairs) (from-ascends c.args.self.now.content low);
     }
 
-pub returns-clause-pairs : goal.returns-clause-pairs
-returns-clause-pairs g c =
+pub returns-in_err-walk : goal.returns-in_err-walk
+returns-in_err-walk g c =
+    let refused = c.from_residual.ensures.0 in
+    record {
+      pairs = search (rules, refused);
+      counted = rw c.bytes_of.ensures at c.walk_from.ensures.counted;
+      entered = c.walk_from.ensures.entered;
+    }
+
+pub returns : goal.returns
+returns g c =
     let bytes = g.K.KeyTrait.bytes in
     let low = bound_map bytes c.args.range.0 in
     let high = bound_map bytes c.args.range.1 in
     let m = c.args.self.now.content in
-    ap (λ (list : List (List ℕ × g.row.V.Denot)). Some (up_to high list)) c.in_ok-walk.ensures.pairs
-    ∙ ap (λ low. Some (up_to high (from low (pairs m)))) c.bytes_of.ensures
-    ∙ ap (λ (list : List (List ℕ × g.row.V.Denot)). Some list) (sym (within-from m low high))
+    record {
+      pairs = ap (λ (list : List (List ℕ × g.row.V.Denot)). Some (up_to high list))
+          c.in_ok-walk.ensures.pairs
+          ∙ ap (λ low. Some (up_to high (from low (pairs m)))) c.bytes_of.ensures
+          ∙ ap (λ (list : List (List ℕ × g.row.V.Denot)). Some list) (sym (within-from m low high));
+      counted = rw c.bytes_of.ensures at c.in_ok-walk.ensures.counted;
+      entered = c.in_ok-walk.ensures.entered;
+    }

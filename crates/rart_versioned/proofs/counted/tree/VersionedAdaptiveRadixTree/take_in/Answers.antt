@@ -1,104 +1,33 @@
-use Rattle.std.proofs.Common.{arith, is_some, true, Some, None, ◌≡◌, ◌+◌, ◌≤◌, ℕ, List, length, sym, ap, subst, ◌∙◌}
+use Rattle.std.proofs.Common.{arith, rules, refl, is_some, true, Some, None, ◌≡◌, ◌+◌, sym, ap, subst, ◌∙◌}
 use Rattle.std.specs.Option.{option_map}
 use Rattle.std.proofs.lemmas.Bool.{true≢false}
 use Rattle.rart_node.specs.NodeShapes.{pointer_shape}
-use Rattle.rart_shape.specs.Trees.{path_bound, found}
+use Rattle.rart_shape.specs.Trees.{found}
 use Rattle.rart_removal.specs.Removals.{IsTakenOr}
 use Rattle.rart_removal.proofs.EditLemmas.{on-any}
-use Rattle.rart_removal.proofs.PlanLemmas.{none-is}
+use Rattle.rart_removal.proofs.PlanLemmas.{not_some-None}
 use Rattle.rart_versioned.specs.Roots.{found_in, map_of, IsSound}
 use Rattle.rart_maps.specs.Versions.{Version, value_at, without_key, has_no_key}
 use Rattle.rart_shape.proofs.CountingLemmas.{counts-most, path-most}
-use Rattle.rart_versioned.proofs.MapLemmas.{get-found}
+use Rattle.rart_versioned.proofs.VersionMapLemmas.{get-found}
 use Rattle.rart_versioned.proofs.SoundLemmas.{tree-in, no-key}
-use Rattle.rart_versioned.proofs.RemovalLemmas.{IsTakenIn, kept, root-taken, map-taken, sound-taken, sound-admitted, absent-changes, present-outcome}
+use Rattle.rart_versioned.proofs.VersionRemovalLemmas.{IsTakenIn, kept, root-taken, map-taken, sound-taken, sound-admitted, absent-changes, present-outcome}
 use Rattle.rart_versioned.proofs.counted.tree.VersionedAdaptiveRadixTree.take_in.Goals as goal
 use Rattle.rart_versioned.proofs.counted.tree.VersionedAdaptiveRadixTree.take_in.Goals.{then-removed+in-Some-1, then-removed+in-None-1, else-removed}
 
-pub returns-in_default-clause-changes : goal.returns-in_default-clause-changes
-returns-in_default-clause-changes g c =
-    let w = c.args.key.now in
-    let none : value_at c.args.self.now w ≡ None =
-    rw (← c.self.view_is, c.in_default.is) (get-found None w tt) in
-    let absent = absent-changes c.args.self.now w c.args.more none in
-    (absent.0, c.self.view_is ∙ absent.1)
-
-pub returns-in_default-clause-at_least : goal.returns-in_default-clause-at_least
-returns-in_default-clause-at_least g c keyed =
-    let none : has_no_key c.args.self.now ≡ true =
-    rw (← c.self.view_is, c.in_default.is) (no-key g.row.V.Denot c.self.inside.version) in
-    absurd (true≢false (sym none ∙ keyed))
-
-pub remove_below-requires-clause-lengths : goal.remove_below-requires-clause-lengths
-remove_below-requires-clause-lengths g c =
+pub remove_below-requires : goal.remove_below-requires
+remove_below-requires g c =
     let f = pointer_shape g.K.PartialType.Partial.bytes in
-    sound-admitted g.K.KeyTrait.MAXIMUM_SIZE _ c.self.inside.version (f c.in-Some.root)
-    (subst (λ o. IsSound g.K.KeyTrait.MAXIMUM_SIZE c.self.inside.version (option_map f o))
-    c.in-Some.is c.self.invariant) g.met.K.KeyTrait.maximum_of_partial
-
-pub returns-in_err-removed-clause-present : goal.returns-in_err-removed-clause-present
-returns-in_err-removed-clause-present g c =
-    let f = pointer_shape g.K.PartialType.Partial.bytes in
-    let w = c.args.key.now in
-    let before = option_map f c.self.inside.root in
-    let tree = tree-in g.K.KeyTrait.MAXIMUM_SIZE c.self.inside.version before c.self.invariant in
-    let value_is : found (f c.in-Some.root) w ≡ value_at c.args.self.now w =
-    ap (λ o. found_in (option_map f o) w) (sym c.in-Some.is) ∙ sym (get-found before w tree)
-    ∙ ap (λ (v : Version g.row.V.Denot). value_at v w) c.self.view_is in
-    on-any c.from_residual.result
-    (sym (ap is_some value_is) ∙ c.in_err-removed.ensures.present)
-
-pub returns-in_err-removed-clause-absent_makes_none :
-    goal.returns-in_err-removed-clause-absent_makes_none
-returns-in_err-removed-clause-absent_makes_none g c none =
-    let f = pointer_shape g.K.PartialType.Partial.bytes in
-    let w = c.args.key.now in
-    let before = option_map f c.self.inside.root in
-    let tree = tree-in g.K.KeyTrait.MAXIMUM_SIZE c.self.inside.version before c.self.invariant in
-    let value_is : found (f c.in-Some.root) w ≡ value_at c.args.self.now w =
-    ap (λ o. found_in (option_map f o) w) (sym c.in-Some.is) ∙ sym (get-found before w tree)
-    ∙ ap (λ (v : Version g.row.V.Denot). value_at v w) c.self.view_is in
-    c.remove_below.ensures.absent_makes_none (value_is ∙ none)
-
-pub returns-then-is_none-clause-changes : goal.returns-then-is_none-clause-changes
-returns-then-is_none-clause-changes g c =
-    let f = pointer_shape g.K.PartialType.Partial.bytes in
-    let w = c.args.key.now in
-    let before = option_map f c.self.inside.root in
-    let tree = tree-in g.K.KeyTrait.MAXIMUM_SIZE c.self.inside.version before c.self.invariant in
-    let value_is : found (f c.in-Some.root) w ≡ value_at c.args.self.now w =
-    ap (λ o. found_in (option_map f o) w) (sym c.in-Some.is) ∙ sym (get-found before w tree)
-    ∙ ap (λ (v : Version g.row.V.Denot). value_at v w) c.self.view_is in
-    let gone = none-is c.in_ok-removed.removed.value c.if-is_none.ensures in
-    let none = sym c.in_ok-removed.ensures.value ∙ gone in
-    let absent =
-    absent-changes c.args.self.now w c.args.more (sym value_is ∙ none) in (
-      absent.0,
-      ap (λ z. record { content = map_of (Some z); number = c.self.inside.version })
-          (c.in_ok-removed.ensures.absent none)
-          ∙ ap (λ o. record {
-            content = map_of (option_map f o);
-            number = c.self.inside.version;
-          }) (sym c.in-Some.is) ∙ c.self.view_is ∙ absent.1,
-    )
-
-pub returns-then-is_none-clause-counted : goal.returns-then-is_none-clause-counted
-returns-then-is_none-clause-counted g c =
-    let f = pointer_shape g.K.PartialType.Partial.bytes in
-    let w = c.args.key.now in
-    let most = path-most (f c.in-Some.root) w in
-    counts-most c.remove_below.ensures.counted (omega (arith, most)) most
-
-pub returns-clause-absent_makes_none : goal.returns-clause-absent_makes_none
-returns-clause-absent_makes_none g c none =
-    let f = pointer_shape g.K.PartialType.Partial.bytes in
-    let w = c.args.key.now in
-    let before = option_map f c.self.inside.root in
-    let tree = tree-in g.K.KeyTrait.MAXIMUM_SIZE c.self.inside.version before c.self.invariant in
-    let value_is : found (f c.in-Some.root) w ≡ value_at c.args.self.now w =
-    ap (λ o. found_in (option_map f o) w) (sym c.in-Some.is) ∙ sym (get-found before w tree)
-    ∙ ap (λ (v : Version g.row.V.Denot). value_at v w) c.self.view_is in
-    c.remove_below.ensures.absent_makes_none (value_is ∙ none)
+    let sound : IsSound g.K.KeyTrait.MAXIMUM_SIZE c.self.inside.version (Some (f c.in-Some.root)) =
+    subst (λ o. IsSound g.K.KeyTrait.MAXIMUM_SIZE c.self.inside.version (option_map f o))
+    c.in-Some.is c.self.invariant in
+    record {
+      clones = c.requires.clones;
+      tree = sound.0;
+      lengths =
+          sound-admitted g.K.KeyTrait.MAXIMUM_SIZE _ c.self.inside.version (f c.in-Some.root)
+          sound g.met.K.KeyTrait.maximum_of_partial;
+    }
 
 pub invariant_of-self-2 : goal.invariant_of-self-2
 invariant_of-self-2 g c =
@@ -125,12 +54,80 @@ invariant_of-self-2 g c =
     sound-taken g.K.KeyTrait.MAXIMUM_SIZE c.self.inside.version _ before after w c.self.invariant
     (omega arith) taken
 
-pub returns-clause-changes : goal.returns-clause-changes
-returns-clause-changes g c =
+pub returns-in_default : goal.returns-in_default
+returns-in_default g c =
+    let w = c.args.key.now in
+    let none : value_at c.args.self.now w ≡ None =
+    rw (← c.self.view_is, c.in_default.is) (get-found None w tt) in
+    let absent = absent-changes c.args.self.now w c.args.more none in
+    let lacks : has_no_key c.args.self.now ≡ true =
+    rw (← c.self.view_is, c.in_default.is) (no-key g.row.V.Denot c.self.inside.version) in
+    record {
+      changes = (absent.0, c.self.view_is ∙ absent.1);
+      present = tt;
+      counted = search rules;
+      at_least = λ keyed. absurd (true≢false (sym lacks ∙ keyed));
+      absent_makes_none = λ none. refl;
+    }
+
+pub returns-in_err-removed : goal.returns-in_err-removed
+returns-in_err-removed g c =
     let f = pointer_shape g.K.PartialType.Partial.bytes in
     let w = c.args.key.now in
     let before = option_map f c.self.inside.root in
     let tree = tree-in g.K.KeyTrait.MAXIMUM_SIZE c.self.inside.version before c.self.invariant in
+    let value_is : found (f c.in-Some.root) w ≡ value_at c.args.self.now w =
+    ap (λ o. found_in (option_map f o) w) (sym c.in-Some.is) ∙ sym (get-found before w tree)
+    ∙ ap (λ (v : Version g.row.V.Denot). value_at v w) c.self.view_is in
+    let most = path-most (f c.in-Some.root) w in
+    record {
+      changes = search rules;
+      present = on-any c.from_residual.result
+          (sym (ap is_some value_is) ∙ c.in_err-removed.ensures.present);
+      counted = counts-most c.remove_below.ensures.counted (omega (arith, most)) most;
+      at_least = λ keyed. c.remove_below.ensures.entered;
+      absent_makes_none = λ none. c.remove_below.ensures.absent_makes_none (value_is ∙ none);
+    }
+
+pub returns-then-is_none : goal.returns-then-is_none
+returns-then-is_none g c =
+    let f = pointer_shape g.K.PartialType.Partial.bytes in
+    let w = c.args.key.now in
+    let before = option_map f c.self.inside.root in
+    let tree = tree-in g.K.KeyTrait.MAXIMUM_SIZE c.self.inside.version before c.self.invariant in
+    let value_is : found (f c.in-Some.root) w ≡ value_at c.args.self.now w =
+    ap (λ o. found_in (option_map f o) w) (sym c.in-Some.is) ∙ sym (get-found before w tree)
+    ∙ ap (λ (v : Version g.row.V.Denot). value_at v w) c.self.view_is in
+    let gone = not_some-None c.in_ok-removed.removed.value c.if-is_none.ensures in
+    let none = sym c.in_ok-removed.ensures.value ∙ gone in
+    let absent =
+    absent-changes c.args.self.now w c.args.more (sym value_is ∙ none) in
+    let most = path-most (f c.in-Some.root) w in
+    record {
+      changes = (
+        absent.0,
+        ap (λ z. record { content = map_of (Some z); number = c.self.inside.version })
+            (c.in_ok-removed.ensures.absent none)
+            ∙ ap (λ o. record {
+              content = map_of (option_map f o);
+              number = c.self.inside.version;
+            }) (sym c.in-Some.is) ∙ c.self.view_is ∙ absent.1,
+      );
+      present = tt;
+      counted = counts-most c.remove_below.ensures.counted (omega (arith, most)) most;
+      at_least = λ keyed. c.remove_below.ensures.entered;
+      absent_makes_none = λ none. c.remove_below.ensures.absent_makes_none (value_is ∙ none);
+    }
+
+pub returns : goal.returns
+returns g c =
+    let f = pointer_shape g.K.PartialType.Partial.bytes in
+    let w = c.args.key.now in
+    let before = option_map f c.self.inside.root in
+    let tree = tree-in g.K.KeyTrait.MAXIMUM_SIZE c.self.inside.version before c.self.invariant in
+    let value_is : found (f c.in-Some.root) w ≡ value_at c.args.self.now w =
+    ap (λ o. found_in (option_map f o) w) (sym c.in-Some.is) ∙ sym (get-found before w tree)
+    ∙ ap (λ (v : Version g.row.V.Denot). value_at v w) c.self.view_is in
     let after = option_map f c.if-removed.self-inside.root in
     let left = c.in_ok-removed.removed.left_empty in
     let root_is : after ≡ kept left (f c.remove_below.new.root) = elim c.if-removed.branch [
@@ -147,28 +144,19 @@ returns-clause-changes g c =
     subst (λ o. IsTakenIn w (option_map f o) after) (sym c.in-Some.is)
     (root-taken w (f c.in-Some.root)
     (f c.remove_below.new.root) left after at_root root_is) in
-    let value_is =
-    c.in_ok-removed.ensures.value
-    ∙ ap (λ o. found_in (option_map f o) w) (sym c.in-Some.is) ∙ sym (get-found before w tree)
-    ∙ ap (λ (v : Version g.row.V.Denot). value_at v w) c.self.view_is in (
-      value_is,
-      ap (λ m. record { content = m; number = c.self.inside.version + c.args.more })
-          (map-taken before after w tree taken)
-          ∙ ap (λ (v : Version g.row.V.Denot). without_key v w c.args.more) c.self.view_is
-          ∙ present-outcome c.args.self.now w c.args.more
-          (sym (ap is_some value_is) ∙ c.if-is_none.ensures),
-    )
-
-pub returns-in_err-removed-clause-counted : goal.returns-in_err-removed-clause-counted
-returns-in_err-removed-clause-counted g c =
-    let f = pointer_shape g.K.PartialType.Partial.bytes in
-    let w = c.args.key.now in
+    let answer_is = c.in_ok-removed.ensures.value ∙ value_is in
     let most = path-most (f c.in-Some.root) w in
-    counts-most c.remove_below.ensures.counted (omega (arith, most)) most
-
-pub returns-clause-counted : goal.returns-clause-counted
-returns-clause-counted g c =
-    let f = pointer_shape g.K.PartialType.Partial.bytes in
-    let w = c.args.key.now in
-    let most = path-most (f c.in-Some.root) w in
-    counts-most c.remove_below.ensures.counted (omega (arith, most)) most
+    record {
+      changes = (
+        answer_is,
+        ap (λ m. record { content = m; number = c.self.inside.version + c.args.more })
+            (map-taken before after w tree taken)
+            ∙ ap (λ (v : Version g.row.V.Denot). without_key v w c.args.more) c.self.view_is
+            ∙ present-outcome c.args.self.now w c.args.more
+            (sym (ap is_some answer_is) ∙ c.if-is_none.ensures),
+      );
+      present = tt;
+      counted = counts-most c.remove_below.ensures.counted (omega (arith, most)) most;
+      at_least = λ keyed. c.remove_below.ensures.entered;
+      absent_makes_none = λ none. c.remove_below.ensures.absent_makes_none (value_is ∙ none);
+    }

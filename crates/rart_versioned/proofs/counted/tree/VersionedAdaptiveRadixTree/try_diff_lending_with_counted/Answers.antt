@@ -1,8 +1,10 @@
 use Rattle.std.proofs.Common.{Ok, sym, subst}
 use Rattle.rart_below.specs.declared.visit.VisitControl.TheVariants.{Continue}
 use Rattle.rart_changes.specs.ChangeVisits.{ByViewChange}
-use Rattle.rart_maps.specs.Visits.{VisitableUntil}
+use Rattle.rart_maps.specs.Visits.{VisitableUntil, VisitsUntil}
 use Rattle.rart_maps.proofs.VisitLemmas.{up_to-start}
+use Rattle.rart_shape.proofs.CountingLemmas.{entered-then}
+use Rattle.rart_versioned.proofs.VersionVisitLemmas.{counts-through}
 use Rattle.rart_versioned.proofs.counted.tree.VersionedAdaptiveRadixTree.try_diff_lending_with_counted.Goals as goal
 
 pub visit_changed_views_until-requires-clause-visitable :
@@ -11,6 +13,20 @@ visit_changed_views_until-requires-clause-visitable g c =
     subst (VisitableUntil g.F.FnMut ByViewChange c.args.f.now)
     (sym c.in-Ok.ensures.walks.changes_are) c.requires.visitable
 
-pub returns-in-Err-clause-visits : goal.returns-in-Err-clause-visits
-returns-in-Err-clause-visits g c =
-    (_, up_to-start g.F.FnMut ByViewChange (Ok Continue) c.args.f.now _)
+pub returns-in-Err : goal.returns-in-Err
+returns-in-Err g c = record {
+  visits = (_, up_to-start g.F.FnMut ByViewChange (Ok Continue) c.args.f.now _);
+  counted = c.both_walks.ensures.counted;
+  entered = c.both_walks.ensures.entered;
+}
+
+pub returns-in-Ok : goal.returns-in-Ok
+returns-in-Ok g c =
+    let both = c.in-Ok.ensures in
+    let visit = c.visit_changed_views_until.ensures in
+    record {
+      visits = subst (λ list. VisitsUntil g.F.FnMut ByViewChange c.visit_changed_views_until.result
+          c.args.f.now list c.visit_changed_views_until.new.f) both.walks.changes_are visit.visits;
+      counted = counts-through both.counted both.nodes visit.counted;
+      entered = λ keyed. entered-then c.args.work.now (both.entered keyed) visit.counted;
+    }

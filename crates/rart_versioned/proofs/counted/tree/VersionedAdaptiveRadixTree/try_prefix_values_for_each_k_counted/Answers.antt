@@ -1,9 +1,10 @@
 use Rattle.std.proofs.Common.{arith, length, map, Ok, refl, sym, ap, subst, ◌∙◌}
 use Rattle.rart_below.specs.declared.visit.VisitControl.TheVariants.{Continue}
 use Rattle.rart_maps.specs.Pairs.{under}
-use Rattle.rart_maps.specs.Visits.{ByValue, VisitableUntil}
+use Rattle.rart_maps.specs.Visits.{ByValue, VisitableUntil, VisitsUntil}
 use Rattle.rart_maps.proofs.VisitLemmas.{up_to-start}
-use Rattle.rart_versioned.proofs.EndLemmas.{ends-soon, ends-weaker}
+use Rattle.rart_versioned.proofs.PrefixEndLemmas.{ends-soon, ends-weaker}
+use Rattle.rart_shape.proofs.CountingLemmas.{counts-most, counts-then, entered-then}
 use Rattle.rart_versioned.proofs.counted.tree.VersionedAdaptiveRadixTree.try_prefix_values_for_each_k_counted.Goals as goal
 
 pub visit_values_until-requires : goal.visit_values_until-requires
@@ -18,22 +19,39 @@ visit_values_until-requires g c κs =
       ),
     )
 
-pub returns-in-Err-clause-visits : goal.returns-in-Err-clause-visits
-returns-in-Err-clause-visits g c =
-    (_, up_to-start g.F.FnMut ByValue (Ok Continue) c.args.f.now _)
+pub returns-in-Err : goal.returns-in-Err
+returns-in-Err g c =
+    let way = rw c.as_ref.ensures at c.walk_under-walk.ensures.counted in
+    record {
+      visits = (_, up_to-start g.F.FnMut ByValue (Ok Continue) c.args.f.now _);
+      counted = counts-most way (omega arith) (omega arith);
+      counted_by_pairs = counts-most way (omega arith) (omega arith);
+      entered = c.walk_under-walk.ensures.entered;
+      ends = tt;
+    }
 
-pub returns-in-Ok-clause-ends : goal.returns-in-Ok-clause-ends
-returns-in-Ok-clause-ends g c =
+pub returns-in-Ok : goal.returns-in-Ok
+returns-in-Ok g c =
     let m = c.args.self.now.content in
     let p = g.K.KeyTrait.bytes c.args.prefix.now in
-    let same = c.in-Ok.ensures.pairs ∙ ap (under m) c.as_ref.ensures in
-    let hand = c.in-Ok.ensures.at_hand in
-    let way = rw c.as_ref.ensures at c.in-Ok.ensures.counted in
-    let few = rw c.as_ref.ensures at c.in-Ok.ensures.few_up_to in
-    let long = ap length same in
-    let ends = rw same at c.visit_values_until.ensures.ends in
-    ends-weaker g.F.FnMut ByValue (under m p)
-    (λ through. omega (arith, through, hand))
-    (λ front rest last is enters. ends-soon m p front rest last is _ _ c.args.work.now
-    c.walk_under-walk.new.work c.visit_values_until.new.work way hand few enters)
-    _ _ c.visit_values_until.result ends
+    let walk = c.in-Ok.ensures in
+    let same = walk.pairs ∙ ap (under m) c.as_ref.ensures in
+    let hand = walk.at_hand in
+    let way = rw c.as_ref.ensures at walk.counted in
+    let nodes = rw c.as_ref.ensures at walk.nodes in
+    let by_pairs = rw c.as_ref.ensures at walk.few in
+    let few = rw c.as_ref.ensures at walk.few_up_to in
+    let visit = c.visit_values_until.ensures in
+    let ends = rw same at visit.ends in
+    record {
+      visits = subst (λ list. VisitsUntil g.F.FnMut ByValue c.visit_values_until.result c.args.f.now
+          (map (λ pair. pair.1) list) c.visit_values_until.new.f) same visit.visits;
+      counted = counts-then way visit.counted (omega (arith, nodes)) (omega arith);
+      counted_by_pairs = counts-then way visit.counted (omega (arith, by_pairs)) (omega arith);
+      entered = λ keyed. entered-then c.args.work.now (walk.entered keyed) visit.counted;
+      ends = ends-weaker g.F.FnMut ByValue (under m p)
+          (λ through. omega (arith, through, hand))
+          (λ front rest last is enters. ends-soon m p front rest last is _ _ c.args.work.now
+          c.walk_under-walk.new.work c.visit_values_until.new.work way hand few enters)
+          _ _ c.visit_values_until.result ends;
+    }

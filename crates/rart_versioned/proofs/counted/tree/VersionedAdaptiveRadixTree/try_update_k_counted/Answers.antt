@@ -1,50 +1,80 @@
-use Rattle.std.proofs.Common.{sym, ◌∙◌}
+use Rattle.std.proofs.Common.{inl, sym, ◌∙◌, arith, refl}
+use Rattle.std.proofs.lemmas.Bool.{false≢true}
 use Rattle.rart_versioned.proofs.SlotChangeLemmas.{there-by-slot, absent-by-slot, tells-or-fails, tries-there, tries-absent}
-use Rattle.rart_versioned.proofs.UpdateCountLemmas.{attempt-there, attempt-absent, try-there, try-absent}
+use Rattle.rart_versioned.proofs.UpdateCountLemmas.{attempt-there, attempt-absent, looked-alone, looked-then, makes-then-tried, try-there, try-absent}
 use Rattle.rart_versioned.proofs.counted.tree.VersionedAdaptiveRadixTree.try_update_k_counted.Goals as goal
 
-pub returns-then-was_there-clause-updates : goal.returns-then-was_there-clause-updates
-returns-then-was_there-clause-updates g c =
+pub returns-in-Err : goal.returns-in-Err
+returns-in-Err g c =
+    let v = c.args.self.now in
+    let w = g.K.KeyTrait.bytes c.args.key.now in
+    let looked = c.slot_at.ensures.counted in
+    record {
+      updates = (refl, inl c.in-Err.ensures.present);
+      counted = looked-alone v w looked c.slot_at.ensures.entered_least;
+      absent_makes_none = λ absent. tt;
+      counted_by_answer = inl looked;
+    }
+
+pub settle_tried-requires : goal.settle_tried-requires
+settle_tried-requires g c = record {
+  clones = c.requires.clones;
+  room = c.requires.room;
+  raised = omega arith;
+  present = there-by-slot c.args.self.now (g.K.KeyTrait.bytes c.args.key.now) _
+      c.in-Ok.ensures.slot (sym c.is_occupied-was_there.ensures ∙ c.if-was_there.true);
+}
+
+pub returns-then-was_there : goal.returns-then-was_there
+returns-then-was_there g c =
     let v = c.args.self.now in
     let w = g.K.KeyTrait.bytes c.args.key.now in
     let slot = c.in-Ok.ensures.slot in
     let there =
     there-by-slot v w _ slot (sym c.is_occupied-was_there.ensures ∙ c.if-was_there.true) in
     let tell = tells-or-fails g.F.FnOnce c.args.f v w _ _ _ slot c.f-told.ensures in
-    tries-there g.F.FnOnce c.args.f v w _ _ c.settle_tried.result _ tell there
-    c.settle_tried.ensures.tries
+    let looked = c.slot_at.ensures.counted in
+    let done = c.settle_tried.ensures in
+    let counts = attempt-there v w _ _ _ looked there c.f-told.new.arg2 _ done.counted_by_answer in
+    record {
+      updates = tries-there g.F.FnOnce c.args.f v w _ _ c.settle_tried.result _ tell there
+          done.tries;
+      counted = looked-then v w looked c.slot_at.ensures.entered_least done.counted
+          (omega arith) (omega arith);
+      absent_makes_none = λ absent. absurd (false≢true (sym absent ∙ there));
+      counted_by_answer = try-there g.F.FnOnce c.args.f v w _ _ _ _ c.settle_tried.result _ tell
+          done.tries counts;
+    }
 
-pub returns-clause-updates : goal.returns-clause-updates
-returns-clause-updates g c =
-    let v = c.args.self.now in
-    let w = g.K.KeyTrait.bytes c.args.key.now in
-    let tell = tells-or-fails g.F.FnOnce c.args.f v w _ _ _ c.in-Ok.ensures.slot c.f-told.ensures in
-    tries-absent g.F.FnOnce c.args.f v w _ _ c.settle_tried_absent.result _ tell
-    c.settle_tried_absent.ensures.tries
+pub settle_tried_absent-requires : goal.settle_tried_absent-requires
+settle_tried_absent-requires g c =
+    let room = c.requires.room in
+    record {
+      clones = c.requires.clones;
+      room = omega (arith, room);
+      absent = absent-by-slot c.args.self.now (g.K.KeyTrait.bytes c.args.key.now) _
+          c.in-Ok.ensures.slot (sym c.is_occupied-was_there.ensures ∙ c.if-was_there.false);
+    }
 
-pub returns-then-was_there-clause-counted_by_answer :
-    goal.returns-then-was_there-clause-counted_by_answer
-returns-then-was_there-clause-counted_by_answer g c =
-    let v = c.args.self.now in
-    let w = g.K.KeyTrait.bytes c.args.key.now in
-    let slot = c.in-Ok.ensures.slot in
-    let there =
-    there-by-slot v w _ slot (sym c.is_occupied-was_there.ensures ∙ c.if-was_there.true) in
-    let tell = tells-or-fails g.F.FnOnce c.args.f v w _ _ _ slot c.f-told.ensures in
-    let counts = attempt-there v w _ _ _ c.slot_at.ensures.counted there c.f-told.new.arg2 _
-    c.settle_tried.ensures.counted_by_answer in
-    try-there g.F.FnOnce c.args.f v w _ _ _ _ c.settle_tried.result _ tell
-    c.settle_tried.ensures.tries counts
-
-pub returns-clause-counted_by_answer : goal.returns-clause-counted_by_answer
-returns-clause-counted_by_answer g c =
+pub returns : goal.returns
+returns g c =
     let v = c.args.self.now in
     let w = g.K.KeyTrait.bytes c.args.key.now in
     let slot = c.in-Ok.ensures.slot in
     let absent =
     absent-by-slot v w _ slot (sym c.is_occupied-was_there.ensures ∙ c.if-was_there.false) in
     let tell = tells-or-fails g.F.FnOnce c.args.f v w _ _ _ slot c.f-told.ensures in
-    let counts = attempt-absent v w _ _ _ c.slot_at.ensures.counted absent
-    c.f-told.new.arg2 _ c.settle_tried_absent.ensures.counted_by_answer in
-    try-absent g.F.FnOnce c.args.f v w _ _ _ _ c.settle_tried_absent.result _ tell
-    c.settle_tried_absent.ensures.tries counts
+    let looked = c.slot_at.ensures.counted in
+    let done = c.settle_tried_absent.ensures in
+    let counts =
+    attempt-absent v w _ _ _ looked absent c.f-told.new.arg2 _ done.counted_by_answer in
+    record {
+      updates = tries-absent g.F.FnOnce c.args.f v w _ _ c.settle_tried_absent.result _ tell
+          done.tries;
+      counted = looked-then v w looked c.slot_at.ensures.entered_least done.counted
+          (omega arith) (omega arith);
+      absent_makes_none = λ absent. makes-then-tried _ c.settle_tried_absent.result looked
+          done.makes_to_insert;
+      counted_by_answer = try-absent g.F.FnOnce c.args.f v w _ _ _ _ c.settle_tried_absent.result _
+          tell done.tries counts;
+    }

@@ -1,0 +1,75 @@
+use Rattle.std.proofs.Common.{◌≡◌, ◌+◌, ◌≤◌, ◌<◌, ◌∙◌, ◌++◌, ◌∷◌, [], ℕ, List, Some, take, drop, length, refl, arith, ap, sym}
+use Rattle.std.proofs.lemmas.List.{append_assoc, length-append, length-drop, length-set, drop-take}
+use Rattle.std.specs.Range.Bound.{bound_map}
+use Rattle.std.specs.declared.ops.Bound.TheVariants.{Excluded}
+use Rattle.rart_maps.specs.Pairs.{within}
+use Rattle.rart_c.specs.Pages.{bound_behind, keys_of}
+use Rattle.rart_c.proofs.PageLemmas.{entries-set, keys-more, keys-written, within-behind}
+use Rattle.rart_c.proofs.paging.write_page.Goals as goal
+
+pub loop-len-init : goal.loop-len-init
+loop-len-init c = record {
+  page = [];
+  left = within c.args.map.now.content (bound_map (λ low. low.now) c.args.low)
+      (bound_map (λ high. high.now) c.args.high);
+  range_is = refl;
+  many = refl;
+  end_is = refl;
+  keys = refl;
+  entries = refl;
+  fits = omega arith;
+  most = omega arith;
+  last = λ x is. cc;
+  from = refl;
+}
+
+pub loop-len-preserved : goal.loop-len-preserved
+loop-len-preserved c =
+    let content = c.args.map.now.content in
+    let low = bound_map (λ low. low.now) c.args.low in
+    let high = bound_map (λ high. high.now) c.args.high in
+    let i = c.loop-len.invariant in
+    let first = c.in-Some.ensures.first in
+    let kept = c.in-Some.ensures.kept in
+    let key = first.key in
+    let end = c.loop-len.end in
+    let len = c.in-Some.len in
+    let value = c.in-Some.value in
+    let long = first.long in
+    let room = c.if-bytes-end.false in
+    let more = c.if-count-entries.false in
+    let fits = i.fits in
+    let ends = i.end_is in
+    let same = c.next_pair.auto.bytes in
+    let size = length-drop end c.loop-len.bytes in
+    let written = first.written (omega (arith, size, room, same, fits)) in
+    let as-many = c.loop-len.auto.entries in
+    let most = i.most in
+    let key-is : drop end (take (end + len) c.next_pair.new.bytes) ≡ key =
+    drop-take end len c.next_pair.new.bytes ∙ written in
+    record {
+      page = i.page ++ (key, value) ∷ [];
+      left = first.others;
+      range_is =
+          i.range_is ∙ ap (λ z. i.page ++ z) (sym i.from ∙ first.first)
+          ∙ sym (append_assoc i.page ((key, value) ∷ []) first.others);
+      many = let n = length-append i.page ((key, value) ∷ []) in let m = i.many in
+          omega (arith, n, m);
+      end_is = let n = ap length (keys-more i.page key value)
+          ∙ length-append (keys_of i.page) key in
+          omega (arith, n, ends, long);
+      keys = keys-written i.page key value end len c.loop-len.bytes c.next_pair.new.bytes i.keys
+          kept written;
+      entries = entries-set i.page key value c.loop-len.count (end + len) c.args.entries.now
+          c.loop-len.entries i.entries i.many (omega (arith, more, most, as-many))
+          (omega (arith, ends, long));
+      fits = omega (arith, room, fits, same);
+      most = let n = length-set c.loop-len.entries c.loop-len.count
+          (record { end = end + len; value = value }) in
+          omega (arith, n, more, most);
+      last = λ start is. let e : start ≡ end = cc in omega (arith, e);
+      from = ap (λ k. within content (Excluded k) high) key-is
+          ∙ within-behind content
+          (bound_behind c.loop-len.last low (take end c.loop-len.bytes)) high (key, value)
+          first.others first.first;
+    }

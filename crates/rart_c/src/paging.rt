@@ -1,0 +1,199 @@
+//! What C calls to read a page: the pairs within two bounds, as many as there is room for.
+ghost use Rattle.std.specs.Prelude.{◌≡◌, ◌≤◌, ℕ, List, drop, length, take};
+ghost use Rattle.std.specs.Option.{ForSome};
+ghost use Rattle.std.specs.Ordering.{as_partial_cmp};
+ghost use Rattle.std.specs.Range.Bound.{bound_map, is_up_to_end};
+ghost use Rattle.rart_below.specs.Bytes.{byte_order};
+ghost use Rattle.rart_c.specs.Pages.{FindsFirst, TellsLeft, WritesPage, bound_behind, bound_of, first_length};
+ghost use Rattle.rart_maps.specs.Pairs.{within};
+
+use crate::answer::{ABSENT, DONE, TOO_SMALL};
+use crate::handle::RartTree;
+use crate::map::Map;
+use std::alloc::Global;
+use std::ops::Bound;
+
+/// The bound is a key that meets it.
+pub const INCLUDED: u8 = 0;
+
+/// The bound is a key that doesn't meet it.
+pub const EXCLUDED: u8 = 1;
+
+/// Each key meets the bound. Any greater number says so too.
+pub const UNBOUNDED: u8 = 2;
+
+/// Where the key of an entry ends among the bytes of its page, and its value.
+#[repr(C)]
+#[derive(Clone, Copy)]
+pub struct RartEntry {
+    pub end: usize,
+    pub value: u64,
+}
+
+/// Writes the first pairs within two bounds, as many as there is room for: their keys one behind
+/// the other to the front of `bytes`, an entry of each to the front of `entries`, and how many they
+/// are to `count`. What `bytes` has behind the keys is not told; `entries` is as before there.
+/// Answers `ABSENT` where no pair within the bounds is left, `DONE` where one is. `TOO_SMALL` says
+/// that not even the first has room, and writes the length of its key to `needed`. A bound is of
+/// the kind `INCLUDED`, `EXCLUDED` or `UNBOUNDED`. It takes no memory.
+#[unsafe(no_mangle)]
+pub extern "C" fn rart_page(
+    alloc: Global,
+    tree: &mut RartTree,
+    low: &[u8],
+    low_kind: u8,
+    high: &[u8],
+    high_kind: u8,
+    bytes: &mut [u8],
+    entries: &mut [RartEntry],
+    count: &mut usize,
+    needed: &mut usize,
+) -> u8
+    ensures page { (left : List (List ℕ × ℕ))
+        × WritesPage (within tree.old.shows.content (bound_of low_kind low.now)
+        (bound_of high_kind high.now)) left count.new bytes.new entries.old entries.new
+        × TellsLeft left count.new result needed.old needed.new }
+    ensures same { tree.new.shows ≡ tree.old.shows }
+{
+    let map = tree.take_map(alloc);
+    let (low, high) = (bound_of(low_kind, low), bound_of(high_kind, high));
+    let (written, next) = write_page(&map, low, high, bytes, entries);
+    *tree = RartTree::of_map(alloc, map);
+    *count = written;
+    tell_left(written, next, needed)
+}
+
+/// The bound of this kind at a key.
+fn bound_of(kind: u8, key: &[u8]) -> Bound<&[u8]>
+    ensures { bound_map (λ key. key.now) result ≡ bound_of kind key.now }
+{
+    if kind == INCLUDED {
+        return Bound::Included(key);
+    }
+    if kind == EXCLUDED {
+        return Bound::Excluded(key);
+    }
+    Bound::Unbounded
+}
+
+/// Tells whether a pair is left behind `count` pairs, by how long its key is.
+fn tell_left(count: usize, next: Option<usize>, needed: &mut usize) -> u8
+    ensures { (left : List (List ℕ × ℕ)) → next ≡ first_length left
+        → TellsLeft left count result needed.old needed.new }
+{
+    let Some(len) = next else {
+        return ABSENT;
+    };
+    if count > 0 {
+        return DONE;
+    }
+    *needed = len;
+    TOO_SMALL
+}
+
+/// Writes the first pairs within two bounds. Gives how many have room, and how long the key is of
+/// the next, if there is one.
+fn write_page(
+    map: &Map<u64>,
+    low: Bound<&[u8]>,
+    high: Bound<&[u8]>,
+    bytes: &mut [u8],
+    entries: &mut [RartEntry],
+) -> (usize, Option<usize>)
+    ensures { (left : List (List ℕ × ℕ))
+        × WritesPage (within map.now.content (bound_map (λ low. low.now) low.entry)
+        (bound_map (λ high. high.now) high.entry)) left result.0 bytes.new entries.old entries.new
+        × (result.1 ≡ first_length left) }
+{
+    let mut last = None;
+    let mut end = 0;
+    let mut count = 0;
+    loop {
+        let Some((len, value)) = next_pair(map, low, high, bytes, last, end) else {
+            return (count, None);
+        };
+        if bytes.len() - end < len || count == entries.len() {
+            return (count, Some(len));
+        }
+        last = Some(end);
+        end += len;
+        entries[count] = RartEntry { end, value };
+        count += 1;
+    }
+}
+
+/// The first of the pairs within two bounds behind the last key that was written, which begins
+/// here; or from the lower bound on, where none was. Its key is written from `end` on, if it fits.
+fn next_pair(
+    map: &Map<u64>,
+    low: Bound<&[u8]>,
+    high: Bound<&[u8]>,
+    bytes: &mut [u8],
+    last: Option<usize>,
+    end: usize,
+) -> Option<(usize, u64)>
+    requires end { end ≤ length bytes.old }
+    requires last { ForSome last (λ start. start ≤ end) }
+    ensures kept { take end bytes.new ≡ take end bytes.old }
+    ensures first { FindsFirst (within map.now.content
+        (bound_behind last (bound_map (λ low. low.now) low.entry) (take end bytes.old))
+        (bound_map (λ high. high.now) high.entry)) result
+        (drop end bytes.old) (drop end bytes.new) }
+{
+    let (written, room) = bytes.split_at_mut(end);
+    first_behind(map, low, high, written, last, room)
+}
+
+/// The same, what is written apart from the room behind it.
+fn first_behind(
+    map: &Map<u64>,
+    low: Bound<&[u8]>,
+    high: Bound<&[u8]>,
+    written: &[u8],
+    last: Option<usize>,
+    room: &mut [u8],
+) -> Option<(usize, u64)>
+    requires { ForSome last (λ start. start ≤ length written.now) }
+    ensures { FindsFirst (within map.now.content
+        (bound_behind last (bound_map (λ low. low.now) low.entry) written.now)
+        (bound_map (λ high. high.now) high.entry)) result room.old room.new }
+{
+    match last {
+        None => first_within(map, low, high, room),
+        Some(start) => first_within(map, Bound::Excluded(&written[start..]), high, room),
+    }
+}
+
+/// The first of the pairs within two bounds, if there is one. Where its key doesn't fit, whether it
+/// meets the upper bound is asked of the map.
+fn first_within(
+    map: &Map<u64>,
+    low: Bound<&[u8]>,
+    high: Bound<&[u8]>,
+    room: &mut [u8],
+) -> Option<(usize, u64)>
+    ensures { FindsFirst (within map.now.content (bound_map (λ low. low.now) low.entry)
+        (bound_map (λ high. high.now) high.entry)) result room.old room.new }
+{
+    let Some((len, value)) = map.first(low, room) else {
+        return None;
+    };
+    let is_within = if len <= room.len() {
+        meets(&room[..len], high)
+    } else {
+        map.has_within(low, high)
+    };
+    if is_within { Some((len, *value)) } else { None }
+}
+
+/// Whether a key meets an upper bound.
+fn meets(key: &[u8], high: Bound<&[u8]>) -> bool
+    ensures { result ≡ is_up_to_end (as_partial_cmp byte_order)
+        (bound_map (λ high. high.now) high.entry) key.now }
+{
+    match high {
+        Bound::Included(high) => key <= high,
+        Bound::Excluded(high) => key < high,
+        Bound::Unbounded => true,
+    }
+}

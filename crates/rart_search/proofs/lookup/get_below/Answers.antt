@@ -1,0 +1,57 @@
+use Rattle.std.proofs.Common.{◌==◌, length, sym, ap, rules, ◌∙◌}
+use Rattle.std.proofs.lemmas.Bool.{false≢true}
+use Rattle.std.specs.Option.{option_copied, option_map}
+use Rattle.rart_node.specs.NodeShapes.{pointer_shape}
+use Rattle.rart_node.specs.Shape.{value_of}
+use Rattle.rart_search.proofs.StepLemmas.{rest-empty, step-counted, step-entered, step-here, step-left, step-missing, step-lower, step-child}
+use Rattle.rart_search.proofs.lookup.get_below.Goals as goal
+
+pub returns-in_err-passed : goal.returns-in_err-passed
+returns-in_err-passed g c =
+    let at = c.down.invariant in
+    let opens = c.in_err-passed.ensures.work in
+    record {
+      value = ap option_copied c.from_residual.ensures
+          ∙ sym (step-left _ _ _ _ _ _ _ at opens c.in_err-passed.ensures.rest);
+      counted = step-counted _ _ _ _ _ _ _ at opens;
+      entered = step-entered _ _ _ _ _ _ _ at opens;
+    }
+
+pub returns-in-None : goal.returns-in-None
+returns-in-None g c =
+    let at = c.down.invariant in
+    let opens = c.in_ok-passed.ensures.work in
+    record {
+      value = c.value.ensures ∙ ap value_of c.in_ok-passed.ensures.node
+          ∙ sym (step-here _ _ _ _ _ _ _ at opens _ c.in_ok-passed.ensures.rest
+          (rest-empty c.in_ok-passed.passed.rest.now (search rules)));
+      counted = step-counted _ _ _ _ _ _ _ at opens;
+      entered = step-entered _ _ _ _ _ _ _ at opens;
+    }
+
+pub returns-in-None-2 : goal.returns-in-None-2
+returns-in-None-2 g c =
+    let at = c.down.invariant in
+    let opens = c.in_ok-passed.ensures.work in
+    record {
+      value = sym (step-missing _ _ _ _ _ _ _ at opens _ c.in_ok-passed.ensures.rest
+          (λ end. false≢true (c.if-is_empty.ensures ∙ ap (λ z. length z == 0) end))
+          (sym (ap (option_map (λ child. pointer_shape g.P.Partial.bytes child.now)) c.in-None.is)
+          ∙ c.in_ok-passed.ensures.child));
+      counted = step-counted _ _ _ _ _ _ _ at opens;
+      entered = step-entered _ _ _ _ _ _ _ at opens;
+    }
+
+pub down-smaller : goal.down-smaller
+down-smaller g c =
+    step-lower _ _ _ _ _ _ _ c.down.invariant c.in_ok-passed.ensures.work _
+    c.in_ok-passed.ensures.rest _
+    (sym (ap (option_map (λ child. pointer_shape g.P.Partial.bytes child.now)) c.in-Some.is)
+    ∙ c.in_ok-passed.ensures.child)
+
+pub down-preserved : goal.down-preserved
+down-preserved g c =
+    step-child _ _ _ _ _ _ _ c.down.invariant c.in_ok-passed.ensures.work _
+    c.in_ok-passed.ensures.rest _
+    (sym (ap (option_map (λ child. pointer_shape g.P.Partial.bytes child.now)) c.in-Some.is)
+    ∙ c.in_ok-passed.ensures.child)

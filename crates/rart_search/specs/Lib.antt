@@ -1,0 +1,4 @@
+pub mod Steps
+pub mod Paths
+pub mod Longest
+pub mod Searches

@@ -1,0 +1,34 @@
+// Ported from rart 0.11.0 (Apache-2.0), and rewritten.
+//! The value of a key.
+ghost use Rattle.rart_node.specs.NodeShapes.{pointer_shape};
+ghost use Rattle.rart_search.specs.Searches.{FindsValue};
+ghost use Rattle.rart_shape.specs.Trees.{IsTree};
+
+use crate::steps::step;
+use rart_below::Partial;
+use rart_node::{NodeRef, Work};
+
+/// The value of a key below a pointer, if the key is there.
+///
+/// Each node on the way is entered once: at least the first, and no more than one for each byte of
+/// the key beside it. It takes no memory.
+pub fn get_below<'a, P: Partial, V: Drop>(
+    root: &'a NodeRef<P, V>,
+    key: &[u8],
+    work: &mut Work,
+) -> Option<&'a V>
+    requires tree { IsTree (pointer_shape P.bytes root.now) }
+    ensures { FindsValue result key.now (pointer_shape P.bytes root.now) work.old work.new }
+{
+    let mut at = root;
+    let mut rest = key;
+    'down: loop {
+        let passed = step(at, rest, work)?;
+        rest = passed.rest;
+        at = match passed.child {
+            Some(child) => child,
+            None if rest.is_empty() => return passed.node.value(),
+            None => return None,
+        };
+    }
+}

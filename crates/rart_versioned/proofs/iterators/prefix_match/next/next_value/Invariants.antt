@@ -1,0 +1,13 @@
+use Rattle.std.proofs.Common.{◌≡◌}
+use Rattle.rart_versioned.specs.IteratorFields.{height_in}
+use Rattle.rart_versioned.specs.ProbeFields.{IsWay, matches_on, next_node}
+use Rattle.rart_versioned.proofs.iterators.prefix_match.next.next_value.Given as goal
+
+abbrev pub invariant-down : goal.invariant-down
+invariant-down g l = record {
+  way : IsWay g.P.Partial.bytes l.probe l.way;
+  same : matches_on g.P.Partial.bytes l.probe l.fn.way ≡ matches_on g.P.Partial.bytes l.probe l.way;
+}
+
+abbrev pub decreases-down : goal.decreases-down
+decreases-down g l = height_in (next_node g.P.Partial.bytes l.way)

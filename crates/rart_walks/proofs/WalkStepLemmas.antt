@@ -1,0 +1,133 @@
+-- A step of a way down, as its calls know it.
+use Rattle.std.proofs.Common.{◌≡◌, ◌+◌, ◌<◌, ◌≤◌, ℕ, suc, cond, List, [], ◌∷◌, ◌++◌, Option, Some, None, length, drop, slice_get, add-one, refl, arith, sym, ap, subst, ◌∙◌}
+use Rattle.std.specs.Prelude.{slice_index_or, filter}
+use Rattle.std.specs.List.{concat}
+use Rattle.std.proofs.lemmas.List.{length-drop}
+use Rattle.rart_below.specs.Bytes.{common_length, IsAdmitted}
+use Rattle.rart_below.specs.Children.{child_at, children_from}
+use Rattle.rart_node.specs.Counts.{Counts, CountsUpTo}
+use Rattle.rart_node.specs.Shape.{Shape, height, prefix_of, children_of}
+use Rattle.rart_shape.specs.Trees.{strip_prefix, pairs_of, path_bound}
+use Rattle.rart_shape.proofs.PrefixLemmas.{strip_prefix-whole, split-whole, common_fits}
+use Rattle.rart_shape.proofs.SearchLemmas.{IsSearchAt, search-counted, search-entered, search-lower, search-child}
+use Rattle.rart_walks.specs.declared.walk.path.Part.{Part}
+use Rattle.rart_walks.specs.Frames.{OpenNode, segments_of, pairs_ahead, paths_ahead, TreesAhead}
+use Rattle.rart_walks.specs.Parts.{keeps, reaches, goes_on}
+use Rattle.rart_walks.specs.Walks.{AreShort, paths_of}
+use Rattle.rart_walks.proofs.GatherLemmas.{keeping}
+use Rattle.rart_walks.proofs.WalkLemmas.{path-fits}
+use Rattle.rart_walks.proofs.PathLemmas.{IsOnWay, way-child, way-missing, passed-trees, passed-short}
+
+-- The string goes on behind the prefix, with this byte.
+pub record GoesOn (prefix rest : List ℕ) (byte : ℕ) (left : List ℕ) : Type 0 where
+  pub more : List ℕ
+  pub is : left ≡ byte ∷ more
+  pub whole : rest ≡ prefix ++ (byte ∷ more)
+  pub strips : Some left ≡ strip_prefix prefix rest
+  pub next : Some byte ≡ slice_get left 0
+
+goes-parts : (prefix rest left : List ℕ) → 0 < length left → rest ≡ prefix ++ left
+    → Some left ≡ strip_prefix prefix rest → GoesOn prefix rest (slice_index_or left 0 0) left
+goes-parts prefix rest [] some split strips = absurd (omega (arith, some))
+goes-parts prefix rest (b ∷ more) some split strips =
+    record { more = more; is = refl; whole = split; strips = strips; next = refl }
+
+pub goes-on : (prefix rest left : List ℕ) (common : ℕ) → left ≡ drop common rest
+    → common ≡ common_length prefix rest → (common ≡ length rest → ⊥) → length prefix ≤ common
+    → GoesOn prefix rest (slice_index_or left 0 0) left
+goes-on prefix rest left common is matched on whole =
+    let fits = common_fits prefix rest in
+    let long : length prefix ≤ common_length prefix rest = omega (arith, matched, whole) in
+    let some : 0 < length (drop common rest) = let l = length-drop common rest in
+    omega (arith, l, fits, matched, on) in
+    let split : rest ≡ prefix ++ drop common rest =
+    split-whole prefix rest long ∙ ap (λ n. prefix ++ drop n rest) (sym matched) in
+    let strips : Some (drop common rest) ≡ strip_prefix prefix rest =
+    sym (strip_prefix-whole prefix rest long ∙ ap (λ n. Some (drop n rest)) (sym matched)) in
+    subst (λ z. GoesOn prefix rest (slice_index_or z 0 0) z) (sym is)
+    (goes-parts prefix rest (drop common rest) some split strips)
+
+pub goes-some : (prefix rest : List ℕ) (byte : ℕ) (left : List ℕ) → GoesOn prefix rest byte left
+    → 0 < length left
+goes-some prefix rest byte left goes = let l = ap length goes.is in omega (arith, l)
+
+module _ {V : Type 0} (part : Part) (greatest : Option ℕ) (probe : List ℕ) (root : Shape V)
+    (start : Counts) (s : Shape V) (rest : List ℕ) (frames : List (OpenNode V)) (now : Counts)
+    (way : IsOnWay part greatest probe root start s rest frames now) where
+  module _ (o : Shape V) (after : Counts) (opens : after ≡ record now { entered = now.entered + 1 })
+      (same : o ≡ s) where
+    pub step-counted : CountsUpTo (path_bound root probe) 0 start after
+    step-counted = search-counted root probe start s o rest now after way.at opens same
+
+    pub step-entered : start.entered < after.entered
+    step-entered = search-entered root probe start s o rest now after way.at opens same
+
+    -- the key path has room for the prefix of the node
+    pub step-fits : (segment : List ℕ) → segment ≡ prefix_of o
+        → IsAdmitted greatest (length (concat (segments_of frames ++ segment ∷ [])))
+    step-fits segment is =
+        subst (λ z. IsAdmitted greatest (length (concat (segments_of frames ++ z ∷ []))))
+        (sym (is ∙ ap prefix_of same)) (path-fits frames s greatest way.at.tree way.short)
+
+    module _ (byte : ℕ) (left : List ℕ) (goes : GoesOn (prefix_of o) rest byte left) where
+      whole : rest ≡ prefix_of s ++ (byte ∷ goes.more)
+      whole = goes.whole ∙ ap (λ z. prefix_of z ++ (byte ∷ goes.more)) same
+
+      pub step-lower : (child : Shape V) → Some child ≡ child_at byte (children_of o)
+          → height child < height s
+      step-lower child here =
+          search-lower root probe start s o rest now after way.at opens same
+          (prefix_of o) refl left goes.strips byte goes.next child here
+
+      module _ (inner : List (OpenNode V)) (segment : List ℕ) (later : List (ℕ × Shape V))
+          (enters : inner ≡ frames ++ (segment, later) ∷ []) (is : segment ≡ prefix_of o)
+          (leaves : later ≡ cond (goes_on part) (children_from (byte + 1) (children_of o)) []) where
+        passed-is : inner ≡ frames ++ (
+          prefix_of s,
+          cond (goes_on part) (children_from (suc byte) (children_of s)) [],
+        ) ∷ []
+        passed-is =
+            enters ∙ ap (λ z. frames ++ (z, later) ∷ []) (is ∙ ap prefix_of same)
+            ∙ ap (λ z. frames ++ (prefix_of s, z) ∷ [])
+            (leaves ∙ ap (λ z. cond (goes_on part) (children_from (byte + 1) (children_of z)) [])
+            same ∙ ap (λ n. cond (goes_on part) (children_from n (children_of s)) [])
+            (add-one byte))
+
+        pub step-child : (child : Shape V) → Some child ≡ child_at byte (children_of o)
+            → IsOnWay part greatest probe root start child left inner after
+        step-child child here =
+            let at : IsSearchAt root probe start child (byte ∷ goes.more) after =
+            subst (λ z. IsSearchAt root probe start child z after) goes.is
+            (search-child root probe start s o rest now after way.at opens same
+            (prefix_of o) refl left goes.strips byte goes.next child here) in
+            let below : child_at byte (children_of s) ≡ Some child =
+            sym (here ∙ ap (λ z. child_at byte (children_of z)) same) in
+            let there =
+            way-child part greatest probe root start s rest frames now way byte goes.more whole
+            child after at below in
+            subst (λ f. IsOnWay part greatest probe root start child left f after) (sym passed-is)
+            (subst (λ z. IsOnWay part greatest probe root start child z
+            (frames ++ (
+              prefix_of s,
+              cond (goes_on part)
+                  (children_from (suc byte) (children_of s)) [],
+            ) ∷ []) after) (sym goes.is) there)
+
+        pub step-missing : None ≡ child_at byte (children_of o)
+            → (keeping (keeps part probe) (pairs_of root) ≡ pairs_ahead inner)
+            × (filter (reaches part probe) (paths_of root) ≡ paths_ahead inner)
+        step-missing missing =
+            subst (λ f. (keeping (keeps part probe) (pairs_of root) ≡ pairs_ahead f)
+            × (filter (reaches part probe) (paths_of root) ≡ paths_ahead f)) (sym passed-is)
+            (way-missing part greatest probe root start s rest frames now way byte goes.more whole
+            (sym (missing ∙ ap (λ z. child_at byte (children_of z)) same)))
+
+        pub step-trees : TreesAhead inner
+        step-trees =
+            subst TreesAhead (sym passed-is)
+            (passed-trees part greatest probe root start s rest frames now way byte goes.more whole)
+
+        pub step-short : AreShort greatest (pairs_ahead inner)
+        step-short =
+            subst (λ f. AreShort greatest (pairs_ahead f)) (sym passed-is)
+            (passed-short part greatest probe root start s rest frames now way byte goes.more whole)

@@ -45,6 +45,16 @@ enum {
     RART_TOO_SMALL = 4,
 };
 
+// Of what kind a bound of a page is.
+enum {
+    // The bound is a key that meets it.
+    RART_INCLUDED = 0,
+    // The bound is a key that doesn't meet it.
+    RART_EXCLUDED = 1,
+    // Each key meets the bound. Any greater number says so too.
+    RART_UNBOUNDED = 2,
+};
+
 // What a caller owes to each call:
 // - a tree is all zeros, or as a call left it, and is copied nowhere;
 // - no pointer is null, also of no bytes, and no two of one call overlap;
@@ -131,6 +141,28 @@ rart_answer rart_insert(
 // RART_ABSENT, and then nothing changed. RART_NO_ROOM says that the key is there and the number
 // can't be raised, RART_NO_MEMORY that it is there and memory was refused: nothing changed then.
 rart_answer rart_remove(rart_tree *tree, const uint8_t *key, size_t key_len, uint64_t *value);
+
+// Writes the first pairs within two bounds, as many as there is room for: their keys one behind the
+// other to the front of bytes, an entry of each to the front of entries, and how many they are to
+// count. What bytes has behind the keys is not told; entries is as before there. Answers
+// RART_ABSENT where no pair within the bounds is left, RART_DONE where one is. RART_TOO_SMALL says
+// that not even the first has room, and writes the length of its key to needed. A bound is of the
+// kind RART_INCLUDED, RART_EXCLUDED or RART_UNBOUNDED. It takes no memory.
+rart_answer rart_page(
+    rart_tree *tree,
+    const uint8_t *low,
+    size_t low_len,
+    uint8_t low_kind,
+    const uint8_t *high,
+    size_t high_len,
+    uint8_t high_kind,
+    uint8_t *bytes,
+    size_t bytes_len,
+    rart_entry *entries,
+    size_t entries_len,
+    size_t *count,
+    size_t *needed
+);
 
 // Makes copy the same map, its number one greater, and frees what copy was. RART_NO_ROOM says that
 // the number can't be raised, RART_NO_MEMORY that memory was refused: copy is as before then.

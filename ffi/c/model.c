@@ -94,6 +94,70 @@ static bool step_to(size_t at, const struct key *from, bool is_strict, struct ke
     return true;
 }
 
+// The key of this number.
+static struct key key_of(size_t number) {
+    struct key key = {.number = number};
+    for (size_t left = number; left > 0; left = (left - 1) / LETTERS) {
+        memmove(key.bytes + 1, key.bytes, key.len++);
+        key.bytes[0] = letters[(left - 1) % LETTERS];
+    }
+    return key;
+}
+
+struct bound {
+    struct key key;
+    uint8_t kind;
+};
+
+static bool is_within(const struct key *key, const struct bound *low, const struct bound *high) {
+    bool meets_low = low->kind == RART_INCLUDED   ? !is_before(key, &low->key)
+                     : low->kind == RART_EXCLUDED ? is_before(&low->key, key)
+                                                  : true;
+    bool meets_high = high->kind == RART_INCLUDED   ? !is_before(&high->key, key)
+                      : high->kind == RART_EXCLUDED ? is_before(key, &high->key)
+                                                    : true;
+    return meets_low && meets_high;
+}
+
+// That a page has so many pairs within two bounds, in order behind the lower one, which goes on to
+// the last of them.
+static void expect_page(size_t at, const uint8_t *bytes, const rart_entry *entries, size_t count,
+                        struct bound *low, const struct bound *high) {
+    for (size_t entry = 0, start = 0; entry < count; start = entries[entry++].end) {
+        struct key key = {.len = entries[entry].end - start};
+        EXPECT(key.len <= MOST_BYTES);
+        memcpy(key.bytes, bytes + start, key.len);
+        key.number = number_of(key.bytes, key.len);
+        EXPECT(tables[at].has[key.number] && is_within(&key, low, high));
+        EXPECT(entries[entry].value == tables[at].values[key.number]);
+        *low = (struct bound){.key = key, .kind = RART_EXCLUDED};
+    }
+}
+
+// Pages of any length meet as many pairs within two bounds as there are.
+static void read_pages(size_t at) {
+    enum { MOST_ENTRIES = 5, MOST_ROOM = 24 };
+    struct bound low = {.key = random_key(), .kind = (uint8_t)random_below(3)};
+    struct bound high = {.key = random_key(), .kind = (uint8_t)random_below(3)};
+    size_t wanted = 0, met = 0, count = 99, needed = 99;
+    for (size_t number = 0; number < KEYS; number++) {
+        struct key key = key_of(number);
+        wanted += tables[at].has[number] && is_within(&key, &low, &high);
+    }
+    for (rart_answer answer = RART_DONE; answer != RART_ABSENT; met += count) {
+        uint8_t bytes[MOST_ROOM];
+        rart_entry entries[MOST_ENTRIES];
+        size_t room = random_below(MOST_ROOM + 1), most = random_below(MOST_ENTRIES + 1);
+        answer = rart_page(&trees[at], low.key.bytes, low.key.len, low.kind, high.key.bytes,
+                           high.key.len, high.kind, bytes, room, entries, most, &count, &needed);
+        EXPECT(count <= most);
+        EXPECT(answer != RART_TOO_SMALL || (count == 0 && (most == 0 || room < needed)));
+        EXPECT(answer != RART_DONE || count > 0);
+        expect_page(at, bytes, entries, count, &low, &high);
+    }
+    EXPECT(met == wanted);
+}
+
 static void look(size_t at) {
     struct key key = random_key();
     uint64_t value = 0;
@@ -119,6 +183,8 @@ static void step(size_t at) {
         count_common(at);
     } else if (what < 5) {
         expect_walk(at, tables[at].len, step_to);
+    } else if (what < 6) {
+        read_pages(at);
     } else if (what < 60) {
         look(at);
     } else if (what < 130) {

@@ -97,8 +97,8 @@ static bool is_refused(rart_answer answer) {
     return answer == RART_NO_MEMORY;
 }
 
-// Makes random calls on so many trees. The first word is how many calls, 100,000 without it; the
-// second refuses one request for memory in so many.
+// Makes random calls on some trees. The first word is how many calls, 100,000 without it; the
+// second refuses one request for memory in that many.
 static unsigned long long make_calls(int count, char **words, size_t trees, void (*step)(size_t)) {
     unsigned long long calls = count > 1 ? strtoull(words[1], NULL, 10) : 100000;
     refuse_one_in(count > 2 ? strtoull(words[2], NULL, 10) : 0);

@@ -1,36 +1,57 @@
+use std::collections::VecDeque;
 use std::fmt;
 use std::iter::FusedIterator;
 use std::ops::{Bound, RangeBounds};
 
-// Most keys fit at once into so many bytes; for others the library is asked once more.
-const FIRST_ROOM: usize = 32;
+// A first page is short, since many walks end soon; each later one has room for four times as many.
+const FIRST_PAIRS: usize = 4;
+const MOST_PAIRS: usize = 64;
 
-/// What a tree tells, whose values are these, to be walked over.
-pub trait First<V> {
-    /// The value of the first key that meets a bound, and that key in `room`, whatever stood there.
-    fn first(&self, low: Bound<&[u8]>, room: &mut Vec<u8>) -> Option<V>;
+/// Pairs in the order of their keys, which stand one behind the other: each entry says where its
+/// key ends, and its value.
+pub struct Page<V> {
+    pub bytes: Vec<u8>,
+    pub entries: VecDeque<(usize, V)>,
+}
+
+/// A tree to be walked over, whose values are these.
+pub trait Pages<V> {
+    /// Fills an empty page with the first pairs within two bounds, at most so many as are asked
+    /// for, and one at least where there is one. Answers whether others may be left.
+    fn fill(
+        &self,
+        low: Bound<&[u8]>,
+        high: Bound<&[u8]>,
+        asked: usize,
+        page: &mut Page<V>,
+    ) -> bool;
 }
 
 /// The pairs of a map within two bounds, in the order of their keys.
 ///
-/// It takes each pair by a way down of its own. The library takes no memory for it; the copies of
-/// keys and of byte strings do.
+/// It takes them by pages. The library takes no memory for it; the pages, and the copies of keys
+/// and of byte strings, do.
 pub struct Iter<'a, V = u64> {
-    tree: &'a dyn First<V>,
+    tree: &'a dyn Pages<V>,
+    // What is left behind the page.
     low: Bound<Vec<u8>>,
     high: Bound<Vec<u8>>,
-    is_over: bool,
+    asked: usize,
+    is_last: bool,
+    // What is left of the page, whose next key begins here.
+    page: Page<V>,
+    start: usize,
 }
 
 impl<'a, V> Iter<'a, V> {
     /// All pairs.
-    pub(crate) fn of(tree: &'a dyn First<V>) -> Iter<'a, V> {
+    pub(crate) fn of(tree: &'a dyn Pages<V>) -> Iter<'a, V> {
         Iter::between(tree, Bound::Unbounded, Bound::Unbounded)
     }
 
     /// Those whose keys are in a range.
     pub(crate) fn within<K: AsRef<[u8]>>(
-        tree: &'a dyn First<V>,
+        tree: &'a dyn Pages<V>,
         range: impl RangeBounds<K>,
     ) -> Iter<'a, V> {
         let low = range.start_bound().map(|it| it.as_ref().to_vec());
@@ -39,12 +60,12 @@ impl<'a, V> Iter<'a, V> {
     }
 
     /// Those whose keys a prefix begins.
-    pub(crate) fn under(tree: &'a dyn First<V>, prefix: &[u8]) -> Iter<'a, V> {
+    pub(crate) fn under(tree: &'a dyn Pages<V>, prefix: &[u8]) -> Iter<'a, V> {
         Iter::between(tree, Bound::Included(prefix.to_vec()), behind_all(prefix))
     }
 
     fn between(
-        tree: &'a dyn First<V>,
+        tree: &'a dyn Pages<V>,
         low: Bound<Vec<u8>>,
         high: Bound<Vec<u8>>,
     ) -> Iter<'a, V> {
@@ -52,15 +73,30 @@ impl<'a, V> Iter<'a, V> {
             tree,
             low,
             high,
-            is_over: false,
+            asked: FIRST_PAIRS,
+            is_last: false,
+            page: Page {
+                bytes: Vec::new(),
+                entries: VecDeque::new(),
+            },
+            start: 0,
         }
     }
 
-    fn meets_high(&self, key: &[u8]) -> bool {
-        match &self.high {
-            Bound::Included(high) => key <= high.as_slice(),
-            Bound::Excluded(high) => key < high.as_slice(),
-            Bound::Unbounded => true,
+    /// Takes the next page, which begins behind the last key of this one.
+    fn turn(&mut self) {
+        let (low, high) = (self.low.as_ref(), self.high.as_ref());
+        let (low, high) = (low.map(Vec::as_slice), high.map(Vec::as_slice));
+        self.page.bytes.clear();
+        self.is_last = !self.tree.fill(low, high, self.asked, &mut self.page);
+        self.asked = MOST_PAIRS.min(self.asked * 4);
+        self.start = 0;
+        if let Some((end, _)) = self.page.entries.back() {
+            let start = match self.page.entries.len() {
+                1 => 0,
+                count => self.page.entries[count - 2].0,
+            };
+            self.low = Bound::Excluded(self.page.bytes[start..*end].to_vec());
         }
     }
 
@@ -79,20 +115,13 @@ impl<V> Iterator for Iter<'_, V> {
     type Item = (Vec<u8>, V);
 
     fn next(&mut self) -> Option<(Vec<u8>, V)> {
-        if self.is_over {
-            return None;
+        if self.page.entries.is_empty() && !self.is_last {
+            self.turn();
         }
-        let mut key = Vec::with_capacity(FIRST_ROOM);
-        match self.tree.first(self.low.as_ref().map(Vec::as_slice), &mut key) {
-            Some(value) if self.meets_high(&key) => {
-                self.low = Bound::Excluded(key.clone());
-                Some((key, value))
-            }
-            _ => {
-                self.is_over = true;
-                None
-            }
-        }
+        let (end, value) = self.page.entries.pop_front()?;
+        let key = self.page.bytes[self.start..end].to_vec();
+        self.start = end;
+        Some((key, value))
     }
 }
 

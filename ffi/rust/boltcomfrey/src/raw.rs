@@ -1,10 +1,16 @@
 //! The proved calls as safe functions. All `unsafe` of this crate stands here and in `sys`.
 use crate::error::Refusal;
-use crate::iter::First;
-use crate::sys::{self, ABSENT, DONE, NO_ROOM, RartBytes, RartTree, TOO_SMALL};
+use crate::iter::{Page, Pages};
+use crate::sys::{
+    self, ABSENT, DONE, EXCLUDED, INCLUDED, NO_ROOM, RartBytes, RartEntry, RartTree, TOO_SMALL,
+    UNBOUNDED,
+};
 use std::cell::UnsafeCell;
 use std::ops::Bound;
 use std::ptr::{eq, null_mut};
+
+// How many bytes of room there are for a key at first.
+const KEY_ROOM: usize = 32;
 
 /// A tree of the library, and its owner.
 ///
@@ -98,23 +104,46 @@ impl Tree {
     }
 }
 
-impl First<u64> for Tree {
-    fn first(&self, low: Bound<&[u8]>, room: &mut Vec<u8>) -> Option<u64> {
-        let (from, is_strict) = start_of(low);
-        let call = if is_strict { sys::rart_next } else { sys::rart_seek };
-        let (mut len, mut value) = (0, 0);
-        room.resize(room.capacity(), 0);
+impl Pages<u64> for Tree {
+    fn fill(
+        &self,
+        low: Bound<&[u8]>,
+        high: Bound<&[u8]>,
+        asked: usize,
+        page: &mut Page<u64>,
+    ) -> bool {
+        let (low, low_kind) = parts_of(low);
+        let (high, high_kind) = parts_of(high);
+        let mut entries = [RartEntry::default(); 64];
+        let asked = asked.min(entries.len());
+        let (mut count, mut needed) = (0, asked * KEY_ROOM);
         loop {
-            let (at, end) = (room.as_mut_ptr(), room.len());
-            let key = (from.as_ptr(), from.len());
-            // SAFETY: as above; `room` and both numbers are this call's own.
-            let answer =
-                unsafe { call(self.handle.get(), key.0, key.1, at, end, &mut len, &mut value) };
+            page.bytes.resize(needed.max(page.bytes.capacity()), 0);
+            let (from, to) = ((low.as_ptr(), low.len()), (high.as_ptr(), high.len()));
+            let (at, end) = (page.bytes.as_mut_ptr(), page.bytes.len());
+            // SAFETY: as above; the page, the entries and both numbers are this call's own.
+            let answer = unsafe {
+                sys::rart_page(
+                    self.handle.get(),
+                    from.0,
+                    from.1,
+                    low_kind,
+                    to.0,
+                    to.1,
+                    high_kind,
+                    at,
+                    end,
+                    entries.as_mut_ptr(),
+                    asked,
+                    &mut count,
+                    &mut needed,
+                )
+            };
             if answer != TOO_SMALL {
-                room.truncate(len);
-                return (answer == DONE).then_some(value);
+                let found = entries[..count].iter();
+                page.entries.extend(found.map(|it| (it.end, it.value)));
+                return answer == DONE;
             }
-            room.resize(len, 0);
         }
     }
 }
@@ -229,10 +258,11 @@ impl BytesTree {
     }
 }
 
-impl First<Vec<u8>> for BytesTree {
+impl BytesTree {
+    /// The value of the first key that meets a bound, and that key in `room`, whatever stood there.
     fn first(&self, low: Bound<&[u8]>, room: &mut Vec<u8>) -> Option<Vec<u8>> {
-        let (from, is_strict) = start_of(low);
-        let call = if is_strict { sys::rart_bytes_next } else { sys::rart_bytes_seek };
+        let (from, kind) = parts_of(low);
+        let call = if kind == EXCLUDED { sys::rart_bytes_next } else { sys::rart_bytes_seek };
         let (tree, key, mut key_len) = (self.handle.get(), (from.as_ptr(), from.len()), 0);
         room.resize(room.capacity(), 0);
         let value = read_out(|into, len| {
@@ -253,6 +283,26 @@ impl First<Vec<u8>> for BytesTree {
     }
 }
 
+// (its pages have one pair each: values have no greatest length)
+impl Pages<Vec<u8>> for BytesTree {
+    fn fill(
+        &self,
+        low: Bound<&[u8]>,
+        high: Bound<&[u8]>,
+        _asked: usize,
+        page: &mut Page<Vec<u8>>,
+    ) -> bool {
+        page.bytes.reserve(KEY_ROOM);
+        match self.first(low, &mut page.bytes) {
+            Some(value) if meets(&page.bytes, high) => {
+                page.entries.push_back((page.bytes.len(), value));
+                true
+            }
+            _ => false,
+        }
+    }
+}
+
 impl Default for BytesTree {
     fn default() -> BytesTree {
         BytesTree::new()
@@ -266,12 +316,20 @@ impl Drop for BytesTree {
     }
 }
 
-/// The key from which a bound takes keys, and whether it takes those behind it alone.
-fn start_of(low: Bound<&[u8]>) -> (&[u8], bool) {
-    match low {
-        Bound::Included(from) => (from, false),
-        Bound::Excluded(from) => (from, true),
-        Bound::Unbounded => (&[], false),
+/// The key of a bound, and of what kind it is.
+fn parts_of(bound: Bound<&[u8]>) -> (&[u8], u8) {
+    match bound {
+        Bound::Included(key) => (key, INCLUDED),
+        Bound::Excluded(key) => (key, EXCLUDED),
+        Bound::Unbounded => (&[], UNBOUNDED),
+    }
+}
+
+fn meets(key: &[u8], high: Bound<&[u8]>) -> bool {
+    match high {
+        Bound::Included(high) => key <= high,
+        Bound::Excluded(high) => key < high,
+        Bound::Unbounded => true,
     }
 }
 

@@ -30,6 +30,9 @@ pub const ABSENT: u8 = 1;
 pub const NO_ROOM: u8 = 2;
 pub const NO_MEMORY: u8 = 3;
 pub const TOO_SMALL: u8 = 4;
+pub const INCLUDED: u8 = 0;
+pub const EXCLUDED: u8 = 1;
+pub const UNBOUNDED: u8 = 2;
 
 unsafe extern "C" {
     pub fn rart_snapshot(tree: *mut RartTree, copy: *mut RartTree) -> u8;
@@ -74,6 +77,21 @@ unsafe extern "C" {
         replaced: *mut u64,
     ) -> u8;
     pub fn rart_remove(tree: *mut RartTree, key: *const u8, key_len: usize, value: *mut u64) -> u8;
+    pub fn rart_page(
+        tree: *mut RartTree,
+        low: *const u8,
+        low_len: usize,
+        low_kind: u8,
+        high: *const u8,
+        high_len: usize,
+        high_kind: u8,
+        bytes: *mut u8,
+        bytes_len: usize,
+        entries: *mut RartEntry,
+        entries_len: usize,
+        count: *mut usize,
+        needed: *mut usize,
+    ) -> u8;
     pub fn rart_bytes_snapshot(tree: *mut RartBytes, copy: *mut RartBytes) -> u8;
     pub fn rart_bytes_clone(tree: *mut RartBytes, copy: *mut RartBytes) -> u8;
     pub fn rart_bytes_new_at(tree: *mut RartBytes, number: u64) -> u8;
@@ -198,7 +216,7 @@ fn is_refused() -> bool {
     refusals::next()
 }
 
-/// For tests: one request for memory in so many is refused.
+/// For tests: one request for memory in `every` is refused.
 #[cfg(feature = "refusals")]
 pub mod refusals {
     use std::cell::Cell;
@@ -208,7 +226,7 @@ pub mod refusals {
         static COUNT: Cell<u64> = const { Cell::new(0) };
     }
 
-    /// Refuses one request in so many from here on, and none where the number is 0.
+    /// Refuses one request in `every` from here on, and none where the number is 0.
     pub fn set(one_in: u64) {
         ONE_IN.set(one_in);
     }

@@ -49,6 +49,13 @@ fn timed<R>(keys: &[Key], mut call: impl FnMut(&Key) -> R) -> f64 {
     start.elapsed().as_nanos() as f64 / keys.len() as f64
 }
 
+/// Nanoseconds an entry of a whole walk.
+fn walked<E>(entries: impl Iterator<Item = E>) -> f64 {
+    let start = Instant::now();
+    let count = entries.map(black_box).count();
+    start.elapsed().as_nanos() as f64 / count as f64
+}
+
 /// A name, the time of the library, that of std.
 type Row = (&'static str, f64, f64);
 
@@ -103,6 +110,11 @@ fn pass(count: usize, numbers: &mut Numbers) -> Vec<Row> {
             &absent[..1],
             |key| inserted(&tree, key),
             |key| with(&map, key),
+        ),
+        (
+            "walk, a copied entry",
+            walked(tree.iter()),
+            walked(map.iter().map(|(key, value)| (key.clone(), *value))),
         ),
         row(
             "removal",

@@ -207,6 +207,9 @@ impl VersionedBytes {
     /// Sets a key to a copy of the value, and tells whether it had one before. The number rises by
     /// one. Refused, nothing has changed.
     ///
+    /// A chain of keys that begin one another takes stack: with 2 MiB keys of at most 2,000 bytes
+    /// are safe.
+    ///
     /// ```
     /// # use boltcomfrey::VersionedBytes;
     /// let mut names = VersionedBytes::new();
@@ -302,7 +305,10 @@ impl<'a> IntoIterator for &'a VersionedBytes {
 /// # use boltcomfrey::VersionedBytes;
 /// let mut names = VersionedBytes::new();
 /// names.insert("tea", "Tea")?;
-/// assert_eq!(names, names.snapshot()?);
+/// let before = names.snapshot()?;
+/// assert_eq!(names, before);
+/// names.insert("tea", "other")?;
+/// assert_ne!(names, before);
 /// # Ok::<(), boltcomfrey::Refusal>(())
 /// ```
 impl PartialEq for VersionedBytes {

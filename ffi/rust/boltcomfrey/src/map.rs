@@ -190,6 +190,9 @@ impl VersionedMap {
     /// Sets a key to a value, and gives the value that was replaced. The number rises by one.
     /// Refused, nothing has changed.
     ///
+    /// A chain of keys that begin one another takes stack: with 2 MiB keys of at most 2,000 bytes
+    /// are safe.
+    ///
     /// ```
     /// # use boltcomfrey::VersionedMap;
     /// let mut prices = VersionedMap::new();
@@ -285,7 +288,10 @@ impl<'a> IntoIterator for &'a VersionedMap {
 /// # use boltcomfrey::VersionedMap;
 /// let mut prices = VersionedMap::new();
 /// prices.insert("tea", 300)?;
-/// assert_eq!(prices, prices.snapshot()?);
+/// let before = prices.snapshot()?;
+/// assert_eq!(prices, before);
+/// prices.insert("tea", 350)?;
+/// assert_ne!(prices, before);
 /// # Ok::<(), boltcomfrey::Refusal>(())
 /// ```
 impl PartialEq for VersionedMap {

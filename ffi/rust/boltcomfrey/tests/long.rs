@@ -1,7 +1,7 @@
 //! Walks meet keys and values that are longer than what is read at once.
 use boltcomfrey::{Refusal, VersionedBytes, VersionedMap};
 
-const LENS: [usize; 4] = [31, 32, 33, 500];
+const LENS: [usize; 5] = [31, 32, 33, 500, 5000];
 
 #[test]
 fn long_keys_are_met() -> Result<(), Refusal> {
@@ -20,5 +20,32 @@ fn so_are_long_values() -> Result<(), Refusal> {
     map.try_extend(pairs.clone())?;
     map.try_extend(others.clone())?;
     assert!(map.iter().eq(pairs.into_iter().chain(others)));
+    Ok(())
+}
+
+#[test]
+fn one_long_pair_is_met() -> Result<(), Refusal> {
+    let (mut map, mut bytes) = (VersionedMap::new(), VersionedBytes::new());
+    let (key, value) = (vec![b'a'; 500], vec![b'b'; 1000]);
+    map.insert(&key, 7)?;
+    bytes.insert(&key, &value)?;
+    assert!(map.iter().eq([(key.clone(), 7)]));
+    assert!(bytes.iter().eq([(key, value)]));
+    Ok(())
+}
+
+// (a test has a thread of its own, whose stack has 2 MiB)
+#[test]
+fn chains_of_2000_keys_are_safe() -> Result<(), Refusal> {
+    let mut map = VersionedMap::new();
+    for len in 0..=2000 {
+        map.insert(vec![b'a'; len], len as u64)?;
+    }
+    let before = map.snapshot()?;
+    for len in 0..=2000 {
+        assert_eq!(map.remove(vec![b'a'; len])?, Some(len as u64));
+    }
+    assert!(map.is_empty());
+    assert_eq!(before.len(), 2001);
     Ok(())
 }

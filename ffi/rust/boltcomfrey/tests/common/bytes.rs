@@ -31,6 +31,7 @@ impl Compared {
         }
         let (map, model) = &self.versions[at];
         assert_eq!((map.version(), map.len()), (model.number, model.pairs.len()));
+        assert_eq!(map.is_empty(), model.pairs.is_empty());
     }
 
     /// A value: short, or longer than what is read at once.

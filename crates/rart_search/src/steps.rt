@@ -1,6 +1,5 @@
 // Ported from rart 0.11.0 (Apache-2.0), and rewritten.
 //! One step along a key: what the key finds at a node.
-ghost use Rattle.rart_node.specs.NodeShapes.{pointer_shape};
 ghost use Rattle.rart_search.specs.Steps.{Passes};
 ghost use Rattle.rart_shape.specs.Trees.{IsTree};
 
@@ -25,8 +24,8 @@ pub fn step<'a, 'k, P: Partial, V: Drop>(
     key: &'k [u8],
     work: &mut Work,
 ) -> Option<Passed<'a, 'k, P, V>>
-    requires tree { IsTree (pointer_shape P.bytes at.now) }
-    ensures { Passes P.bytes result key.now (pointer_shape P.bytes at.now) work.old work.new }
+    requires tree { IsTree at.now.shape }
+    ensures { Passes result key.now at.now.shape work.old work.new }
 {
     let node = at.open(work);
     let rest = strip_prefix(key, node.prefix())?;

@@ -1,7 +1,6 @@
 use Rattle.std.proofs.Common.{◌==◌, length, arith, sym, ap, ◌∙◌}
 use Rattle.std.proofs.lemmas.Bool.{false≢true}
 use Rattle.std.specs.Option.{option_map}
-use Rattle.rart_node.specs.NodeShapes.{pointer_shape}
 use Rattle.rart_search.proofs.LookupPathLemmas.{search-down, steps-fit}
 use Rattle.rart_search.proofs.StepLemmas.{nothing-if, step-counted, step-entered, step-left, step-missing, step-lower, step-child}
 use Rattle.rart_search.proofs.depth.path_length.Goals as goal
@@ -26,7 +25,7 @@ returns-in-None-2-2 g c =
       arrives = tt;
       absent = λ none. step-missing _ _ _ _ _ _ _ at opens _ c.in_ok-passed.ensures.rest
           (λ end. false≢true (c.if-is_empty.ensures ∙ ap (λ z. length z == 0) end))
-          (sym (ap (option_map (λ child. pointer_shape g.P.Partial.bytes child.now)) c.in-None.is)
+          (sym (ap (option_map (λ child. child.now.shape)) c.in-None.is)
           ∙ c.in_ok-passed.ensures.child);
       few = tt;
       counted = step-counted _ _ _ _ _ _ _ at opens;
@@ -36,7 +35,7 @@ returns-in-None-2-2 g c =
 pub prove-unreachable-requires : goal.prove-unreachable-requires
 prove-unreachable-requires g c =
     let fits = steps-fit _ _ _ _ _ _ _ c.down.invariant _ c.in_ok-passed.ensures.rest _
-    (sym (ap (option_map (λ child. pointer_shape g.P.Partial.bytes child.now)) c.in-Some.is)
+    (sym (ap (option_map (λ child. child.now.shape)) c.in-Some.is)
     ∙ c.in_ok-passed.ensures.child) in
     let true = c.if-prove.true in
     omega (arith, fits, true)
@@ -45,12 +44,12 @@ pub down-smaller : goal.down-smaller
 down-smaller g c =
     step-lower _ _ _ _ _ _ _ c.down.invariant.at c.in_ok-passed.ensures.work _
     c.in_ok-passed.ensures.rest _
-    (sym (ap (option_map (λ child. pointer_shape g.P.Partial.bytes child.now)) c.in-Some.is)
+    (sym (ap (option_map (λ child. child.now.shape)) c.in-Some.is)
     ∙ c.in_ok-passed.ensures.child)
 
 pub down-preserved : goal.down-preserved
 down-preserved g c =
-    let here = sym (ap (option_map (λ child. pointer_shape g.P.Partial.bytes child.now))
+    let here = sym (ap (option_map (λ child. child.now.shape))
     c.in-Some.is) ∙ c.in_ok-passed.ensures.child in
     search-down _ _ _ _ _ _ _ c.down.invariant _ c.in_ok-passed.ensures.rest _ here _
     (step-child _ _ _ _ _ _ _ c.down.invariant.at c.in_ok-passed.ensures.work _

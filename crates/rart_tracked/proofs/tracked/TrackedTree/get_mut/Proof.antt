@@ -16,7 +16,7 @@ use Rattle.std.specs.Option.{option_map}
 use Rattle.std.proofs.result.Result.TheLaws as Result-laws
 use Rattle.std.proofs.option.Option.TheLaws as Option-laws
 use Rattle.std.proofs.alloc.AllocError.TheLaws as Err-laws
-use Rattle.rart_below.specs.Clones.{ClonesEqual}
+use Rattle.rart_versioned.specs.Asks.{CanChange}
 use Rattle.rart_versioned.proofs.ProofSteps.{reference-laws}
 use Rattle.rart_tracked.proofs.TrackedLendingLemmas.{same-name, found-was, refused-there}
 use Rattle.rart_tracked.proofs.lending.Missing.TheLaws as Missing-laws
@@ -93,8 +93,7 @@ get_mut_spec 𝓤 𝓛 𝓜 𝓡 wired K V P LK LV LP k k-d e e-d q q-d o o-d r 
     let in-K = fact 𝓤 (κs.1.0 ⊑ K.lives) in
     let in-V = fact 𝓤 (κ-V ⊑ V.lives) in
     let in-P = fact 𝓤 (κs.1.1.1.0 ⊑ P.lives) in
-    let asked =
-    sep 𝓤 (fact 𝓤 (ClonesEqual v.is_clone)) (fact 𝓤 (a.0.now.current.number + 1 < 2 ^ 64)) in
+    let asked = fact 𝓤 (CanChange v.is_clone a.0.now.current 1) in
     let after-V = sep 𝓤 in-P asked in
     let after-K = sep 𝓤 in-V after-V in
     let goes : (one : Val) → Holds (has_ty (layout K) one) × WT one

@@ -10,7 +10,7 @@ use Rattle.std.specs.Option.{option_map}
 use Rattle.std.proofs.result.Result.TheLaws as Result-laws
 use Rattle.std.proofs.option.Option.TheLaws as Option-laws
 use Rattle.std.proofs.alloc.AllocError.TheLaws as Err-laws
-use Rattle.rart_below.specs.Clones.{ClonesEqual}
+use Rattle.rart_versioned.specs.Asks.{CanChange}
 use Rattle.rart_versioned.specs.Work.{the_row as work_row}
 use Rattle.rart_maps.specs.Bounds.{change_bound, lookup_bound}
 use Rattle.rart_versioned.specs.Counts.{CountsUpTo}
@@ -86,8 +86,7 @@ get_mut_k_counted_spec 𝓤 𝓛 𝓜 𝓡 wired K V P LK LV LP k k-d e e-d q q-
     let in-K = fact 𝓤 (κs.1.1.1.0 ⊑ K.lives) in
     let in-V = fact 𝓤 (κ-V ⊑ V.lives) in
     let in-P = fact 𝓤 (κs.1.1.1.1.1.0 ⊑ P.lives) in
-    let asked =
-    sep 𝓤 (fact 𝓤 (ClonesEqual v.is_clone)) (fact 𝓤 (a.0.now.current.number + 1 < 2 ^ 64)) in
+    let asked = fact 𝓤 (CanChange v.is_clone a.0.now.current 1) in
     let Counted : Lasts g-end κs a → Type 0 =
     λ ws. CountsUpTo (5 * lookup_bound w) (2 * change_bound w) a.1.1.0.now ws.1.1.0 in
     let Absent : Lasts g-end κs a → Type 0 =

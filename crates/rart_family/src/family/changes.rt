@@ -1,13 +1,9 @@
 // Commands that change the version at their place by one key.
-ghost use Rattle.std.specs.Prelude.{◌*◌, ◌<◌, OnErr, OnOk, IsSomeAnd, IfSome, IsTrue};
 ghost use Rattle.rart_versioned.specs.Clones.{ClonesEqual};
-ghost use Rattle.rart_maps.specs.Bounds.{lookup_bound};
 ghost use Rattle.rart_maps.specs.Changes.{writing, insertion, replacement, removal, deletion};
-ghost use Rattle.rart_maps.specs.Versions.{HasRoom, has_key};
 ghost use Rattle.rart_family.specs.Attempts.{Tries, reply_or_want};
 ghost use Rattle.rart_family.specs.Costs.{CountsChanges};
-ghost use Rattle.rart_family.specs.Families.{version_at};
-ghost use Rattle.rart_family.specs.PlaceChanges.{ChangesAt, CountsChangeAt};
+ghost use Rattle.rart_family.specs.PlaceChanges.{CanChangeAt, PutsAt, SettlesAt};
 ghost use Rattle.rart_family.specs.declared.family.command.Command.TheVariants.{GetMut, Insert, Replace, Remove, Delete};
 
 use super::writing::write_value;
@@ -120,14 +116,9 @@ fn rewrite_at<K: KeyTrait, V: Clone + Drop>(
     value: V,
     changes: &mut Work,
 ) -> Result<bool, AllocError>
-    requires clones { ClonesEqual V.is_clone }
-    requires there { IsSomeAnd (version_at versions.old place) (λ v. HasRoom v 1) }
-    ensures changes { ChangesAt place result versions.old versions.new (λ v.
-        writing v (K.bytes key.now) value) }
-    ensures present { OnErr result (IfSome (version_at versions.old place) (λ v.
-        IsTrue (has_key v (K.bytes key.now)))) }
-    ensures counted { CountsChangeAt (2 * lookup_bound (K.bytes key.now)) versions.old place
-        (K.bytes key.now) changes.old changes.new }
+    requires { CanChangeAt V.is_clone versions.old place 1 }
+    ensures { SettlesAt place result versions.old versions.new (K.bytes key.now)
+        (λ v. writing v (K.bytes key.now) value) changes.old changes.new }
 {
     let Some(version) = &mut versions[place] else {
         unreachable!();
@@ -142,13 +133,9 @@ fn insert_at<K: KeyTrait, V: Clone + Drop>(
     value: V,
     changes: &mut Work,
 ) -> Result<bool, AllocError>
-    requires clones { ClonesEqual V.is_clone }
-    requires there { IsSomeAnd (version_at versions.old place) (λ v. HasRoom v 1) }
-    ensures changes { ChangesAt place result versions.old versions.new (λ v.
-        insertion v (K.bytes key.now) value) }
-    ensures counted { CountsChangeAt (lookup_bound (K.bytes key.now)) versions.old place
-        (K.bytes key.now) changes.old changes.new }
-    ensures made { OnOk result (changes.old.made < changes.new.made) }
+    requires { CanChangeAt V.is_clone versions.old place 1 }
+    ensures { PutsAt place result versions.old versions.new (K.bytes key.now)
+        (λ v. insertion v (K.bytes key.now) value) changes.old changes.new }
 {
     let Some(version) = &mut versions[place] else {
         unreachable!();
@@ -163,13 +150,9 @@ fn replace_at<K: KeyTrait, V: Clone + Drop>(
     value: V,
     changes: &mut Work,
 ) -> Result<Option<V>, AllocError>
-    requires clones { ClonesEqual V.is_clone }
-    requires there { IsSomeAnd (version_at versions.old place) (λ v. HasRoom v 1) }
-    ensures changes { ChangesAt place result versions.old versions.new (λ v.
-        replacement v (K.bytes key.now) value) }
-    ensures counted { CountsChangeAt (lookup_bound (K.bytes key.now)) versions.old place
-        (K.bytes key.now) changes.old changes.new }
-    ensures made { OnOk result (changes.old.made < changes.new.made) }
+    requires { CanChangeAt V.is_clone versions.old place 1 }
+    ensures { PutsAt place result versions.old versions.new (K.bytes key.now)
+        (λ v. replacement v (K.bytes key.now) value) changes.old changes.new }
 {
     let Some(version) = &mut versions[place] else {
         unreachable!();
@@ -183,14 +166,9 @@ fn remove_at<K: KeyTrait, V: Clone + Drop>(
     key: &K,
     changes: &mut Work,
 ) -> Result<Option<V>, AllocError>
-    requires clones { ClonesEqual V.is_clone }
-    requires there { IsSomeAnd (version_at versions.old place) (λ v. HasRoom v 1) }
-    ensures changes { ChangesAt place result versions.old versions.new (λ v.
-        removal v (K.bytes key.now)) }
-    ensures present { OnErr result (IfSome (version_at versions.old place) (λ v.
-        IsTrue (has_key v (K.bytes key.now)))) }
-    ensures counted { CountsChangeAt (2 * lookup_bound (K.bytes key.now)) versions.old place
-        (K.bytes key.now) changes.old changes.new }
+    requires { CanChangeAt V.is_clone versions.old place 1 }
+    ensures { SettlesAt place result versions.old versions.new (K.bytes key.now)
+        (λ v. removal v (K.bytes key.now)) changes.old changes.new }
 {
     let Some(version) = &mut versions[place] else {
         unreachable!();
@@ -204,14 +182,9 @@ fn delete_at<K: KeyTrait, V: Clone + Drop>(
     key: &K,
     changes: &mut Work,
 ) -> Result<bool, AllocError>
-    requires clones { ClonesEqual V.is_clone }
-    requires there { IsSomeAnd (version_at versions.old place) (λ v. HasRoom v 1) }
-    ensures changes { ChangesAt place result versions.old versions.new (λ v.
-        deletion v (K.bytes key.now)) }
-    ensures present { OnErr result (IfSome (version_at versions.old place) (λ v.
-        IsTrue (has_key v (K.bytes key.now)))) }
-    ensures counted { CountsChangeAt (2 * lookup_bound (K.bytes key.now)) versions.old place
-        (K.bytes key.now) changes.old changes.new }
+    requires { CanChangeAt V.is_clone versions.old place 1 }
+    ensures { SettlesAt place result versions.old versions.new (K.bytes key.now)
+        (λ v. deletion v (K.bytes key.now)) changes.old changes.new }
 {
     let Some(version) = &mut versions[place] else {
         unreachable!();

@@ -1,13 +1,13 @@
 // Commands that update the slot of a key by a callback.
-ghost use Rattle.std.specs.Prelude.{◌≡◌, IfOk, IfSome, IsSome, IsSomeAnd, OnErr, Some};
+ghost use Rattle.std.specs.Prelude.{◌≡◌, IfOk, IfSome, IsSome, OnErr, Some};
 ghost use Rattle.rart_versioned.specs.Clones.{ClonesEqual};
-ghost use Rattle.rart_maps.specs.Versions.{HasRoom, value_at};
+ghost use Rattle.rart_maps.specs.Versions.{value_at};
 ghost use Rattle.rart_maps.specs.Changes.{slot_of, slot_update, slot_attempt};
 ghost use Rattle.rart_maps.specs.Bounds.{enter_bound};
 ghost use Rattle.rart_family.specs.Attempts.{Tries, reply_or_want};
 ghost use Rattle.rart_family.specs.Costs.{CountsChanges};
 ghost use Rattle.rart_family.specs.Families.{version_at, value_after_write, callback_answer};
-ghost use Rattle.rart_family.specs.PlaceChanges.{ChangesAt, CountsChangeAt};
+ghost use Rattle.rart_family.specs.PlaceChanges.{CanChangeAt, ChangesAt, CountsChangeAt};
 ghost use Rattle.rart_family.specs.Updates.{Inserts, IsThereOrSet};
 ghost use Rattle.rart_family.specs.declared.family.command.Command.TheVariants.{Update, TryUpdate};
 
@@ -111,8 +111,7 @@ fn update_at<K: KeyTrait, V: Clone + Drop>(
     answer: SlotUpdate<V>,
     changes: &mut Work,
 ) -> Result<bool, AllocError>
-    requires clones { ClonesEqual V.is_clone }
-    requires there { IsSomeAnd (version_at versions.old place) (λ v. HasRoom v 1) }
+    requires { CanChangeAt V.is_clone versions.old place 1 }
     ensures changes { ChangesAt place result versions.old versions.new (λ v.
         slot_update v (K.bytes key.now)
         (slot_of (value_after_write (value_at v (K.bytes key.now)) write))
@@ -143,8 +142,7 @@ fn try_update_at<K: KeyTrait, V: Clone + Drop>(
     answer: Option<SlotUpdate<V>>,
     changes: &mut Work,
 ) -> Result<Result<bool, Failure>, AllocError>
-    requires clones { ClonesEqual V.is_clone }
-    requires there { IsSomeAnd (version_at versions.old place) (λ v. HasRoom v 2) }
+    requires { CanChangeAt V.is_clone versions.old place 2 }
     ensures changes { ChangesAt place result versions.old versions.new (λ v.
         slot_attempt v (K.bytes key.now)
         (slot_of (value_after_write (value_at v (K.bytes key.now)) write))

@@ -1,19 +1,15 @@
 use Rattle.rart_family.proofs.PlaceLemmas.{changes_at, counts_at, on_err_at, there_at}
 use Rattle.rart_family.proofs.family.changes.rewrite_at.Goals as goal
 
-pub returns-clause-changes : goal.returns-clause-changes
-returns-clause-changes g c =
-    changes_at c.args.versions.now c.args.place _ _ _ c.write_value.result _ c.in-Some.is
-    c.write_value.ensures.changes
-
-pub returns-clause-present : goal.returns-clause-present
-returns-clause-present g c =
-    on_err_at c.args.versions.now c.args.place _ _ c.write_value.result _ c.in-Some.is
-    c.write_value.ensures.present
-
-pub returns-clause-counted : goal.returns-clause-counted
-returns-clause-counted g c =
-    counts_at c.args.versions.now c.args.place _ _ c.in-Some.is c.write_value.ensures.counted
+pub returns : goal.returns
+returns g c = record {
+  changes = changes_at c.args.versions.now c.args.place _ _ _
+      c.write_value.result _ c.in-Some.is c.write_value.ensures.changes;
+  present = on_err_at c.args.versions.now c.args.place _ _
+      c.write_value.result _ c.in-Some.is c.write_value.ensures.present;
+  counted = counts_at c.args.versions.now c.args.place _ _ c.in-Some.is
+      c.write_value.ensures.counted;
+}
 
 pub unreachable-requires : goal.unreachable-requires
 unreachable-requires g c =

@@ -14,10 +14,10 @@ pub record IsSetTo {V : Type 0} (before : Version V) (w : List ℕ) (value : Opt
   pub number : after.number ≡ before.number + (if is_some value || has_key before w then 1 else 0)
 
 -- A draft begins: it has the version, and nothing was refused.
-pub record Begins {V : Type 0} (made : Result (Unit {0}) AllocError) (start now : Version V)
+pub record Begins {V : Type 0} (so_far : Result (Unit {0}) AllocError) (start now : Version V)
     : Type 0 where
   pub next : now ≡ start
-  pub made : IsOk made
+  pub made : IsOk so_far
 
 -- A key of a draft can be set, where no memory was refused before.
 pub record CanGoOn {V : Type 0} (is_clone : V → V → Type 0) (made : Result (Unit {0}) AllocError)

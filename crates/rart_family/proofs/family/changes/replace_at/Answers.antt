@@ -4,7 +4,8 @@ use Rattle.rart_family.proofs.family.changes.replace_at.Goals as goal
 pub returns : goal.returns
 returns g c = record {
   changes = changes_at c.args.versions.now c.args.place _ _ _
-      c.insert_and_replace_k_counted.result _ c.in-Some.is c.insert_and_replace_k_counted.ensures.changes;
+      c.insert_and_replace_k_counted.result _ c.in-Some.is
+      c.insert_and_replace_k_counted.ensures.changes;
   counted = counts_at c.args.versions.now c.args.place _ _ c.in-Some.is
       c.insert_and_replace_k_counted.ensures.counted;
   made = c.insert_and_replace_k_counted.ensures.made;

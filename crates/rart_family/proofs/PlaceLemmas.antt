@@ -1,41 +1,89 @@
--- What a reference for writing to the version at a place leaves of a family.
-use Rattle.std.proofs.Common.{◌≡◌, ℕ, zero, suc, ◌+◌, ◌<◌, ◌^◌, List, [], ◌∷◌, refl, sym, ap, subst}
-use Rattle.std.specs.Option.{unwrap_or}
-use Rattle.std.specs.Prelude.{Option, Some, None, MatchOption, OnSome, slice_get, slice_set}
-use Rattle.rart_maps.specs.Versions.{Version}
+-- What is told of the version at a place, once the place was read.
+use Rattle.std.proofs.Common.{◌≡◌, ℕ, zero, suc, ◌+◌, ◌≤◌, ◌<◌, Bool, true, false, cond, List, [], ◌∷◌, refl, sym, ap, subst, ◌∙◌, get_or, arith}
+use Rattle.std.specs.Prelude.{Option, Some, None, IfSome, IsSomeAnd, Result, Ok, Err, OnErr, slice_set}
+use Rattle.std.proofs.lemmas.Result.{on_err_weaker}
+use Rattle.rart_maps.specs.Changes.{Changes}
+use Rattle.rart_maps.specs.Versions.{Version, has_no_key}
 use Rattle.rart_family.specs.Families.{Family, version_at}
-use Rattle.rart_family.specs.Lent.{IsLeftAt}
+use Rattle.rart_versioned.specs.ChangeCounts.{CountsChange}
+use Rattle.rart_versioned.specs.Counts.{Counts}
+use Rattle.rart_family.specs.Costs.{one_with_key}
+use Rattle.rart_family.specs.PlaceChanges.{ChangesAt, CountsChangeAt}
 
-pub on-some : {A : Type 0} (o : Option A) (P : Type 0) → P → OnSome o P
-on-some None P holds = tt
-on-some (Some x) P holds = holds
-
-pub at-some : {A P : Type 0} (o : Option A) (x : A) → o ≡ Some x → OnSome o P → P
-at-some {P = P} o x is holds = subst (λ o. OnSome o P) is holds
+touches_keyed : (b : Bool) (before after : ℕ) → before ≤ after → (b ≡ false → before < after)
+    → before + cond b 0 1 ≤ after
+touches_keyed true before after grows enters = omega arith
+touches_keyed false before after grows enters = omega (arith, enters refl)
 
 module _ {V : Type 0} where
-  -- What is set to what it is stays.
-  pub same-slot : (f : Family V) (place : ℕ) (x : Option (Version V)) → Some x ≡ slice_get f place
-      → slice_set f place x ≡ f
-  same-slot [] place x is = refl
-  same-slot (y ∷ f) zero x is = ap (λ o. unwrap_or o x ∷ f) is
-  same-slot (y ∷ f) (suc place) x is = ap (λ rest. y ∷ rest) (same-slot f place x is)
+  none_at : (f : Family V) (place : ℕ) (read : Option (Version V)) → get_or f place read ≡ None
+      → version_at f place ≡ None
+  none_at [] place read is = refl
+  none_at (v ∷ f) zero read is = is
+  none_at (v ∷ f) (suc place) read is = none_at f place read is
 
-  same-version : (f : Family V) (place : ℕ) (v : Version V) → version_at f place ≡ Some v
-      → slice_set f place (Some v) ≡ f
-  same-version [] place v is = refl
-  same-version (x ∷ f) zero v is = ap (λ y. y ∷ f) (sym is)
-  same-version (x ∷ f) (suc place) v is = ap (λ rest. x ∷ rest) (same-version f place v is)
+  -- Where there is no version, anything holds of it, and there is none of which anything is.
+  pub if_none_at : (f : Family V) (place : ℕ) (read : Option (Version V))
+      (Says : Version V → Type 0) → get_or f place read ≡ None → IfSome (version_at f place) Says
+  if_none_at f place read Says is = rw (none_at f place read is) tt
 
-  pub left-at : (f : Family V) (place : ℕ) (left : Version V)
-      → IsLeftAt f place left (slice_set f place (Some left))
-  left-at f place left = record { replaced = refl; kept = same-version f place left }
+  pub there_at : (f : Family V) (place : ℕ) (read : Option (Version V)) (Says : Version V → Type 0)
+      → get_or f place read ≡ None → IsSomeAnd (version_at f place) Says → ⊥
+  there_at f place read Says is there =
+      subst (λ o. IsSomeAnd o Says) (none_at f place read is) there
 
-  -- A version whose number can't be raised by so much is why it is refused.
-  pub lacks-room : {R : Type 0} (o : Option (Version V)) (v : Version V) (rise : ℕ) (got none : R)
-      → Some v ≡ o → (v.number + rise < 2 ^ 64 → ⊥)
-      → MatchOption o (got ≡ none)
-      (λ version. (got ≡ got) × (version.number + rise < 2 ^ 64 → ⊥))
-  lacks-room o v rise got none is full =
-      subst (λ o. MatchOption o (got ≡ none)
-      (λ version. (got ≡ got) × (version.number + rise < 2 ^ 64 → ⊥))) is (refl, full)
+  -- Where there is a version, a node is to be entered if it has a key.
+  touches_some : (f : Family V) (place : ℕ) (read : Option (Version V)) (v : Version V)
+      (before after : ℕ) → get_or f place read ≡ Some v → before ≤ after
+      → (has_no_key v ≡ false → before < after) → before + one_with_key (version_at f place) ≤ after
+  touches_some [] place read v before after is grows enters = omega arith
+  touches_some (x ∷ f) zero read v before after is grows enters =
+      rw is (touches_keyed (has_no_key v) before after grows enters)
+  touches_some (x ∷ f) (suc place) read v before after is grows enters =
+      touches_some f place read v before after is grows enters
+
+  -- What holds of the version that was read holds of the one at the place.
+  pub if_some_at : (f : Family V) (place : ℕ) (read : Option (Version V)) (v : Version V)
+      (Says : Version V → Type 0) → get_or f place read ≡ Some v → Says v
+      → IfSome (version_at f place) Says
+  if_some_at [] place read v Says is says = tt
+  if_some_at (x ∷ f) zero read v Says is says = rw is says
+  if_some_at (x ∷ f) (suc place) read v Says is says = if_some_at f place read v Says is says
+
+  -- A change of the version that was read is one of the version at the place.
+  pub counts_at : {entered : ℕ} {w : List ℕ} {before after : Counts} (f : Family V) (place : ℕ)
+      (read : Option (Version V)) (v : Version V) → get_or f place read ≡ Some v
+      → CountsChange entered v w before after → CountsChangeAt entered f place w before after
+  counts_at {before} {after} f place read v is counted =
+      record {
+        at_most = counted.at_most;
+        at_least =
+            touches_some f place read v before.entered after.entered is
+            counted.at_most.entered_grows
+            counted.at_least;
+      }
+
+  set-same : (f : Family V) (place : ℕ) (read : Option (Version V)) (v : Version V)
+      → get_or f place read ≡ Some v → slice_set f place (Some v) ≡ f
+  set-same [] place read v is = refl
+  set-same (x ∷ f) zero read v is = ap (λ y. y ∷ f) (sym is)
+  set-same (x ∷ f) (suc place) read v is = ap (λ rest. x ∷ rest) (set-same f place read v is)
+
+  pub changes_at : {A E : Type 0} (f : Family V) (place : ℕ) (read : Option (Version V))
+      (v after : Version V) (answer : Result A E) (outcome : Version V → A × Version V)
+      → get_or f place read ≡ Some v → Changes answer v after (outcome v)
+      → ChangesAt place answer f (slice_set f place (Some after)) outcome
+  changes_at f place read v after (Ok answer) outcome is changed =
+      if_some_at f place read v (λ w. (answer ≡ (outcome w).0)
+      × (slice_set f place (Some after) ≡ slice_set f place (Some (outcome w).1))) is
+      (changed.0, ap (λ w. slice_set f place (Some w)) changed.1)
+  changes_at f place read v after (Err refusal) outcome is changed =
+      ap (λ w. slice_set f place (Some w)) changed ∙ set-same f place read v is
+
+  -- What a refusal tells of the version that was read, it tells of the one at the place.
+  pub on_err_at : {A E : Type 0} (f : Family V) (place : ℕ) (read : Option (Version V))
+      (v : Version V) (answer : Result A E) (Says : Version V → Type 0)
+      → get_or f place read ≡ Some v → OnErr answer (Says v)
+      → OnErr answer (IfSome (version_at f place) Says)
+  on_err_at f place read v answer Says is told =
+      on_err_weaker answer (λ says. if_some_at f place read v Says is says) told

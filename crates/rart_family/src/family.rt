@@ -1,13 +1,11 @@
 //! Families of versions: commands on them, and their replies.
-ghost use Rattle.std.specs.Borrow.{sem};
-ghost use Rattle.std.specs.Prelude.{◌≡◌, ◌+◌, ◌*◌, ◌≤◌, [], map, length, slice_get, Some, IfOk, IfErr, OnOk, OnErr, MatchOption};
-ghost use Rattle.std.specs.Option.{option_copied, option_copied_mut};
+ghost use Rattle.std.specs.Prelude.{◌≡◌, ◌+◌, ◌*◌, ◌≤◌, [], map, length, Some, IfOk, IfErr, OnOk, OnErr, MatchOption};
+ghost use Rattle.std.specs.Option.{option_copied};
 ghost use Rattle.rart_versioned.specs.Clones.{ClonesEqual};
 ghost use Rattle.rart_maps.specs.Versions.{HasRoom};
 ghost use Rattle.rart_family.specs.Attempts.{Tries, Gives, reply_or_want};
 ghost use Rattle.rart_family.specs.Costs.{read_cost, read_least, change_cost, change_least, enter_least, CountsReads, CountsChanges};
 ghost use Rattle.rart_family.specs.Families.{version_at, placement};
-ghost use Rattle.rart_family.specs.Lent.{LendsAt, LendsSlot, LendsVersion};
 ghost use Rattle.rart_family.specs.Replies.{reply_value};
 ghost use Rattle.rart_family.specs.Runs.{Step, Run};
 ghost use Rattle.rart_family.specs.declared.family.reply.Reply.TheVariants.{NoVersion, NoRoom};
@@ -237,55 +235,6 @@ impl<K: KeyTrait, V: Clone + Drop> Family<K, V> {
         let place = self.len();
         self.versions.push(Some(version))?;
         Ok(Reply::Place(place))
-    }
-
-    // The slot of a place, for writing.
-    fn slot_mut(&mut self, place: usize) -> Option<&mut Option<VersionedAdaptiveRadixTree<K, V>>>
-        ensures* writes_back { sem 𝓛 (LendsSlot K.row V.row K.PartialType.row K.MAXIMUM_SIZE K.bytes
-            K.eq K.cmp K.partial_cmp K.PartialType.Partial V.Clone self.entry place result) }
-        ensures slot { option_copied_mut result ≡ slice_get self.old place }
-    {
-        self.versions.get_mut(place)
-    }
-
-    // The version at a place, for writing.
-    fn version_mut(&mut self, place: usize) -> Option<&mut VersionedAdaptiveRadixTree<K, V>>
-        ensures* writes_back { sem 𝓛 (LendsAt K.row V.row K.PartialType.row K.MAXIMUM_SIZE K.bytes
-            K.eq K.cmp K.partial_cmp K.PartialType.Partial V.Clone self.entry place result) }
-        ensures version { option_copied_mut result ≡ version_at self.old place }
-    {
-        match self.slot_mut(place) {
-            Some(slot) => slot.as_mut(),
-            None => None,
-        }
-    }
-
-    // The version at a place, for writing, where its number can be raised by so much; else the
-    // reply that refuses.
-    fn version_to_change(
-        &mut self,
-        place: usize,
-        rise: u64,
-    ) -> Result<&mut VersionedAdaptiveRadixTree<K, V>, Reply<K, V>>
-        ensures* writes_back { sem 𝓛 (LendsVersion K.row V.row K.PartialType.row K.MAXIMUM_SIZE
-            K.bytes K.eq K.cmp K.partial_cmp K.PartialType.Partial V.Clone self.entry place
-            result) }
-        ensures found { IfOk result (λ version. version_at self.old place ≡ Some version.now) }
-        ensures room { IfOk result (λ version. HasRoom version.now rise) }
-        ensures refused { IfErr result (λ refusal. MatchOption (version_at self.old place)
-            (refusal ≡ NoVersion)
-            (λ version. (refusal ≡ NoRoom) × ¬ (HasRoom version rise))) }
-    {
-        match self.version_mut(place) {
-            None => Err(Reply::NoVersion),
-            Some(version) => {
-                if version.version() > u64::MAX - rise {
-                    Err(Reply::NoRoom)
-                } else {
-                    Ok(version)
-                }
-            }
-        }
     }
 
     // The version at a place, where its number can be raised by so much; else the reply that

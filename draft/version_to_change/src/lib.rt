@@ -1,0 +1,4 @@
+//! A family whose versions are lent.
+#![tactic(auto)]
+
+mod family;

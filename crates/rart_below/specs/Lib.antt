@@ -9,7 +9,6 @@ pub mod Laws
 pub mod Layouts
 pub mod LendingKeyView
 pub mod Lent
-pub mod Mapped
 pub mod Plain
 pub mod RankedKeys
 pub mod SlotArray

@@ -126,26 +126,26 @@ module _ {V : Type 0} where
       (λ is. let less = some-length second is in omega (arith, less, one))
       some
 
-module _ {P V : Type 0} {partial : _} (bytes : P → List ℕ) where
+module _ {P V : Type 0} {partial : _} where
   -- Of two keys the order tells which is the first.
-  pub both-first : (before after : Side P V partial) → IsSide bytes before → IsSide bytes after
+  pub both-first : (before after : Side P V partial) → IsSide before → IsSide after
       → is_some before.value ≡ true → is_some after.value ≡ true → (r : Ordering)
-      → r ≡ byte_order (key_at bytes before) (key_at bytes after)
-      → ComesFirst bytes before after (Some r)
+      → r ≡ byte_order (key_at before) (key_at after)
+      → ComesFirst before after (Some r)
   both-first before after one two some also Less is = (
     some,
-    held-behind (key_at bytes before) (key_at bytes after) after.value
-        (cursor bytes after.walk).pairs two.ascends also
-        ((order_is_of_first_difference (key_at bytes before) (key_at bytes after)).0.0 (sym is)),
+    held-behind (key_at before) (key_at after) after.value
+        (cursor after.walk).pairs two.ascends also
+        ((order_is_of_first_difference (key_at before) (key_at after)).0.0 (sym is)),
   )
   both-first before after one two some also Equal is = (
     some,
     also,
-    (order_is_of_first_difference (key_at bytes before) (key_at bytes after)).1.0 (sym is),
+    (order_is_of_first_difference (key_at before) (key_at after)).1.0 (sym is),
   )
   both-first before after one two some also Greater is = (
     also,
-    held-behind (key_at bytes after) (key_at bytes before) before.value
-        (cursor bytes before.walk).pairs one.ascends some
-        ((order_is_of_first_difference (key_at bytes before) (key_at bytes after)).2.0 (sym is)),
+    held-behind (key_at after) (key_at before) before.value
+        (cursor before.walk).pairs one.ascends some
+        ((order_is_of_first_difference (key_at before) (key_at after)).2.0 (sym is)),
   )

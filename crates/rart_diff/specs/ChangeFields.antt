@@ -11,34 +11,34 @@ use Rattle.rart_diff.specs.SideFields.{IsSide, key_at, pairs_left, nodes_left}
 use Rattle.rart_diff.specs.TwoWalks.{changes_ahead, nodes_ahead}
 
 -- `partial` is what is known of prefixes, which the types take for a ghost field
-module _ {P V : Type 0} {partial : _} (bytes : P → List ℕ) where
+module _ {P V : Type 0} {partial : _} where
   -- the changes that are left
   abbrev pub changes_left : (V → V → Bool) → ChangeWalk P V partial → List (Change V)
   changes_left same walk =
-      changes_between same (pairs_left bytes walk.before) (pairs_left bytes walk.after)
+      changes_between same (pairs_left walk.before) (pairs_left walk.after)
 
   -- the key that was given last
   abbrev pub key_given : ChangeWalk P V partial → List ℕ
-  key_given walk = if walk.is_before then key_at bytes walk.before else key_at bytes walk.after
+  key_given walk = if walk.is_before then key_at walk.before else key_at walk.after
 
   -- how many nodes are left to enter
   abbrev pub nodes_to_enter : ChangeWalk P V partial → ℕ
-  nodes_to_enter walk = nodes_left bytes walk.before + nodes_left bytes walk.after
+  nodes_to_enter walk = nodes_left walk.before + nodes_left walk.after
 
   pub record IsChangeWalk (walk : ChangeWalk P V partial) : Type 0 where
-    pub before : IsSide bytes walk.before
-    pub after : IsSide bytes walk.after
+    pub before : IsSide walk.before
+    pub after : IsSide walk.after
 
   -- The next key of either side was taken, with what both have there, or there was none.
   abbrev pub TakesKey : ChangeWalk P V partial → ChangeWalk P V partial →
       Option (Option (Bor V) × Option (Bor V)) → Type 0
   TakesKey start next None =
-      (pairs_left bytes start.before ≡ []) × (pairs_left bytes start.after ≡ [])
+      (pairs_left start.before ≡ []) × (pairs_left start.after ≡ [])
   TakesKey start next (Some values) =
       Leads (key_given next) (option_copied values.0)
-      (pairs_left bytes start.before) (pairs_left bytes next.before)
+      (pairs_left start.before) (pairs_left next.before)
       × Leads (key_given next) (option_copied values.1)
-      (pairs_left bytes start.after) (pairs_left bytes next.after)
+      (pairs_left start.after) (pairs_left next.after)
       × (IsSome values.0 ⊎ IsSome values.1)
 
   -- The first change was given, or there was none.
@@ -53,8 +53,8 @@ module _ {P V : Type 0} {partial : _} (bytes : P → List ℕ) where
   pub record GoesOver (same : V → V → Bool) (old new : Walk P V (List ℕ) partial)
       (made : ChangeWalk P V partial) : Type 0 where
     pub walk : IsChangeWalk made
-    pub changes : changes_left same made ≡ changes_ahead bytes same old new
-    pub nodes : nodes_to_enter made ≡ nodes_ahead bytes old new
+    pub changes : changes_left same made ≡ changes_ahead same old new
+    pub nodes : nodes_to_enter made ≡ nodes_ahead old new
 
   -- It gave what is told, and has entered the nodes that it has no more left to enter. Refused, it
   -- has entered no other.

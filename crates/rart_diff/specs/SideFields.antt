@@ -14,28 +14,28 @@ use Rattle.rart_diff.specs.declared.side.Side.{Side}
 use Rattle.rart_diff.specs.Diffs.{AreBehind, Leads}
 
 -- `partial` is what is known of prefixes, which the types take for a ghost field
-module _ {P V : Type 0} {partial : _} (bytes : P → List ℕ) where
+module _ {P V : Type 0} {partial : _} where
   -- the key that a side stands at
   abbrev pub key_at : Side P V partial → List ℕ
-  key_at side = path_to bytes side.walk
+  key_at side = path_to side.walk
 
   -- the pairs that are left, that of this key first
   abbrev pub pairs_left : Side P V partial → List (List ℕ × V)
   pairs_left side =
-      pending_pair (key_at side) (option_copied side.value) ++ (cursor bytes side.walk).pairs
+      pending_pair (key_at side) (option_copied side.value) ++ (cursor side.walk).pairs
 
   -- how many nodes are left to enter
   abbrev pub nodes_left : Side P V partial → ℕ
-  nodes_left side = length (cursor bytes side.walk).paths
+  nodes_left side = length (cursor side.walk).paths
 
   -- Its walk keeps the bytes of its key, and the keys that are left ascend.
   pub record IsSide (side : Side P V partial) : Type 0 where
-    pub walk : IsWalk bytes HoldsBytes None side.walk
+    pub walk : IsWalk HoldsBytes None side.walk
     pub ascends : KeysAscend (λ pair. pair.0) (pairs_left side)
 
   -- It stands at the first of the pairs that are left, if there is one.
   abbrev pub IsAtKey : Side P V partial → Type 0
-  IsAtKey side = side.value ≡ None → (cursor bytes side.walk).pairs ≡ []
+  IsAtKey side = side.value ≡ None → (cursor side.walk).pairs ≡ []
 
   -- Both are sides, and stand at the first of what they have left.
   pub record AreAtKeys (old new : Side P V partial) : Type 0 where
@@ -55,8 +55,8 @@ module _ {P V : Type 0} {partial : _} (bytes : P → List ℕ) where
   -- It has left what the walk has.
   pub record HasLeft (walk : Walk P V (List ℕ) partial) (made : Side P V partial) : Type 0 where
     pub side : IsSide made
-    pub pairs : pairs_left made ≡ (cursor bytes walk).pairs
-    pub nodes : nodes_left made ≡ length (cursor bytes walk).paths
+    pub pairs : pairs_left made ≡ (cursor walk).pairs
+    pub nodes : nodes_left made ≡ length (cursor walk).paths
 
   -- It has come to the first of the pairs that it had left, and has entered the nodes that it has
   -- no more left to enter. Refused, it has entered no other.

@@ -33,8 +33,8 @@ impl<'a, P: Partial, V: Drop + Eq> ChangeWalk<'a, P, V> {
         old: Walk<'a, P, V, BytesPath>,
         new: Walk<'a, P, V, BytesPath>,
     ) -> ChangeWalk<'a, P, V>
-        requires { GoTogether P.bytes old new }
-        ensures { GoesOver P.bytes V.eq old.entry new.entry result }
+        requires { GoTogether old new }
+        ensures { GoesOver V.eq old.entry new.entry result }
     {
         ChangeWalk {
             before: Side::new(old),
@@ -45,8 +45,8 @@ impl<'a, P: Partial, V: Drop + Eq> ChangeWalk<'a, P, V> {
 
     /// The key that was given last.
     pub(crate) fn key(&self) -> &[u8]
-        requires { IsChangeWalk P.bytes self.now }
-        ensures { result.now ≡ key_given P.bytes self.now }
+        requires { IsChangeWalk self.now }
+        ensures { result.now ≡ key_given self.now }
     {
         if self.is_before {
             self.before.key()
@@ -61,8 +61,8 @@ impl<'a, P: Partial, V: Drop + Eq> ChangeWalk<'a, P, V> {
         &mut self,
         work: &mut Work,
     ) -> Result<Option<(Option<&'a V>, Option<&'a V>)>, AllocError>
-        requires { IsChangeWalk P.bytes self.old }
-        ensures { GoesOn P.bytes result (GivesChange P.bytes V.eq self.old self.new) self.old
+        requires { IsChangeWalk self.old }
+        ensures { GoesOn result (GivesChange V.eq self.old self.new) self.old
             self.new work.old work.new }
     {
         'merging: while let Some((before, after)) = self.next_key(work)? {
@@ -78,9 +78,8 @@ impl<'a, P: Partial, V: Drop + Eq> ChangeWalk<'a, P, V> {
         &mut self,
         work: &mut Work,
     ) -> Result<Option<(Option<&'a V>, Option<&'a V>)>, AllocError>
-        requires { IsChangeWalk P.bytes self.old }
-        ensures { GoesOn P.bytes result (TakesKey P.bytes self.old self.new) self.old
-            self.new work.old work.new }
+        requires { IsChangeWalk self.old }
+        ensures { GoesOn result (TakesKey self.old self.new) self.old self.new work.old work.new }
     {
         self.before.advance(work)?;
         self.after.advance(work)?;
@@ -89,8 +88,8 @@ impl<'a, P: Partial, V: Drop + Eq> ChangeWalk<'a, P, V> {
 
     // Takes the values of the first of the keys that both stand at.
     fn take_first(&mut self) -> Option<(Option<&'a V>, Option<&'a V>)>
-        requires { AreAtKeys P.bytes self.old.before self.old.after }
-        ensures { TakesFirst P.bytes self.old self.new result }
+        requires { AreAtKeys self.old.before self.old.after }
+        ensures { TakesFirst self.old self.new result }
     {
         match order_of(&self.before, &self.after)? {
             Ordering::Less => {

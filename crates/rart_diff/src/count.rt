@@ -17,11 +17,10 @@ pub fn count_changes<'a, P: Partial, V: Drop + Eq>(
     new: Walk<'a, P, V, BytesPath>,
     work: &mut Work,
 ) -> Result<u128, AllocError>
-    requires walks { GoTogether P.bytes old new }
-    requires fits { length (changes_ahead P.bytes V.eq old new) < 2 ^ 128 }
-    ensures count { IfOk result (λ count. count
-        ≡ length (changes_ahead P.bytes V.eq old.entry new.entry)) }
-    ensures counted { CountsUpTo (nodes_ahead P.bytes old.entry new.entry) 0 work.old work.new }
+    requires walks { GoTogether old new }
+    requires fits { length (changes_ahead V.eq old new) < 2 ^ 128 }
+    ensures count { IfOk result (λ count. count ≡ length (changes_ahead V.eq old.entry new.entry)) }
+    ensures counted { CountsUpTo (nodes_ahead old.entry new.entry) 0 work.old work.new }
 {
     let mut changes = ChangeWalk::new(old, new);
     let mut count = 0u128;
@@ -40,10 +39,10 @@ pub fn are_equal<'a, P: Partial, V: Drop + Eq>(
     new: Walk<'a, P, V, BytesPath>,
     work: &mut Work,
 ) -> Result<bool, AllocError>
-    requires { GoTogether P.bytes old new }
+    requires { GoTogether old new }
     ensures equal { IfOk result (λ equal. IsTrue equal
-        ↔ (changes_ahead P.bytes V.eq old.entry new.entry ≡ [])) }
-    ensures counted { CountsUpTo (nodes_ahead P.bytes old.entry new.entry) 0 work.old work.new }
+        ↔ (changes_ahead V.eq old.entry new.entry ≡ [])) }
+    ensures counted { CountsUpTo (nodes_ahead old.entry new.entry) 0 work.old work.new }
 {
     let mut changes = ChangeWalk::new(old, new);
     Ok(changes.next(work)?.is_none())

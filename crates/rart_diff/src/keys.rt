@@ -28,13 +28,13 @@ pub fn visit_changed_keys<
     f: &mut F,
     work: &mut Work,
 ) -> Result<(), AllocError>
-    requires walks { GoTogether P.bytes old new }
-    requires keys { CanGiveKeys P.bytes K.MAXIMUM_SIZE old new }
+    requires walks { GoTogether old new }
+    requires keys { CanGiveKeys K.MAXIMUM_SIZE old new }
     requires visitable { Visitable F.FnMut (ByKeyChange K.bytes) f.old
-        (changes_ahead P.bytes V.eq old new) }
+        (changes_ahead V.eq old new) }
     ensures visits { Visits F.FnMut (ByKeyChange K.bytes) result f.old
-        (changes_ahead P.bytes V.eq old.entry new.entry) f.new }
-    ensures counted { CountsUpTo (nodes_ahead P.bytes old.entry new.entry) 0 work.old work.new }
+        (changes_ahead V.eq old.entry new.entry) f.new }
+    ensures counted { CountsUpTo (nodes_ahead old.entry new.entry) 0 work.old work.new }
 {
     let mut changes = ChangeWalk::new(old, new);
     'visiting: while let Some((before, after)) = changes.next(work)? {

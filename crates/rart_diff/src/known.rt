@@ -1,6 +1,5 @@
 //! What is known to be equal without a look at it.
 ghost use Rattle.std.specs.Prelude.{◌≡◌, IsTrue};
-ghost use Rattle.rart_node.specs.NodeShapes.{pointer_shape};
 
 use rart_below::Partial;
 use rart_node::NodeRef;
@@ -10,7 +9,7 @@ use rart_node::NodeRef;
 /// It says no of all: that two pointers to one node show equal trees can't be proved, since
 /// the toolchain's `Rc::ptr_eq` has no contract.
 pub fn is_known_equal<P: Partial, V>(_left: &NodeRef<P, V>, _right: &NodeRef<P, V>) -> bool
-    ensures { IsTrue result → pointer_shape P.bytes _left.now ≡ pointer_shape P.bytes _right.now }
+    ensures { IsTrue result → _left.now.shape ≡ _right.now.shape }
 {
     false
 }

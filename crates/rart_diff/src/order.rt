@@ -11,8 +11,8 @@ pub(crate) fn order_of<P: Partial, V: Drop>(
     before: &Side<'_, P, V>,
     after: &Side<'_, P, V>,
 ) -> Option<Ordering>
-    requires { AreAtKeys P.bytes before.now after.now }
-    ensures { ComesFirst P.bytes before.now after.now result }
+    requires { AreAtKeys before.now after.now }
+    ensures { ComesFirst before.now after.now result }
 {
     match (before.has_key(), after.has_key()) {
         (false, false) => None,

@@ -22,16 +22,16 @@ impl<'a, P: Partial, V: Drop> Side<'a, P, V> {
 
     /// The tree as far as the walk has it left. It enters no node.
     pub(crate) fn new(walk: Walk<'a, P, V, BytesPath>) -> Side<'a, P, V>
-        requires { Ascends P.bytes walk }
-        ensures { HasLeft P.bytes walk.entry result }
+        requires { Ascends walk }
+        ensures { HasLeft walk.entry result }
     {
         Side { walk, value: None }
     }
 
     /// Goes on to the next key, where the value of the last one was taken.
     pub(crate) fn advance(&mut self, work: &mut Work) -> Result<(), AllocError>
-        requires { IsSide P.bytes self.old }
-        ensures { ComesToKey P.bytes result self.old self.new work.old work.new }
+        requires { IsSide self.old }
+        ensures { ComesToKey result self.old self.new work.old work.new }
     {
         if self.value.is_none() {
             self.value = self.walk.next_value(work)?;
@@ -48,16 +48,16 @@ impl<'a, P: Partial, V: Drop> Side<'a, P, V> {
 
     /// The key that it stands at.
     pub(crate) fn key(&self) -> &[u8]
-        requires { IsSide P.bytes self.now }
-        ensures { result.now ≡ key_at P.bytes self.now }
+        requires { IsSide self.now }
+        ensures { result.now ≡ key_at self.now }
     {
         self.walk.key_path().as_slice()
     }
 
     /// Takes the value of the key that it stands at.
     pub(crate) fn take(&mut self) -> Option<&'a V>
-        requires { IsSide P.bytes self.old }
-        ensures { GivesValue P.bytes self.old self.new result }
+        requires { IsSide self.old }
+        ensures { GivesValue self.old self.new result }
     {
         self.value.take()
     }

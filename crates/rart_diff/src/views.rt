@@ -23,12 +23,11 @@ pub fn visit_changed_views<
     f: &mut F,
     work: &mut Work,
 ) -> Result<(), AllocError>
-    requires walks { GoTogether P.bytes old new }
-    requires visitable { Visitable F.FnMut ByViewChange f.old
-        (changes_ahead P.bytes V.eq old new) }
+    requires walks { GoTogether old new }
+    requires visitable { Visitable F.FnMut ByViewChange f.old (changes_ahead V.eq old new) }
     ensures visits { Visits F.FnMut ByViewChange result f.old
-        (changes_ahead P.bytes V.eq old.entry new.entry) f.new }
-    ensures counted { CountsUpTo (nodes_ahead P.bytes old.entry new.entry) 0 work.old work.new }
+        (changes_ahead V.eq old.entry new.entry) f.new }
+    ensures counted { CountsUpTo (nodes_ahead old.entry new.entry) 0 work.old work.new }
 {
     let mut changes = ChangeWalk::new(old, new);
     'visiting: while let Some((before, after)) = changes.next(work)? {
@@ -55,12 +54,11 @@ pub fn visit_changed_views_until<
     f: &mut F,
     work: &mut Work,
 ) -> Result<(), Refusal<E>>
-    requires walks { GoTogether P.bytes old new }
-    requires visitable { VisitableUntil F.FnMut ByViewChange f.old
-        (changes_ahead P.bytes V.eq old new) }
+    requires walks { GoTogether old new }
+    requires visitable { VisitableUntil F.FnMut ByViewChange f.old (changes_ahead V.eq old new) }
     ensures visits { VisitsUntil F.FnMut ByViewChange result f.old
-        (changes_ahead P.bytes V.eq old.entry new.entry) f.new }
-    ensures counted { CountsUpTo (nodes_ahead P.bytes old.entry new.entry) 0 work.old work.new }
+        (changes_ahead V.eq old.entry new.entry) f.new }
+    ensures counted { CountsUpTo (nodes_ahead old.entry new.entry) 0 work.old work.new }
 {
     let mut changes = ChangeWalk::new(old, new);
     'visiting: loop {

@@ -6,7 +6,6 @@ ghost use Rattle.std.specs.Prelude.{◌≡◌, ◌+◌, ◌<◌, Some, [], ◌++
 ghost use Rattle.rart_below.specs.Bytes.{IsAdmitted};
 ghost use Rattle.rart_below.specs.Clones.{ClonesEqual};
 ghost use Rattle.rart_insertion.specs.Insertions.{CanFinish, CanInsert, Inserts, LeavesAt, MakesOne, PutsMaking};
-ghost use Rattle.rart_node.specs.NodeShapes.{node_shape, pointer_shape};
 ghost use Rattle.rart_node.specs.Shape.{node_of, prefix_of};
 ghost use Rattle.rart_shape.specs.Trees.{cut_at, ending};
 
@@ -28,9 +27,8 @@ pub fn insert_below<P: Partial, V: Clone + Drop>(
     version: u64,
     work: &mut Work,
 ) -> Result<Option<V>, AllocError>
-    requires { CanInsert V.is_clone P.MAXIMUM_SIZE key.now (pointer_shape P.bytes at.old) }
-    ensures { Inserts result key.now value (pointer_shape P.bytes at.old)
-        (pointer_shape P.bytes at.new) work.old work.new }
+    requires { CanInsert V.is_clone P.MAXIMUM_SIZE key.now at.old.shape }
+    ensures { Inserts result key.now value at.old.shape at.new.shape work.old work.new }
 {
     let node = at.open_mut(work)?;
     let common = node.prefix().prefix_length_slice(key);
@@ -59,10 +57,10 @@ fn split<P: Partial, V: Clone + Drop>(
     version: u64,
     work: &mut Work,
 ) -> Result<Option<V>, AllocError>
-    requires may { CanInsert V.is_clone P.MAXIMUM_SIZE key.now (node_shape P.bytes node.old) }
-    requires leaves { LeavesAt common key.now (node_shape P.bytes node.old) }
+    requires may { CanInsert V.is_clone P.MAXIMUM_SIZE key.now node.old.shape }
+    requires leaves { LeavesAt common key.now node.old.shape }
     ensures { PutsMaking (length (drop common key.now) + 1) result key.now value
-        (node_shape P.bytes node.old) (node_shape P.bytes node.new) work.old work.new }
+        node.old.shape node.new.shape work.old work.new }
 {
     let mut upper = cut(alloc, node, common, version, work)?;
     let old = finish(
@@ -88,10 +86,10 @@ fn finish<P: Partial, V: Clone + Drop>(
     version: u64,
     work: &mut Work,
 ) -> Result<Option<V>, AllocError>
-    requires { CanFinish P.MAXIMUM_SIZE rest.now (node_shape P.bytes node.old) }
-    ensures { PutsMaking (ending (node_shape P.bytes node.old) rest.now) result
-        (prefix_of (node_shape P.bytes node.old) ++ rest.now) value
-        (node_shape P.bytes node.old) (node_shape P.bytes node.new) work.old work.new }
+    requires { CanFinish P.MAXIMUM_SIZE rest.now node.old.shape }
+    ensures { PutsMaking (ending node.old.shape rest.now) result
+        (prefix_of node.old.shape ++ rest.now) value
+        node.old.shape node.new.shape work.old work.new }
 {
     match rest.first() {
         None => Ok(node.set_value(value)),
@@ -112,10 +110,8 @@ fn cut<P: Partial, V: Clone + Drop>(
     work: &mut Work,
 ) -> Result<VersionedNode<P, V>, AllocError>
     requires clones { ClonesEqual V.is_clone }
-    requires inside { at < length (prefix_of (node_shape P.bytes node.now)) }
-    ensures { MakesOne result
-        (λ upper. node_shape P.bytes upper ≡ cut_at at (node_shape P.bytes node.now))
-        work.old work.new }
+    requires inside { at < length (prefix_of node.now.shape) }
+    ensures { MakesOne result (λ upper. upper.shape ≡ cut_at at node.now.shape) work.old work.new }
 {
     let prefix = node.prefix();
     let below = prefix.partial_after(alloc, at)?;
@@ -135,8 +131,7 @@ pub fn leaf_of<P: Partial, V: Clone + Drop>(
     work: &mut Work,
 ) -> Result<NodeRef<P, V>, AllocError>
     requires { IsAdmitted P.MAXIMUM_SIZE (length rest.now) }
-    ensures { MakesOne result
-        (λ leaf. pointer_shape P.bytes leaf ≡ node_of rest.now (Some value) 0 [])
+    ensures { MakesOne result (λ leaf. leaf.shape ≡ node_of rest.now (Some value) 0 [])
         work.old work.new }
 {
     let prefix = P::new_from_slice(alloc, rest)?;

@@ -2,11 +2,10 @@
 use Rattle.std.specs.Prelude.{◌≡◌, ℕ, zero, suc, List, Option, Some, None, Result}
 use Rattle.std.specs.Borrow.{RattleType, MutBor, Fml, LendsSoOk}
 use Rattle.std.specs.declared.alloc.AllocError.{AllocError}
+use Rattle.rart_below.specs.declared.partial.Partial.{Ghosts as Prefixes}
 use Rattle.rart_node.specs.contracts.node_ref.NodeRef as pointer
 use Rattle.rart_node.specs.contracts.node.VersionedNode as pointed
-use Rattle.rart_node.specs.declared.node.VersionedNode.{VersionedNode}
-use Rattle.rart_node.specs.declared.node_ref.NodeRef.{NodeRef}
-use Rattle.rart_node.specs.NodeShapes.{node_shape, pointer_shape}
+use Rattle.rart_node.specs.Seen.{Seen}
 use Rattle.rart_node.specs.Shape.{Shape, with_replaced}
 use Rattle.rart_search.specs.Paths.{first_byte, step}
 use Rattle.rart_shape.specs.Trees.{IsPut}
@@ -21,22 +20,22 @@ module _ {V : Type 0} where
   graft zero new key s = new
   graft (suc steps) new key s = graft_at (graft steps new) s (step key s)
 
-module _ (P V : RattleType) (bytes : P.Denot → List ℕ) where
+module _ (P V : RattleType) (prefixes : Prefixes P.Denot) where
   -- The pointer shows the tree with the node `steps` nodes down as it was left behind the result,
   -- and refused, what it showed.
-  abbrev pub LendsPathEnd : MutBor (NodeRef P.Denot V.Denot) → ℕ → List ℕ
-      → Result (MutBor (VersionedNode P.Denot V.Denot)) AllocError → Fml
+  abbrev pub LendsPathEnd : MutBor (Seen V.Denot) → ℕ → List ℕ
+      → Result (MutBor (Seen V.Denot)) AllocError → Fml
   LendsPathEnd lender steps key result =
-      LendsSoOk (pointer.the_row P V) (pointed.the_row P V) lender result
-      (λ after left. pointer_shape bytes after
-      ≡ graft steps (node_shape bytes left) key (pointer_shape bytes lender.now))
-      (λ after. pointer_shape bytes after ≡ pointer_shape bytes lender.now)
+      LendsSoOk (pointer.the_row P V prefixes) (pointed.the_row P V prefixes) lender result
+      (λ after left. after.shape
+      ≡ graft steps left.shape key lender.now.shape)
+      (λ after. after.shape ≡ lender.now.shape)
 
   -- The pointer shows the tree with the key set to the value as it was left behind the result, and
   -- refused, what it showed.
-  abbrev pub LendsAlong : MutBor (NodeRef P.Denot V.Denot) → List ℕ
+  abbrev pub LendsAlong : MutBor (Seen V.Denot) → List ℕ
       → Result (MutBor V.Denot) AllocError → Fml
   LendsAlong lender key result =
-      LendsSoOk (pointer.the_row P V) V lender result
-      (λ after left. IsPut key left (pointer_shape bytes lender.now) (pointer_shape bytes after))
-      (λ after. pointer_shape bytes after ≡ pointer_shape bytes lender.now)
+      LendsSoOk (pointer.the_row P V prefixes) V lender result
+      (λ after left. IsPut key left lender.now.shape after.shape)
+      (λ after. after.shape ≡ lender.now.shape)

@@ -5,9 +5,8 @@ use Rattle.std.specs.Option.{option_map}
 use Rattle.rart_below.specs.Children.{child_at}
 use Rattle.rart_below.specs.Clones.{ClonesEqual}
 use Rattle.rart_node.specs.Counts.{Counts, CountsUpTo}
-use Rattle.rart_node.specs.NodeShapes.{node_shape}
 use Rattle.rart_node.specs.Shape.{Shape, children_of}
-use Rattle.rart_node.specs.declared.node.VersionedNode.{VersionedNode}
+use Rattle.rart_node.specs.Seen.{Seen}
 use Rattle.rart_search.specs.Paths.{Arrives, first_byte, path_end, step}
 use Rattle.rart_shape.specs.Trees.{IsTree}
 
@@ -30,11 +29,11 @@ module _ {V : Type 0} where
     pub there : IsSome (path_end steps (drop above key) s)
 
   -- The node `steps` nodes down is reached, above which `above'` bytes of the key stand.
-  pub record ReachesEnd {P E : Type 0} (bytes : P → List ℕ)
-      (result : Result (MutBor (VersionedNode P V)) E) (steps : ℕ) (key : List ℕ) (above : ℕ)
+  pub record ReachesEnd {E : Type 0}
+      (result : Result (MutBor (Seen V)) E) (steps : ℕ) (key : List ℕ) (above : ℕ)
       (s : Shape V) (above' : ℕ) (start now : Counts) : Type 0 where
     pub reached : IfOk result (λ end. path_end steps (drop above key) s
-        ≡ Some (node_shape bytes end.now, drop above' key))
+        ≡ Some (end.now.shape, drop above' key))
     pub within : above' ≤ length key
     pub counted : CountsUpTo (steps + 1) (steps + 1) start now
 

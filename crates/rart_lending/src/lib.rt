@@ -7,7 +7,6 @@ ghost use Rattle.std.specs.Borrow.{sem};
 ghost use Rattle.rart_lending.specs.Grafts.{LendsAlong};
 ghost use Rattle.rart_lending.specs.Loans.{CanLend};
 ghost use Rattle.rart_node.specs.Counts.{CountsUpTo};
-ghost use Rattle.rart_node.specs.NodeShapes.{pointer_shape};
 ghost use Rattle.rart_shape.specs.Trees.{found};
 
 mod path;
@@ -27,10 +26,9 @@ pub fn lend_below<'a, P: Partial, V: Clone + Drop>(
     steps: usize,
     work: &mut Work,
 ) -> Result<&'a mut V, AllocError>
-    requires { CanLend V.is_clone steps key.now (pointer_shape P.bytes at.old) }
-    ensures* writes_back { sem 𝓛 (LendsAlong P.row V.row P.bytes at.entry key.now result) }
-    ensures value { IfOk result (λ value. found (pointer_shape P.bytes at.old) key.now
-        ≡ Some value.now) }
+    requires { CanLend V.is_clone steps key.now at.old.shape }
+    ensures* writes_back { sem 𝓛 (LendsAlong P.row V.row P.Partial at.entry key.now result) }
+    ensures value { IfOk result (λ value. found at.old.shape key.now ≡ Some value.now) }
     ensures counted { CountsUpTo (steps + 1) (steps + 1) work.old work.new }
 {
     let mut depth = 0;

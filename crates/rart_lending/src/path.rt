@@ -4,7 +4,6 @@ ghost use Rattle.std.specs.Prelude.{ℕ, ◌+◌, ◌*◌, drop};
 ghost use Rattle.std.specs.Borrow.{sem};
 ghost use Rattle.rart_lending.specs.Grafts.{LendsPathEnd};
 ghost use Rattle.rart_lending.specs.Loans.{CanGoDown, GoesDeeper, GoesUnder, ReachesEnd};
-ghost use Rattle.rart_node.specs.NodeShapes.{node_shape, pointer_shape};
 
 use rart_below::Partial;
 use rart_node::{NodeRef, VersionedNode, Work};
@@ -16,24 +15,23 @@ use std::marker::PhantomData;
 /// A recursion over the nodes can't lend what it comes to: what is written there would have to be
 /// told through calls of the function within its own proof. So the way is cut in halves by types,
 /// each of which calls the ones below it and none itself.
-pub(crate) trait Path<P: Partial, V: Clone + Drop> {
+pub(crate) trait Path {
     ghost most: { ℕ };
 
     /// Lends the node that is `steps` nodes down on the way of a key. `depth` bytes of the key
     /// stand above the node of the pointer, and then above the last one.
-    fn down<'a>(
+    fn down<'a, P: Partial, V: Clone + Drop>(
         at: &'a mut NodeRef<P, V>,
         key: &[u8],
         depth: &mut usize,
         steps: usize,
         work: &mut Work,
     ) -> Result<&'a mut VersionedNode<P, V>, AllocError>
-        requires { CanGoDown V.is_clone most steps key.now depth.old
-            (pointer_shape P.bytes at.old) }
-        ensures* writes_back { sem 𝓛 (LendsPathEnd P.row V.row P.bytes at.entry steps
+        requires { CanGoDown V.is_clone most steps key.now depth.old at.old.shape }
+        ensures* writes_back { sem 𝓛 (LendsPathEnd P.row V.row P.Partial at.entry steps
             (drop depth.entry.now key.now) result) }
-        ensures reaches { ReachesEnd P.bytes result steps key.now depth.old
-            (pointer_shape P.bytes at.old) depth.new work.old work.new };
+        ensures reaches { ReachesEnd result steps key.now depth.old
+            at.old.shape depth.new work.old work.new };
 }
 
 /// The node of the pointer itself.
@@ -44,10 +42,10 @@ pub(crate) struct Twice<L> {
     below: PhantomData<L>,
 }
 
-impl<P: Partial, V: Clone + Drop> Path<P, V> for Here {
+impl Path for Here {
     ghost most = { 0 };
 
-    fn down<'a>(
+    fn down<'a, P: Partial, V: Clone + Drop>(
         at: &'a mut NodeRef<P, V>,
         _key: &[u8],
         _depth: &mut usize,
@@ -58,10 +56,10 @@ impl<P: Partial, V: Clone + Drop> Path<P, V> for Here {
     }
 }
 
-impl<P: Partial, V: Clone + Drop, L: Path<P, V>> Path<P, V> for Twice<L> {
+impl<L: Path> Path for Twice<L> {
     ghost most = { 2 * L.most + 1 };
 
-    fn down<'a>(
+    fn down<'a, P: Partial, V: Clone + Drop>(
         at: &'a mut NodeRef<P, V>,
         key: &[u8],
         depth: &mut usize,
@@ -84,8 +82,8 @@ impl<P: Partial, V: Clone + Drop, L: Path<P, V>> Path<P, V> for Twice<L> {
 /// The byte under which a key goes on below a node. `depth` bytes of the key stand above the node,
 /// and then above the child.
 fn next_byte<P: Partial, V: Drop>(node: &VersionedNode<P, V>, key: &[u8], depth: &mut usize) -> u8
-    requires { GoesDeeper key.now depth.old (node_shape P.bytes node.now) }
-    ensures { GoesUnder result key.now depth.old (node_shape P.bytes node.now) depth.new }
+    requires { GoesDeeper key.now depth.old node.now.shape }
+    ensures { GoesUnder result key.now depth.old node.now.shape depth.new }
 {
     *depth += node.prefix().len();
     key[*depth]

@@ -1,11 +1,9 @@
 -- What the fields of a cursor in a tree mean.
-use Rattle.std.specs.Prelude.{ℕ, List}
-use Rattle.rart_node.specs.NodeShapes.{node_shape}
 use Rattle.rart_node.specs.Shape.{Shape}
 use Rattle.rart_lockstep.specs.declared.tree_cursor.TreeCursor.{TreeCursor}
 use Rattle.rart_lockstep.specs.TreeCursors.{behind_bytes}
 
 -- `partial` is what is known of prefixes, which the type takes for its ghost field
-module _ {P V : Type 0} {partial : _} (bytes : P → List ℕ) where
+module _ {P V : Type 0} {partial : _} where
   abbrev pub cursor_shape : TreeCursor P V partial → Shape V
-  cursor_shape cursor = behind_bytes cursor.from (node_shape bytes cursor.node.now)
+  cursor_shape cursor = behind_bytes cursor.from cursor.node.now.shape

@@ -2,7 +2,6 @@
 //! Where the way down two trees goes on: from byte to byte that leads on in both.
 ghost use Rattle.std.specs.Prelude.{◌≡◌, ◌⊎◌, ◌+◌, [], IfSome, is_some, if◌then◌else◌};
 ghost use Rattle.std.specs.Option.{option_map};
-ghost use Rattle.rart_node.specs.NodeShapes.{node_shape};
 ghost use Rattle.rart_node.specs.Shape.{IsAscending, prefix_of};
 
 use crate::children::CommonChildren;
@@ -32,16 +31,15 @@ impl<'a, P: Partial, V: Drop> Branches<'a, P, V> {
     ghost use Rattle.rart_lockstep.specs.TreeCursors.{next_children, children_next};
 
     pub(crate) fn new(left: TreeCursor<'a, P, V>, right: TreeCursor<'a, P, V>) -> Branches<'a, P, V>
-        requires left { IsAscending (cursor_shape P.bytes left) }
-        requires right { IsAscending (cursor_shape P.bytes right) }
-        requires ended { (prefix_of (cursor_shape P.bytes left) ≡ [])
-            ⊎ (prefix_of (cursor_shape P.bytes right) ≡ []) }
-        ensures steps { branches_left P.bytes result
-            ≡ common_children (next_children (cursor_shape P.bytes left.entry))
-            (next_children (cursor_shape P.bytes right.entry)) }
-        ensures nodes { nodes_a_step result ≡ children_next
-            (prefix_of (cursor_shape P.bytes left.entry))
-            (prefix_of (cursor_shape P.bytes right.entry)) }
+        requires left { IsAscending (cursor_shape left) }
+        requires right { IsAscending (cursor_shape right) }
+        requires ended { (prefix_of (cursor_shape left) ≡ [])
+            ⊎ (prefix_of (cursor_shape right) ≡ []) }
+        ensures steps { branches_left result
+            ≡ common_children (next_children (cursor_shape left.entry))
+            (next_children (cursor_shape right.entry)) }
+        ensures nodes { nodes_a_step result ≡ children_next (prefix_of (cursor_shape left.entry))
+            (prefix_of (cursor_shape right.entry)) }
     {
         if let Some(byte) = right.rest().first() {
             let Some(child) = left.node.seek_child(*byte) else {
@@ -63,9 +61,9 @@ impl<'a, P: Partial, V: Drop> Branches<'a, P, V> {
         &mut self,
         work: &mut Work,
     ) -> Option<(TreeCursor<'a, P, V>, TreeCursor<'a, P, V>)>
-        ensures takes { TakesPair (branches_left P.bytes self.old)
-            (option_map (λ pair. (cursor_shape P.bytes pair.0, cursor_shape P.bytes pair.1)) result)
-            (branches_left P.bytes self.new) }
+        ensures takes { TakesPair (branches_left self.old)
+            (option_map (λ pair. (cursor_shape pair.0, cursor_shape pair.1)) result)
+            (branches_left self.new) }
         ensures whole { IfSome result (λ pair. (pair.0.from ≡ 0) ⊎ (pair.1.from ≡ 0)) }
         ensures counted { CountsUpTo (if is_some result then 2 else 0) 0
             work.old work.new }

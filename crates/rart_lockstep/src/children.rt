@@ -2,7 +2,6 @@
 //! The children that two nodes have under the same bytes.
 ghost use Rattle.std.specs.Prelude.{◌≡◌};
 ghost use Rattle.std.specs.Option.{option_map};
-ghost use Rattle.rart_node.specs.NodeShapes.{node_shape};
 ghost use Rattle.rart_node.specs.Shape.{IsAscending, children_of};
 ghost use Rattle.rart_lockstep.specs.Children.{HaveBoth};
 
@@ -16,14 +15,12 @@ pub(crate) struct CommonChildren<'a, P: Partial, V> {
     left: &'a VersionedNode<P, V>,
     right: &'a VersionedNode<P, V>,
     bytes: ByteSet,
-    ghost left_order: { IsAscending (node_shape P.bytes left.now) },
-    ghost right_order: { IsAscending (node_shape P.bytes right.now) },
-    ghost both: { HaveBoth bytes (children_of (node_shape P.bytes left.now))
-        (children_of (node_shape P.bytes right.now)) },
+    ghost left_order: { IsAscending left.now.shape },
+    ghost right_order: { IsAscending right.now.shape },
+    ghost both: { HaveBoth bytes (children_of left.now.shape) (children_of right.now.shape) },
 }
 
 impl<'a, P: Partial, V: Drop> CommonChildren<'a, P, V> {
-    ghost use Rattle.rart_node.specs.NodeShapes.{pointer_shape};
     ghost use Rattle.rart_lockstep.specs.ChildFields.{pairs_left};
     ghost use Rattle.rart_lockstep.specs.Children.{TakesPair, common_children};
 
@@ -31,11 +28,10 @@ impl<'a, P: Partial, V: Drop> CommonChildren<'a, P, V> {
         left: &'a VersionedNode<P, V>,
         right: &'a VersionedNode<P, V>,
     ) -> CommonChildren<'a, P, V>
-        requires left { IsAscending (node_shape P.bytes left.now) }
-        requires right { IsAscending (node_shape P.bytes right.now) }
-        ensures { pairs_left P.bytes result
-            ≡ common_children (children_of (node_shape P.bytes left.now))
-            (children_of (node_shape P.bytes right.now)) }
+        requires left { IsAscending left.now.shape }
+        requires right { IsAscending right.now.shape }
+        ensures { pairs_left result ≡ common_children (children_of left.now.shape)
+            (children_of right.now.shape) }
     {
         CommonChildren {
             left,
@@ -46,12 +42,10 @@ impl<'a, P: Partial, V: Drop> CommonChildren<'a, P, V> {
 
     /// Takes the next two: the left node's child and the right one's.
     pub(crate) fn next(&mut self) -> Option<(&'a NodeRef<P, V>, &'a NodeRef<P, V>)>
-        ensures { TakesPair (pairs_left P.bytes self.old)
-            (option_map (λ pair. (
-              pointer_shape P.bytes pair.0.now,
-              pointer_shape P.bytes pair.1.now,
-            )) result)
-            (pairs_left P.bytes self.new) }
+        ensures { TakesPair (pairs_left self.old) (option_map (λ pair. (
+          pair.0.now.shape,
+          pair.1.now.shape,
+        )) result) (pairs_left self.new) }
     {
         let byte = self.bytes.take_first()?;
         let left = self.left.seek_child(byte)?;

@@ -4,7 +4,6 @@ ghost use Rattle.std.specs.Prelude.{◌≡◌, ◌+◌, ◌*◌, ◌<◌, ◌≤
 ghost use Rattle.std.specs.FinSet as set;
 ghost use Rattle.rart_lockstep.specs.CommonPairs.{common_pairs, shared_of};
 ghost use Rattle.rart_node.specs.Counts.{CountsUpTo};
-ghost use Rattle.rart_node.specs.NodeShapes.{pointer_shape};
 ghost use Rattle.rart_shape.specs.Trees.{IsTree};
 
 use crate::values::visit_common_values;
@@ -19,14 +18,12 @@ pub fn count_common<P: Partial, V: Drop>(
     right: &NodeRef<P, V>,
     work: &mut Work,
 ) -> usize
-    requires left { IsTree (pointer_shape P.bytes left.now) }
-    requires right { IsTree (pointer_shape P.bytes right.now) }
-    requires fits { length (common_pairs (pointer_shape P.bytes left.now)
-        (pointer_shape P.bytes right.now)) < 2 ^ 64 }
-    ensures count { result ≡ length (common_pairs (pointer_shape P.bytes left.now)
-        (pointer_shape P.bytes right.now)) }
-    ensures counted { CountsUpTo (2 * set.len (shared_of (pointer_shape P.bytes left.now)
-        (pointer_shape P.bytes right.now))) 0 work.old work.new }
+    requires left { IsTree left.now.shape }
+    requires right { IsTree right.now.shape }
+    requires fits { length (common_pairs left.now.shape right.now.shape) < 2 ^ 64 }
+    ensures count { result ≡ length (common_pairs left.now.shape right.now.shape) }
+    ensures counted { CountsUpTo (2 * set.len (shared_of left.now.shape
+        right.now.shape)) 0 work.old work.new }
     ensures entered { work.old.entered + 2 ≤ work.new.entered }
 {
     let mut count = 0usize;

@@ -5,7 +5,6 @@ ghost use Rattle.std.specs.FinSet as set;
 ghost use Rattle.rart_lockstep.specs.CommonPairs.{common_pairs, shared_of};
 ghost use Rattle.rart_maps.specs.Visits.{ByKeyPair, Visits, Visitable};
 ghost use Rattle.rart_node.specs.Counts.{CountsUpTo};
-ghost use Rattle.rart_node.specs.NodeShapes.{pointer_shape};
 ghost use Rattle.rart_shape.specs.Trees.{IsTree, pairs_of};
 ghost use Rattle.rart_walks.specs.Walks.{AreShort};
 
@@ -30,15 +29,15 @@ pub fn visit_common_keys<'a, K: KeyTrait, P: Partial, V: Drop, F: FnMut(K, &'a V
     f: &mut F,
     work: &mut Work,
 ) -> Result<(), AllocError>
-    requires left { IsTree (pointer_shape P.bytes left.now) }
-    requires right { IsTree (pointer_shape P.bytes right.now) }
-    requires admitted { AreShort K.MAXIMUM_SIZE (pairs_of (pointer_shape P.bytes left.now)) }
+    requires left { IsTree left.now.shape }
+    requires right { IsTree right.now.shape }
+    requires admitted { AreShort K.MAXIMUM_SIZE (pairs_of left.now.shape) }
     requires visitable { Visitable F.FnMut (ByKeyPair K.bytes) f.old
-        (common_pairs (pointer_shape P.bytes left.now) (pointer_shape P.bytes right.now)) }
+        (common_pairs left.now.shape right.now.shape) }
     ensures visits { Visits F.FnMut (ByKeyPair K.bytes) result f.old
-        (common_pairs (pointer_shape P.bytes left.now) (pointer_shape P.bytes right.now)) f.new }
-    ensures counted { CountsUpTo (2 * set.len (shared_of (pointer_shape P.bytes left.now)
-        (pointer_shape P.bytes right.now))) 0 work.old work.new }
+        (common_pairs left.now.shape right.now.shape) f.new }
+    ensures counted { CountsUpTo (2 * set.len (shared_of left.now.shape
+        right.now.shape)) 0 work.old work.new }
     ensures entered { work.old.entered + 2 ≤ work.new.entered }
 {
     let mut key_path: KeyMaker<'a, K, V> = KeyMaker::new(alloc);

@@ -2,7 +2,6 @@
 //! A cursor in either of two trees.
 ghost use Rattle.std.specs.Prelude.{◌≡◌, ◌⊎◌, ◌+◌};
 ghost use Rattle.std.specs.Option.{option_map};
-ghost use Rattle.rart_node.specs.NodeShapes.{pointer_shape};
 ghost use Rattle.rart_lockstep.specs.Entries.{both};
 ghost use Rattle.rart_lockstep.specs.TreeCursors.{value_here};
 
@@ -30,8 +29,8 @@ impl<'a, P: Partial, V: Drop> TreeCursors<'a, P, V> {
         right: &'a NodeRef<P, V>,
         work: &mut Work,
     ) -> TreeCursors<'a, P, V>
-        ensures left { cursor_shape P.bytes result.left ≡ pointer_shape P.bytes left.now }
-        ensures right { cursor_shape P.bytes result.right ≡ pointer_shape P.bytes right.now }
+        ensures left { cursor_shape result.left ≡ left.now.shape }
+        ensures right { cursor_shape result.right ≡ right.now.shape }
         ensures whole { result.left.from ≡ 0 }
         ensures work { work.new ≡ record work.old { entered = work.old.entered + 2 } }
     {
@@ -44,8 +43,8 @@ impl<'a, P: Partial, V: Drop> TreeCursors<'a, P, V> {
     /// The values of the key that ends here, if both have one.
     pub(crate) fn values_here(&self) -> Option<(&'a V, &'a V)>
         ensures { option_map (λ pair. (pair.0.now, pair.1.now)) result
-            ≡ both (value_here (cursor_shape P.bytes self.now.left))
-            (value_here (cursor_shape P.bytes self.now.right)) }
+            ≡ both (value_here (cursor_shape self.now.left))
+            (value_here (cursor_shape self.now.right)) }
     {
         Some((self.left.value_here()?, self.right.value_here()?))
     }
@@ -57,13 +56,13 @@ impl<'a, P: Partial, V: Drop, T: KeyPath<'a>> PairCursor<V, T> for TreeCursors<'
     ghost use Rattle.rart_lockstep.specs.Branches.{branches_left, nodes_a_step};
     ghost use Rattle.rart_lockstep.specs.TreeCursorFields.{cursor_shape};
 
-    ghost left = { λ at. cursor_shape P.bytes at.left };
+    ghost left = { λ at. cursor_shape at.left };
 
-    ghost right = { λ at. cursor_shape P.bytes at.right };
+    ghost right = { λ at. cursor_shape at.right };
 
     ghost HasWhole = { λ at. (at.left.from ≡ 0) ⊎ (at.right.from ≡ 0) };
 
-    ghost branches_left = { branches_left P.bytes };
+    ghost branches_left = { branches_left };
 
     ghost nodes_a_step = { nodes_a_step };
 

@@ -5,7 +5,6 @@ ghost use Rattle.std.specs.FinSet as set;
 ghost use Rattle.rart_lockstep.specs.CommonPairs.{common_pairs, shared_of};
 ghost use Rattle.rart_maps.specs.Visits.{ByValuePair, Visit, Visitable};
 ghost use Rattle.rart_node.specs.Counts.{CountsUpTo};
-ghost use Rattle.rart_node.specs.NodeShapes.{pointer_shape};
 ghost use Rattle.rart_shape.specs.Trees.{IsTree};
 
 use crate::intersection_path::IntersectionPath;
@@ -27,14 +26,14 @@ pub fn visit_common_values<'a, P: Partial, V: Drop, F: FnMut(&'a V, &'a V)>(
     f: &mut F,
     work: &mut Work,
 )
-    requires left { IsTree (pointer_shape P.bytes left.now) }
-    requires right { IsTree (pointer_shape P.bytes right.now) }
+    requires left { IsTree left.now.shape }
+    requires right { IsTree right.now.shape }
     requires visitable { Visitable F.FnMut ByValuePair f.old (map (λ entry. (entry.1, entry.2))
-        (common_pairs (pointer_shape P.bytes left.now) (pointer_shape P.bytes right.now))) }
+        (common_pairs left.now.shape right.now.shape)) }
     ensures visits { Visit F.FnMut ByValuePair f.old (map (λ entry. (entry.1, entry.2))
-        (common_pairs (pointer_shape P.bytes left.now) (pointer_shape P.bytes right.now))) f.new }
-    ensures counted { CountsUpTo (2 * set.len (shared_of (pointer_shape P.bytes left.now)
-        (pointer_shape P.bytes right.now))) 0 work.old work.new }
+        (common_pairs left.now.shape right.now.shape)) f.new }
+    ensures counted { CountsUpTo (2 * set.len (shared_of left.now.shape
+        right.now.shape)) 0 work.old work.new }
     ensures entered { work.old.entered + 2 ≤ work.new.entered }
 {
     // (a key path that keeps nothing refuses nothing)

@@ -5,7 +5,6 @@ ghost use Rattle.std.specs.FinSet as set;
 ghost use Rattle.rart_lockstep.specs.CommonPairs.{common_pairs, shared_of};
 ghost use Rattle.rart_maps.specs.Visits.{Visits, Visitable};
 ghost use Rattle.rart_node.specs.Counts.{CountsUpTo};
-ghost use Rattle.rart_node.specs.NodeShapes.{pointer_shape};
 ghost use Rattle.rart_shape.specs.Trees.{IsTree, pairs_of};
 ghost use Rattle.rart_walks.specs.Walks.{AreShort};
 
@@ -33,17 +32,17 @@ pub fn visit_common<'a, P: Partial, V: Drop, F, T: IntersectionPath<'a, V, F>>(
     f: &mut F,
     work: &mut Work,
 ) -> Result<(), AllocError>
-    requires left { IsTree (pointer_shape P.bytes left.now) }
-    requires right { IsTree (pointer_shape P.bytes right.now) }
+    requires left { IsTree left.now.shape }
+    requires right { IsTree right.now.shape }
     requires empty { T.holds key_path [] }
-    requires admitted { AreShort T.greatest (pairs_of (pointer_shape P.bytes left.now)) }
+    requires admitted { AreShort T.greatest (pairs_of left.now.shape) }
     requires visitable { Visitable T.calls T.Shows f.old
-        (common_pairs (pointer_shape P.bytes left.now) (pointer_shape P.bytes right.now)) }
+        (common_pairs left.now.shape right.now.shape) }
     ensures visits { Visits T.calls T.Shows result f.old
-        (common_pairs (pointer_shape P.bytes left.now) (pointer_shape P.bytes right.now)) f.new }
+        (common_pairs left.now.shape right.now.shape) f.new }
     ensures refused { OnErr result (IsTrue T.can_refuse) }
-    ensures counted { CountsUpTo (2 * set.len (shared_of (pointer_shape P.bytes left.now)
-        (pointer_shape P.bytes right.now))) 0 work.old work.new }
+    ensures counted { CountsUpTo (2 * set.len (shared_of left.now.shape
+        right.now.shape)) 0 work.old work.new }
     ensures entered { work.old.entered + 2 ≤ work.new.entered }
 {
     let at = TreeCursors::open(left, right, work);

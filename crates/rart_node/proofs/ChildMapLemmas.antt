@@ -1,13 +1,18 @@
 -- What maps children commutes with what is done to one under its byte.
-use Rattle.std.proofs.Common.{◌≡◌, ℕ, List, [], ◌∷◌, true, false, not, Option, Some, None, cond, refl, ap}
+use Rattle.std.proofs.Common.{◌≡◌, ℕ, List, [], ◌∷◌, true, false, not, Option, Some, None, cond, length, refl, ap}
 use Rattle.std.specs.Prelude.{◌==◌, nat_le, is_some}
 use Rattle.std.specs.Option.{option_map}
+use Rattle.std.proofs.lemmas.List.{length-map}
 use Rattle.std.specs.Ordering.{nat_cmp, eq_by_cmp}
 use Rattle.std.specs.FinMap.Entries.{find, put, by_order}
 use Rattle.std.specs.declared.cmp.Ordering.TheVariants.{Less, Equal, Greater}
 use Rattle.rart_below.specs.Children.{child_at, with_child, without_child, children_from, first_of, map_children, TakesFirst}
 
 module _ {X Y : Type 0} (f : X → Y) where
+  pub length-map_children : (children : List (ℕ × X))
+      → length (map_children f children) ≡ length children
+  length-map_children children = length-map children (λ child. (child.0, f child.1))
+
   pub child_at-map_children : (b : ℕ) (es : List (ℕ × X))
       → child_at b (map_children f es) ≡ option_map f (child_at b es)
   child_at-map_children b [] = refl

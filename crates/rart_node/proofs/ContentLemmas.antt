@@ -5,15 +5,12 @@ use Rattle.std.specs.Borrow.{Bor, MutBor}
 use Rattle.std.specs.Option.{option_map, option_copied_mut, OnSome}
 use Rattle.std.proofs.lemmas.Option.{none-some}
 use Rattle.rart_below.specs.Children.{child_at, with_child, without_child, children_from, first_of, map_children, TakesFirst, IsAscending as IsRising}
-use Rattle.rart_below.specs.Mapped.{length-map_children}
 use Rattle.rart_below.specs.Layouts.{entry_copied}
-use Rattle.rart_node.specs.declared.node.VersionedNode.{VersionedNode, out-VersionedNode, roll-VersionedNode}
-use Rattle.rart_node.specs.declared.node_ref.NodeRef.{NodeRef}
-use Rattle.rart_node.specs.declared.held.Held.{Held}
-use Rattle.rart_node.specs.Contents.{Content, content_shape, held_value, Holds}
+use Rattle.rart_node.specs.Contents.{Content, content_shape, Holds}
 use Rattle.rart_node.specs.Shape.{Shape, node, node_of, prefix_of, value_of, width_of, children_of, with_children, with_value, with_replaced, with_deleted, with_added, widened, widenings, is_full_at, entries_of-forest_of, IsAscending, IsFull, IsFullAt}
-use Rattle.rart_node.specs.NodeShapes.{node_shape, pointer_shape, entry_shape, shapes_of_content, node_of_content, node_shape_roll, node_shape_out, if_in_order}
-use Rattle.rart_node.proofs.ChildMapLemmas.{child_at-map_children, with_child-map_children, without_child-map_children, children_from-map_children, first_of-map_children, takes-map_children}
+use Rattle.rart_node.specs.Seen.{Seen, shape_of}
+use Rattle.rart_node.specs.NodeShapes.{seen_node, entry_shape, shapes_of_content, node_of_content, if_in_order}
+use Rattle.rart_node.proofs.ChildMapLemmas.{length-map_children, child_at-map_children, with_child-map_children, without_child-map_children, children_from-map_children, first_of-map_children, takes-map_children}
 
 -- a list that ascends is none that stands for disorder
 in_order-ascending : {V : Type 0} (in_order : Bool) (children : List (ℕ × Shape V))
@@ -48,219 +45,181 @@ module _ {V : Type 0} where
       → widenings s ≡ cond (is_full_at (width_of s) (length (children_of s))) 1 0
   widenings-parts (node prefix value width forest) = refl
 
-module _ {P V : Type 0} (bytes : P → List ℕ) where
-  -- a node with this content in place of its own
-  abbrev pub with_content : VersionedNode P V → Content (NodeRef P V) → VersionedNode P V
-  with_content n content =
-      roll-VersionedNode P V (record (out-VersionedNode P V n) { content = content })
+module _ {V : Type 0} {prefix : List ℕ} {value : Option V} (content : Content (Seen V))
+    {seen : Seen V} (is : seen_node prefix value content ≡ seen) where
+  abbrev children_in : List (ℕ × Seen V)
+  children_in = (content_shape content).children
 
-  module _ (n : VersionedNode P V) where
-    abbrev pub content_of : Content (NodeRef P V)
-    content_of = (out-VersionedNode P V n).content
+  shape-seen : seen.shape
+      ≡ node_of_content prefix value (shapes_of_content (content_shape content))
+  shape-seen = sym (ap shape_of is)
 
-    abbrev pub children_in : List (ℕ × NodeRef P V)
-    children_in = (content_shape content_of).children
+  pub width-seen : width_of seen.shape ≡ (content_shape content).width
+  width-seen = ap width_of shape-seen
 
-    pub width-node_shape : width_of (node_shape bytes n) ≡ (content_shape content_of).width
-    width-node_shape = ap width_of (node_shape_out bytes n)
+  pub children-seen : children_of seen.shape
+      ≡ if_in_order (content_shape content).in_order (map_children shape_of children_in)
+  children-seen = ap children_of shape-seen ∙ entries_of-forest_of _
 
-    pub children-node_shape : children_of (node_shape bytes n)
-        ≡ if_in_order (content_shape content_of).in_order
-        (map_children (pointer_shape bytes) children_in)
-    children-node_shape = ap children_of (node_shape_out bytes n) ∙ entries_of-forest_of _
+  -- what asks for an ascending node asks for a content whose lists are in step
+  pub in_order : IsAscending seen.shape → (content_shape content).in_order ≡ true
+  in_order order = in_order-ascending _ _ (subst IsRising children-seen order)
 
-    -- what asks for an ascending node asks for a content whose lists are in step
-    pub in_order : IsAscending (node_shape bytes n) → (content_shape content_of).in_order ≡ true
-    in_order order = in_order-ascending _ _ (subst IsRising children-node_shape order)
+  pub children-ascending : IsAscending seen.shape
+      → children_of seen.shape ≡ map_children shape_of children_in
+  children-ascending order =
+      children-seen ∙ ap (λ t. if_in_order t (map_children shape_of children_in)) (in_order order)
 
-    pub children-pointer_shape : IsAscending (node_shape bytes n)
-        → children_of (node_shape bytes n) ≡ map_children (pointer_shape bytes) children_in
-    children-pointer_shape order =
-        children-node_shape ∙ ap (λ t.
-        if_in_order t (map_children (pointer_shape bytes) children_in)) (in_order order)
+  pub length-seen : IsAscending seen.shape
+      → length (children_of seen.shape) ≡ length children_in
+  length-seen order =
+      ap length (children-ascending order) ∙ length-map_children shape_of children_in
 
-    pub length-node_shape : IsAscending (node_shape bytes n)
-        → length (children_of (node_shape bytes n)) ≡ length children_in
-    length-node_shape order = ap length (children-pointer_shape order)
-        ∙ length-map_children (pointer_shape bytes) children_in
+  pub child_at-seen : (byte : ℕ) → IsAscending seen.shape
+      → child_at byte (children_of seen.shape) ≡ option_map shape_of (child_at byte children_in)
+  child_at-seen byte order =
+      ap (child_at byte) (children-ascending order)
+      ∙ child_at-map_children shape_of byte children_in
 
-    pub child_at-node_shape : (byte : ℕ) → IsAscending (node_shape bytes n)
-        → child_at byte (children_of (node_shape bytes n))
-        ≡ option_map (pointer_shape bytes) (child_at byte children_in)
-    child_at-node_shape byte order = ap (child_at byte) (children-pointer_shape order)
-        ∙ child_at-map_children (pointer_shape bytes) byte children_in
+  pub none-in : (byte : ℕ) → IsAscending seen.shape
+      → child_at byte (children_of seen.shape) ≡ None → child_at byte children_in ≡ None
+  none-in byte order absent = none-back shape_of _ (sym (child_at-seen byte order) ∙ absent)
 
-    pub none-in : (byte : ℕ) → IsAscending (node_shape bytes n)
-        → child_at byte (children_of (node_shape bytes n)) ≡ None → child_at byte children_in ≡ None
-    none-in byte order absent =
-        none-back (pointer_shape bytes) _ (sym (child_at-node_shape byte order) ∙ absent)
+  pub some-in : (byte : ℕ) → IsAscending seen.shape
+      → IsSome (child_at byte (children_of seen.shape)) → IsSome (child_at byte children_in)
+  some-in byte order present =
+      some-back shape_of _ (subst IsSome (child_at-seen byte order) present)
 
-    pub some-in : (byte : ℕ) → IsAscending (node_shape bytes n)
-        → IsSome (child_at byte (children_of (node_shape bytes n)))
-        → IsSome (child_at byte children_in)
-    some-in byte order present =
-        some-back (pointer_shape bytes) _ (subst IsSome (child_at-node_shape byte order) present)
+  -- the first entry from a byte on
+  pub first-seen : (from : ℕ) → IsAscending seen.shape
+      → first_of (children_from from (children_of seen.shape))
+      ≡ option_map (λ e. (e.0, shape_of e.1)) (first_of (children_from from children_in))
+  first-seen from order =
+      ap (λ es. first_of (children_from from es)) (children-ascending order)
+      ∙ ap first_of (children_from-map_children shape_of from children_in)
+      ∙ first_of-map_children shape_of (children_from from children_in)
 
-    -- the first entry from a byte on
-    pub first-node_shape : (from : ℕ) → IsAscending (node_shape bytes n)
-        → first_of (children_from from (children_of (node_shape bytes n)))
-        ≡ option_map (λ e. (e.0, pointer_shape bytes e.1))
-        (first_of (children_from from children_in))
-    first-node_shape from order =
-        ap (λ es. first_of (children_from from es)) (children-pointer_shape order)
-        ∙ ap first_of (children_from-map_children (pointer_shape bytes) from children_in)
-        ∙ first_of-map_children (pointer_shape bytes) (children_from from children_in)
+  -- the first child from a byte on is taken
+  pub takes-seen : (from later : ℕ) (o : Option (Seen V)) → IsAscending seen.shape
+      → TakesFirst (children_from from children_in) o (children_from later children_in)
+      → TakesFirst (children_from from (children_of seen.shape)) (option_map shape_of o)
+      (children_from later (children_of seen.shape))
+  takes-seen from later o order takes =
+      let at : (k : ℕ) → map_children shape_of (children_from k children_in)
+      ≡ children_from k (children_of seen.shape) =
+      λ k. sym (ap (children_from k) (children-ascending order)
+      ∙ children_from-map_children shape_of k children_in) in
+      rw (sym (at from), sym (at later)) (takes-map_children shape_of _ o _ takes)
 
-    -- the first child from a byte on is taken
-    pub takes-node_shape : (from later : ℕ) (o : Option (NodeRef P V))
-        → IsAscending (node_shape bytes n)
-        → TakesFirst (children_from from children_in) o (children_from later children_in)
-        → TakesFirst (children_from from (children_of (node_shape bytes n)))
-        (option_map (pointer_shape bytes) o)
-        (children_from later (children_of (node_shape bytes n)))
-    takes-node_shape from later o order takes =
-        let at : (k : ℕ) → map_children (pointer_shape bytes) (children_from k children_in)
-        ≡ children_from k (children_of (node_shape bytes n)) =
-        λ k. sym (ap (children_from k) (children-pointer_shape order)
-        ∙ children_from-map_children (pointer_shape bytes) k children_in) in
-        rw (sym (at from), sym (at later))
-        (takes-map_children (pointer_shape bytes) _ o _ takes)
+  -- ---- with another content
+  module _ (after : Content (Seen V)) (width : ℕ) (entries : List (ℕ × Seen V))
+      (holds : Holds after width entries) where
+    shape-with_content : (seen_node prefix value after).shape
+        ≡ node_of (prefix_of seen.shape) (value_of seen.shape) width
+        (map_children shape_of entries)
+    shape-with_content =
+        ap (λ h. node_of_content prefix value (shapes_of_content h)) holds
+        ∙ ap (λ s. node_of (prefix_of s) (value_of s) width (map_children shape_of entries))
+        (ap shape_of is)
 
-    -- ---- with another content
-    module _ (content : Content (NodeRef P V)) (width : ℕ) (entries : List (ℕ × NodeRef P V))
-        (holds : Holds content width entries) where
-      node_shape-with_content : node_shape bytes (with_content n content)
-          ≡ node_of (prefix_of (node_shape bytes n)) (value_of (node_shape bytes n)) width
-          (map_children (pointer_shape bytes) entries)
-      node_shape-with_content =
-          let layer = out-VersionedNode P V n in
-          node_shape_roll bytes (record layer { content = content })
-          ∙ ap (λ h. node_of_content bytes (bytes layer.prefix) (held_value layer.value)
-          (shapes_of_content bytes h)) holds
-          ∙ ap (λ s. node_of (prefix_of s) (value_of s) width
-          (map_children (pointer_shape bytes) entries)) (sym (node_shape_out bytes n))
+    -- other children at the same width
+    pub with_children-seen : width ≡ (content_shape content).width
+        → (children : List (ℕ × Shape V)) → map_children shape_of entries ≡ children
+        → (seen_node prefix value after).shape ≡ with_children children seen.shape
+    with_children-seen same children shown =
+        shape-with_content
+        ∙ ap (λ w. node_of (prefix_of seen.shape) (value_of seen.shape) w
+        (map_children shape_of entries)) (same ∙ sym width-seen)
+        ∙ ap (node_of (prefix_of seen.shape) (value_of seen.shape) (width_of seen.shape)) shown
+        ∙ sym (with_children-parts children seen.shape)
 
-      -- other children at the same width
-      pub node_shape-children : width ≡ (content_shape content_of).width
-          → (children : List (ℕ × Shape V)) → map_children (pointer_shape bytes) entries ≡ children
-          → node_shape bytes (with_content n content) ≡ with_children children (node_shape bytes n)
-      node_shape-children same children is =
-          node_shape-with_content
-          ∙ ap (λ w. node_of (prefix_of (node_shape bytes n)) (value_of (node_shape bytes n)) w
-          (map_children (pointer_shape bytes) entries)) (same ∙ sym width-node_shape)
-          ∙ ap (node_of (prefix_of (node_shape bytes n)) (value_of (node_shape bytes n))
-          (width_of (node_shape bytes n))) is
-          ∙ sym (with_children-parts children (node_shape bytes n))
+    -- one more child
+    pub with_added-seen : (byte : ℕ) (child : Seen V) → IsAscending seen.shape
+        → width ≡ widened (content_shape content).width (length children_in)
+        → entries ≡ with_child byte child children_in
+        → (seen_node prefix value after).shape ≡ with_added byte child.shape seen.shape
+    with_added-seen byte child order wide same =
+        shape-with_content
+        ∙ ap (λ w. node_of (prefix_of seen.shape) (value_of seen.shape) w
+        (map_children shape_of entries))
+        (wide ∙ sym (λ i. widened (width-seen i) (length-seen order i)))
+        ∙ ap (node_of (prefix_of seen.shape) (value_of seen.shape)
+        (widened (width_of seen.shape) (length (children_of seen.shape))))
+        (ap (map_children shape_of) same
+        ∙ with_child-map_children shape_of byte child children_in
+        ∙ ap (with_child byte child.shape) (sym (children-ascending order)))
+        ∙ sym (with_added-parts byte child.shape seen.shape)
 
-      -- one more child
-      pub node_shape-added : (byte : ℕ) (child : NodeRef P V) → IsAscending (node_shape bytes n)
-          → width ≡ widened (content_shape content_of).width (length children_in)
-          → entries ≡ with_child byte child children_in
-          → node_shape bytes (with_content n content)
-          ≡ with_added byte (pointer_shape bytes child) (node_shape bytes n)
-      node_shape-added byte child order wide same =
-          node_shape-with_content
-          ∙ ap (λ w. node_of (prefix_of (node_shape bytes n)) (value_of (node_shape bytes n)) w
-          (map_children (pointer_shape bytes) entries))
-          (wide ∙ sym (λ i. widened (width-node_shape i) (length-node_shape order i)))
-          ∙ ap (node_of (prefix_of (node_shape bytes n)) (value_of (node_shape bytes n))
-          (widened (width_of (node_shape bytes n)) (length (children_of (node_shape bytes n)))))
-          (ap (map_children (pointer_shape bytes)) same
-          ∙ with_child-map_children (pointer_shape bytes) byte child children_in
-          ∙ ap (with_child byte (pointer_shape bytes child))
-          (sym (children-pointer_shape order)))
-          ∙ sym (with_added-parts byte (pointer_shape bytes child) (node_shape bytes n))
+  -- a content that holds what the node's own holds
+  pub same_content-seen : (after : Content (Seen V)) → content_shape after ≡ content_shape content
+      → (seen_node prefix value after).shape ≡ seen.shape
+  same_content-seen after same =
+      ap (λ h. node_of_content prefix value (shapes_of_content h)) same ∙ ap shape_of is
 
-    -- a content that holds what the node's own holds
-    pub node_shape-content_shape : (content : Content (NodeRef P V))
-        → content_shape content ≡ content_shape content_of
-        → node_shape bytes (with_content n content) ≡ node_shape bytes n
-    node_shape-content_shape content same =
-        let layer = out-VersionedNode P V n in
-        node_shape_roll bytes (record layer { content = content })
-        ∙ ap (λ h. node_of_content bytes (bytes layer.prefix) (held_value layer.value)
-        (shapes_of_content bytes h)) same
-        ∙ sym (node_shape_out bytes n)
+  -- ---- with another value
+  pub with_value-seen : (held other : Option V) → held ≡ other
+      → (seen_node prefix held content).shape ≡ with_value other seen.shape
+  with_value-seen held other same =
+      ap (λ v. node_of_content prefix v (shapes_of_content (content_shape content))) same
+      ∙ ap (with_value other) (ap shape_of is)
 
-    -- ---- with another value
-    module _ (held : Held V) where
-      abbrev with_held : VersionedNode P V
-      with_held = roll-VersionedNode P V (record (out-VersionedNode P V n) { value = held })
+  -- the value that the node's own shows
+  pub same_value-seen : (held : Option V) → held ≡ value
+      → (seen_node prefix held content).shape ≡ seen.shape
+  same_value-seen held same =
+      ap (λ v. node_of_content prefix v (shapes_of_content (content_shape content))) same
+      ∙ ap shape_of is
 
-      node_shape-with_held : (value : Option V) → held_value held ≡ value
-          → node_shape bytes with_held
-          ≡ node_of_content bytes (bytes (out-VersionedNode P V n).prefix) value
-          (shapes_of_content bytes (content_shape content_of))
-      node_shape-with_held value is =
-          let layer = out-VersionedNode P V n in
-          node_shape_roll bytes (record layer { value = held })
-          ∙ ap (λ v. node_of_content bytes (bytes layer.prefix) v
-          (shapes_of_content bytes (content_shape layer.content))) is
+  pub with_replaced-seen : (after : Content (Seen V)) (byte : ℕ) (child : Seen V)
+      → IsAscending seen.shape
+      → Holds after (content_shape content).width (with_child byte child children_in)
+      → (seen_node prefix value after).shape ≡ with_replaced byte child.shape seen.shape
+  with_replaced-seen after byte child order holds =
+      with_children-seen after _ _ holds refl _
+      (with_child-map_children shape_of byte child children_in
+      ∙ ap (with_child byte child.shape) (sym (children-ascending order)))
 
-      pub node_shape-held : (value : Option V) → held_value held ≡ value
-          → node_shape bytes with_held ≡ with_value value (node_shape bytes n)
-      node_shape-held value is =
-          node_shape-with_held value is ∙ ap (with_value value) (sym (node_shape_out bytes n))
+  pub with_deleted-seen : (after : Content (Seen V)) (byte : ℕ) → IsAscending seen.shape
+      → Holds after (content_shape content).width (without_child byte children_in)
+      → (seen_node prefix value after).shape ≡ with_deleted byte seen.shape
+  with_deleted-seen after byte order holds =
+      with_children-seen after _ _ holds refl _
+      (without_child-map_children shape_of byte children_in
+      ∙ ap (without_child byte) (sym (children-ascending order)))
 
-      -- the value that the node's own shows
-      pub node_shape-same_held : held_value held ≡ held_value (out-VersionedNode P V n).value
-          → node_shape bytes with_held ≡ node_shape bytes n
-      node_shape-same_held same = node_shape-with_held _ same ∙ sym (node_shape_out bytes n)
+  pub full-seen : (answer : Bool) → IsAscending seen.shape → IsTrue answer
+      ↔ IsFullAt (content_shape content).width (length children_in) → IsTrue answer
+      ↔ IsFull seen.shape
+  full-seen answer order says =
+      subst (λ w. IsTrue answer ↔ IsFullAt w (length (children_of seen.shape)))
+      (sym width-seen)
+      (subst (λ k. IsTrue answer ↔ IsFullAt (content_shape content).width k)
+      (sym (length-seen order)) says)
 
-    pub node_shape-replaced : (content : Content (NodeRef P V)) (byte : ℕ) (child : NodeRef P V)
-        → IsAscending (node_shape bytes n)
-        → Holds content (content_shape content_of).width (with_child byte child children_in)
-        → node_shape bytes (with_content n content)
-        ≡ with_replaced byte (pointer_shape bytes child) (node_shape bytes n)
-    node_shape-replaced content byte child order holds =
-        node_shape-children content _ _ holds refl _
-        (with_child-map_children (pointer_shape bytes) byte child children_in
-        ∙ ap (with_child byte (pointer_shape bytes child)) (sym (children-pointer_shape order)))
+  pub widenings-seen : IsAscending seen.shape
+      → widenings seen.shape
+      ≡ cond (is_full_at (content_shape content).width (length children_in)) 1 0
+  widenings-seen order =
+      widenings-parts seen.shape
+      ∙ (λ i. cond (is_full_at (width-seen i) (length-seen order i)) 1 0)
 
-    pub node_shape-deleted : (content : Content (NodeRef P V)) (byte : ℕ)
-        → IsAscending (node_shape bytes n)
-        → Holds content (content_shape content_of).width (without_child byte children_in)
-        → node_shape bytes (with_content n content) ≡ with_deleted byte (node_shape bytes n)
-    node_shape-deleted content byte order holds =
-        node_shape-children content _ _ holds refl _
-        (without_child-map_children (pointer_shape bytes) byte children_in
-        ∙ ap (without_child byte) (sym (children-pointer_shape order)))
-
-    pub full-node_shape : (answer : Bool) → IsAscending (node_shape bytes n) → IsTrue answer
-        ↔ IsFullAt (content_shape content_of).width (length children_in) → IsTrue answer
-        ↔ IsFull (node_shape bytes n)
-    full-node_shape answer order says =
-        subst (λ w. IsTrue answer ↔ IsFullAt w (length (children_of (node_shape bytes n))))
-        (sym width-node_shape)
-        (subst (λ k. IsTrue answer ↔ IsFullAt (content_shape content_of).width k)
-        (sym (length-node_shape order)) says)
-
-    pub widenings-node_shape : IsAscending (node_shape bytes n)
-        → widenings (node_shape bytes n)
-        ≡ cond (is_full_at (content_shape content_of).width (length children_in)) 1 0
-    widenings-node_shape order =
-        widenings-parts (node_shape bytes n)
-        ∙ (λ i. cond (is_full_at (width-node_shape i) (length-node_shape order i)) 1 0)
-
-  -- ---- what is found by reference
+-- ---- what is found by reference
+module _ {V : Type 0} where
   pub now-copied_mut : (o : Option (MutBor V)) → option_map (λ it. it.now) o ≡ option_copied_mut o
   now-copied_mut None = refl
   now-copied_mut (Some it) = refl
 
-  pub pointer_shape-copied : (o : Option (Bor (NodeRef P V)))
-      → option_map (λ child. pointer_shape bytes child.now) o
-      ≡ option_map (pointer_shape bytes) (option_copied o)
-  pointer_shape-copied None = refl
-  pointer_shape-copied (Some child) = refl
+  pub shape-copied : (o : Option (Bor (Seen V)))
+      → option_map (λ child. child.now.shape) o ≡ option_map shape_of (option_copied o)
+  shape-copied None = refl
+  shape-copied (Some child) = refl
 
-  pub pointer_shape-copied_mut : (o : Option (MutBor (NodeRef P V)))
-      → option_map (λ child. pointer_shape bytes child.now) o
-      ≡ option_map (pointer_shape bytes) (option_copied_mut o)
-  pointer_shape-copied_mut None = refl
-  pointer_shape-copied_mut (Some child) = refl
+  pub shape-copied_mut : (o : Option (MutBor (Seen V)))
+      → option_map (λ child. child.now.shape) o ≡ option_map shape_of (option_copied_mut o)
+  shape-copied_mut None = refl
+  shape-copied_mut (Some child) = refl
 
-  pub entry-copied : (o : Option (ℕ × Bor (NodeRef P V)))
-      → option_map (entry_shape bytes) o
-      ≡ option_map (λ e. (e.0, pointer_shape bytes e.1)) (entry_copied o)
+  pub entry-copied : (o : Option (ℕ × Bor (Seen V)))
+      → option_map entry_shape o ≡ option_map (λ e. (e.0, shape_of e.1)) (entry_copied o)
   entry-copied None = refl
   entry-copied (Some entry) = refl

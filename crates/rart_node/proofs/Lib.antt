@@ -4,5 +4,4 @@ pub mod ChildMapLemmas
 pub mod ChildOrderLemmas
 pub mod RoomLemmas
 pub mod NodeMergeLemmas
-pub mod NodeLemmas
 pub mod WidthLemmas

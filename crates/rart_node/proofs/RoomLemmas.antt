@@ -1,16 +1,15 @@
 -- How many children a content has room for.
-use Rattle.std.proofs.Common.{◌≡◌, ◌<◌, ◌≤◌, ℕ, List, true, None, ap, cond, length, lit<, refl, subst, sym, ◌∙◌, arith}
+use Rattle.std.proofs.Common.{◌≡◌, ◌<◌, ◌≤◌, ℕ, List, Option, true, None, ap, cond, length, lit<, refl, subst, sym, ◌∙◌, arith}
 use Rattle.std.specs.Prelude.{nat_le}
 use Rattle.rart_below.specs.Children.{child_at, with_child}
 use Rattle.rart_below.specs.Laws.{sorted-fits, indexed-fits, direct-fits}
 use Rattle.rart_below.proofs.DirectMappingLemmas.{kept_from_order, room_for_one}
 use Rattle.rart_node.specs.declared.content.Layout.TheVariants.{Leaf, Node4, Node16, Node48, Node256}
-use Rattle.rart_node.specs.declared.node.VersionedNode.{VersionedNode}
-use Rattle.rart_node.specs.declared.node_ref.NodeRef.{NodeRef}
 use Rattle.rart_node.specs.Contents.{Content, content_shape, Holds}
-use Rattle.rart_node.specs.NodeShapes.{node_shape, pointer_shape}
+use Rattle.rart_node.specs.Seen.{Seen}
+use Rattle.rart_node.specs.NodeShapes.{seen_node}
 use Rattle.rart_node.specs.Shape.{IsAscending, children_of, widened, with_added}
-use Rattle.rart_node.proofs.ContentLemmas.{content_of, children_in, with_content, in_order, none-in, node_shape-added}
+use Rattle.rart_node.proofs.ContentLemmas.{in_order, none-in, with_added-seen}
 
 -- a width with a next one, once it is widened where it is full
 next_has_room : (width next count : ℕ) → count ≤ width → width < next
@@ -51,36 +50,37 @@ pub record IsReady {C : Type 0} (content : Content C) (byte : ℕ) : Type 0 wher
   pub absent : child_at byte (content_shape content).children ≡ None
   pub room : length (content_shape content).children < (content_shape content).width
 
-module _ {P V : Type 0} (bytes : P → List ℕ) (n : VersionedNode P V) where
-  pub ready : (content : Content (NodeRef P V)) (byte : ℕ) (child : NodeRef P V)
-      → IsAscending (node_shape bytes n) → byte < 256
-      → child_at byte (children_of (node_shape bytes n)) ≡ None
-      → Holds content (widened (content_shape (content_of bytes n)).width
-      (length (children_in bytes n))) (children_in bytes n) → IsReady content byte
-  ready content byte child order small absent roomy =
-      let still = none-in bytes n byte order absent in
+module _ {V : Type 0} {prefix : List ℕ} {value : Option V} (content : Content (Seen V))
+    {seen : Seen V} (is : seen_node prefix value content ≡ seen) where
+  pub ready : (roomy : Content (Seen V)) (byte : ℕ) (child : Seen V)
+      → IsAscending seen.shape → byte < 256 → child_at byte (children_of seen.shape) ≡ None
+      → Holds roomy
+      (widened (content_shape content).width (length (content_shape content).children))
+      (content_shape content).children → IsReady roomy byte
+  ready roomy byte child order small absent holds =
+      let still = none-in content is byte order absent in
       record {
-        order = ap (λ h. h.in_order) roomy;
-        absent = ap (λ h. child_at byte h.children) roomy ∙ still;
+        order = ap (λ h. h.in_order) holds;
+        absent = ap (λ h. child_at byte h.children) holds ∙ still;
         room =
-            subst (λ h. length h.children < h.width) (sym roomy)
-            (room (content_of bytes n) byte child (in_order bytes n order) small still);
+            subst (λ h. length h.children < h.width) (sym holds)
+            (room content byte child (in_order content is order) small still);
       }
 
   -- the content once the child is added to it
-  pub added : (content after : Content (NodeRef P V)) (byte : ℕ) (child : NodeRef P V)
-      → IsAscending (node_shape bytes n)
-      → Holds content (widened (content_shape (content_of bytes n)).width
-      (length (children_in bytes n))) (children_in bytes n)
-      → Holds after (content_shape content).width
-      (with_child byte child (content_shape content).children)
-      → node_shape bytes (with_content bytes n after)
-      ≡ with_added byte (pointer_shape bytes child) (node_shape bytes n)
-  added content after byte child order roomy holds =
+  pub added : (roomy after : Content (Seen V)) (byte : ℕ) (child : Seen V)
+      → IsAscending seen.shape
+      → Holds roomy
+      (widened (content_shape content).width (length (content_shape content).children))
+      (content_shape content).children
+      → Holds after (content_shape roomy).width
+      (with_child byte child (content_shape roomy).children)
+      → (seen_node prefix value after).shape ≡ with_added byte child.shape seen.shape
+  added roomy after byte child order holds filled =
       let both =
-      holds ∙ ap (λ h. record {
+      filled ∙ ap (λ h. record {
         width = h.width;
         in_order = true;
         children = with_child byte child h.children;
-      }) roomy in
-      node_shape-added bytes n after _ _ both byte child order refl refl
+      }) holds in
+      with_added-seen content is after _ _ both byte child order refl refl

@@ -1,16 +1,15 @@
 -- Widths, and what they leave room for.
-use Rattle.std.proofs.Common.{◌≡◌, ◌<◌, ◌≤◌, ℕ, List, Bool, true, false, cond, inl, inr, length, lit≤, refl, sym, subst, ◌∙◌, arith}
+use Rattle.std.proofs.Common.{◌≡◌, ◌<◌, ◌≤◌, ℕ, List, Option, Bool, true, false, cond, inl, inr, length, lit≤, refl, sym, subst, ◌∙◌, arith}
 use Rattle.std.proofs.lemmas.Bool.{cases_lt}
 use Rattle.std.proofs.lemmas.Bool.Decides.{nat_tests}
 use Rattle.rart_below.specs.Children.{map_children}
-use Rattle.rart_below.specs.Mapped.{length-map_children}
 use Rattle.rart_node.specs.declared.content.Layout.TheVariants.{Leaf, Node4, Node16, Node48, Node256}
-use Rattle.rart_node.specs.declared.node.VersionedNode.{VersionedNode}
-use Rattle.rart_node.specs.declared.node_ref.NodeRef.{NodeRef}
 use Rattle.rart_node.specs.Contents.{Content, content_shape}
-use Rattle.rart_node.specs.NodeShapes.{node_shape, pointer_shape, if_in_order}
+use Rattle.rart_node.specs.Seen.{Seen, shape_of}
+use Rattle.rart_node.specs.NodeShapes.{seen_node, if_in_order}
 use Rattle.rart_node.specs.Shape.{Shape, IsWidth, IsAscending, IsFull, FitsWidth, is_full_at, width_of, children_of, widenings}
-use Rattle.rart_node.proofs.ContentLemmas.{content_of, children_in, width-node_shape, length-node_shape, children-node_shape, widenings-parts}
+use Rattle.rart_node.proofs.ChildMapLemmas.{length-map_children}
+use Rattle.rart_node.proofs.ContentLemmas.{width-seen, length-seen, children-seen, widenings-parts}
 use Rattle.rart_node.proofs.RoomLemmas.{fits}
 
 -- a width that has more room than there are children is not full, nor is the greatest width
@@ -74,37 +73,34 @@ module _ {C : Type 0} where
   two-fit (Node48 upper mapping) out_of_step = lit≤ tt
   two-fit (Node256 upper mapping) out_of_step = lit≤ tt
 
-module _ {P V : Type 0} (bytes : P → List ℕ) where
+module _ {V : Type 0} where
   -- also where the lists are out of step: two children are shown then
-  content_shape-fits : (content : Content (NodeRef P V)) (in_order : Bool)
+  content_shape-fits : (content : Content (Seen V)) (in_order : Bool)
       → (content_shape content).in_order ≡ in_order
-      → length (if_in_order in_order
-      (map_children (pointer_shape bytes) (content_shape content).children))
+      → length (if_in_order in_order (map_children shape_of (content_shape content).children))
       ≤ (content_shape content).width
   content_shape-fits content true is =
       subst (λ k. k ≤ (content_shape content).width)
-      (sym (length-map_children (pointer_shape bytes) (content_shape content).children))
-      (fits content is)
+      (sym (length-map_children shape_of (content_shape content).children)) (fits content is)
   content_shape-fits content false is = two-fit content is
 
-  pub fits_width : (n : VersionedNode P V) → FitsWidth (node_shape bytes n)
-  fits_width n =
-      let content = content_of bytes n in
+module _ {V : Type 0} {prefix : List ℕ} {value : Option V} (content : Content (Seen V))
+    {seen : Seen V} (is : seen_node prefix value content ≡ seen) where
+  pub fits_width : FitsWidth seen.shape
+  fits_width =
       let shown_fits = content_shape-fits content (content_shape content).in_order refl in
-      let all : length (children_of (node_shape bytes n)) ≤ (content_shape content).width =
-      subst (λ es. length es ≤ (content_shape content).width)
-      (sym (children-node_shape bytes n)) shown_fits in
+      let all : length (children_of seen.shape) ≤ (content_shape content).width =
+      subst (λ es. length es ≤ (content_shape content).width) (sym (children-seen content is))
+      shown_fits in
       record {
-        is_width = subst IsWidth (sym (width-node_shape bytes n)) (width-content_shape content);
+        is_width = subst IsWidth (sym (width-seen content is)) (width-content_shape content);
         has_room =
-            subst (λ w. length (children_of (node_shape bytes n)) ≤ w)
-            (sym (width-node_shape bytes n)) all;
+            subst (λ w. length (children_of seen.shape) ≤ w) (sym (width-seen content is)) all;
       }
 
   -- where one more child makes no node, the content is not full
-  pub content_shape-not_full : (n : VersionedNode P V) → IsAscending (node_shape bytes n)
-      → widenings (node_shape bytes n) ≡ 0
-      → is_full_at (content_shape (content_of bytes n)).width (length (children_in bytes n)) ≡ false
-  content_shape-not_full n order none =
-      (λ i. is_full_at (sym (width-node_shape bytes n) i) (sym (length-node_shape bytes n order) i))
-      ∙ widenings-not_full (node_shape bytes n) none
+  pub content_shape-not_full : IsAscending seen.shape → widenings seen.shape ≡ 0
+      → is_full_at (content_shape content).width (length (content_shape content).children) ≡ false
+  content_shape-not_full order none =
+      (λ i. is_full_at (sym (width-seen content is) i) (sym (length-seen content is order) i))
+      ∙ widenings-not_full seen.shape none

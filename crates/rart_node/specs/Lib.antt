@@ -1,7 +1,9 @@
 pub mod Contents
+pub mod Depths
 pub mod Counts
 pub mod Laws
 pub mod Lent
 pub mod NodeShapes
+pub mod Seen
 pub mod Shape
 pub mod VersionedNodeIter

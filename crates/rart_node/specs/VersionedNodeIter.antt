@@ -2,10 +2,9 @@
 use Rattle.std.specs.Prelude.{ℕ, List}
 use Rattle.rart_below.specs.Children.{children_from}
 use Rattle.rart_node.specs.declared.node_iter.VersionedNodeIter.{VersionedNodeIter}
-use Rattle.rart_node.specs.NodeShapes.{node_shape}
 use Rattle.rart_node.specs.Shape.{Shape, children_of}
 
 -- `partial` is what is known of prefixes, which the type takes for its ghost field
-module _ {P V : Type 0} {partial : _} (bytes : P → List ℕ) where
+module _ {P V : Type 0} {partial : _} where
   abbrev pub children_left : VersionedNodeIter P V partial → List (ℕ × Shape V)
-  children_left it = children_from it.from (children_of (node_shape bytes it.node.now))
+  children_left it = children_from it.from (children_of it.node.now.shape)

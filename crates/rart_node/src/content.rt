@@ -95,7 +95,8 @@ impl<P: Partial, V: Drop> Content<P, V> {
     /// The child under the byte, for writing.
     pub(crate) fn seek_child_mut(&mut self, byte: u8) -> Option<&mut NodeRef<P, V>>
         requires { IsTrue (content_shape self.old).in_order }
-        ensures* writes_back { sem 𝓛 (LendsContentChild P.row V.row self.entry byte result) }
+        ensures* writes_back { sem 𝓛 (LendsContentChild P.row V.row P.Partial self.entry byte
+            result) }
         ensures value { option_copied_mut result ≡ child_at byte (content_shape self.old).children }
     {
         match self {
@@ -287,8 +288,8 @@ impl<P: Partial, V: Drop> Content<P, V> {
 
     /// The same children at the same width, a copy of each pointer, for a node of another number.
     pub(crate) fn copy(&self, upper: u32) -> Result<Content<P, V>, AllocError>
-        ensures { IfOk result (λ copy. shapes_of_content P.bytes (content_shape copy)
-            ≡ shapes_of_content P.bytes (content_shape self.now)) }
+        ensures { IfOk result (λ copy. shapes_of_content (content_shape copy)
+            ≡ shapes_of_content (content_shape self.now)) }
     {
         match self {
             Layout::Leaf(_) => Ok(Layout::Leaf(upper)),

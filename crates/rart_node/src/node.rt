@@ -5,6 +5,7 @@ ghost use Rattle.std.specs.Option.{option_map, option_copied};
 ghost use Rattle.rart_below.specs.ByteSets.{AreBytesOf};
 ghost use Rattle.rart_below.specs.Children.{child_at, children_from, first_of, TakesFirst};
 ghost use Rattle.rart_below.specs.Clones.{ClonesEqual};
+ghost use Rattle.rart_node.specs.Seen.{shape_of};
 ghost use Rattle.rart_node.specs.Shape.{node_of, prefix_of, value_of, width_of, children_of, with_value, with_prefix, with_replaced, with_deleted, with_added, with_width, widenings, wider, FitsWidth, IsAscending, IsFull};
 
 use crate::content::{Content, Layout};
@@ -15,18 +16,38 @@ use crate::node_ref::NodeRef;
 use crate::work::Work;
 use rart_below::{ByteSet, Partial, SortedKeyedMapping};
 use std::alloc::{AllocError, Global};
+use std::marker::Model;
 
 /// A node: a prefix, an optional value, a width and a finite map from bytes to pointers.
 ///
 /// The width, one of none, 4, 16, 48 and 256, is how many children there is room for. A node of
 /// width none is a leaf. Contracts see a node by its shape, in which each pointer is the node that
-/// it shows.
+/// it shows. Beside it stands a depth, by which a drop is shown to end and which no clause reads.
 #[cycle(node)]
-pub struct VersionedNode<P, V> {
+pub struct VersionedNode<P: Partial, V> {
     prefix: P,
     value: Held<V>,
     alloc: Global,
     content: Content<P, V>,
+}
+
+impl<P: Partial, V> Model for VersionedNode<P, V> {
+    ghost use Rattle.rart_node.specs.Seen.{Seen, seen_code};
+
+    ghost Value = { Seen V };
+
+    ghost coded = { seen_code V.code };
+
+    ghost use Rattle.rart_node.specs.Contents.{held_value};
+    ghost use Rattle.rart_node.specs.NodeShapes.{seen_node};
+
+    ghost view = { λ node. seen_node (P.bytes node.prefix) (held_value node.value) node.content };
+
+    ghost size = { λ seen. seen.depth };
+
+    ghost use Rattle.rart_node.specs.Depths.{deepest};
+
+    ghost size_decreases = { λ node h. deepest P.Partial node };
 }
 
 // The halves of a number that a node is made with.
@@ -40,7 +61,7 @@ fn upper_half(version: u64) -> u32 {
 
 /// Written out, so that a crate that drops a node proves nothing of what it is made of. Inlined, it
 /// leaves no copy of the node in a frame of its own.
-impl<P: Drop, V: Drop> Drop for VersionedNode<P, V> {
+impl<P: Partial, V: Drop> Drop for VersionedNode<P, V> {
     #[cycle(drop_node)]
     #[inline(always)]
     fn drop(self) {
@@ -53,9 +74,8 @@ impl<P: Drop, V: Drop> Drop for VersionedNode<P, V> {
     }
 }
 
-#[tactic(auto, using(crate::proofs::NodeLemmas::seeing))]
 impl<P: Partial, V: Drop> VersionedNode<P, V> {
-    ghost use Rattle.rart_node.specs.NodeShapes.{node_shape, pointer_shape, entry_shape};
+    ghost use Rattle.rart_node.specs.NodeShapes.{entry_shape};
     ghost use Rattle.rart_node.specs.VersionedNodeIter.{children_left};
     ghost use Rattle.rart_node.specs.Lent.{LendsChild, LendsValue};
     ghost use Rattle.std.specs.Borrow.{sem};
@@ -64,7 +84,7 @@ impl<P: Partial, V: Drop> VersionedNode<P, V> {
     /// `NodeRef::open_mut` copies a node; growth takes its own. `version` is stored and read by no
     /// call.
     pub fn new_leaf(alloc: Global, prefix: P, value: V, version: u64) -> VersionedNode<P, V>
-        ensures { node_shape P.bytes result ≡ node_of (P.bytes prefix) (Some value) 0 [] }
+        ensures { result.shape ≡ node_of (P.bytes prefix) (Some value) 0 [] }
     {
         VersionedNode {
             prefix,
@@ -81,7 +101,7 @@ impl<P: Partial, V: Drop> VersionedNode<P, V> {
         prefix: P,
         version: u64,
     ) -> Result<VersionedNode<P, V>, AllocError>
-        ensures { IfOk result (λ it. node_shape P.bytes it ≡ node_of (P.bytes prefix) None 4 []) }
+        ensures { IfOk result (λ it. it.shape ≡ node_of (P.bytes prefix) None 4 []) }
     {
         Ok(VersionedNode {
             prefix,
@@ -101,39 +121,39 @@ impl<P: Partial, V: Drop> VersionedNode<P, V> {
 
     /// Whether the width is none.
     pub fn is_leaf(&self) -> bool
-        ensures leaf { result ≡ (width_of (node_shape P.bytes self.now) == 0) }
-        ensures width { FitsWidth (node_shape P.bytes self.now) }
+        ensures leaf { result ≡ (width_of self.now.shape == 0) }
+        ensures width { FitsWidth self.now.shape }
     {
         self.content.width() == 0
     }
 
     /// Whether the width is not none, also without children.
     pub fn is_inner(&self) -> bool
-        ensures inner { result ≡ not (width_of (node_shape P.bytes self.now) == 0) }
-        ensures width { FitsWidth (node_shape P.bytes self.now) }
+        ensures inner { result ≡ not (width_of self.now.shape == 0) }
+        ensures width { FitsWidth self.now.shape }
     {
         self.content.width() != 0
     }
 
     /// The prefix. rart has no such call: there the field is read.
     pub fn prefix(&self) -> &P
-        ensures { P.bytes result.now ≡ prefix_of (node_shape P.bytes self.now) }
+        ensures { P.bytes result.now ≡ prefix_of self.now.shape }
     {
         &self.prefix
     }
 
     /// The value, where there is one.
     pub fn value(&self) -> Option<&V>
-        ensures { option_copied result ≡ value_of (node_shape P.bytes self.now) }
+        ensures { option_copied result ≡ value_of self.now.shape }
     {
         self.value.as_ref()
     }
 
     /// The number of children.
     pub fn num_children(&self) -> usize
-        requires { IsAscending (node_shape P.bytes self.now) }
-        ensures count { result ≡ length (children_of (node_shape P.bytes self.now)) }
-        ensures width { FitsWidth (node_shape P.bytes self.now) }
+        requires { IsAscending self.now.shape }
+        ensures count { result ≡ length (children_of self.now.shape) }
+        ensures width { FitsWidth self.now.shape }
     {
         self.content.num_children()
     }
@@ -141,28 +161,27 @@ impl<P: Partial, V: Drop> VersionedNode<P, V> {
     /// Whether there are as many children as the width has room for: 4, 16 or 48 at these widths. A
     /// leaf is never full, nor is a node of width 256.
     pub fn is_full(&self) -> bool
-        requires { IsAscending (node_shape P.bytes self.now) }
-        ensures full { IsTrue result ↔ IsFull (node_shape P.bytes self.now) }
-        ensures width { FitsWidth (node_shape P.bytes self.now) }
+        requires { IsAscending self.now.shape }
+        ensures full { IsTrue result ↔ IsFull self.now.shape }
+        ensures width { FitsWidth self.now.shape }
     {
         self.content.is_full()
     }
 
     /// The pointer under the byte.
     pub fn seek_child(&self, byte: u8) -> Option<&NodeRef<P, V>>
-        requires { IsAscending (node_shape P.bytes self.now) }
-        ensures { option_map (λ child. pointer_shape P.bytes child.now) result
-            ≡ child_at byte (children_of (node_shape P.bytes self.now)) }
+        requires { IsAscending self.now.shape }
+        ensures { option_map (λ child. child.now.shape) result
+            ≡ child_at byte (children_of self.now.shape) }
     {
         self.content.seek_child(byte)
     }
 
     /// The children, each with its byte, ascending.
     pub fn iter(&self) -> VersionedNodeIter<'_, P, V>
-        requires { IsAscending (node_shape P.bytes self.now) }
-        ensures order { IsAscending (node_shape P.bytes result.node.now) }
-        ensures children { children_left P.bytes result
-            ≡ children_of (node_shape P.bytes self.now) }
+        requires { IsAscending self.now.shape }
+        ensures order { IsAscending result.node.now.shape }
+        ensures children { children_left result ≡ children_of self.now.shape }
     {
         self.iter_from(0)
     }
@@ -170,10 +189,9 @@ impl<P: Partial, V: Drop> VersionedNode<P, V> {
     /// The children from a byte on, each with its byte, ascending. rart has no such call: there
     /// `iter` starts at the least byte.
     pub fn iter_from(&self, least: u8) -> VersionedNodeIter<'_, P, V>
-        requires { IsAscending (node_shape P.bytes self.now) }
-        ensures order { IsAscending (node_shape P.bytes result.node.now) }
-        ensures children { children_left P.bytes result
-            ≡ children_from least (children_of (node_shape P.bytes self.now)) }
+        requires { IsAscending self.now.shape }
+        ensures order { IsAscending result.node.now.shape }
+        ensures children { children_left result ≡ children_from least (children_of self.now.shape) }
     {
         VersionedNodeIter {
             node: self,
@@ -183,17 +201,17 @@ impl<P: Partial, V: Drop> VersionedNode<P, V> {
 
     /// The bytes that have a child. rart has no such call.
     pub fn bytes(&self) -> ByteSet
-        requires { IsAscending (node_shape P.bytes self.now) }
-        ensures { AreBytesOf result (children_of (node_shape P.bytes self.now)) }
+        requires { IsAscending self.now.shape }
+        ensures { AreBytesOf result (children_of self.now.shape) }
     {
         self.content.bytes()
     }
 
     /// The child of the least byte that is not below the number.
     pub(crate) fn next_from(&self, from: usize) -> Option<(u8, &NodeRef<P, V>)>
-        requires { IsAscending (node_shape P.bytes self.now) }
-        ensures { option_map (entry_shape P.bytes) result
-            ≡ first_of (children_from from (children_of (node_shape P.bytes self.now))) }
+        requires { IsAscending self.now.shape }
+        ensures { option_map entry_shape result
+            ≡ first_of (children_from from (children_of self.now.shape)) }
     {
         self.content.next_from(from)
     }
@@ -201,20 +219,20 @@ impl<P: Partial, V: Drop> VersionedNode<P, V> {
     /// Takes the child of the least byte that is not below the number, which is then one more than
     /// that byte.
     pub(crate) fn next_child(&self, from: &mut usize) -> Option<&NodeRef<P, V>>
-        requires { IsAscending (node_shape P.bytes self.now) }
-        ensures { TakesFirst (children_from from.old (children_of (node_shape P.bytes self.now)))
-            (option_map (λ child. pointer_shape P.bytes child.now) result)
-            (children_from from.new (children_of (node_shape P.bytes self.now))) }
+        requires { IsAscending self.now.shape }
+        ensures { TakesFirst (children_from from.old (children_of self.now.shape))
+            (option_map (λ child. child.now.shape) result)
+            (children_from from.new (children_of self.now.shape)) }
     {
         self.content.next_child(from)
     }
 
     /// The pointer under the byte, for writing. The node then has that child as it was left.
     pub fn seek_child_mut(&mut self, byte: u8) -> Option<&mut NodeRef<P, V>>
-        requires { IsAscending (node_shape P.bytes self.old) }
-        ensures* writes_back { sem 𝓛 (LendsChild P.row V.row P.bytes self.entry byte result) }
-        ensures value { option_map (λ child. pointer_shape P.bytes child.now) result
-            ≡ child_at byte (children_of (node_shape P.bytes self.old)) }
+        requires { IsAscending self.old.shape }
+        ensures* writes_back { sem 𝓛 (LendsChild P.row V.row P.Partial self.entry byte result) }
+        ensures value { option_map (λ child. child.now.shape) result
+            ≡ child_at byte (children_of self.old.shape) }
     {
         self.content.seek_child_mut(byte)
     }
@@ -230,14 +248,13 @@ impl<P: Partial, V: Drop> VersionedNode<P, V> {
         child: NodeRef<P, V>,
         work: &mut Work,
     ) -> Result<(), AllocError>
-        requires order { IsAscending (node_shape P.bytes self.old) }
-        requires absent { child_at byte (children_of (node_shape P.bytes self.old)) ≡ None }
-        ensures ok { OnOk result (node_shape P.bytes self.new
-            ≡ with_added byte (pointer_shape P.bytes child) (node_shape P.bytes self.old)) }
-        ensures refused { OnErr result (node_shape P.bytes self.new ≡ node_shape P.bytes self.old) }
-        ensures succeeds { widenings (node_shape P.bytes self.old) ≡ 0 → IsOk result }
+        requires order { IsAscending self.old.shape }
+        requires absent { child_at byte (children_of self.old.shape) ≡ None }
+        ensures ok { OnOk result (self.new.shape ≡ with_added byte child.shape self.old.shape) }
+        ensures refused { OnErr result (self.new.shape ≡ self.old.shape) }
+        ensures succeeds { widenings self.old.shape ≡ 0 → IsOk result }
         ensures entered { work.new.entered ≡ work.old.entered }
-        ensures made { work.new.made ≡ work.old.made + widenings (node_shape P.bytes self.old) }
+        ensures made { work.new.made ≡ work.old.made + widenings self.old.shape }
     {
         let content = &mut self.content;
         content.make_room(alloc, work)?;
@@ -248,23 +265,19 @@ impl<P: Partial, V: Drop> VersionedNode<P, V> {
     /// Puts a child in place of the one under the byte, and gives that one. rart has no such call:
     /// there the one is taken out by `delete_child`, and the other put in by `add_child`.
     pub fn replace_child(&mut self, byte: u8, child: NodeRef<P, V>) -> NodeRef<P, V>
-        requires order { IsAscending (node_shape P.bytes self.old) }
-        requires present { IsSome (child_at byte (children_of (node_shape P.bytes self.old))) }
-        ensures seen { node_shape P.bytes self.new
-            ≡ with_replaced byte (pointer_shape P.bytes child) (node_shape P.bytes self.old) }
-        ensures replaced { Some (pointer_shape P.bytes result)
-            ≡ child_at byte (children_of (node_shape P.bytes self.old)) }
+        requires order { IsAscending self.old.shape }
+        requires present { IsSome (child_at byte (children_of self.old.shape)) }
+        ensures seen { self.new.shape ≡ with_replaced byte child.shape self.old.shape }
+        ensures replaced { Some result.shape ≡ child_at byte (children_of self.old.shape) }
     {
         self.content.replace_child(byte, child)
     }
 
     /// Takes out the child under the byte. The width stays.
     pub fn delete_child(&mut self, byte: u8) -> Option<NodeRef<P, V>>
-        requires { IsAscending (node_shape P.bytes self.old) }
-        ensures seen { node_shape P.bytes self.new
-            ≡ with_deleted byte (node_shape P.bytes self.old) }
-        ensures deleted { option_map (pointer_shape P.bytes) result
-            ≡ child_at byte (children_of (node_shape P.bytes self.old)) }
+        requires { IsAscending self.old.shape }
+        ensures seen { self.new.shape ≡ with_deleted byte self.old.shape }
+        ensures deleted { option_map shape_of result ≡ child_at byte (children_of self.old.shape) }
     {
         self.content.delete_child(byte)
     }
@@ -272,9 +285,8 @@ impl<P: Partial, V: Drop> VersionedNode<P, V> {
     /// The value, for writing. The node then has it as it was left. rart has no such call: there
     /// the field is lent.
     pub fn value_mut(&mut self) -> Option<&mut V>
-        ensures* writes_back { sem 𝓛 (LendsValue P.row V.row P.bytes self.entry result) }
-        ensures value { option_map (λ value. value.now) result
-            ≡ value_of (node_shape P.bytes self.old) }
+        ensures* writes_back { sem 𝓛 (LendsValue P.row V.row P.Partial self.entry result) }
+        ensures value { option_map (λ value. value.now) result ≡ value_of self.old.shape }
     {
         self.value.as_mut()
     }
@@ -282,25 +294,23 @@ impl<P: Partial, V: Drop> VersionedNode<P, V> {
     /// Puts the value in, and gives the one that was there. rart has no such call: there the field
     /// is replaced.
     pub fn set_value(&mut self, value: V) -> Option<V>
-        ensures old { result ≡ value_of (node_shape P.bytes self.old) }
-        ensures new { node_shape P.bytes self.new
-            ≡ with_value (Some value) (node_shape P.bytes self.old) }
+        ensures old { result ≡ value_of self.old.shape }
+        ensures new { self.new.shape ≡ with_value (Some value) self.old.shape }
     {
         self.value.replace(value)
     }
 
     /// Takes the value out, and gives it. rart has no such call: there the field is emptied.
     pub fn take_value(&mut self) -> Option<V>
-        ensures old { result ≡ value_of (node_shape P.bytes self.old) }
-        ensures new { node_shape P.bytes self.new ≡ with_value None (node_shape P.bytes self.old) }
+        ensures old { result ≡ value_of self.old.shape }
+        ensures new { self.new.shape ≡ with_value None self.old.shape }
     {
         self.value.take()
     }
 
     /// The same node with this prefix. rart has no such call: there the field is assigned.
     pub fn with_prefix(self, prefix: P) -> VersionedNode<P, V>
-        ensures { node_shape P.bytes result
-            ≡ with_prefix (P.bytes prefix) (node_shape P.bytes self) }
+        ensures { result.shape ≡ with_prefix (P.bytes prefix) self.shape }
     {
         let VersionedNode {
             prefix: _,
@@ -317,9 +327,8 @@ impl<P: Partial, V: Drop> VersionedNode<P, V> {
     }
 }
 
-#[tactic(auto, using(crate::proofs::NodeLemmas::seeing))]
 impl<P: Partial, V: Clone + Drop> VersionedNode<P, V> {
-    ghost use Rattle.rart_node.specs.NodeShapes.{node_shape, node_of_content, shapes_of_content};
+    ghost use Rattle.rart_node.specs.NodeShapes.{node_of_content, shapes_of_content};
     ghost use Rattle.rart_node.specs.Shape.{Shape, HasOnly, merged};
     ghost use Rattle.rart_below.specs.Bytes.{IsAdmitted};
     ghost use Rattle.rart_node.specs.Contents.{content_shape};
@@ -333,8 +342,7 @@ impl<P: Partial, V: Clone + Drop> VersionedNode<P, V> {
         alloc: Global,
         new_version: u64,
     ) -> Result<VersionedNode<P, V>, AllocError>
-        ensures { IfOk result (λ copy. ClonesEqual V.is_clone
-            → node_shape P.bytes copy ≡ node_shape P.bytes self.now) }
+        ensures { IfOk result (λ copy. ClonesEqual V.is_clone → copy.shape ≡ self.now.shape) }
     {
         self.copy_under(alloc, new_version, self.prefix.copy(alloc)?)
     }
@@ -345,14 +353,11 @@ impl<P: Partial, V: Clone + Drop> VersionedNode<P, V> {
     /// Of a leaf the answer is `GrowError::Leaf`, of a node of width 256 `GrowError::Widest`, and
     /// where memory is refused `GrowError::Memory`. They are tested in this order.
     pub fn grow(&self, alloc: Global, new_version: u64) -> Result<VersionedNode<P, V>, GrowError>
-        requires { IsAscending (node_shape P.bytes self.now) }
+        requires { IsAscending self.now.shape }
         ensures grown { IfOk result (λ node. ClonesEqual V.is_clone
-            → node_shape P.bytes node ≡ with_width (wider (width_of (node_shape P.bytes self.now)))
-            (node_shape P.bytes self.now)) }
-        ensures leaf { IsErrOf result GrowError.Leaf
-            ↔ (width_of (node_shape P.bytes self.now) ≡ 0) }
-        ensures widest { IsErrOf result GrowError.Widest
-            ↔ (width_of (node_shape P.bytes self.now) ≡ 256) }
+            → node.shape ≡ with_width (wider (width_of self.now.shape)) self.now.shape) }
+        ensures leaf { IsErrOf result GrowError.Leaf ↔ (width_of self.now.shape ≡ 0) }
+        ensures widest { IsErrOf result GrowError.Widest ↔ (width_of self.now.shape ≡ 256) }
     {
         match self.content.width() {
             0 => return Err(GrowError::Leaf),
@@ -377,14 +382,14 @@ impl<P: Partial, V: Clone + Drop> VersionedNode<P, V> {
         new_version: u64,
         work: &mut Work,
     ) -> Result<VersionedNode<P, V>, AllocError>
-        requires value { value_of (node_shape P.bytes self.now) ≡ None }
-        requires child { length (children_of (node_shape P.bytes self.now)) ≡ 1 }
+        requires value { value_of self.now.shape ≡ None }
+        requires child { length (children_of self.now.shape) ≡ 1 }
         requires admitted { (byte : ℕ) (child : Shape V)
-            → HasOnly byte child (node_shape P.bytes self.now) → IsAdmitted P.MAXIMUM_SIZE
-            (length (prefix_of (node_shape P.bytes self.now)) + length (prefix_of child)) }
+            → HasOnly byte child self.now.shape → IsAdmitted P.MAXIMUM_SIZE
+            (length (prefix_of self.now.shape) + length (prefix_of child)) }
         ensures merged { IfOk result (λ it. ClonesEqual V.is_clone → (byte : ℕ) (child : Shape V)
-            → HasOnly byte child (node_shape P.bytes self.now)
-            → node_shape P.bytes it ≡ merged (prefix_of (node_shape P.bytes self.now)) child) }
+            → HasOnly byte child self.now.shape
+            → it.shape ≡ merged (prefix_of self.now.shape) child) }
         ensures work { work.new ≡ record work.old { entered = work.old.entered + 1 } }
     {
         let Some((_, child)) = self.next_from(0) else {
@@ -402,9 +407,8 @@ impl<P: Partial, V: Clone + Drop> VersionedNode<P, V> {
         new_version: u64,
         prefix: P,
     ) -> Result<VersionedNode<P, V>, AllocError>
-        ensures { IfOk result (λ copy. ClonesEqual V.is_clone
-            → node_shape P.bytes copy
-            ≡ with_prefix (P.bytes prefix) (node_shape P.bytes self.now)) }
+        ensures { IfOk result (λ copy. ClonesEqual V.is_clone → copy.shape
+            ≡ with_prefix (P.bytes prefix) self.now.shape) }
     {
         let content = self.content.copy(upper_half(new_version))?;
         self.copy_with(alloc, new_version, prefix, content)
@@ -419,9 +423,8 @@ impl<P: Partial, V: Clone + Drop> VersionedNode<P, V> {
         content: Content<P, V>,
     ) -> Result<VersionedNode<P, V>, AllocError>
         ensures { IfOk result (λ copy. ClonesEqual V.is_clone
-            → node_shape P.bytes copy ≡ node_of_content P.bytes (P.bytes prefix)
-            (value_of (node_shape P.bytes self.now))
-            (shapes_of_content P.bytes (content_shape content))) }
+            → copy.shape ≡ node_of_content (P.bytes prefix) (value_of self.now.shape)
+            (shapes_of_content (content_shape content))) }
     {
         let value = self.value.copy(lower_half(new_version))?;
         Ok(VersionedNode {
@@ -434,10 +437,10 @@ impl<P: Partial, V: Clone + Drop> VersionedNode<P, V> {
 }
 
 impl<P: Partial, V: Clone + Drop> Clone for VersionedNode<P, V> {
-    ghost use Rattle.rart_node.specs.NodeShapes.{node_shape, SameShape};
+    ghost use Rattle.rart_node.specs.NodeShapes.{SameShape};
     ghost use Rattle.rart_below.specs.Clones.{ClonesEqual};
 
-    ghost is_clone = { λ node copy. ClonesEqual V.is_clone → SameShape P.bytes copy node };
+    ghost is_clone = { λ node copy. ClonesEqual V.is_clone → SameShape copy node };
 
     fn clone(&self) -> Result<VersionedNode<P, V>, AllocError> {
         self.cow_clone_inner(self.alloc, self.version())

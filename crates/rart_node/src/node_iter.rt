@@ -1,6 +1,5 @@
 // Ported from rart 0.11.0 (Apache-2.0), and rewritten.
 //! The iterator over the children of a node.
-ghost use Rattle.rart_node.specs.NodeShapes.{node_shape};
 ghost use Rattle.rart_node.specs.Shape.{IsAscending};
 
 use crate::node::VersionedNode;
@@ -14,7 +13,7 @@ use rart_below::Partial;
 pub struct VersionedNodeIter<'a, P: Partial, V> {
     pub(crate) node: &'a VersionedNode<P, V>,
     pub(crate) from: usize,
-    pub ghost order: { IsAscending (node_shape P.bytes node.now) },
+    pub ghost order: { IsAscending node.now.shape },
 }
 
 impl<'a, P: Partial, V: Drop> Iterator for VersionedNodeIter<'a, P, V> {
@@ -24,9 +23,9 @@ impl<'a, P: Partial, V: Drop> Iterator for VersionedNodeIter<'a, P, V> {
     ghost use Rattle.rart_node.specs.NodeShapes.{entry_shape};
     ghost use Rattle.rart_node.specs.VersionedNodeIter.{children_left};
 
-    ghost next_gives = { YieldsFirstBy (entry_shape P.bytes) (children_left P.bytes) };
+    ghost next_gives = { YieldsFirstBy entry_shape children_left };
 
-    ghost remaining = { item_count (children_left P.bytes) };
+    ghost remaining = { item_count children_left };
 
     fn next(&mut self) -> Option<(u8, &'a NodeRef<P, V>)> {
         let (byte, child) = self.node.next_from(self.from)?;
@@ -38,14 +37,12 @@ impl<'a, P: Partial, V: Drop> Iterator for VersionedNodeIter<'a, P, V> {
 impl<'a, P: Partial, V: Drop> VersionedNodeIter<'a, P, V> {
     ghost use Rattle.std.specs.Option.{option_map};
     ghost use Rattle.rart_below.specs.Children.{TakesFirst};
-    ghost use Rattle.rart_node.specs.NodeShapes.{pointer_shape};
     ghost use Rattle.rart_node.specs.VersionedNodeIter.{children_left};
 
     /// The pointer that `next` would give, without its byte. rart has no such call.
     pub fn next_child(&mut self) -> Option<&'a NodeRef<P, V>>
-        ensures { TakesFirst (children_left P.bytes self.old)
-            (option_map (λ child. pointer_shape P.bytes child.now) result)
-            (children_left P.bytes self.new) }
+        ensures { TakesFirst (children_left self.old) (option_map (λ child. child.now.shape) result)
+            (children_left self.new) }
     {
         self.node.next_child(&mut self.from)
     }

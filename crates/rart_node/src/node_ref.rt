@@ -7,20 +7,39 @@ use crate::node::VersionedNode;
 use crate::work::Work;
 use rart_below::Partial;
 use std::alloc::{AllocError, Global};
+use std::marker::Model;
 use std::rc::Rc;
 
 /// A counted pointer to a node: rart's `Arc<VersionedNode>`, for one thread.
 ///
-/// Contracts see a pointer as the node that it shows. Copies of a pointer show the same node, and a
-/// write through one of them changes what that one shows and no other. Nothing can be read through
-/// a pointer without a count in a `Work`.
+/// Contracts see a pointer by the shape of the node that it shows. Copies of a pointer show the
+/// same node, and a write through one of them changes what that one shows and no other. Nothing can
+/// be read through a pointer without a count in a `Work`.
 #[cycle(node)]
-pub struct NodeRef<P, V> {
+pub struct NodeRef<P: Partial, V> {
     shared: Rc<VersionedNode<P, V>, Global>,
 }
 
+impl<P: Partial, V> Model for NodeRef<P, V> {
+    ghost use Rattle.rart_node.specs.Seen.{Seen, seen_code};
+
+    ghost Value = { Seen V };
+
+    ghost coded = { seen_code V.code };
+
+    ghost use Rattle.rart_node.specs.NodeShapes.{seen_pointer};
+
+    ghost view = { λ pointer. seen_pointer pointer.shared.value };
+
+    ghost size = { λ seen. seen.depth };
+
+    ghost use Rattle.std.proofs.Common.{arith};
+
+    ghost size_decreases = { λ pointer h. omega arith };
+}
+
 /// Written out, so that a crate that drops a pointer proves nothing of what nodes are made of.
-impl<P: Drop, V: Drop> Drop for NodeRef<P, V> {
+impl<P: Partial, V: Drop> Drop for NodeRef<P, V> {
     #[cycle(drop_node)]
     #[inline]
     fn drop(self) {
@@ -37,24 +56,20 @@ impl<P: Drop, V: Drop> Drop for NodeRef<P, V> {
 // the children go, and so the stack a copy of each node on the way down.
 #[cycle(drop_node)]
 #[inline(never)]
-fn drop_last<P: Drop, V: Drop>(shared: Rc<VersionedNode<P, V>, Global>) {
+fn drop_last<P: Partial, V: Drop>(shared: Rc<VersionedNode<P, V>, Global>) {
     if let Some(node) = Rc::into_inner(shared) {
         drop(node);
     }
 }
 
-#[tactic(auto, using(crate::proofs::NodeLemmas::seeing))]
 impl<P: Partial, V: Drop> NodeRef<P, V> {
-    ghost use Rattle.rart_node.specs.NodeShapes.{node_shape, pointer_shape};
-
     /// A pointer to this node: one node made. Refused for memory, the node is given up.
     pub fn new(
         alloc: Global,
         node: VersionedNode<P, V>,
         work: &mut Work,
     ) -> Result<NodeRef<P, V>, AllocError>
-        ensures shown { IfOk result (λ pointer. pointer_shape P.bytes pointer
-            ≡ node_shape P.bytes node) }
+        ensures shown { IfOk result (λ pointer. pointer.shape ≡ node.shape) }
         ensures work { work.new ≡ record work.old { made = work.old.made + 1 } }
     {
         work.make();
@@ -65,7 +80,7 @@ impl<P: Partial, V: Drop> NodeRef<P, V> {
 
     /// The node: one node entered.
     pub fn open(&self, work: &mut Work) -> &VersionedNode<P, V>
-        ensures shown { node_shape P.bytes result.now ≡ pointer_shape P.bytes self.now }
+        ensures shown { result.now.shape ≡ self.now.shape }
         ensures work { work.new ≡ record work.old { entered = work.old.entered + 1 } }
     {
         work.enter();
@@ -75,7 +90,7 @@ impl<P: Partial, V: Drop> NodeRef<P, V> {
     /// Another pointer to the same node. Refused where the count of pointers to it is at its
     /// greatest, and nothing has changed then. In Rust this is `Arc::clone`.
     pub fn copy(&self) -> Result<NodeRef<P, V>, AllocError>
-        ensures { IfOk result (λ it. pointer_shape P.bytes it ≡ pointer_shape P.bytes self.now) }
+        ensures { IfOk result (λ it. it.shape ≡ self.now.shape) }
     {
         Ok(NodeRef {
             shared: self.shared.clone()?,
@@ -85,18 +100,14 @@ impl<P: Partial, V: Drop> NodeRef<P, V> {
 
 /// As `copy`.
 impl<P: Partial, V: Drop> Clone for NodeRef<P, V> {
-    ghost use Rattle.rart_node.specs.NodeShapes.{pointer_shape};
-
-    ghost is_clone = { λ pointer copy. pointer_shape P.bytes copy ≡ pointer_shape P.bytes pointer };
+    ghost is_clone = { λ pointer copy. copy.shape ≡ pointer.shape };
 
     fn clone(&self) -> Result<NodeRef<P, V>, AllocError> {
         self.copy()
     }
 }
 
-#[tactic(auto, using(crate::proofs::NodeLemmas::seeing))]
 impl<P: Partial, V: Clone + Drop> NodeRef<P, V> {
-    ghost use Rattle.rart_node.specs.NodeShapes.{node_shape, pointer_shape};
     ghost use Rattle.rart_node.specs.Lent.{LendsNode};
     ghost use Rattle.std.specs.Borrow.{sem};
 
@@ -106,9 +117,8 @@ impl<P: Partial, V: Clone + Drop> NodeRef<P, V> {
     /// The pointer then shows the node as it was left. Refused for memory, it shows what it showed.
     pub fn open_mut(&mut self, work: &mut Work) -> Result<&mut VersionedNode<P, V>, AllocError>
         requires clones { ClonesEqual V.is_clone }
-        ensures* writes_back { sem 𝓛 (LendsNode P.row V.row P.bytes self.entry result) }
-        ensures shown { IfOk result (λ node. node_shape P.bytes node.now
-            ≡ pointer_shape P.bytes self.old) }
+        ensures* writes_back { sem 𝓛 (LendsNode P.row V.row P.Partial self.entry result) }
+        ensures shown { IfOk result (λ node. node.now.shape ≡ self.old.shape) }
         ensures work { work.new ≡ record {
           entered = work.old.entered + 1;
           made = work.old.made + 1;

@@ -124,24 +124,24 @@ module _ {V : Type 0} where
         (taken-below s child left key rest byte tree
         (strip_prefix-is (prefix_of s) key rest goes.strips) goes.next goes.here taken)
 
-module _ {P V : Type 0} (bytes : P → List ℕ) (edit : Edit P V) where
+module _ {P V : Type 0} (edit : Edit P V) where
   pub removes-here : (depth : ℕ) (key : List ℕ) (s : Shape V) → depth ≡ 0
-      → RemovesBelow bytes depth edit key s → Removes bytes edit key s
-  removes-here depth key s is planned = subst (λ n. RemovesBelow bytes n edit key s) is planned
+      → RemovesBelow depth edit key s → Removes edit key s
+  removes-here depth key s is planned = subst (λ n. RemovesBelow n edit key s) is planned
 
   -- the next step of the way, and what is planned below
   pub record StepsDown (depth : ℕ) (key : List ℕ) (s : Shape V) (rest : List ℕ) : Type 0 where
     pub byte : ℕ
     pub child : Shape V
     pub goes : GoesOn key s byte child rest
-    pub removes : RemovesBelow bytes depth edit rest child
+    pub removes : RemovesBelow depth edit rest child
 
   module _ (depth : ℕ) (s opened : Shape V) (key prefix : List ℕ) (len : ℕ) (some : 0 < depth)
-      (planned : RemovesBelow bytes depth edit key s) (same : opened ≡ s)
+      (planned : RemovesBelow depth edit key s) (same : opened ≡ s)
       (is : prefix ≡ prefix_of opened) (long : len ≡ length prefix) where
-    deeper : RemovesBelow bytes (suc (depth - 1)) edit key s
+    deeper : RemovesBelow (suc (depth - 1)) edit key s
     deeper = let same : depth ≡ suc (depth - 1) = omega (arith, some) in
-        subst (λ n. RemovesBelow bytes n edit key s) same planned
+        subst (λ n. RemovesBelow n edit key s) same planned
 
     pub steps-within : len ≤ length key
     steps-within =
@@ -157,7 +157,7 @@ module _ {P V : Type 0} (bytes : P → List ℕ) (edit : Edit P V) where
           byte = deeper.0;
           child = deeper.1;
           goes = subst (GoesOn key s deeper.0 deeper.1) same deeper.3;
-          removes = subst (λ z. RemovesBelow bytes (depth - 1) edit z deeper.1) same deeper.4;
+          removes = subst (λ z. RemovesBelow (depth - 1) edit z deeper.1) same deeper.4;
         }
 
   module _ {depth : ℕ} {key : List ℕ} {s : Shape V} {rest : List ℕ}
@@ -189,5 +189,5 @@ module _ {P V : Type 0} (bytes : P → List ℕ) (edit : Edit P V) where
                 here = child-is s opened child byte same here;
               }
 
-          pub down-removes : RemovesBelow bytes depth edit rest child
-          down-removes = subst (λ z. RemovesBelow bytes depth edit rest z) same-child down.removes
+          pub down-removes : RemovesBelow depth edit rest child
+          down-removes = subst (λ z. RemovesBelow depth edit rest z) same-child down.removes

@@ -8,8 +8,7 @@ use Rattle.std.proofs.lemmas.List.{append-nil}
 use Rattle.std.proofs.lemmas.Option.{none-some}
 use Rattle.rart_below.specs.Bytes.{IsAdmitted}
 use Rattle.rart_below.specs.Children.{child_at}
-use Rattle.rart_node.specs.declared.node_ref.NodeRef.{NodeRef}
-use Rattle.rart_node.specs.NodeShapes.{pointer_shape}
+use Rattle.rart_node.specs.Seen.{Seen}
 use Rattle.rart_node.specs.Shape.{Shape, node, bare, grown, HasOnly, merged, prefix_of, value_of, children_of, with_value, with_deleted}
 use Rattle.rart_removal.specs.Plans.{GoesOn, IsLeafAt, LeadsToLeaf, Removes, IsPlan, value_under, cost_of}
 use Rattle.rart_removal.specs.Removals.{AreAdmitted, IsTakenOr, CountsLeaving}
@@ -143,9 +142,9 @@ module _ {V : Type 0} where
           admitted-merged most after child b after-is_left.0 only
           (admitted-left most s after key after-is_left admitted)
 
-module _ {P V : Type 0} (bytes : P → List ℕ) where
+module _ {P V : Type 0} where
   pub here-removes : (s : Shape V) → IsTree s → 1 < length (children_of s)
-      → Removes bytes Take (prefix_of s) s
+      → Removes {P = P} Take (prefix_of s) s
   here-removes s tree some =
       record {
         fits = tt;
@@ -155,12 +154,12 @@ module _ {P V : Type 0} (bytes : P → List ℕ) where
         value = sym (here-found s);
       }
 
-  module _ (pointer : NodeRef P V) (value : Option V) (s after : Shape V)
+  module _ (pointer : Seen V) (value : Option V) (s after : Shape V)
       (one : length (children_of after) ≡ 1)
       (shows : (byte : ℕ) (child : Shape V) → HasOnly byte child after
-      → pointer_shape bytes pointer ≡ merged (prefix_of after) child) where
+      → pointer.shape ≡ merged (prefix_of after) child) where
     replaces : (key : List ℕ) → IsLeft key s after → value_of after ≡ None
-        → value ≡ found s key → Removes bytes (Replace pointer value) key s
+        → value ≡ found s key → Removes {P = P} (Replace pointer value) key s
     replaces key left none is =
         let only = only-one after one in
         record {
@@ -172,21 +171,21 @@ module _ {P V : Type 0} (bytes : P → List ℕ) where
         }
 
     pub here-replaces : IsTree s → after ≡ with_value None s → value ≡ value_of s
-        → Removes bytes (Replace pointer value) (prefix_of s) s
+        → Removes {P = P} (Replace pointer value) (prefix_of s) s
     here-replaces tree is took =
         replaces (prefix_of s) (subst (IsLeft (prefix_of s) s) (sym is) (here-left s tree))
         (ap value_of is ∙ no-value s) (took ∙ sym (here-found s))
 
     pub leaf-replaces : IsTree s → (byte : ℕ) → after ≡ with_deleted byte s → value_of s ≡ None
         → value ≡ value_under byte s → (key : List ℕ) → LeadsToLeaf byte key s
-        → Removes bytes (Replace pointer value) key s
+        → Removes {P = P} (Replace pointer value) key s
     leaf-replaces tree byte is none took key leads =
         replaces key (after-is_left s byte tree key leads after is)
         (ap value_of is ∙ kept-value s byte ∙ none) (took ∙ leaf-value s byte tree key leads)
 
   pub prune-removes : (s : Shape V) (byte : ℕ) → IsTree s
       → (value_of s ≡ None → 2 < length (children_of s)) → (key : List ℕ)
-      → LeadsToLeaf byte key s → Removes bytes (Prune byte) key s
+      → LeadsToLeaf byte key s → Removes {P = P} (Prune byte) key s
   prune-removes s byte tree some key leads =
       record {
         fits = ap is_some leads.2.here;
@@ -198,6 +197,7 @@ module _ {P V : Type 0} (bytes : P → List ℕ) where
         value = leaf-value s byte tree key leads;
       }
 
+module _ {V : Type 0} where
   -- the key ends at the node that was opened
   module _ (s opened : Shape V) (key prefix rest : List ℕ) (same : opened ≡ s)
       (is : prefix ≡ prefix_of opened) (strips : Some rest ≡ strip_prefix prefix key)
@@ -207,11 +207,11 @@ module _ {P V : Type 0} (bytes : P → List ℕ) where
         strip_prefix-is prefix key rest (sym strips)
         ∙ ap (λ z. prefix ++ z) (no-first rest (sym end)) ∙ append-nil prefix ∙ is
 
-    pub ends-here : (plan : Plan P V) → IsPlan bytes plan (prefix_of opened) opened
-        → IsPlan bytes plan key s
+    pub ends-here : {P : Type 0} (plan : Plan P V) → IsPlan plan (prefix_of opened) opened
+        → IsPlan plan key s
     ends-here plan planned =
-        subst (λ z. IsPlan bytes plan z s) (sym whole-key)
-        (subst (λ z. IsPlan bytes plan (prefix_of opened) z) same planned)
+        subst (λ z. IsPlan plan z s) (sym whole-key)
+        (subst (λ z. IsPlan plan (prefix_of opened) z) same planned)
 
     pub ends-found : found s key ≡ value_of opened
     ends-found =

@@ -5,7 +5,6 @@ use Rattle.rart_below.specs.Bytes.{IsAdmitted}
 use Rattle.rart_below.specs.Children.{child_at}
 use Rattle.rart_below.specs.Clones.{ClonesEqual}
 use Rattle.rart_node.specs.Counts.{Counts, CountsUpTo}
-use Rattle.rart_node.specs.NodeShapes.{pointer_shape}
 use Rattle.rart_node.specs.Shape.{Shape, HasOnly, prefix_of, value_of, children_of, with_value, with_deleted}
 use Rattle.rart_removal.specs.Removals.{CountsLeaving}
 use Rattle.rart_removal.specs.declared.edit.Edit.{Edit}
@@ -91,12 +90,12 @@ abbrev pub edit_cost_of : {P V E : Type 0} → Result (Edit P V) E → ℕ
 edit_cost_of (Ok edit) = edit_cost edit
 edit_cost_of (Err refused) = 0
 
-module _ {P V : Type 0} (bytes : P → List ℕ) where
+module _ {P V : Type 0} where
   -- what an edit makes of a node, and the value that goes
   abbrev pub edited : Edit P V → Shape V → Shape V
   edited Take s = with_value None s
   edited (Prune byte) s = with_deleted byte s
-  edited (Replace node value) s = pointer_shape bytes node
+  edited (Replace node value) s = node.shape
 
   abbrev pub gone : Edit P V → Shape V → Option V
   gone Take s = value_of s

@@ -3,7 +3,6 @@
 ghost use Rattle.std.specs.Prelude.{◌≡◌, ◌+◌, IsSome, None};
 ghost use Rattle.rart_below.specs.Children.{child_at};
 ghost use Rattle.rart_below.specs.Clones.{ClonesEqual};
-ghost use Rattle.rart_node.specs.NodeShapes.{pointer_shape};
 ghost use Rattle.rart_node.specs.Shape.{children_of, value_of, with_deleted, with_value};
 ghost use Rattle.rart_removal.specs.Plans.{CanEdit, Fits, RemovesBelow, TakesOut, edited, edit_cost, gone, value_under};
 ghost use Rattle.rart_shape.specs.Trees.{IsTaken, found};
@@ -15,7 +14,7 @@ use std::alloc::AllocError;
 
 /// What is done at a node.
 #[derive(Drop)]
-pub(crate) enum Edit<P, V> {
+pub(crate) enum Edit<P: Partial, V> {
     /// Its value is taken out.
     Take,
     /// The child under this byte, a leaf, is taken out.
@@ -33,11 +32,11 @@ pub(crate) fn edit_below<P: Partial, V: Clone + Drop>(
     edit: Edit<P, V>,
     work: &mut Work,
 ) -> Result<Option<V>, AllocError>
-    requires may { CanEdit V.is_clone (pointer_shape P.bytes at.old) }
-    requires planned { RemovesBelow P.bytes depth edit key.now (pointer_shape P.bytes at.old) }
-    ensures { TakesOut result (found (pointer_shape P.bytes at.old) key.now)
-        (λ left. IsTaken key.now (pointer_shape P.bytes at.old) left) (depth + edit_cost edit)
-        (pointer_shape P.bytes at.old) (pointer_shape P.bytes at.new) work.old work.new }
+    requires may { CanEdit V.is_clone at.old.shape }
+    requires planned { RemovesBelow depth edit key.now at.old.shape }
+    ensures { TakesOut result (found at.old.shape key.now)
+        (λ left. IsTaken key.now at.old.shape left) (depth + edit_cost edit)
+        at.old.shape at.new.shape work.old work.new }
 {
     if depth == 0 {
         return edit_here(at, edit, work);
@@ -59,11 +58,11 @@ fn edit_here<P: Partial, V: Clone + Drop>(
     edit: Edit<P, V>,
     work: &mut Work,
 ) -> Result<Option<V>, AllocError>
-    requires may { CanEdit V.is_clone (pointer_shape P.bytes at.old) }
-    requires fits { Fits P.bytes edit (pointer_shape P.bytes at.old) }
-    ensures { TakesOut result (gone P.bytes edit (pointer_shape P.bytes at.old))
-        (λ left. left ≡ edited P.bytes edit (pointer_shape P.bytes at.old)) (edit_cost edit)
-        (pointer_shape P.bytes at.old) (pointer_shape P.bytes at.new) work.old work.new }
+    requires may { CanEdit V.is_clone at.old.shape }
+    requires fits { Fits edit at.old.shape }
+    ensures { TakesOut result (gone edit at.old.shape)
+        (λ left. left ≡ edited edit at.old.shape) (edit_cost edit)
+        at.old.shape at.new.shape work.old work.new }
 {
     match edit {
         Edit::Take => take(at, work),
@@ -81,9 +80,9 @@ pub(crate) fn take<P: Partial, V: Clone + Drop>(
     work: &mut Work,
 ) -> Result<Option<V>, AllocError>
     requires clones { ClonesEqual V.is_clone }
-    ensures { TakesOut result (value_of (pointer_shape P.bytes at.old))
-        (λ left. left ≡ with_value None (pointer_shape P.bytes at.old)) 1
-        (pointer_shape P.bytes at.old) (pointer_shape P.bytes at.new) work.old work.new }
+    ensures { TakesOut result (value_of at.old.shape)
+        (λ left. left ≡ with_value None at.old.shape) 1
+        at.old.shape at.new.shape work.old work.new }
 {
     let node = at.open_mut(work)?;
     Ok(node.take_value())
@@ -96,11 +95,11 @@ fn prune<P: Partial, V: Clone + Drop>(
     byte: u8,
     work: &mut Work,
 ) -> Result<Option<V>, AllocError>
-    requires may { CanEdit V.is_clone (pointer_shape P.bytes at.old) }
-    requires present { IsSome (child_at byte (children_of (pointer_shape P.bytes at.old))) }
-    ensures { TakesOut result (value_under byte (pointer_shape P.bytes at.old))
-        (λ left. left ≡ with_deleted byte (pointer_shape P.bytes at.old)) 2
-        (pointer_shape P.bytes at.old) (pointer_shape P.bytes at.new) work.old work.new }
+    requires may { CanEdit V.is_clone at.old.shape }
+    requires present { IsSome (child_at byte (children_of at.old.shape)) }
+    ensures { TakesOut result (value_under byte at.old.shape)
+        (λ left. left ≡ with_deleted byte at.old.shape) 2
+        at.old.shape at.new.shape work.old work.new }
 {
     let node = at.open_mut(work)?;
     let Some(leaf) = node.seek_child_mut(byte) else {

@@ -7,7 +7,6 @@
 //! puts it in place, and opens the nodes above it alone.
 #![tactic(auto)]
 
-ghost use Rattle.rart_node.specs.NodeShapes.{pointer_shape};
 ghost use Rattle.rart_removal.specs.Removals.{CanRemove, RemovesKey};
 
 mod edit;
@@ -35,9 +34,8 @@ pub fn remove_below<P: Partial, V: Clone + Drop>(
     version: u64,
     work: &mut Work,
 ) -> Result<Removed<V>, AllocError>
-    requires { CanRemove V.is_clone P.MAXIMUM_SIZE (pointer_shape P.bytes root.old) }
-    ensures { RemovesKey result key.now (pointer_shape P.bytes root.old)
-        (pointer_shape P.bytes root.new) work.old work.new }
+    requires { CanRemove V.is_clone P.MAXIMUM_SIZE root.old.shape }
+    ensures { RemovesKey result key.now root.old.shape root.new.shape work.old work.new }
 {
     match plan_below(alloc, root, key, version, work)? {
         Plan::Absent => Ok(Removed {

@@ -2,7 +2,6 @@
 //! The way down that finds a key, and what is to be done to remove it.
 ghost use Rattle.std.specs.Prelude.{◌≡◌, ℕ, List};
 ghost use Rattle.rart_below.specs.Clones.{ClonesEqual};
-ghost use Rattle.rart_node.specs.NodeShapes.{node_shape, pointer_shape};
 ghost use Rattle.rart_node.specs.Shape.{Shape, HasOnly, IsAscending, merged, prefix_of};
 ghost use Rattle.rart_removal.specs.Plans.{CanLoseAChild, CanMerge, Gives, LeadsToLeaf, PlansBelow, PlansHere, PlansWithout, value_under};
 ghost use Rattle.rart_removal.specs.Removals.{CanRemove};
@@ -16,7 +15,7 @@ use std::alloc::{AllocError, Global};
 
 /// What is to be done to remove a key.
 #[derive(Drop)]
-pub(crate) enum Plan<P, V> {
+pub(crate) enum Plan<P: Partial, V> {
     /// Nothing: the key is absent.
     Absent,
     /// The node goes: the key ends there, and it has no child.
@@ -34,8 +33,8 @@ pub(crate) fn plan_below<P: Partial, V: Clone + Drop>(
     version: u64,
     work: &mut Work,
 ) -> Result<Plan<P, V>, AllocError>
-    requires { CanRemove V.is_clone P.MAXIMUM_SIZE (pointer_shape P.bytes at.now) }
-    ensures { PlansBelow P.bytes result key.now (pointer_shape P.bytes at.now) work.old work.new }
+    requires { CanRemove V.is_clone P.MAXIMUM_SIZE at.now.shape }
+    ensures { PlansBelow result key.now at.now.shape work.old work.new }
 {
     let node = at.open(work);
     let Some(rest) = strip_prefix(key, node.prefix()) else {
@@ -61,8 +60,8 @@ fn plan_here<P: Partial, V: Clone + Drop>(
     version: u64,
     work: &mut Work,
 ) -> Result<Plan<P, V>, AllocError>
-    requires { CanRemove V.is_clone P.MAXIMUM_SIZE (node_shape P.bytes node.now) }
-    ensures { PlansHere P.bytes result (node_shape P.bytes node.now) work.old work.new }
+    requires { CanRemove V.is_clone P.MAXIMUM_SIZE node.now.shape }
+    ensures { PlansHere result node.now.shape work.old work.new }
 {
     if node.value().is_none() {
         return Ok(Plan::Absent);
@@ -87,9 +86,9 @@ fn plan_without<P: Partial, V: Clone + Drop>(
     version: u64,
     work: &mut Work,
 ) -> Result<Edit<P, V>, AllocError>
-    requires may { CanRemove V.is_clone P.MAXIMUM_SIZE (node_shape P.bytes node.now) }
-    requires leaf { (key : List ℕ) × LeadsToLeaf byte key (node_shape P.bytes node.now) }
-    ensures { PlansWithout P.bytes result byte (node_shape P.bytes node.now) work.old work.new }
+    requires may { CanRemove V.is_clone P.MAXIMUM_SIZE node.now.shape }
+    requires leaf { (key : List ℕ) × LeadsToLeaf byte key node.now.shape }
+    ensures { PlansWithout result byte node.now.shape work.old work.new }
 {
     if can_lose_a_child(node) {
         return Ok(Edit::Prune(byte));
@@ -102,8 +101,8 @@ fn plan_without<P: Partial, V: Clone + Drop>(
 
 /// Whether a node that loses a child still has a value or two children.
 fn can_lose_a_child<P: Partial, V: Drop>(node: &VersionedNode<P, V>) -> bool
-    requires { IsTree (node_shape P.bytes node.now) }
-    ensures { CanLoseAChild result (node_shape P.bytes node.now) }
+    requires { IsTree node.now.shape }
+    ensures { CanLoseAChild result node.now.shape }
 {
     node.value().is_some() || node.num_children() > 2
 }
@@ -115,8 +114,8 @@ fn value_under<P: Partial, V: Clone + Drop>(
     work: &mut Work,
 ) -> Result<Option<V>, AllocError>
     requires clones { ClonesEqual V.is_clone }
-    requires order { IsAscending (node_shape P.bytes node.now) }
-    ensures { Gives result (λ value. value ≡ value_under byte (node_shape P.bytes node.now)) 1 0
+    requires order { IsAscending node.now.shape }
+    ensures { Gives result (λ value. value ≡ value_under byte node.now.shape) 1 0
         work.old work.new }
 {
     match node.seek_child(byte) {
@@ -132,11 +131,9 @@ fn merge<P: Partial, V: Clone + Drop>(
     version: u64,
     work: &mut Work,
 ) -> Result<NodeRef<P, V>, AllocError>
-    requires { CanMerge V.is_clone P.MAXIMUM_SIZE (node_shape P.bytes node.now) }
-    ensures { Gives result (λ it. (byte : ℕ) (child : Shape V)
-        → HasOnly byte child (node_shape P.bytes node.now)
-        → pointer_shape P.bytes it ≡ merged (prefix_of (node_shape P.bytes node.now)) child)
-        1 1 work.old work.new }
+    requires { CanMerge V.is_clone P.MAXIMUM_SIZE node.now.shape }
+    ensures { Gives result (λ it. (byte : ℕ) (child : Shape V) → HasOnly byte child node.now.shape
+        → it.shape ≡ merged (prefix_of node.now.shape) child) 1 1 work.old work.new }
 {
     NodeRef::new(alloc, node.merge_child(alloc, version, work)?, work)
 }

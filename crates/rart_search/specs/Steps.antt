@@ -3,7 +3,6 @@ use Rattle.std.specs.Prelude.{◌≡◌, ℕ, ◌+◌, List, [], ◌∷◌, Opti
 use Rattle.std.specs.Option.{option_map}
 use Rattle.rart_below.specs.Children.{child_at}
 use Rattle.rart_node.specs.Counts.{Counts}
-use Rattle.rart_node.specs.NodeShapes.{node_shape, pointer_shape}
 use Rattle.rart_node.specs.Shape.{Shape, prefix_of, children_of}
 use Rattle.rart_search.specs.declared.steps.Passed.{Passed}
 use Rattle.rart_shape.specs.Trees.{strip_prefix}
@@ -15,11 +14,9 @@ module _ {V : Type 0} where
   child_under (byte ∷ rest) s = child_at byte (children_of s)
 
 -- The node s is entered. Where the key begins with its prefix, the node is told, with what is left
--- of the key and the child that it goes on to.
-pub record Passes {P V : Type 0} (bytes : P → List ℕ) (result : Option (Passed P V))
+-- of the key.
+pub record Passes {P V : Type 0} (result : Option (Passed P V))
     (key : List ℕ) (s : Shape V) (start now : Counts) : Type 0 where
   pub rest : option_map (λ passed. passed.rest.now) result ≡ strip_prefix (prefix_of s) key
-  pub node : IfSome result (λ passed. node_shape bytes passed.node.now ≡ s)
-  pub child : IfSome result (λ passed. option_map (λ child. pointer_shape bytes child.now)
-      passed.child ≡ child_under passed.rest.now s)
+  pub node : IfSome result (λ passed. passed.node.now.shape ≡ s)
   pub work : now ≡ record start { entered = start.entered + 1 }

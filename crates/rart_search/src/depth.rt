@@ -1,7 +1,6 @@
 // Ported from rart 0.11.0 (Apache-2.0), and rewritten.
 //! How far down a tree the value of a key stands.
 ghost use Rattle.std.specs.Prelude.{◌<◌};
-ghost use Rattle.rart_node.specs.NodeShapes.{pointer_shape};
 ghost use Rattle.rart_search.specs.Searches.{FindsDepth};
 ghost use Rattle.rart_shape.specs.Trees.{IsTree};
 
@@ -16,8 +15,8 @@ pub fn path_length<P: Partial, V: Drop>(
     key: &[u8],
     work: &mut Work,
 ) -> Option<usize>
-    requires tree { IsTree (pointer_shape P.bytes root.now) }
-    ensures { FindsDepth result key.now (pointer_shape P.bytes root.now) work.old work.new }
+    requires tree { IsTree root.now.shape }
+    ensures { FindsDepth result key.now root.now.shape work.old work.new }
 {
     let mut at = root;
     let mut rest = key;
@@ -25,7 +24,7 @@ pub fn path_length<P: Partial, V: Drop>(
     'down: loop {
         let passed = step(at, rest, work)?;
         rest = passed.rest;
-        at = match passed.child {
+        at = match passed.child() {
             Some(child) => child,
             None if rest.is_empty() && passed.node.value().is_some() => return Some(steps),
             None => return None,

@@ -3,7 +3,6 @@
 ghost use Rattle.std.specs.Prelude.{◌≡◌, ◌≤◌, ℕ, List, IfSome, take};
 ghost use Rattle.std.specs.List.{last_or};
 ghost use Rattle.std.specs.Option.{option_copied};
-ghost use Rattle.rart_node.specs.NodeShapes.{pointer_shape};
 ghost use Rattle.rart_search.specs.Longest.{pair_found};
 ghost use Rattle.rart_search.specs.Searches.{FindsLongest};
 ghost use Rattle.rart_shape.specs.Trees.{IsTree};
@@ -23,8 +22,8 @@ pub fn longest_prefix_match<'a, P: Partial, V: Drop>(
     probe: &[u8],
     work: &mut Work,
 ) -> Option<(usize, &'a V)>
-    requires tree { IsTree (pointer_shape P.bytes root.now) }
-    ensures { FindsLongest result probe.now (pointer_shape P.bytes root.now) work.old work.new }
+    requires tree { IsTree root.now.shape }
+    ensures { FindsLongest result probe.now root.now.shape work.old work.new }
 {
     let mut at = root;
     let mut rest = probe;
@@ -35,7 +34,7 @@ pub fn longest_prefix_match<'a, P: Partial, V: Drop>(
         };
         rest = passed.rest;
         longest = longer(longest, probe.len() - rest.len(), passed.node.value());
-        let Some(child) = passed.child else {
+        let Some(child) = passed.child() else {
             return longest;
         };
         at = child;

@@ -1,6 +1,5 @@
 // Ported from rart 0.11.0 (Apache-2.0), and rewritten.
 //! The value of a key.
-ghost use Rattle.rart_node.specs.NodeShapes.{pointer_shape};
 ghost use Rattle.rart_search.specs.Searches.{FindsValue};
 ghost use Rattle.rart_shape.specs.Trees.{IsTree};
 
@@ -17,15 +16,15 @@ pub fn get_below<'a, P: Partial, V: Drop>(
     key: &[u8],
     work: &mut Work,
 ) -> Option<&'a V>
-    requires tree { IsTree (pointer_shape P.bytes root.now) }
-    ensures { FindsValue result key.now (pointer_shape P.bytes root.now) work.old work.new }
+    requires tree { IsTree root.now.shape }
+    ensures { FindsValue result key.now root.now.shape work.old work.new }
 {
     let mut at = root;
     let mut rest = key;
     'down: loop {
         let passed = step(at, rest, work)?;
         rest = passed.rest;
-        at = match passed.child {
+        at = match passed.child() {
             Some(child) => child,
             None if rest.is_empty() => return passed.node.value(),
             None => return None,

@@ -4,7 +4,6 @@ ghost use Rattle.std.specs.Prelude.{filter};
 ghost use Rattle.std.specs.Option.{option_copied};
 ghost use Rattle.rart_below.specs.Bytes.{begins};
 ghost use Rattle.rart_maps.specs.Visits.{BySlice, Visit, Visitable};
-ghost use Rattle.rart_node.specs.NodeShapes.{pointer_shape};
 ghost use Rattle.rart_search.specs.Searches.{VisitsMatches};
 ghost use Rattle.rart_shape.specs.Trees.{IsTree, pairs_of};
 ghost use Rattle.rart_walks.specs.Frames.{pending_pair};
@@ -24,11 +23,10 @@ pub fn visit_prefix_matches<P: Partial, V: Drop, F: FnMut(&[u8], &V)>(
     f: &mut F,
     work: &mut Work,
 )
-    requires tree { IsTree (pointer_shape P.bytes root.now) }
+    requires tree { IsTree root.now.shape }
     requires visitable { Visitable F.FnMut BySlice f.old
-        (filter (λ pair. begins pair.0 probe.now) (pairs_of (pointer_shape P.bytes root.now))) }
-    ensures { VisitsMatches F.FnMut f.old probe.now (pointer_shape P.bytes root.now) f.new
-        work.old work.new }
+        (filter (λ pair. begins pair.0 probe.now) (pairs_of root.now.shape)) }
+    ensures { VisitsMatches F.FnMut f.old probe.now root.now.shape f.new work.old work.new }
 {
     let mut at = root;
     let mut rest = probe;
@@ -39,7 +37,7 @@ pub fn visit_prefix_matches<P: Partial, V: Drop, F: FnMut(&[u8], &V)>(
         rest = passed.rest;
         let end = probe.len() - rest.len();
         visit_own(&probe[..end], passed.node.value(), f);
-        let Some(child) = passed.child else {
+        let Some(child) = passed.child() else {
             return;
         };
         at = child;

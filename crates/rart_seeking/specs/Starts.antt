@@ -6,10 +6,8 @@ use Rattle.std.specs.Range.Bound.{is_from_start}
 use Rattle.std.specs.declared.ops.Bound.{Bound}
 use Rattle.rart_below.specs.Bytes.{byte_order, common_length}
 use Rattle.rart_node.specs.Counts.{Counts, CountsUpTo}
-use Rattle.rart_node.specs.NodeShapes.{node_shape, pointer_shape}
 use Rattle.rart_node.specs.Shape.{Shape, prefix_of}
-use Rattle.rart_node.specs.declared.node.VersionedNode.{VersionedNode}
-use Rattle.rart_node.specs.declared.node_ref.NodeRef.{NodeRef}
+use Rattle.rart_node.specs.Seen.{Seen}
 use Rattle.rart_seeking.specs.declared.start.Kept.{Kept}
 use Rattle.rart_seeking.specs.declared.start.Kept.TheVariants.{All, Inside, Nothing}
 use Rattle.rart_shape.specs.Trees.{IsTree, pairs_of}
@@ -113,15 +111,15 @@ module _ {V : Type 0} where
     pub entered : after.entered ≡ before.entered + (if is_some opened then 1 else 0)
     pub made : after.made ≡ before.made
 
-module _ {P V : Type 0} (bytes : P → List ℕ) where
+module _ {V : Type 0} where
   -- a node and the path to it, as they are seen
   abbrev pub start_shape :
-      Option (Bor (List ℕ) × Bor (VersionedNode P V)) → Option (List ℕ × Shape V)
+      Option (Bor (List ℕ) × Bor (Seen V)) → Option (List ℕ × Shape V)
   start_shape None = None
-  start_shape (Some start) = Some (start.0.now, node_shape bytes start.1.now)
+  start_shape (Some start) = Some (start.0.now, start.1.now.shape)
 
   -- a pointer and the path to it
   abbrev pub turn_shape :
-      Option (Bor (List ℕ) × Bor (NodeRef P V)) → Option (List ℕ × Shape V)
+      Option (Bor (List ℕ) × Bor (Seen V)) → Option (List ℕ × Shape V)
   turn_shape None = None
-  turn_shape (Some turn) = Some (turn.0.now, pointer_shape bytes turn.1.now)
+  turn_shape (Some turn) = Some (turn.0.now, turn.1.now.shape)

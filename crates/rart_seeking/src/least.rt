@@ -1,7 +1,6 @@
 // Ported from rart 0.11.0 (Apache-2.0), and rewritten.
 //! The least pair below a node.
 ghost use Rattle.std.specs.Prelude.{◌+◌, ◌^◌, ◌<◌, length};
-ghost use Rattle.rart_node.specs.NodeShapes.{node_shape};
 ghost use Rattle.rart_seeking.specs.Firsts.{FindsLeast, WritesAt};
 ghost use Rattle.rart_seeking.specs.Starts.{CanGoDown};
 
@@ -16,8 +15,8 @@ pub(crate) fn least<'a, P: Partial, V: Drop>(
     room: &mut [u8],
     work: &mut Work,
 ) -> (usize, &'a V)
-    requires { CanGoDown path.now (node_shape P.bytes start.now) }
-    ensures { FindsLeast path.now (node_shape P.bytes start.now) result.0 result.1.now room.old
+    requires { CanGoDown path.now start.now.shape }
+    ensures { FindsLeast path.now start.now.shape result.0 result.1.now room.old
         room.new work.old work.new }
 {
     let mut node = start;

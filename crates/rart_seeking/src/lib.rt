@@ -8,7 +8,6 @@ ghost use Rattle.std.specs.Prelude.{◌+◌, ◌^◌, ◌-◌, Some, length};
 ghost use Rattle.std.specs.Ordering.{as_partial_cmp};
 ghost use Rattle.std.specs.Range.Bound.{is_up_to_end, bound_map};
 ghost use Rattle.rart_below.specs.Bytes.{byte_order};
-ghost use Rattle.rart_node.specs.NodeShapes.{pointer_shape};
 ghost use Rattle.rart_seeking.specs.Firsts.{FindsFirst, TellsOfFirst};
 ghost use Rattle.rart_seeking.specs.Starts.{CanSeek, pairs_from, pairs_meeting};
 ghost use Rattle.rart_shape.specs.Trees.{IsTree, pairs_of, path_bound};
@@ -38,11 +37,10 @@ pub fn first_from<'a, P: Partial, V: Drop>(
     room: &mut [u8],
     work: &mut Work,
 ) -> Option<(usize, &'a V)>
-    requires tree { IsTree (pointer_shape P.bytes root.now) }
-    requires short { AreShort (Some (2 ^ 64 - 1)) (pairs_of (pointer_shape P.bytes root.now)) }
+    requires tree { IsTree root.now.shape }
+    requires short { AreShort (Some (2 ^ 64 - 1)) (pairs_of root.now.shape) }
     ensures { let from = bound_map (λ low. low.now) low.entry in
-        FindsFirst (pairs_meeting from (pointer_shape P.bytes root.now))
-        (path_bound (pointer_shape P.bytes root.now) (start_of from))
+        FindsFirst (pairs_meeting from root.now.shape) (path_bound root.now.shape (start_of from))
         result room.old room.new work.old work.new }
 {
     match low {
@@ -60,10 +58,9 @@ fn first_behind<'a, P: Partial, V: Drop>(
     room: &mut [u8],
     work: &mut Work,
 ) -> Option<(usize, &'a V)>
-    requires { CanSeek (pointer_shape P.bytes root.now) }
-    ensures { FindsFirst (pairs_from is_strict low.now (pointer_shape P.bytes root.now))
-        (path_bound (pointer_shape P.bytes root.now) low.now)
-        result room.old room.new work.old work.new }
+    requires { CanSeek root.now.shape }
+    ensures { FindsFirst (pairs_from is_strict low.now root.now.shape)
+        (path_bound root.now.shape low.now) result room.old room.new work.old work.new }
 {
     let (path, start) = find_start(root, low, is_strict, work)?;
     Some(least(start, path, room, work))
@@ -79,13 +76,13 @@ pub fn has_within<P: Partial, V: Drop>(
     high: Bound<&[u8]>,
     work: &mut Work,
 ) -> bool
-    requires tree { IsTree (pointer_shape P.bytes root.now) }
-    requires short { AreShort (Some (2 ^ 64 - 1)) (pairs_of (pointer_shape P.bytes root.now)) }
+    requires tree { IsTree root.now.shape }
+    requires short { AreShort (Some (2 ^ 64 - 1)) (pairs_of root.now.shape) }
     ensures { let from = bound_map (λ low. low.now) low.entry in
         let to = bound_map (λ high. high.now) high.entry in
-        TellsOfFirst (pairs_meeting from (pointer_shape P.bytes root.now))
+        TellsOfFirst (pairs_meeting from root.now.shape)
         (is_up_to_end (as_partial_cmp byte_order) to)
-        (path_bound (pointer_shape P.bytes root.now) (start_of from) + length (start_of to) + 2)
+        (path_bound root.now.shape (start_of from) + length (start_of to) + 2)
         result work.old work.new }
 {
     match low {
@@ -103,12 +100,11 @@ fn has_behind<P: Partial, V: Drop>(
     high: Bound<&[u8]>,
     work: &mut Work,
 ) -> bool
-    requires { CanSeek (pointer_shape P.bytes root.now) }
+    requires { CanSeek root.now.shape }
     ensures { let to = bound_map (λ high. high.now) high.entry in
-        TellsOfFirst (pairs_from is_strict low.now (pointer_shape P.bytes root.now))
+        TellsOfFirst (pairs_from is_strict low.now root.now.shape)
         (is_up_to_end (as_partial_cmp byte_order) to)
-        (path_bound (pointer_shape P.bytes root.now) low.now + length (start_of to) + 2)
-        result work.old work.new }
+        (path_bound root.now.shape low.now + length (start_of to) + 2) result work.old work.new }
 {
     let Some((path, start)) = find_start(root, low, is_strict, work) else {
         return false;

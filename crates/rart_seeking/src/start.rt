@@ -3,7 +3,6 @@
 ghost use Rattle.std.specs.Prelude.{◌≡◌, ◌+◌};
 ghost use Rattle.std.specs.Option.{option_map};
 ghost use Rattle.rart_below.specs.Children.{child_at, children_from};
-ghost use Rattle.rart_node.specs.NodeShapes.{node_shape, pointer_shape};
 ghost use Rattle.rart_node.specs.Shape.{IsAscending, children_of};
 ghost use Rattle.rart_node.specs.VersionedNodeIter.{children_left};
 ghost use Rattle.rart_seeking.specs.Starts.{CanSeek, FindsStart, EndsAt, Keeps, TurnsTo, OpensTurn, pairs_from, start_shape, turn_shape};
@@ -28,10 +27,9 @@ pub(crate) fn find_start<'k, 'a, P: Partial, V: Drop>(
     is_strict: bool,
     work: &mut Work,
 ) -> Option<(&'k [u8], &'a VersionedNode<P, V>)>
-    requires { CanSeek (pointer_shape P.bytes root.now) }
-    ensures { FindsStart (pairs_from is_strict low.now (pointer_shape P.bytes root.now))
-        (path_bound (pointer_shape P.bytes root.now) low.now) (start_shape P.bytes result)
-        work.old work.new }
+    requires { CanSeek root.now.shape }
+    ensures { FindsStart (pairs_from is_strict low.now root.now.shape)
+        (path_bound root.now.shape low.now) (start_shape result) work.old work.new }
 {
     let mut at = root;
     let mut rest = low;
@@ -63,8 +61,8 @@ fn kept_of<P: Partial, V: Drop>(
     common: usize,
     is_strict: bool,
 ) -> Kept
-    requires { EndsAt common rest.now (node_shape P.bytes node.now) }
-    ensures { Keeps is_strict rest.now (node_shape P.bytes node.now) result }
+    requires { EndsAt common rest.now node.now.shape }
+    ensures { Keeps is_strict rest.now node.now.shape result }
 {
     if common < rest.len() {
         if rest[common] < node.prefix().at(common) {
@@ -86,11 +84,10 @@ fn around<'a, P: Partial, V: Drop>(
     node: &'a VersionedNode<P, V>,
     byte: u8,
 ) -> (Option<&'a NodeRef<P, V>>, VersionedNodeIter<'a, P, V>)
-    requires { IsAscending (node_shape P.bytes node.now) }
-    ensures child { option_map (λ child. pointer_shape P.bytes child.now) result.0
-        ≡ child_at byte (children_of (node_shape P.bytes node.now)) }
-    ensures later { children_left P.bytes result.1
-        ≡ children_from (byte + 1) (children_of (node_shape P.bytes node.now)) }
+    requires { IsAscending node.now.shape }
+    ensures child { option_map (λ child. child.now.shape) result.0
+        ≡ child_at byte (children_of node.now.shape) }
+    ensures later { children_left result.1 ≡ children_from (byte + 1) (children_of node.now.shape) }
 {
     let mut later = node.iter_from(byte);
     match node.seek_child(byte) {
@@ -108,8 +105,8 @@ fn turn_of<'k, 'a, P: Partial, V: Drop>(
     path: &'k [u8],
     turn: Option<(&'k [u8], &'a NodeRef<P, V>)>,
 ) -> Option<(&'k [u8], &'a NodeRef<P, V>)>
-    ensures { TurnsTo path.now (children_left P.bytes children.entry)
-        (turn_shape P.bytes turn.entry) (turn_shape P.bytes result) }
+    ensures { TurnsTo path.now (children_left children.entry)
+        (turn_shape turn.entry) (turn_shape result) }
 {
     match children.next_child() {
         Some(child) => Some((path, child)),
@@ -122,8 +119,7 @@ fn open_turn<'k, 'a, P: Partial, V: Drop>(
     turn: Option<(&'k [u8], &'a NodeRef<P, V>)>,
     work: &mut Work,
 ) -> Option<(&'k [u8], &'a VersionedNode<P, V>)>
-    ensures { OpensTurn (turn_shape P.bytes turn.entry) (start_shape P.bytes result)
-        work.old work.new }
+    ensures { OpensTurn (turn_shape turn.entry) (start_shape result) work.old work.new }
 {
     let (path, child) = turn?;
     Some((path, child.open(work)))

@@ -2,7 +2,6 @@
 //! Whether the least key below a node meets an upper bound.
 ghost use Rattle.std.specs.Prelude.{◌≡◌, ◌+◌, ◌∷◌, [], ℕ, List, length};
 ghost use Rattle.rart_node.specs.Counts.{CountsUpTo};
-ghost use Rattle.rart_node.specs.NodeShapes.{node_shape};
 ghost use Rattle.rart_seeking.specs.Besides.{StandsSo, is_to};
 ghost use Rattle.rart_seeking.specs.Starts.{CanGoDown};
 ghost use Rattle.rart_shape.specs.Trees.{pairs_of};
@@ -32,9 +31,9 @@ pub(crate) fn least_meets<P: Partial, V: Drop>(
     is_strict: bool,
     work: &mut Work,
 ) -> bool
-    requires { CanGoDown path.now (node_shape P.bytes start.now) }
+    requires { CanGoDown path.now start.now.shape }
     ensures meets { (pair : List ℕ × V) (others : List (List ℕ × V))
-        → behind_path path.now (pairs_of (node_shape P.bytes start.now)) ≡ pair ∷ others
+        → behind_path path.now (pairs_of start.now.shape) ≡ pair ∷ others
         → result ≡ is_to is_strict high.now pair.0 }
     ensures counted { CountsUpTo (length high.now + 1) 0 work.old work.new }
 {

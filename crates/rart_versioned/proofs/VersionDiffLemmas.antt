@@ -71,13 +71,13 @@ module _ {V : Type 0} where
       let other = finite.len-entries new in
       omega (arith, some, all, few, both, one, other)
 
-module _ {P V : Type 0} {partial : _} (same : V → V → Bool) (bytes : P → List ℕ)
+module _ {P V : Type 0} {partial : _} (same : V → V → Bool)
     (most : Option ℕ) (v w : Version V) (old new : Walk P V (List ℕ) partial) where
-  pub walks-are : IsWalk bytes HoldsBytes None old → IsWalk bytes HoldsBytes None new
-      → (cursor bytes old).pairs ≡ pairs v.content
-      → (cursor bytes new).pairs ≡ pairs w.content
-      → AreAdmitted most (cursor bytes old).pairs → AreAdmitted most (cursor bytes new).pairs
-      → AreWalks same bytes most v w old new
+  pub walks-are : IsWalk HoldsBytes None old → IsWalk HoldsBytes None new
+      → (cursor old).pairs ≡ pairs v.content
+      → (cursor new).pairs ≡ pairs w.content
+      → AreAdmitted most (cursor old).pairs → AreAdmitted most (cursor new).pairs
+      → AreWalks same most v w old new
   walks-are old_walk new_walk is also old_admitted new_admitted =
       record {
         old_walk = old_walk;

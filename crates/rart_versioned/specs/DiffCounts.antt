@@ -33,12 +33,12 @@ module _ {V : Type 0} (v w : Version V) where
     -- Walks over both trees are made. What they have left to enter, and what was entered for them,
     -- are all nodes of both. `partial` is what is known of prefixes, which the type takes for a
     -- ghost field.
-    pub record MakesWalks {P : Type 0} {partial : _} (bytes : P → List ℕ) (most : Option ℕ)
+    pub record MakesWalks {P : Type 0} {partial : _} (most : Option ℕ)
         (result : Result (Walk P V (List ℕ) partial × Walk P V (List ℕ) partial) E)
         (start now : Counts) : Type 0 where
-      pub walks : IfOk result (λ walks. AreWalks same bytes most v w walks.0 walks.1)
+      pub walks : IfOk result (λ walks. AreWalks same most v w walks.0 walks.1)
       pub nodes : IfOk result (λ walks. now.entered
-          + (length (cursor bytes walks.0).paths + length (cursor bytes walks.1).paths)
+          + (length (cursor walks.0).paths + length (cursor walks.1).paths)
           ≡ start.entered + (node_count v.content + node_count w.content))
       pub counted : CountsUpTo (node_count v.content + node_count w.content) 0 start now
       pub entered : has_no_key v ≡ false → start.entered < now.entered

@@ -50,11 +50,11 @@ module _ {V : Type 0} where
 
 -- ---- along a walk
 
-module _ {P V : Type 0} {partial : _} (bytes : P → List ℕ) where
+module _ {P V : Type 0} {partial : _} where
   module _ {T : Type 0} where
     -- the pairs that are still to come
     abbrev pub pairs_left : Option (Walk P V T partial) → Option (List (List ℕ × V))
-    pairs_left walk = option_map (λ walk. (cursor bytes walk).pairs) walk
+    pairs_left walk = option_map (λ walk. (cursor walk).pairs) walk
 
     -- their values
     abbrev pub values_left : Option (Walk P V T partial) → Option (List V)
@@ -63,17 +63,17 @@ module _ {P V : Type 0} {partial : _} (bytes : P → List ℕ) where
     -- the pairs that are still to come where they end with an upper bound
     abbrev pub within_left :
         Bound (List ℕ) → Option (Walk P V T partial) → Option (List (List ℕ × V))
-    within_left high walk = option_map (λ walk. up_to high (cursor bytes walk).pairs) walk
+    within_left high walk = option_map (λ walk. up_to high (cursor walk).pairs) walk
 
   -- A walk that keeps the bytes of its keys, of each of which a key can be made.
   pub record IsKeyWalk (most : Option ℕ) (walk : Walk P V (List ℕ) partial) : Type 0 where
-    pub walks : IsWalk bytes HoldsBytes None walk
-    pub admitted : AreAdmitted most (cursor bytes walk).pairs
+    pub walks : IsWalk HoldsBytes None walk
+    pub admitted : AreAdmitted most (cursor walk).pairs
 
   -- Its keys ascend too.
   pub record IsRangeWalk (most : Option ℕ) (walk : Walk P V (List ℕ) partial) : Type 0 where
     pub keyed : IsKeyWalk most walk
-    pub ascends : KeysAscend (λ pair. pair.0) (cursor bytes walk).pairs
+    pub ascends : KeysAscend (λ pair. pair.0) (cursor walk).pairs
 
 module _ {K V : Type 0} (bytes : K → List ℕ) where
   -- The first pair was given, with a key of its own, or there was none.

@@ -1,16 +1,15 @@
 -- What the iterator along a probe has left, by the node that it comes to next, or the lack of one.
 use Rattle.std.specs.Prelude.{ℕ, ◌≤◌, List, Option, length}
 use Rattle.std.specs.Option.{option_map}
-use Rattle.rart_node.specs.NodeShapes.{pointer_shape}
 use Rattle.rart_node.specs.Shape.{Shape}
 use Rattle.rart_versioned.specs.declared.iterators.prefix_match.Way.{Way}
 use Rattle.rart_versioned.specs.IteratorFields.{matches_below}
 use Rattle.rart_versioned.specs.Roots.{IsTreeIn}
 
-module _ {P V : Type 0} (bytes : P → List ℕ) where
+module _ {P V : Type 0} where
   -- the node that comes next
   abbrev pub next_node : Way P V → Option (Shape V)
-  next_node way = option_map (λ at. pointer_shape bytes at.now) way.at
+  next_node way = option_map (λ at. at.now.shape) way.at
 
   module _ (probe : List ℕ) where
     -- the pairs that are still to come

@@ -8,14 +8,18 @@ use Rattle.std.specs.Borrow.{RattleType, MutBor, Fml, follows_so, name_if_ok}
 use Rattle.std.specs.FinMap as finite
 use Rattle.std.specs.contracts.option.Option as option
 use Rattle.rart_maps.specs.Versions.{Map}
+use Rattle.rart_below.specs.declared.partial.Partial.{Ghosts as Prefixes}
 use Rattle.rart_node.specs.contracts.node_ref.NodeRef as pointer
-use Rattle.rart_node.specs.declared.node_ref.NodeRef.{NodeRef}
-use Rattle.rart_node.specs.NodeShapes.{pointer_shape}
+use Rattle.rart_node.specs.Seen.{Seen, shape_of}
 use Rattle.rart_node.specs.Shape.{Shape}
 use Rattle.rart_shape.specs.Trees.{found, pairs_of, IsTree}
 use Rattle.rart_versioned.specs.Keys.{IsKey}
 
 module _ {V : Type 0} where
+  -- what is below a root
+  abbrev pub below_root : Option (Seen V) → Option (Shape V)
+  below_root = option_map shape_of
+
   -- the map that a root stands for, or the lack of one
   abbrev pub map_of : Option (Shape V) → Map V
   map_of None = finite.empty
@@ -55,18 +59,15 @@ module _ {V : Type 0} where
   StaysSound before after =
       (most : Option ℕ) (count : ℕ) → IsSound most count before → IsSound most count after
 
-module _ (P V : RattleType) (bytes : P.Denot → List ℕ) where
-  -- what is below a root
-  abbrev pub below_root : Option (NodeRef P.Denot V.Denot) → Option (Shape V.Denot)
-  below_root = option_map (pointer_shape bytes)
-
+-- Over the rows of prefixes and values, and the ghosts of the prefixes' trait.
+module _ (P V : RattleType) (prefixes : Prefixes P.Denot) where
   -- The root has the key set to the value as it was left behind the result, and refused, what it
   -- had.
   -- It stays sound.
   abbrev pub LendsBelow : {E : Type 0} →
-      MutBor (Option (NodeRef P.Denot V.Denot)) → List ℕ → Result (MutBor V.Denot) E → Fml
+      MutBor (Option (Seen V.Denot)) → List ℕ → Result (MutBor V.Denot) E → Fml
   LendsBelow lender key result =
-      follows_so (option.the_row (pointer.the_row P V)) V lender.ghost_name
+      follows_so (option.the_row (pointer.the_row P V prefixes)) V lender.ghost_name
       (name_if_ok (λ value. value.ghost_name) result)
       (λ left after. (IsOk result → IsPutBelow key left (below_root lender.now) (below_root after))
       × StaysSound (below_root lender.now) (below_root after))

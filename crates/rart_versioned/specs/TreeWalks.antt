@@ -15,15 +15,15 @@ use Rattle.rart_walks.specs.declared.walk.Walk.{Walk}
 
 -- `most` is how long a key may be, and `partial` what is known of prefixes, which the type takes
 -- for a ghost field. One node at least is entered where the version has a key, and none is made.
-module _ {P V T E : Type 0} {partial : _} (bytes : P → List ℕ) (holds : T → List (List ℕ) → Type 0)
+module _ {P V T E : Type 0} {partial : _} (holds : T → List (List ℕ) → Type 0)
     (greatest most : Option ℕ) (v : Version V) (result : Result (Walk P V T partial) E)
     (start now : Counts) where
   -- A walk over all pairs: one node is entered at most, and the walk has the others left.
   pub record WalksAll : Type 0 where
-    pub walk : IfOk result (IsWalk bytes holds greatest)
-    pub pairs : IfOk result (λ walk. (cursor bytes walk).pairs ≡ pairs v.content)
-    pub admitted : IfOk result (λ walk. AreAdmitted most (cursor bytes walk).pairs)
-    pub nodes : IfOk result (λ walk. now.entered + length (cursor bytes walk).paths
+    pub walk : IfOk result (IsWalk holds greatest)
+    pub pairs : IfOk result (λ walk. (cursor walk).pairs ≡ pairs v.content)
+    pub admitted : IfOk result (λ walk. AreAdmitted most (cursor walk).pairs)
+    pub nodes : IfOk result (λ walk. now.entered + length (cursor walk).paths
         ≡ start.entered + node_count v.content)
     pub counted : CountsUpTo (node_count v.content) 0 start now
     pub one : CountsUpTo 1 0 start now
@@ -32,15 +32,15 @@ module _ {P V T E : Type 0} {partial : _} (bytes : P → List ℕ) (holds : T �
   -- A walk over the pairs whose key a prefix begins: the nodes down to the prefix are entered, and
   -- the walk has left those below it, of which those up to a bound are few.
   pub record WalksUnder (prefix : List ℕ) : Type 0 where
-    pub walk : IfOk result (IsWalk bytes holds greatest)
-    pub pairs : IfOk result (λ walk. (cursor bytes walk).pairs ≡ under v.content prefix)
-    pub admitted : IfOk result (λ walk. AreAdmitted most (cursor bytes walk).pairs)
-    pub nodes : IfOk result (λ walk. length prefix + 1 + length (cursor bytes walk).paths
+    pub walk : IfOk result (IsWalk holds greatest)
+    pub pairs : IfOk result (λ walk. (cursor walk).pairs ≡ under v.content prefix)
+    pub admitted : IfOk result (λ walk. AreAdmitted most (cursor walk).pairs)
+    pub nodes : IfOk result (λ walk. length prefix + 1 + length (cursor walk).paths
         ≤ reach_bound v.content prefix)
-    pub few : IfOk result (λ walk. length prefix + 1 + length (cursor bytes walk).paths
+    pub few : IfOk result (λ walk. length prefix + 1 + length (cursor walk).paths
         ≤ reach_by_pairs v.content prefix)
     pub few_up_to : IfOk result (λ walk. (high : Bound (List ℕ))
-        → count_by (is_up_to_end (as_partial_cmp byte_order) high) (cursor bytes walk).paths
+        → count_by (is_up_to_end (as_partial_cmp byte_order) high) (cursor walk).paths
         ≤ bound_length high + 1 + 2 * length (within v.content (Included prefix) high))
     pub counted : CountsUpTo (length prefix + 1) 0 start now
     pub entered : has_no_key v ≡ false → start.entered < now.entered
@@ -49,12 +49,12 @@ module _ {P V T E : Type 0} {partial : _} (bytes : P → List ℕ) (holds : T �
   -- A walk over the pairs whose key meets a lower bound: the nodes down to the bound are entered,
   -- and of those that the walk has left the ones up to an upper bound are few.
   pub record WalksFrom (low : Bound (List ℕ)) : Type 0 where
-    pub walk : IfOk result (IsWalk bytes holds greatest)
-    pub pairs : IfOk result (λ walk. (cursor bytes walk).pairs
+    pub walk : IfOk result (IsWalk holds greatest)
+    pub pairs : IfOk result (λ walk. (cursor walk).pairs
         ≡ filter (λ pair. is_from_start (as_partial_cmp byte_order) low pair.0) (pairs v.content))
-    pub admitted : IfOk result (λ walk. AreAdmitted most (cursor bytes walk).pairs)
+    pub admitted : IfOk result (λ walk. AreAdmitted most (cursor walk).pairs)
     pub few : IfOk result (λ walk. (high : Bound (List ℕ))
-        → count_by (is_up_to_end (as_partial_cmp byte_order) high) (cursor bytes walk).paths
+        → count_by (is_up_to_end (as_partial_cmp byte_order) high) (cursor walk).paths
         ≤ bound_length high + 2 * length (within v.content low high))
     pub counted : CountsUpTo (bound_length low + 1) 0 start now
     pub entered : has_no_key v ≡ false → start.entered < now.entered

@@ -22,44 +22,44 @@ pairs_up_to high pairs =
 -- Each enters at most the nodes that the walk has left, and, where it is not refused, one at least
 -- for each pair, but for one at hand. `partial` is what is known of prefixes, which the type takes
 -- for a ghost field.
-module _ {P V T F A : Type 0} {partial : _} (bytes : P → List ℕ) where
+module _ {P V T F A : Type 0} {partial : _} where
   -- The values that a walk has left are visited, each as it is shown.
   pub record VisitsValues (g : Mut F A (Unit {0})) (Shows : A → V → Type 0)
       (walk : Walk P V T partial) (result : Result (Unit {0}) AllocError) (f f' : F)
       (start now : Counts) : Type 0 where
-    pub visits : Visits g Shows result f (map (λ pair. pair.1) (cursor bytes walk).pairs) f'
-    pub counted : CountsUpTo (length (cursor bytes walk).paths) 0 start now
-    pub least : OnOk result (start.entered + length (cursor bytes walk).pairs
+    pub visits : Visits g Shows result f (map (λ pair. pair.1) (cursor walk).pairs) f'
+    pub counted : CountsUpTo (length (cursor walk).paths) 0 start now
+    pub least : OnOk result (start.entered + length (cursor walk).pairs
         ≤ now.entered + at_hand walk)
 
   -- They are visited up to the first on which the closure answers `Stop` or an error.
   pub record VisitsValuesUntil {E : Type 0} (g : Mut F A (Result VisitControl E))
       (Shows : A → V → Type 0) (walk : Walk P V T partial)
       (result : Result (Unit {0}) (Refusal E)) (f f' : F) (start now : Counts) : Type 0 where
-    pub visits : VisitsUntil g Shows result f (map (λ pair. pair.1) (cursor bytes walk).pairs) f'
-    pub counted : CountsUpTo (length (cursor bytes walk).paths) 0 start now
+    pub visits : VisitsUntil g Shows result f (map (λ pair. pair.1) (cursor walk).pairs) f'
+    pub counted : CountsUpTo (length (cursor walk).paths) 0 start now
     pub ends : Ends g Shows
-        (start.entered + length (cursor bytes walk).pairs ≤ now.entered + at_hand walk)
-        (EntersUpTo (cursor bytes walk).paths (at_hand walk) start now)
-        result f (cursor bytes walk).pairs f'
+        (start.entered + length (cursor walk).pairs ≤ now.entered + at_hand walk)
+        (EntersUpTo (cursor walk).paths (at_hand walk) start now)
+        result f (cursor walk).pairs f'
 
   -- The pairs that a walk has left are visited: not refused, it enters each node left.
   pub record VisitsPairs (g : Mut F A (Unit {0})) (Shows : A → List ℕ × V → Type 0)
       (walk : Walk P V T partial) (result : Result (Unit {0}) AllocError) (f f' : F)
       (start now : Counts) : Type 0 where
-    pub visits : Visits g Shows result f (cursor bytes walk).pairs f'
-    pub counted : CountsUpTo (length (cursor bytes walk).paths) 0 start now
-    pub entered : OnOk result (now.entered ≡ start.entered + length (cursor bytes walk).paths)
-    pub least : OnOk result (start.entered + length (cursor bytes walk).pairs
+    pub visits : Visits g Shows result f (cursor walk).pairs f'
+    pub counted : CountsUpTo (length (cursor walk).paths) 0 start now
+    pub entered : OnOk result (now.entered ≡ start.entered + length (cursor walk).paths)
+    pub least : OnOk result (start.entered + length (cursor walk).pairs
         ≤ now.entered + at_hand walk)
 
   -- Those up to an upper bound are: it enters at most one node whose path does not meet that.
   pub record VisitsPairsUpTo (high : Bound (List ℕ)) (g : Mut F A (Unit {0}))
       (Shows : A → List ℕ × V → Type 0) (walk : Walk P V T partial)
       (result : Result (Unit {0}) AllocError) (f f' : F) (start now : Counts) : Type 0 where
-    pub visits : Visits g Shows result f (pairs_up_to high (cursor bytes walk).pairs) f'
-    pub counted : CountsUpTo (length (cursor bytes walk).paths) 0 start now
+    pub visits : Visits g Shows result f (pairs_up_to high (cursor walk).pairs) f'
+    pub counted : CountsUpTo (length (cursor walk).paths) 0 start now
     pub few : CountsUpTo (count_by (is_up_to_end (as_partial_cmp byte_order) high)
-        (cursor bytes walk).paths + 1) 0 start now
-    pub least : OnOk result (start.entered + length (pairs_up_to high (cursor bytes walk).pairs)
+        (cursor walk).paths + 1) 0 start now
+    pub least : OnOk result (start.entered + length (pairs_up_to high (cursor walk).pairs)
         ≤ now.entered + at_hand walk)

@@ -19,11 +19,10 @@ pub fn visit_values<'a, P: Partial, V: Drop, T: KeyPath<'a>, F: FnMut(&V)>(
     f: &mut F,
     work: &mut Work,
 ) -> Result<(), AllocError>
-    requires walk { IsWalk P.bytes T.holds T.greatest walk }
+    requires walk { IsWalk T.holds T.greatest walk }
     requires visitable { Visitable F.FnMut ByValue f.old
-        (map (λ pair. pair.1) (cursor P.bytes walk).pairs) }
-    ensures { VisitsValues P.bytes F.FnMut ByValue walk.entry result f.old f.new work.old
-        work.new }
+        (map (λ pair. pair.1) (cursor walk).pairs) }
+    ensures { VisitsValues F.FnMut ByValue walk.entry result f.old f.new work.old work.new }
 {
     'visiting: while let Some(value) = walk.next_value(work)? {
         f(value);
@@ -45,11 +44,10 @@ pub fn visit_values_until<
     E: Drop,
     F: FnMut(&V) -> Result<VisitControl, E>,
 >(mut walk: Walk<'a, P, V, T>, f: &mut F, work: &mut Work) -> Result<(), Refusal<E>>
-    requires walk { IsWalk P.bytes T.holds T.greatest walk }
+    requires walk { IsWalk T.holds T.greatest walk }
     requires visitable { VisitableUntil F.FnMut ByValue f.old
-        (map (λ pair. pair.1) (cursor P.bytes walk).pairs) }
-    ensures { VisitsValuesUntil P.bytes F.FnMut ByValue walk.entry result f.old f.new work.old
-        work.new }
+        (map (λ pair. pair.1) (cursor walk).pairs) }
+    ensures { VisitsValuesUntil F.FnMut ByValue walk.entry result f.old f.new work.old work.new }
 {
     'visiting: loop {
         let value = match walk.next_node(work) {

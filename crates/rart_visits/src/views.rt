@@ -28,9 +28,9 @@ pub fn visit_views<'a, P: Partial, V: Drop, F: FnMut(LendingKeyView<'_, '_>, &V)
     f: &mut F,
     work: &mut Work,
 ) -> Result<(), AllocError>
-    requires walk { IsWalk P.bytes HoldsSegments (Some (2 ^ 64 - 1)) walk }
-    requires visitable { Visitable F.FnMut ByView f.old (cursor P.bytes walk).pairs }
-    ensures { VisitsPairs P.bytes F.FnMut ByView walk.entry result f.old f.new work.old work.new }
+    requires walk { IsWalk HoldsSegments (Some (2 ^ 64 - 1)) walk }
+    requires visitable { Visitable F.FnMut ByView f.old (cursor walk).pairs }
+    ensures { VisitsPairs F.FnMut ByView walk.entry result f.old f.new work.old work.new }
 {
     'visiting: while let Some(value) = walk.next_value(work)? {
         f(view_of(walk.key_path()), value);
@@ -47,11 +47,11 @@ pub fn visit_views_up_to<'a, P: Partial, V: Drop, F: FnMut(LendingKeyView<'_, '_
     f: &mut F,
     work: &mut Work,
 ) -> Result<(), AllocError>
-    requires walk { IsWalk P.bytes HoldsSegments (Some (2 ^ 64 - 1)) walk }
-    requires ascend { KeysAscend (λ pair. pair.0) (cursor P.bytes walk).pairs }
+    requires walk { IsWalk HoldsSegments (Some (2 ^ 64 - 1)) walk }
+    requires ascend { KeysAscend (λ pair. pair.0) (cursor walk).pairs }
     requires visitable { Visitable F.FnMut ByView f.old
-        (pairs_up_to (bound_map (λ high. high.now) high) (cursor P.bytes walk).pairs) }
-    ensures { VisitsPairsUpTo P.bytes (bound_map (λ high. high.now) high.entry) F.FnMut ByView
+        (pairs_up_to (bound_map (λ high. high.now) high) (cursor walk).pairs) }
+    ensures { VisitsPairsUpTo (bound_map (λ high. high.now) high.entry) F.FnMut ByView
         walk.entry result f.old f.new work.old work.new }
 {
     'visiting: while let Some(value) = walk.next_node(work)? {

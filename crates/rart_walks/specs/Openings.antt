@@ -39,11 +39,11 @@ pub record EndsIn {V : Type 0} (count : ℕ) (rest : List ℕ) (s : Shape V) : T
   pub ends : (count ≡ length rest) ⊎ (count < length (prefix_of s))
 
 -- `partial` is what is known of prefixes, which the type takes for a ghost field
-module _ {P V T : Type 0} {partial : _} (bytes : P → List ℕ) (Holds : T → List (List ℕ) → Type 0)
+module _ {P V T : Type 0} {partial : _} (Holds : T → List (List ℕ) → Type 0)
   where
     -- The leaf that the walk stood at is left, if it stood at one without a frame.
     pub record LeavesLeaf (before after : Walk P V T partial) : Type 0 where
-      pub holds : Holds after.key_path (segments_of (open_nodes bytes after.frames.items))
+      pub holds : Holds after.key_path (segments_of (open_nodes after.frames.items))
       pub frames : after.frames ≡ before.frames
       pub leaf : after.leaf ≡ None
       pub pending : after.pending ≡ before.pending
@@ -51,63 +51,63 @@ module _ {P V T : Type 0} {partial : _} (bytes : P → List ℕ) (Holds : T → 
     -- A node with this prefix and these children is open below the others.
     pub record EntersPart {E : Type 0} (before : Walk P V T partial) (result : Result (Unit {0}) E)
         (node : OpenNode V) (after : Walk P V T partial) : Type 0 where
-      pub holds : Holds after.key_path (segments_of (open_nodes bytes after.frames.items))
-      pub frames : OnOk result (open_nodes bytes after.frames.items
-          ≡ open_nodes bytes before.frames.items ++ node ∷ [])
+      pub holds : Holds after.key_path (segments_of (open_nodes after.frames.items))
+      pub frames : OnOk result (open_nodes after.frames.items
+          ≡ open_nodes before.frames.items ++ node ∷ [])
       pub leaf : after.leaf ≡ before.leaf
       pub pending : after.pending ≡ before.pending
 
     -- The walk stands at this node, below those with a frame; refused, it stands above it.
     pub record EntersNext {E : Type 0} (before : Walk P V T partial) (result : Result (Unit {0}) E)
         (s : Shape V) (after : Walk P V T partial) : Type 0 where
-      pub opened : OnOk result (nodes_open bytes after
-          ≡ open_nodes bytes before.frames.items ++ (prefix_of s, children_of s) ∷ [])
-      pub holds : OnOk result (Holds after.key_path (segments_of (nodes_open bytes after)))
+      pub opened : OnOk result (nodes_open after
+          ≡ open_nodes before.frames.items ++ (prefix_of s, children_of s) ∷ [])
+      pub holds : OnOk result (Holds after.key_path (segments_of (nodes_open after)))
       pub refused : OnErr result (Holds after.key_path
-          (segments_of (open_nodes bytes after.frames.items)) × (after.leaf ≡ None))
+          (segments_of (open_nodes after.frames.items)) × (after.leaf ≡ None))
       pub pending : after.pending ≡ before.pending
 
     module _ (greatest : Option ℕ) where
       -- The walk stands above this tree, at no leaf and with no value to give, and no key of the
       -- tree is too long for the key path.
       pub record StandsAbove (s : Shape V) (it : Walk P V T partial) : Type 0 where
-        pub walk : IsWalk bytes Holds greatest it
+        pub walk : IsWalk Holds greatest it
         pub leaf : it.leaf ≡ None
         pub pending : it.pending ≡ None
         pub tree : IsTree s
-        pub short : AreShort greatest (behind_path (path_to bytes it) (pairs_of s))
+        pub short : AreShort greatest (behind_path (path_to it) (pairs_of s))
 
       -- The walk stands at the root of this tree, all of which is left, and then what was left.
       pub record EntersWhole {E : Type 0} (before : Walk P V T partial)
           (result : Result (Unit {0}) E)
           (s : Shape V) (after : Walk P V T partial) : Type 0 where
-        pub walk : OnOk result (IsWalk bytes Holds greatest after)
-        pub pairs : OnOk result ((cursor bytes after).pairs
-            ≡ behind_path (path_to bytes before) (pairs_of s) ++ (cursor bytes before).pairs)
-        pub paths : OnOk result (path_to bytes after ∷ (cursor bytes after).paths
-            ≡ under_path (path_to bytes before) (paths_of s) ++ (cursor bytes before).paths)
-        pub frames : OnOk result (open_nodes bytes after.frames.items
-            ≡ open_nodes bytes before.frames.items ++ (prefix_of s, children_of s) ∷ [])
+        pub walk : OnOk result (IsWalk Holds greatest after)
+        pub pairs : OnOk result ((cursor after).pairs
+            ≡ behind_path (path_to before) (pairs_of s) ++ (cursor before).pairs)
+        pub paths : OnOk result (path_to after ∷ (cursor after).paths
+            ≡ under_path (path_to before) (paths_of s) ++ (cursor before).paths)
+        pub frames : OnOk result (open_nodes after.frames.items
+            ≡ open_nodes before.frames.items ++ (prefix_of s, children_of s) ∷ [])
         pub leaf : after.leaf ≡ None
         pub pending : OnOk result (option_copied after.pending ≡ value_of s)
 
       -- The walk stands at the root of this tree, of which these pairs are left, and then what was.
       pub record EntersEnd {E : Type 0} (before : Walk P V T partial) (result : Result (Unit {0}) E)
           (s : Shape V) (own : List (List ℕ × V)) (after : Walk P V T partial) : Type 0 where
-        pub walk : OnOk result (IsWalk bytes Holds greatest after)
-        pub pairs : OnOk result ((cursor bytes after).pairs
-            ≡ behind_path (path_to bytes before) own ++ (cursor bytes before).pairs)
-        pub paths : OnOk result (path_to bytes after ∷ (cursor bytes after).paths
-            ≡ under_path (path_to bytes before) (paths_of s) ++ (cursor bytes before).paths)
+        pub walk : OnOk result (IsWalk Holds greatest after)
+        pub pairs : OnOk result ((cursor after).pairs
+            ≡ behind_path (path_to before) own ++ (cursor before).pairs)
+        pub paths : OnOk result (path_to after ∷ (cursor after).paths
+            ≡ under_path (path_to before) (paths_of s) ++ (cursor before).paths)
 
       -- What a part keeps of this tree is left, and then what was. The first node of it may have
       -- been entered.
       pub record Finishes {E : Type 0} (before : Walk P V T partial) (result : Result (Unit {0}) E)
           (part : Part) (rest : List ℕ) (s : Shape V) (after : Walk P V T partial) : Type 0 where
-        pub walk : OnOk result (IsWalk bytes Holds greatest after)
-        pub pairs : OnOk result ((cursor bytes after).pairs
-            ≡ behind_path (path_to bytes before)
-            (filter (λ pair. keeps part rest pair.0) (pairs_of s)) ++ (cursor bytes before).pairs)
-        pub paths : OnOk result (IsEndOf (cursor bytes after).paths
-            (under_path (path_to bytes before) (filter (reaches part rest) (paths_of s))
-            ++ (cursor bytes before).paths))
+        pub walk : OnOk result (IsWalk Holds greatest after)
+        pub pairs : OnOk result ((cursor after).pairs
+            ≡ behind_path (path_to before)
+            (filter (λ pair. keeps part rest pair.0) (pairs_of s)) ++ (cursor before).pairs)
+        pub paths : OnOk result (IsEndOf (cursor after).paths
+            (under_path (path_to before) (filter (reaches part rest) (paths_of s))
+            ++ (cursor before).paths))

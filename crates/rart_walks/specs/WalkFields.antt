@@ -16,10 +16,10 @@ module _ {P V T : Type 0} {partial : _} where
   abbrev pub at_hand : Walk P V T partial → ℕ
   at_hand walk = if is_some walk.pending then 1 else 0
 
-module _ {P V : Type 0} {partial : _} (bytes : P → List ℕ) where
+module _ {P V : Type 0} {partial : _} where
   -- frames, as the nodes that they stand for
   abbrev pub open_nodes : List (Frame P V partial) → List (OpenNode V)
-  open_nodes frames = map (λ frame. (frame.segment.now, children_left bytes frame.children)) frames
+  open_nodes frames = map (λ frame. (frame.segment.now, children_left frame.children)) frames
 
   module _ {T : Type 0} where
     -- the nodes that a walk has open: those with a frame, and the leaf that it stands at

@@ -2,7 +2,6 @@
 //! The walk itself.
 ghost use Rattle.std.specs.Prelude.{◌≡◌, ◌++◌, ◌∷◌, [], List, is_ok, None};
 ghost use Rattle.std.specs.Option.{option_map};
-ghost use Rattle.rart_node.specs.NodeShapes.{node_shape, pointer_shape};
 ghost use Rattle.rart_node.specs.VersionedNodeIter.{children_left};
 ghost use Rattle.rart_node.specs.Shape.{prefix_of, children_of};
 ghost use Rattle.rart_shape.specs.Trees.{IsTree, pairs_of};
@@ -42,7 +41,7 @@ pub struct Walk<'a, P: Partial, V, T> {
 impl<'a, P: Partial, V: Drop, T: KeyPath<'a>> Walk<'a, P, V, T> {
     /// A walk with nothing left. It takes no memory.
     pub fn new(alloc: Global) -> Walk<'a, P, V, T>
-        ensures { HasNothing P.bytes T.holds T.greatest result }
+        ensures { HasNothing T.holds T.greatest result }
     {
         Walk {
             key_path: T::new(alloc),
@@ -54,9 +53,8 @@ impl<'a, P: Partial, V: Drop, T: KeyPath<'a>> Walk<'a, P, V, T> {
 
     /// Enters a node below the innermost one, whose value and children are all left then.
     fn enter_whole(&mut self, node: &'a VersionedNode<P, V>) -> Result<(), AllocError>
-        requires { StandsAbove P.bytes T.holds T.greatest (node_shape P.bytes node.now) self.old }
-        ensures { EntersWhole P.bytes T.holds T.greatest self.old result
-            (node_shape P.bytes node.now) self.new }
+        requires { StandsAbove T.holds T.greatest node.now.shape self.old }
+        ensures { EntersWhole T.holds T.greatest self.old result node.now.shape self.new }
     {
         enter(&mut self.frames, &mut self.key_path, node)?;
         self.pending = node.value();
@@ -70,9 +68,9 @@ impl<'a, P: Partial, V: Drop, T: KeyPath<'a>> Walk<'a, P, V, T> {
         children: VersionedNodeIter<'a, P, V>,
     ) -> Result<(), AllocError>
         requires { CanOpen T.holds T.greatest self.old.key_path
-            (open_nodes P.bytes self.old.frames.items) segment.now }
-        ensures { EntersPart P.bytes T.holds self.old result
-            (segment.now, children_left P.bytes children.entry) self.new }
+            (open_nodes self.old.frames.items) segment.now }
+        ensures { EntersPart T.holds self.old result
+            (segment.now, children_left children.entry) self.new }
     {
         enter_for(&mut self.frames, &mut self.key_path, segment, children)
     }
@@ -85,10 +83,9 @@ impl<'a, P: Partial, V: Drop, T: KeyPath<'a>> Walk<'a, P, V, T> {
         root: &'a NodeRef<P, V>,
         work: &mut Work,
     ) -> Result<Walk<'a, P, V, T>, AllocError>
-        requires tree { IsTree (pointer_shape P.bytes root.now) }
-        requires short { AreShort T.greatest (pairs_of (pointer_shape P.bytes root.now)) }
-        ensures { StartsWhole P.bytes T.holds T.greatest result (pointer_shape P.bytes root.now)
-            work.old work.new }
+        requires tree { IsTree root.now.shape }
+        requires short { AreShort T.greatest (pairs_of root.now.shape) }
+        ensures { StartsWhole T.holds T.greatest result root.now.shape work.old work.new }
     {
         let mut walk = Walk::new(alloc);
         walk.enter_whole(root.open(work))?;
@@ -97,16 +94,16 @@ impl<'a, P: Partial, V: Drop, T: KeyPath<'a>> Walk<'a, P, V, T> {
 
     /// The key path, which keeps the way to the node that the walk stands at.
     pub fn key_path(&self) -> &T
-        requires walk { IsWalk P.bytes T.holds T.greatest self.now }
-        ensures { T.holds result.now (cursor P.bytes self.now).segments }
+        requires walk { IsWalk T.holds T.greatest self.now }
+        ensures { T.holds result.now (cursor self.now).segments }
     {
         &self.key_path
     }
 
     /// Ends the walk: nothing is left.
     pub fn end(&mut self)
-        requires walk { IsWalk P.bytes T.holds T.greatest self.old }
-        ensures { HasNothing P.bytes T.holds T.greatest self.new }
+        requires walk { IsWalk T.holds T.greatest self.old }
+        ensures { HasNothing T.holds T.greatest self.new }
     {
         self.pending = None;
         self.leave_leaf();
@@ -116,8 +113,8 @@ impl<'a, P: Partial, V: Drop, T: KeyPath<'a>> Walk<'a, P, V, T> {
     /// Leaves the leaf that the walk stands at, if it stands at one without a frame.
     #[inline(always)]
     fn leave_leaf(&mut self)
-        requires holds { T.holds self.old.key_path (segments_of (nodes_open P.bytes self.old)) }
-        ensures { LeavesLeaf P.bytes T.holds self.old self.new }
+        requires holds { T.holds self.old.key_path (segments_of (nodes_open self.old)) }
+        ensures { LeavesLeaf T.holds self.old self.new }
     {
         if let Some(segment) = self.leaf {
             self.leaf = None;
@@ -131,9 +128,8 @@ impl<'a, P: Partial, V: Drop, T: KeyPath<'a>> Walk<'a, P, V, T> {
     fn enter_next(&mut self, node: &'a VersionedNode<P, V>) -> Result<(), AllocError>
         requires leaf { self.old.leaf ≡ None }
         requires may { CanEnter T.holds T.greatest self.old.key_path
-            (open_nodes P.bytes self.old.frames.items) (node_shape P.bytes node.now) }
-        ensures { EntersNext P.bytes T.holds self.old result (node_shape P.bytes node.now)
-            self.new }
+            (open_nodes self.old.frames.items) node.now.shape }
+        ensures { EntersNext T.holds self.old result node.now.shape self.new }
     {
         if node.is_leaf() {
             let segment = node.prefix().as_ref();
@@ -152,9 +148,8 @@ impl<'a, P: Partial, V: Drop, T: KeyPath<'a>> Walk<'a, P, V, T> {
     /// Refused for memory, the walk has ended.
     #[inline(always)]
     pub fn next_node(&mut self, work: &mut Work) -> Result<Option<Option<&'a V>>, AllocError>
-        requires walk { IsWalk P.bytes T.holds T.greatest self.old }
-        ensures { StepsOn P.bytes T.holds T.greatest self.old result self.new
-            work.old work.new }
+        requires walk { IsWalk T.holds T.greatest self.old }
+        ensures { StepsOn T.holds T.greatest self.old result self.new work.old work.new }
     {
         if let Some(value) = self.pending {
             self.pending = None;
@@ -177,9 +172,8 @@ impl<'a, P: Partial, V: Drop, T: KeyPath<'a>> Walk<'a, P, V, T> {
     /// Refused for memory, the walk has ended.
     #[inline(always)]
     pub fn next_value(&mut self, work: &mut Work) -> Result<Option<&'a V>, AllocError>
-        requires walk { IsWalk P.bytes T.holds T.greatest self.old }
-        ensures { GivesNext P.bytes T.holds T.greatest self.old result self.new
-            work.old work.new }
+        requires walk { IsWalk T.holds T.greatest self.old }
+        ensures { GivesNext T.holds T.greatest self.old result self.new work.old work.new }
     {
         'node: while let Some(value) = self.next_node(work)? {
             if let Some(value) = value {
@@ -197,11 +191,10 @@ fn next_ahead<'a, P: Partial, V: Drop, T: KeyPath<'a>>(
     frames: &mut Vec<Frame<'a, P, V>>,
     key_path: &mut T,
 ) -> Option<&'a NodeRef<P, V>>
-    requires holds { T.holds key_path.old (segments_of (open_nodes P.bytes frames.old.items)) }
-    ensures holds { T.holds key_path.new (segments_of (open_nodes P.bytes frames.new.items)) }
-    ensures takes { TakesAhead (open_nodes P.bytes frames.old.items)
-        (option_map (λ child. pointer_shape P.bytes child.now) result)
-        (open_nodes P.bytes frames.new.items) }
+    requires holds { T.holds key_path.old (segments_of (open_nodes frames.old.items)) }
+    ensures holds { T.holds key_path.new (segments_of (open_nodes frames.new.items)) }
+    ensures takes { TakesAhead (open_nodes frames.old.items)
+        (option_map (λ child. child.now.shape) result) (open_nodes frames.new.items) }
 {
     'leaving: while let Some(next) = next_child(frames) {
         match next {
@@ -218,9 +211,8 @@ fn next_ahead<'a, P: Partial, V: Drop, T: KeyPath<'a>>(
 fn next_child<'a, P: Partial, V: Drop>(
     frames: &mut Vec<Frame<'a, P, V>>,
 ) -> Option<Option<&'a NodeRef<P, V>>>
-    ensures { TakesChild (open_nodes P.bytes frames.old.items)
-        (option_map (option_map (λ child. pointer_shape P.bytes child.now)) result)
-        (open_nodes P.bytes frames.new.items) }
+    ensures { TakesChild (open_nodes frames.old.items)
+        (option_map (option_map (λ child. child.now.shape)) result) (open_nodes frames.new.items) }
 {
     let frame = frames.last_mut()?;
     Some(frame.children.next_child())
@@ -233,11 +225,11 @@ fn enter<'a, P: Partial, V: Drop, T: KeyPath<'a>>(
     key_path: &mut T,
     node: &'a VersionedNode<P, V>,
 ) -> Result<(), AllocError>
-    requires { CanEnter T.holds T.greatest key_path.old (open_nodes P.bytes frames.old.items)
-        (node_shape P.bytes node.now) }
-    ensures { Opens T.holds (is_ok result) (open_nodes P.bytes frames.old.items)
-        (prefix_of (node_shape P.bytes node.now), children_of (node_shape P.bytes node.now))
-        key_path.new (open_nodes P.bytes frames.new.items) }
+    requires { CanEnter T.holds T.greatest key_path.old (open_nodes frames.old.items)
+        node.now.shape }
+    ensures { Opens T.holds (is_ok result) (open_nodes frames.old.items)
+        (prefix_of node.now.shape, children_of node.now.shape)
+        key_path.new (open_nodes frames.new.items) }
 {
     enter_for(frames, key_path, node.prefix().as_ref(), node.iter())
 }
@@ -250,11 +242,9 @@ fn enter_for<'a, P: Partial, V: Drop, T: KeyPath<'a>>(
     segment: &'a [u8],
     children: VersionedNodeIter<'a, P, V>,
 ) -> Result<(), AllocError>
-    requires { CanOpen T.holds T.greatest key_path.old (open_nodes P.bytes frames.old.items)
-        segment.now }
-    ensures { Opens T.holds (is_ok result) (open_nodes P.bytes frames.old.items)
-        (segment.now, children_left P.bytes children.entry)
-        key_path.new (open_nodes P.bytes frames.new.items) }
+    requires { CanOpen T.holds T.greatest key_path.old (open_nodes frames.old.items) segment.now }
+    ensures { Opens T.holds (is_ok result) (open_nodes frames.old.items)
+        (segment.now, children_left children.entry) key_path.new (open_nodes frames.new.items) }
 {
     key_path.push(segment)?;
     if let Err(refused) = frames.push(Frame { segment, children }) {
@@ -269,11 +259,10 @@ fn leave<'a, P: Partial, V: Drop, T: KeyPath<'a>>(
     frames: &mut Vec<Frame<'a, P, V>>,
     key_path: &mut T,
 )
-    requires holds { T.holds key_path.old (segments_of (open_nodes P.bytes frames.old.items)) }
+    requires holds { T.holds key_path.old (segments_of (open_nodes frames.old.items)) }
     ensures left { (front : List (OpenNode V)) (last : OpenNode V) →
-        open_nodes P.bytes frames.old.items ≡ front ++ last ∷ [] →
-        open_nodes P.bytes frames.new.items ≡ front }
-    ensures holds { T.holds key_path.new (segments_of (open_nodes P.bytes frames.new.items)) }
+        open_nodes frames.old.items ≡ front ++ last ∷ [] → open_nodes frames.new.items ≡ front }
+    ensures holds { T.holds key_path.new (segments_of (open_nodes frames.new.items)) }
 {
     if let Some(frame) = frames.pop() {
         key_path.pop(frame.segment);
@@ -286,8 +275,8 @@ fn leave_all<'a, P: Partial, V: Drop, T: KeyPath<'a>>(
     frames: &mut Vec<Frame<'a, P, V>>,
     key_path: &mut T,
 )
-    requires holds { T.holds key_path.old (segments_of (open_nodes P.bytes frames.old.items)) }
-    ensures left { open_nodes P.bytes frames.new.items ≡ [] }
+    requires holds { T.holds key_path.old (segments_of (open_nodes frames.old.items)) }
+    ensures left { open_nodes frames.new.items ≡ [] }
     ensures holds { T.holds key_path.new [] }
 {
     'leaving: while let Some(frame) = frames.pop() {

@@ -1,5 +1,4 @@
 ghost use Rattle.std.specs.Prelude.{◌≡◌, ◌≤◌, ◌∷◌, [], length, Some, None, IfOk};
-ghost use Rattle.rart_node.specs.NodeShapes.{node_shape, pointer_shape};
 ghost use Rattle.rart_node.specs.Shape.{node, node_of, bare, grown};
 
 use rart_below::{ArrPartial, ArrayKey, KeyTrait, LendingKeyView, Partial};
@@ -19,8 +18,7 @@ type Node = VersionedNode<ArrPartial<16>, u64>;
 
 fn leaf_node(alloc: Global, bytes: &[u8], value: u64) -> Result<Node, AllocError>
     requires { length bytes.now ≤ 16 }
-    ensures { IfOk result (λ leaf. node_shape ⟦<ArrPartial<16> as Partial>⟧.bytes leaf
-        ≡ node_of bytes.now (Some value) 0 []) }
+    ensures { IfOk result (λ leaf. leaf.shape ≡ node_of bytes.now (Some value) 0 []) }
 {
     let key: Key = ArrayKey::new_from_slice(alloc, bytes)?;
     let prefix = key.to_partial(alloc, 0)?;
@@ -29,16 +27,14 @@ fn leaf_node(alloc: Global, bytes: &[u8], value: u64) -> Result<Node, AllocError
 
 fn leaf(alloc: Global, bytes: &[u8], value: u64, work: &mut Work) -> Result<Root, AllocError>
     requires { length bytes.now ≤ 16 }
-    ensures { IfOk result (λ leaf. pointer_shape ⟦<ArrPartial<16> as Partial>⟧.bytes leaf
-        ≡ node_of bytes.now (Some value) 0 []) }
+    ensures { IfOk result (λ leaf. leaf.shape ≡ node_of bytes.now (Some value) 0 []) }
 {
     NodeRef::new(alloc, leaf_node(alloc, bytes, value)?, work)
 }
 
 fn inner(alloc: Global, bytes: &[u8]) -> Result<Node, AllocError>
     requires { length bytes.now ≤ 16 }
-    ensures { IfOk result (λ inner. node_shape ⟦<ArrPartial<16> as Partial>⟧.bytes inner
-        ≡ node_of bytes.now None 4 []) }
+    ensures { IfOk result (λ inner. inner.shape ≡ node_of bytes.now None 4 []) }
 {
     let key: Key = ArrayKey::new_from_slice(alloc, bytes)?;
     VersionedNode::new_inner(alloc, key.to_partial(alloc, 0)?, 0)
@@ -46,10 +42,9 @@ fn inner(alloc: Global, bytes: &[u8]) -> Result<Node, AllocError>
 
 // The keys "a", "ab" and "b" with the values 1, 2 and 3.
 fn letters(alloc: Global, work: &mut Work) -> Result<Root, AllocError>
-    ensures { IfOk result (λ root. pointer_shape ⟦<ArrPartial<16> as Partial>⟧.bytes root
+    ensures { IfOk result (λ root. root.shape
         ≡ node [] None 4 (grown 97 (node (97 ∷ []) (Some 1) 4 (grown 98
-        (node (98 ∷ []) (Some 2) 0 bare) bare)) (grown 98 (node (98 ∷ []) (Some 3) 0 bare)
-        bare))) }
+        (node (98 ∷ []) (Some 2) 0 bare) bare)) (grown 98 (node (98 ∷ []) (Some 3) 0 bare) bare))) }
 {
     let mut first = leaf_node(alloc, b"a", 1)?;
     let below = leaf(alloc, b"b", 2, work)?;
@@ -64,7 +59,7 @@ fn letters(alloc: Global, work: &mut Work) -> Result<Root, AllocError>
 
 // The keys "ab", "b" and "c" with the values 20, 30 and 40.
 fn more_letters(alloc: Global, work: &mut Work) -> Result<Root, AllocError>
-    ensures { IfOk result (λ root. pointer_shape ⟦<ArrPartial<16> as Partial>⟧.bytes root
+    ensures { IfOk result (λ root. root.shape
         ≡ node [] None 4 (grown 97 (node (97 ∷ 98 ∷ []) (Some 20) 0 bare) (grown 98
         (node (98 ∷ []) (Some 30) 0 bare) (grown 99 (node (99 ∷ []) (Some 40) 0 bare) bare)))) }
 {
@@ -80,7 +75,7 @@ fn more_letters(alloc: Global, work: &mut Work) -> Result<Root, AllocError>
 
 // The keys "abcdef" and "abcxyz" with the values 1 and 2.
 fn words(alloc: Global, work: &mut Work) -> Result<Root, AllocError>
-    ensures { IfOk result (λ root. pointer_shape ⟦<ArrPartial<16> as Partial>⟧.bytes root
+    ensures { IfOk result (λ root. root.shape
         ≡ node (97 ∷ 98 ∷ 99 ∷ []) None 4 (grown 100 (node (100 ∷ 101 ∷ 102 ∷ []) (Some 1) 0 bare)
         (grown 120 (node (120 ∷ 121 ∷ 122 ∷ []) (Some 2) 0 bare) bare))) }
 {
@@ -94,7 +89,7 @@ fn words(alloc: Global, work: &mut Work) -> Result<Root, AllocError>
 
 // The keys "ab", "abc", "abcdef" and "abd" with the values 10, 20, 30 and 40.
 fn stems(alloc: Global, work: &mut Work) -> Result<Root, AllocError>
-    ensures { IfOk result (λ root. pointer_shape ⟦<ArrPartial<16> as Partial>⟧.bytes root
+    ensures { IfOk result (λ root. root.shape
         ≡ node (97 ∷ 98 ∷ []) (Some 10) 4 (grown 99 (node (99 ∷ []) (Some 20) 4 (grown 100
         (node (100 ∷ 101 ∷ 102 ∷ []) (Some 30) 0 bare) bare)) (grown 100
         (node (100 ∷ []) (Some 40) 0 bare) bare))) }

@@ -13,7 +13,6 @@ mod sizes;
 mod test_node;
 mod widths;
 
-ghost use Rattle.rart_node.specs.NodeShapes.{node_shape};
 ghost use Rattle.rart_node.specs.Shape.{IsAscending};
 
 use rart_below::{ArrPartial, ArrayKey, KeyTrait, Partial};
@@ -51,8 +50,8 @@ fn add_leaf<P: Partial, V: Drop>(
     byte: u8,
     value: V,
 ) -> Result<(), AllocError>
-    requires { IsAscending (node_shape P.bytes node.old) }
-    ensures { IsAscending (node_shape P.bytes node.new) }
+    requires { IsAscending node.old.shape }
+    ensures { IsAscending node.new.shape }
 {
     let child = leaf(alloc, node.prefix(), value)?;
     assert!(rt; node.seek_child(byte).is_none());

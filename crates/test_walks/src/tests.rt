@@ -1,6 +1,5 @@
 ghost use Rattle.std.specs.Prelude.{◌≡◌, ◌≤◌, ◌^◌, ◌-◌, [], List, ◌∷◌, length, slice_get, Some, None, IfOk};
 ghost use Rattle.std.specs.Option.{option_map};
-ghost use Rattle.rart_node.specs.NodeShapes.{pointer_shape};
 ghost use Rattle.rart_node.specs.Shape.{node, node_of, bare, grown};
 ghost use Rattle.rart_shape.specs.Trees.{IsTree, pairs_of};
 ghost use Rattle.rart_walks.specs.Walks.{AreShort};
@@ -21,8 +20,7 @@ fn leaf(
     work: &mut Work,
 ) -> Result<NodeRef<ArrPartial<16>, u64>, AllocError>
     requires { length bytes.now ≤ 16 }
-    ensures { IfOk result (λ leaf. pointer_shape ⟦<ArrPartial<16> as Partial>⟧.bytes leaf
-        ≡ node_of bytes.now (Some value) 0 []) }
+    ensures { IfOk result (λ leaf. leaf.shape ≡ node_of bytes.now (Some value) 0 []) }
 {
     let key: ArrayKey<16> = ArrayKey::new_from_slice(alloc, bytes)?;
     let prefix = key.to_partial(alloc, 0)?;
@@ -35,7 +33,7 @@ fn leaf(
 
 // The keys "a", "abc" and "ad" with the values 0, 1 and 2.
 fn branching(alloc: Global, work: &mut Work) -> Result<NodeRef<ArrPartial<16>, u64>, AllocError>
-    ensures { IfOk result (λ root. pointer_shape ⟦<ArrPartial<16> as Partial>⟧.bytes root
+    ensures { IfOk result (λ root. root.shape
         ≡ node (97 ∷ []) (Some 0) 4 (grown 98 (node (98 ∷ 99 ∷ []) (Some 1) 0 bare)
         (grown 100 (node (100 ∷ []) (Some 2) 0 bare) bare))) }
 {
@@ -54,7 +52,7 @@ fn values_left<'a, P: Partial, T: KeyPath<'a>>(
     mut walk: Walk<'a, P, u64, T>,
     work: &mut Work,
 ) -> Result<Vec<u64>, AllocError>
-    requires { IsWalk P.bytes T.holds T.greatest walk }
+    requires { IsWalk T.holds T.greatest walk }
 {
     let mut values = Vec::new(alloc);
     'walking: while let Some(value) = walk.next_value(work)? {
@@ -69,9 +67,9 @@ fn first_key<'a, P: Partial, V: Drop>(
     root: &'a NodeRef<P, V>,
     work: &mut Work,
 ) -> Result<Option<(Vec<u8>, &'a V)>, AllocError>
-    requires { IsTree (pointer_shape P.bytes root.now) }
+    requires { IsTree root.now.shape }
     ensures { IfOk result (λ first. option_map (λ pair. (pair.0.items, pair.1.now)) first
-        ≡ slice_get (pairs_of (pointer_shape P.bytes root.now)) 0) }
+        ≡ slice_get (pairs_of root.now.shape) 0) }
 {
     let mut walk: Walk<'_, P, V, BytesPath> = Walk::whole(alloc, root, work)?;
     match walk.next_value(work)? {
@@ -86,8 +84,8 @@ fn first_length<'a, P: Partial, V: Drop>(
     root: &'a NodeRef<P, V>,
     work: &mut Work,
 ) -> Result<usize, AllocError>
-    requires tree { IsTree (pointer_shape P.bytes root.now) }
-    requires short { AreShort (Some (2 ^ 64 - 1)) (pairs_of (pointer_shape P.bytes root.now)) }
+    requires tree { IsTree root.now.shape }
+    requires short { AreShort (Some (2 ^ 64 - 1)) (pairs_of root.now.shape) }
 {
     let mut walk: Walk<'_, P, V, SegmentsPath<'_>> = Walk::whole(alloc, root, work)?;
     let _value = walk.next_value(work)?;

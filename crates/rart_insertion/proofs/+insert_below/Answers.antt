@@ -1,6 +1,5 @@
 use Rattle.std.proofs.Common.{length, sym, subst, ◌∙◌, arith, rules}
 use Rattle.rart_below.specs.Bytes.{IsAdmitted}
-use Rattle.rart_node.specs.NodeShapes.{pointer_shape}
 use Rattle.rart_shape.proofs.FindLemmas.{branch, ordered, ascending}
 use Rattle.rart_insertion.proofs.InsertionStepLemmas.{matched, child-here, child-replaced, common-fits, rest-admitted, is-whole, inserts-split, inserts-here, inserts-down}
 use Rattle.rart_insertion.proofs.+insert_below.Goals as goal
@@ -11,7 +10,7 @@ pub returns-then-common-len : goal.returns-then-common-len
 returns-then-common-len g t c =
     let same = c.in_ok-node.ensures.shown in
     let is = matched c.args.key.now same c.prefix.ensures c.prefix_length_slice-common.ensures in
-    inserts-split (pointer_shape g.P.Partial.bytes c.args.at.now) c.args.key.now _ is
+    inserts-split c.args.at.now.shape c.args.key.now _ is
     c.split.result c.args.value c.in_ok-node.ensures.work same
     (c.open_mut.follows.holds c.split.new.node (search rules)) c.split.ensures
 
@@ -19,7 +18,7 @@ returns-then-common-len g t c =
 
 pub rest_of-rest-requires : goal.rest_of-rest-requires
 rest_of-rest-requires g t c =
-    common-fits (pointer_shape g.P.Partial.bytes c.args.at.now) c.args.key.now _
+    common-fits c.args.at.now.shape c.args.key.now _
     (matched c.args.key.now c.in_ok-node.ensures.shown c.prefix.ensures
     c.prefix_length_slice-common.ensures)
 
@@ -30,7 +29,7 @@ seek_child_mut-requires g t c =
 pub returns-in-None : goal.returns-in-None
 returns-in-None g t c =
     let same = c.in_ok-node.ensures.shown in
-    let s = pointer_shape g.P.Partial.bytes c.args.at.now in
+    let s = c.args.at.now.shape in
     let key = c.args.key.now in
     let is = matched key same c.prefix.ensures c.prefix_length_slice-common.ensures in
     inserts-here s key _ is c.finish.result c.args.value c.in_ok-node.ensures.work
@@ -41,7 +40,7 @@ returns-in-None g t c =
 pub returns-in-None-seek_child_mut : goal.returns-in-None-seek_child_mut
 returns-in-None-seek_child_mut g t c =
     let same = c.in_ok-node.ensures.shown in
-    let s = pointer_shape g.P.Partial.bytes c.args.at.now in
+    let s = c.args.at.now.shape in
     let key = c.args.key.now in
     let is = matched key same c.prefix.ensures c.prefix_length_slice-common.ensures in
     inserts-here s key _ is c.finish-in-None-seek_child_mut.result c.args.value
@@ -55,7 +54,7 @@ returns-in-None-seek_child_mut g t c =
 
 pub insert_below-requires : goal.insert_below-requires
 insert_below-requires g t c κs within =
-    let s = pointer_shape g.P.Partial.bytes c.args.at.now in
+    let s = c.args.at.now.shape in
     let key = c.args.key.now in
     let same = c.in_ok-node.ensures.shown in
     let is = matched key same c.prefix.ensures c.prefix_length_slice-common.ensures in
@@ -80,7 +79,7 @@ insert_below-requires g t c κs within =
 pub returns-in-Some-seek_child_mut : goal.returns-in-Some-seek_child_mut
 returns-in-Some-seek_child_mut g t c =
     let same = c.in_ok-node.ensures.shown in
-    let s = pointer_shape g.P.Partial.bytes c.args.at.now in
+    let s = c.args.at.now.shape in
     let key = c.args.key.now in
     let is = matched key same c.prefix.ensures c.prefix_length_slice-common.ensures in
     let inner = c.seek_child_mut.follows.lender c.insert_below.new.at in
@@ -91,7 +90,7 @@ returns-in-Some-seek_child_mut g t c =
     (child-here c.in-Some.byte same c.in-Some-seek_child_mut.ensures.value)
     (c.open_mut.follows.holds inner (search rules)
     ∙ child-replaced c.in-Some.byte
-    (pointer_shape g.P.Partial.bytes c.insert_below.new.at) same
+    c.insert_below.new.at.shape same
     c.in-Some-seek_child_mut.is
     (c.seek_child_mut.follows.holds c.insert_below.new.at))
     c.insert_below.ensures

@@ -1,6 +1,5 @@
-use Rattle.rart_node.specs.NodeShapes.{pointer_shape}
 use Rattle.rart_node.specs.Shape.{height}
 use Rattle.rart_insertion.proofs.+insert_below.Given as goal
 
 abbrev pub decreases-insert_below : goal.decreases-insert_below
-decreases-insert_below g l = height (pointer_shape g.P.Partial.bytes l.at.now)
+decreases-insert_below g l = height l.at.now.shape

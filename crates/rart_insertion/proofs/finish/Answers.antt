@@ -1,5 +1,4 @@
 use Rattle.std.proofs.Common.{◌++◌, arith, refl, sym, ap, subst, ◌∙◌}
-use Rattle.rart_node.specs.NodeShapes.{node_shape}
 use Rattle.rart_node.specs.Shape.{prefix_of, with_added}
 use Rattle.rart_shape.specs.Trees.{IsPut}
 use Rattle.rart_shape.proofs.FindLemmas.{ascending}
@@ -13,7 +12,7 @@ add_child-requires-clause-order g c = ascending _ c.requires.order
 
 pub returns-in-None : goal.returns-in-None
 returns-in-None g c =
-    let s = node_shape g.P.Partial.bytes c.args.node.now in
+    let s = c.args.node.now.shape in
     let rest = c.args.rest.now in
     let end = sym c.in-None.ensures.value in
     record {
@@ -33,7 +32,7 @@ returns-in-None g c =
 
 pub returns-in_ok-add_child-in-Some : goal.returns-in_ok-add_child-in-Some
 returns-in_ok-add_child-in-Some g c =
-    let s = node_shape g.P.Partial.bytes c.args.node.now in
+    let s = c.args.node.now.shape in
     let rest = c.args.rest.now in
     let next = sym c.in-Some.ensures.value in
     let absent = c.requires.absent c.in-Some.byte.now next in

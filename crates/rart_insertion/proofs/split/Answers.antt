@@ -1,7 +1,6 @@
 use Rattle.std.proofs.Common.{◌≡◌, ◌<◌, ◌≤◌, ◌++◌, Some, slice_get, length, drop, sym, ap, subst, ◌∙◌, arith}
 use Rattle.rart_below.specs.Bytes.{IsAdmitted}
 use Rattle.rart_below.specs.Children.{child_at}
-use Rattle.rart_node.specs.NodeShapes.{node_shape}
 use Rattle.rart_node.specs.Shape.{Shape, prefix_of, children_of}
 use Rattle.rart_shape.specs.Trees.{IsOrdered, IsPut, found, cut_at, ending}
 use Rattle.rart_shape.proofs.CountingLemmas.{counts-then, ending-cut}
@@ -11,12 +10,12 @@ use Rattle.rart_insertion.proofs.split.Goals as goal
 
 pub rest_of-requires : goal.rest_of-requires
 rest_of-requires g c =
-    common-fits (node_shape g.P.Partial.bytes c.args.node.now) c.args.key.now c.args.common
+    common-fits c.args.node.now.shape c.args.key.now c.args.common
     c.requires.leaves.is
 
 pub finish-requires : goal.finish-requires
 finish-requires g c =
-    let s = node_shape g.P.Partial.bytes c.args.node.now in
+    let s = c.args.node.now.shape in
     let key = c.args.key.now in
     record {
       admitted = subst (λ rest. IsAdmitted g.P.Partial.MAXIMUM_SIZE (length rest))
@@ -33,8 +32,8 @@ finish-requires g c =
 
 pub returns : goal.returns
 returns g c =
-    let s = node_shape g.P.Partial.bytes c.args.node.now in
-    let after = node_shape g.P.Partial.bytes c.finish.new.node in
+    let s = c.args.node.now.shape in
+    let after = c.finish.new.node.shape in
     let key = c.args.key.now in
     let rest = drop c.args.common key in
     let left = c.rest_of.ensures in
@@ -42,8 +41,8 @@ returns g c =
     (cut_at c.args.common s) after =
     subst (λ (z : Shape g.row.V.Denot). IsPut (prefix_of z ++ rest) c.args.value z after)
     c.in_ok-upper.ensures.told
-    (subst (λ rest. IsPut (prefix_of (node_shape g.P.Partial.bytes c.in_ok-upper.upper) ++ rest)
-    c.args.value (node_shape g.P.Partial.bytes c.in_ok-upper.upper) after) left
+    (subst (λ rest. IsPut (prefix_of c.in_ok-upper.upper.shape ++ rest)
+    c.args.value c.in_ok-upper.upper.shape after) left
     c.in_ok-old.ensures.puts.0) in
     let most =
     subst (λ (z : Shape g.row.V.Denot). ending z c.rest_of.result.now ≤ length rest)

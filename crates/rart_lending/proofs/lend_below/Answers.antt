@@ -2,7 +2,7 @@ use Rattle.std.proofs.Common.{◌≡◌, [], Some, drop, refl, sym, ap, subst, �
 use Rattle.std.specs.Option.{OnSome}
 use Rattle.std.specs.Result.{is_ok}
 use Rattle.std.proofs.lemmas.Option.{same_Some}
-use Rattle.rart_node.specs.NodeShapes.{node_shape, pointer_shape}
+use Rattle.rart_node.specs.Seen.{shape_of}
 use Rattle.rart_node.specs.Shape.{prefix_of, with_value}
 use Rattle.rart_lending.specs.Grafts.{graft}
 use Rattle.rart_search.specs.Paths.{path_end}
@@ -12,11 +12,10 @@ use Rattle.rart_lending.proofs.lend_below.Goals as goal
 
 pub returns : goal.returns
 returns g c =
-    let bytes = g.P.Partial.bytes in
     let w = c.args.key.now in
-    let s = pointer_shape bytes c.args.at.now in
+    let s = c.args.at.now.shape in
     let steps = c.args.steps in
-    let node = node_shape bytes c.in_ok-node.node.now in
+    let node = c.in_ok-node.node.now.shape in
     let left = drop c.down.new.depth w in
     let reached : path_end steps w s ≡ Some (node, left) = c.in_ok-node.ensures.reaches.reached in
     let same : c.requires.arrives.0 ≡ (node, left) =
@@ -25,13 +24,13 @@ returns g c =
     subst (λ end. strip_prefix (prefix_of end.0) end.1 ≡ Some []) same c.requires.arrives.2 in
     let tree : IsTree node = tree-along steps w s (node, left) c.requires.tree reached in
     let put-back : (value : g.row.V.Denot)
-    → node_shape bytes (c.value_mut.follows.lender value) ≡ with_value (Some value) node =
-    λ value. subst (λ r. OnSome r (node_shape bytes (c.value_mut.follows.lender value)
+    → shape_of (c.value_mut.follows.lender value) ≡ with_value (Some value) node =
+    λ value. subst (λ r. OnSome r (shape_of (c.value_mut.follows.lender value)
     ≡ with_value (Some value) node)) c.in-Some.is (c.value_mut.follows.holds value) in (
       (
         refl,
         (λ value ok.
-            let after : pointer_shape bytes
+            let after : shape_of
             (c.down.follows.lender (c.value_mut.follows.lender value))
             ≡ graft steps (with_value (Some value) node) w s =
             c.down.follows.holds (c.value_mut.follows.lender value) (ap is_ok c.in_ok-node.was)

@@ -1,5 +1,4 @@
 use Rattle.std.proofs.Common.{[], is_some, refl, sym, ap, arith, subst, ◌∙◌}
-use Rattle.rart_node.specs.NodeShapes.{pointer_shape}
 use Rattle.rart_removal.specs.Plans.{IsPlan, plan_cost}
 use Rattle.rart_removal.proofs.PlanLemmas.{leaf-alone, not-none, counts-carried}
 use Rattle.rart_shape.proofs.CountingLemmas.{entered-then}
@@ -8,15 +7,15 @@ use Rattle.rart_removal.proofs.remove_below.Goals as goal
 
 pub returns-in_ok-take-in-Leaf : goal.returns-in_ok-take-in-Leaf
 returns-in_ok-take-in-Leaf g c =
-    let s = pointer_shape g.P.Partial.bytes c.args.root.now in
+    let s = c.args.root.now.shape in
     let key = c.args.key.now in
     let leaf =
-    subst (λ z. IsPlan g.P.Partial.bytes z key s) c.in-Leaf.is c.in_ok-plan_below.ensures.plan in
+    subst (λ z. IsPlan z key s) c.in-Leaf.is c.in_ok-plan_below.ensures.plan in
     let here = found-here s key [] leaf.2 refl in
     let there = ap is_some here ∙ leaf.1 in
     let cost = ap plan_cost c.in-Leaf.is in
     record {
-      taken = leaf-alone s (pointer_shape g.P.Partial.bytes c.take.new.at) key c.requires.tree leaf
+      taken = leaf-alone s c.take.new.at.shape key c.requires.tree leaf
           c.in_ok-take-in-Leaf.ensures.taken;
       value = c.in_ok-take-in-Leaf.ensures.value ∙ sym here;
       refused = tt;

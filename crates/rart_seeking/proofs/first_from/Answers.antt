@@ -1,5 +1,4 @@
 use Rattle.std.proofs.Common.{true, false, [], subst}
-use Rattle.rart_node.specs.NodeShapes.{pointer_shape}
 use Rattle.rart_seeking.specs.Firsts.{Finds}
 use Rattle.rart_seeking.specs.Starts.{is_from}
 use Rattle.rart_seeking.proofs.FromLemmas.{from-itself}
@@ -14,7 +13,7 @@ returns-in-Unbounded g c =
       first = subst (λ list. Finds list c.first_behind-in-Unbounded.result c.args.room.now
           c.first_behind-in-Unbounded.new.room)
           (keeping-same (is_from false []) (λ key. true)
-          (pairs_of (pointer_shape g.P.Partial.bytes c.args.root.now)) from-itself) found.first;
+          (pairs_of c.args.root.now.shape) from-itself) found.first;
       counted = found.counted;
       entered = found.entered;
     })

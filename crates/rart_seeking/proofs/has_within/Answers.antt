@@ -2,7 +2,6 @@ use Rattle.std.proofs.Common.{true, false, [], ap, ◌∙◌}
 use Rattle.std.specs.Ordering.{as_partial_cmp}
 use Rattle.std.specs.Range.Bound.{is_up_to_end, bound_map}
 use Rattle.rart_below.specs.Bytes.{byte_order}
-use Rattle.rart_node.specs.NodeShapes.{pointer_shape}
 use Rattle.rart_seeking.specs.Firsts.{first_passes}
 use Rattle.rart_seeking.specs.Starts.{is_from}
 use Rattle.rart_seeking.proofs.FromLemmas.{from-itself}
@@ -18,7 +17,7 @@ returns-in-Unbounded g c =
           told.passes ∙ ap (first_passes (is_up_to_end (as_partial_cmp byte_order)
           (bound_map (λ high. high.now) c.args.high)))
           (keeping-same (is_from false []) (λ key. true)
-          (pairs_of (pointer_shape g.P.Partial.bytes c.args.root.now)) from-itself);
+          (pairs_of c.args.root.now.shape) from-itself);
       counted = told.counted;
       entered = told.entered;
     })

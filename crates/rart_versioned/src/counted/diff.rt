@@ -114,8 +114,7 @@ impl<K: KeyTrait, V: Clone + Drop + Eq> VersionedAdaptiveRadixTree<K, V> {
         ),
         AllocError,
     >
-        ensures { MakesWalks self.now other.now V.eq K.PartialType.bytes K.MAXIMUM_SIZE result
-            work.old work.new }
+        ensures { MakesWalks self.now other.now V.eq K.MAXIMUM_SIZE result work.old work.new }
     {
         let old = self.whole_walk(work)?;
         let new = other.whole_walk(work)?;

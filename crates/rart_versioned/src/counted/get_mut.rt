@@ -7,12 +7,11 @@ ghost use Rattle.rart_below.specs.Clones.{ClonesEqual};
 ghost use Rattle.rart_maps.specs.Bounds.{lookup_bound};
 ghost use Rattle.rart_maps.specs.Versions.{has_key, value_at, HasRoom};
 ghost use Rattle.rart_node.specs.Counts.{CountsUpTo};
-ghost use Rattle.rart_node.specs.NodeShapes.{pointer_shape};
 ghost use Rattle.rart_versioned.specs.Asks.{CanLend};
 ghost use Rattle.rart_versioned.specs.ChangeCounts.{CountsChange};
 ghost use Rattle.rart_versioned.specs.Lent.{LendsValue, LendsFound};
 ghost use Rattle.rart_versioned.specs.Missing.{Explains};
-ghost use Rattle.rart_versioned.specs.Roots.{LendsBelow, found_in};
+ghost use Rattle.rart_versioned.specs.Roots.{LendsBelow, below_root, found_in};
 
 use crate::counted::missing::{Missing, found_of};
 use crate::counted::tree::VersionedAdaptiveRadixTree;
@@ -30,21 +29,17 @@ fn lend_in<'a, P: Partial, V: Clone + Drop>(
     key: &[u8],
     work: &mut Work,
 ) -> Result<&'a mut V, Missing>
-    requires { CanLend V.is_clone (option_map (pointer_shape P.bytes) root.old) number.old }
-    ensures* writes_back { sem 𝓛 (LendsBelow P.row V.row P.bytes root.entry key.now result) }
-    ensures value { IfOk result (λ value.
-        found_in (option_map (pointer_shape P.bytes) root.old) key.now
-        ≡ Some value.now) }
-    ensures missing { IfErr result
-        (λ missing. Explains missing (found_in
-        (option_map (pointer_shape P.bytes) root.old) key.now)) }
+    requires { CanLend V.is_clone (below_root root.old) number.old }
+    ensures* writes_back { sem 𝓛 (LendsBelow P.row V.row P.Partial root.entry key.now result) }
+    ensures value { IfOk result (λ value. found_in (below_root root.old) key.now ≡ Some value.now) }
+    ensures missing { IfErr result (λ missing. Explains missing (found_in
+        (below_root root.old) key.now)) }
     ensures raised { OnOk result (number.new ≡ number.old + 1) }
     ensures kept { OnErr result (number.new ≡ number.old) }
     ensures counted { CountsUpTo (2 * lookup_bound key.now) (lookup_bound key.now) work.old
         work.new }
     ensures entered_least { IsSome root.old → work.old.entered < work.new.entered }
-    ensures absent_makes_none { found_in (option_map (pointer_shape P.bytes) root.old) key.now
-        ≡ None
+    ensures absent_makes_none { found_in (below_root root.old) key.now ≡ None
         → work.new.made ≡ work.old.made }
 {
     match root.as_mut() {

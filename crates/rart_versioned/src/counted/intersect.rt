@@ -6,7 +6,6 @@ ghost use Rattle.rart_maps.specs.Pairs.{common};
 ghost use Rattle.rart_maps.specs.Versions.{has_no_key};
 ghost use Rattle.rart_maps.specs.Visits.{ByKeyPair, ByValuePair, ByViewPair, Visit, Visits, Visitable};
 ghost use Rattle.rart_node.specs.Counts.{CountsUpTo};
-ghost use Rattle.rart_node.specs.NodeShapes.{pointer_shape};
 ghost use Rattle.rart_versioned.specs.Meets.{AreRoots, HaveNoCommon};
 
 use crate::counted::tree::VersionedAdaptiveRadixTree;
@@ -125,9 +124,8 @@ impl<K: KeyTrait, V: Clone + Drop> VersionedAdaptiveRadixTree<K, V> {
             &'a NodeRef<K::PartialType, V>,
         ),
     >
-        ensures both { IfSome result (λ roots. AreRoots K.MAXIMUM_SIZE
-            (pointer_shape K.PartialType.bytes roots.0.now)
-            (pointer_shape K.PartialType.bytes roots.1.now) self.now other.now) }
+        ensures both { IfSome result (λ roots. AreRoots K.MAXIMUM_SIZE roots.0.now.shape
+            roots.1.now.shape self.now other.now) }
         ensures lacking { IfNone result (HaveNoCommon self.now other.now) }
     {
         match (&self.root, &other.root) {

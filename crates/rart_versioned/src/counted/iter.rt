@@ -4,7 +4,6 @@ ghost use Rattle.std.specs.Prelude.{◌≡◌, ◌+◌, ◌<◌, [], ◌∷◌, 
 ghost use Rattle.rart_maps.specs.Pairs.{pairs, under};
 ghost use Rattle.rart_maps.specs.Versions.{has_no_key};
 ghost use Rattle.rart_node.specs.Counts.{CountsUpTo};
-ghost use Rattle.rart_node.specs.NodeShapes.{pointer_shape};
 ghost use Rattle.rart_shape.specs.Trees.{pairs_of};
 ghost use Rattle.rart_versioned.specs.Entries.{HasKeys, pairs_to_come};
 ghost use Rattle.rart_versioned.specs.Starts.{StartsPairs};
@@ -22,7 +21,7 @@ fn entry_of<'a, P: Partial, V: Drop>(
     root: &'a NodeRef<P, V>,
     work: &mut Work,
 ) -> Option<(&'a [u8], &'a V)>
-    ensures pair { IfSome result (λ entry. pairs_of (pointer_shape P.bytes root.now)
+    ensures pair { IfSome result (λ entry. pairs_of root.now.shape
         ≡ (entry.0.now, entry.1.now) ∷ []) }
     ensures work { work.new ≡ record work.old { entered = work.old.entered + 1 } }
 {
@@ -53,9 +52,8 @@ impl<K: KeyTrait, V: Clone + Drop> VersionedAdaptiveRadixTree<K, V> {
 
     /// All pairs.
     fn entries(&self, work: &mut Work) -> Result<Entries<'_, K::PartialType, V>, AllocError>
-        ensures keys { IfOk result (HasKeys K.PartialType.bytes K.MAXIMUM_SIZE) }
-        ensures pairs { IfOk result (λ entries. pairs_to_come K.PartialType.bytes entries
-            ≡ pairs self.now.content) }
+        ensures keys { IfOk result (HasKeys K.MAXIMUM_SIZE) }
+        ensures pairs { IfOk result (λ entries. pairs_to_come entries ≡ pairs self.now.content) }
         ensures counted { CountsUpTo 2 0 work.old work.new }
         ensures entered { has_no_key self.now ≡ false → work.old.entered < work.new.entered }
     {

@@ -29,9 +29,7 @@ impl<K: KeyTrait, V: Clone + Drop> Drop for VersionedAdaptiveRadixTree<K, V> {
 }
 
 impl<K: KeyTrait, V: Clone> Model for VersionedAdaptiveRadixTree<K, V> {
-    ghost use Rattle.std.specs.Option.{option_map};
-    ghost use Rattle.rart_node.specs.NodeShapes.{pointer_shape};
-    ghost use Rattle.rart_versioned.specs.Roots.{map_of, IsSound};
+    ghost use Rattle.rart_versioned.specs.Roots.{below_root, map_of, IsSound};
     ghost use Rattle.rart_maps.specs.Versions.{Version, version_code};
 
     ghost Value = { Version V };
@@ -39,14 +37,11 @@ impl<K: KeyTrait, V: Clone> Model for VersionedAdaptiveRadixTree<K, V> {
     ghost coded = { version_code V.code };
 
     ghost view = { λ tree. record {
-      content =
-          map_of (option_map (pointer_shape K.PartialType.bytes) tree.root);
-      number =
-          tree.version;
+      content = map_of (below_root tree.root);
+      number = tree.version;
     } };
 
-    ghost invariant = { λ tree. IsSound K.MAXIMUM_SIZE tree.version
-        (option_map (pointer_shape K.PartialType.bytes) tree.root) };
+    ghost invariant = { λ tree. IsSound K.MAXIMUM_SIZE tree.version (below_root tree.root) };
 }
 
 impl<K: KeyTrait, V: Clone + Drop> VersionedAdaptiveRadixTree<K, V> {

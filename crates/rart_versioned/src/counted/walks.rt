@@ -19,8 +19,7 @@ impl<K: KeyTrait, V: Clone + Drop> VersionedAdaptiveRadixTree<K, V> {
         work: &mut Work,
     ) -> Result<Walk<'a, K::PartialType, V, T>, AllocError>
         requires { KeepsKeys T.greatest }
-        ensures { WalksAll K.PartialType.bytes T.holds T.greatest K.MAXIMUM_SIZE self.now result
-            work.old work.new }
+        ensures { WalksAll T.holds T.greatest K.MAXIMUM_SIZE self.now result work.old work.new }
     {
         match &self.root {
             None => Ok(Walk::new(self.alloc)),
@@ -40,7 +39,7 @@ impl<K: KeyTrait, V: Clone + Drop> VersionedAdaptiveRadixTree<K, V> {
         work: &mut Work,
     ) -> Result<Walk<'a, K::PartialType, V, T>, AllocError>
         requires { KeepsKeys T.greatest }
-        ensures { WalksUnder K.PartialType.bytes T.holds T.greatest K.MAXIMUM_SIZE self.now result
+        ensures { WalksUnder T.holds T.greatest K.MAXIMUM_SIZE self.now result
             work.old work.new prefix.now }
     {
         match &self.root {
@@ -61,7 +60,7 @@ impl<K: KeyTrait, V: Clone + Drop> VersionedAdaptiveRadixTree<K, V> {
         work: &mut Work,
     ) -> Result<Walk<'a, K::PartialType, V, T>, AllocError>
         requires { KeepsKeys T.greatest }
-        ensures { WalksFrom K.PartialType.bytes T.holds T.greatest K.MAXIMUM_SIZE self.now result
+        ensures { WalksFrom T.holds T.greatest K.MAXIMUM_SIZE self.now result
             work.old work.new (bound_map (λ low. low.now) low.entry) }
     {
         match &self.root {

@@ -35,7 +35,7 @@ impl<'a, K: KeyTrait, P: Partial, V> Model for VersionedIter<'a, K, P, V> {
 
     ghost Value = { Option (List (List ℕ × V)) };
 
-    ghost view = { λ iter. entries_left P.bytes iter.entries };
+    ghost view = { λ iter. entries_left iter.entries };
 
-    ghost invariant = { λ iter. IfSome iter.entries (HasKeys P.bytes K.MAXIMUM_SIZE) };
+    ghost invariant = { λ iter. IfSome iter.entries (HasKeys K.MAXIMUM_SIZE) };
 }

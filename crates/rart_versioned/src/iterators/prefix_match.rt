@@ -32,7 +32,7 @@ impl<'a, K: KeyTrait, P: Partial, V> Model for VersionedPrefixMatchIter<'a, K, P
 
     ghost Value = { Option (List (List ℕ × V)) };
 
-    ghost view = { λ iter. matches_left P.bytes (K.bytes iter.probe) iter.way };
+    ghost view = { λ iter. matches_left (K.bytes iter.probe) iter.way };
 
-    ghost invariant = { λ iter. IfSome iter.way (IsWay P.bytes (K.bytes iter.probe)) };
+    ghost invariant = { λ iter. IfSome iter.way (IsWay (K.bytes iter.probe)) };
 }

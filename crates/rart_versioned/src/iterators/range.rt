@@ -26,9 +26,7 @@ impl<'a, K: KeyTrait, V> Model for VersionedRange<'a, K, V> {
 
     ghost Value = { Option (List (List ℕ × V)) };
 
-    ghost view = { λ range.
-        within_left K.PartialType.bytes (bound_map K.bytes range.high) range.walk };
+    ghost view = { λ range. within_left (bound_map K.bytes range.high) range.walk };
 
-    ghost invariant = { λ range.
-        IfSome range.walk (IsRangeWalk K.PartialType.bytes K.MAXIMUM_SIZE) };
+    ghost invariant = { λ range. IfSome range.walk (IsRangeWalk K.MAXIMUM_SIZE) };
 }

@@ -23,7 +23,7 @@ impl<'a, P: Partial, V> Model for VersionedValuesIter<'a, P, V> {
 
     ghost Value = { Option (List V) };
 
-    ghost view = { λ iter. values_left P.bytes iter.walk };
+    ghost view = { λ iter. values_left iter.walk };
 
-    ghost invariant = { λ iter. IfSome iter.walk (IsWalk P.bytes HoldsNothing None) };
+    ghost invariant = { λ iter. IfSome iter.walk (IsWalk HoldsNothing None) };
 }

@@ -80,8 +80,8 @@ impl<K: KeyTrait, V: Clone + Drop + Eq> VersionedAdaptiveRadixTree<K, V> {
         self.diff_count_counted(other, &mut Work::new())
     }
 
-    /// Whether both maps have the same keys, with equal values. It goes on no further than to the
-    /// first key at which they differ. Refused for memory, there is no answer.
+    /// Whether both maps have the same keys, with equal values. Refused for memory, there is no
+    /// answer.
     pub fn equals(&self, other: &VersionedAdaptiveRadixTree<K, V>) -> Result<bool, AllocError>
         ensures { IfOk result (λ equal. IsTrue equal
             ↔ (changes V.eq self.now.content other.now.content ≡ [])) }

@@ -5,7 +5,6 @@ ghost use Rattle.std.specs.Ordering.{as_partial_cmp, is_lt};
 ghost use Rattle.std.specs.Range.Bound.{is_from_start, bound_map};
 ghost use Rattle.rart_below.specs.Bytes.{begins, byte_order};
 ghost use Rattle.rart_below.specs.Children.{children_from};
-ghost use Rattle.rart_node.specs.NodeShapes.{node_shape, pointer_shape};
 ghost use Rattle.rart_node.specs.Shape.{IsAscending, children_of};
 ghost use Rattle.rart_node.specs.VersionedNodeIter.{children_left};
 ghost use Rattle.rart_shape.specs.Trees.{IsTree, pairs_of, path_bound};
@@ -67,11 +66,10 @@ impl<'a, P: Partial, V: Drop, T: KeyPath<'a>> Walk<'a, P, V, T> {
         prefix: &[u8],
         work: &mut Work,
     ) -> Result<Walk<'a, P, V, T>, AllocError>
-        requires tree { IsTree (pointer_shape P.bytes root.now) }
-        requires short { AreShort T.greatest (pairs_of (pointer_shape P.bytes root.now)) }
-        ensures { StartsWithin P.bytes T.holds T.greatest result (begins prefix.now)
-            (begins prefix.now) (length prefix.now + 1) (pointer_shape P.bytes root.now)
-            work.old work.new }
+        requires tree { IsTree root.now.shape }
+        requires short { AreShort T.greatest (pairs_of root.now.shape) }
+        ensures { StartsWithin T.holds T.greatest result (begins prefix.now)
+            (begins prefix.now) (length prefix.now + 1) root.now.shape work.old work.new }
     {
         along_path(alloc, root, Part::Under, prefix, work)
     }
@@ -86,13 +84,13 @@ impl<'a, P: Partial, V: Drop, T: KeyPath<'a>> Walk<'a, P, V, T> {
         low: Bound<&[u8]>,
         work: &mut Work,
     ) -> Result<Walk<'a, P, V, T>, AllocError>
-        requires tree { IsTree (pointer_shape P.bytes root.now) }
-        requires short { AreShort T.greatest (pairs_of (pointer_shape P.bytes root.now)) }
-        ensures { StartsWithin P.bytes T.holds T.greatest result
+        requires tree { IsTree root.now.shape }
+        requires short { AreShort T.greatest (pairs_of root.now.shape) }
+        ensures { StartsWithin T.holds T.greatest result
             (is_from_start (as_partial_cmp byte_order) (bound_map (λ low. low.now) low.entry))
             (λ path. is_lt (byte_order (start_of (bound_map (λ low. low.now) low.entry)) path))
             (length (start_of (bound_map (λ low. low.now) low.entry)) + 1)
-            (pointer_shape P.bytes root.now) work.old work.new }
+            root.now.shape work.old work.new }
     {
         match low {
             Bound::Included(low) => along_path(alloc, root, Part::From, low, work),
@@ -110,11 +108,11 @@ fn along_path<'a, P: Partial, V: Drop, T: KeyPath<'a>>(
     probe: &[u8],
     work: &mut Work,
 ) -> Result<Walk<'a, P, V, T>, AllocError>
-    requires tree { IsTree (pointer_shape P.bytes root.now) }
-    requires short { AreShort T.greatest (pairs_of (pointer_shape P.bytes root.now)) }
-    ensures { StartsWithin P.bytes T.holds T.greatest result (keeps part probe.now)
-        (reaches part probe.now) (path_bound (pointer_shape P.bytes root.now) probe.now)
-        (pointer_shape P.bytes root.now) work.old work.new }
+    requires tree { IsTree root.now.shape }
+    requires short { AreShort T.greatest (pairs_of root.now.shape) }
+    ensures { StartsWithin T.holds T.greatest result (keeps part probe.now)
+        (reaches part probe.now) (path_bound root.now.shape probe.now)
+        root.now.shape work.old work.new }
 {
     let mut walk = Walk::new(alloc);
     let mut at = root;
@@ -146,11 +144,9 @@ fn finish<'a, P: Partial, V: Drop, T: KeyPath<'a>>(
     rest: &[u8],
     common: usize,
 ) -> Result<(), AllocError>
-    requires above { StandsAbove P.bytes T.holds T.greatest (node_shape P.bytes node.now)
-        walk.old }
-    requires here { EndsIn common rest.now (node_shape P.bytes node.now) }
-    ensures { Finishes P.bytes T.holds T.greatest walk.old result part rest.now
-        (node_shape P.bytes node.now) walk.new }
+    requires above { StandsAbove T.holds T.greatest node.now.shape walk.old }
+    requires here { EndsIn common rest.now node.now.shape }
+    ensures { Finishes T.holds T.greatest walk.old result part rest.now node.now.shape walk.new }
 {
     if common == rest.len() {
         let is_passed = passes_own(part, common == node.prefix().len());
@@ -179,10 +175,9 @@ fn enter_end<'a, P: Partial, V: Drop, T: KeyPath<'a>>(
     node: &'a VersionedNode<P, V>,
     is_passed: bool,
 ) -> Result<(), AllocError>
-    requires { StandsAbove P.bytes T.holds T.greatest (node_shape P.bytes node.now) walk.old }
-    ensures { EntersEnd P.bytes T.holds T.greatest walk.old result (node_shape P.bytes node.now)
-        (if is_passed then pairs_inside (node_shape P.bytes node.now)
-        else pairs_of (node_shape P.bytes node.now)) walk.new }
+    requires { StandsAbove T.holds T.greatest node.now.shape walk.old }
+    ensures { EntersEnd T.holds T.greatest walk.old result node.now.shape
+        (if is_passed then pairs_inside node.now.shape else pairs_of node.now.shape) walk.new }
 {
     walk.enter_whole(node)?;
     if is_passed {
@@ -197,10 +192,9 @@ fn later_children<'a, P: Partial, V: Drop>(
     byte: u8,
     goes_on: bool,
 ) -> VersionedNodeIter<'a, P, V>
-    requires { IsAscending (node_shape P.bytes node.now) }
-    ensures { children_left P.bytes result
-        ≡ (if goes_on then children_from (byte + 1) (children_of (node_shape P.bytes node.now)) else
-        []) }
+    requires { IsAscending node.now.shape }
+    ensures { children_left result
+        ≡ (if goes_on then children_from (byte + 1) (children_of node.now.shape) else []) }
 {
     if !goes_on {
         return no_more(node.iter_from(u8::MAX));
@@ -216,7 +210,7 @@ fn later_children<'a, P: Partial, V: Drop>(
 fn no_more<'a, P: Partial, V: Drop>(
     mut children: VersionedNodeIter<'a, P, V>,
 ) -> VersionedNodeIter<'a, P, V>
-    ensures { children_left P.bytes result ≡ [] }
+    ensures { children_left result ≡ [] }
 {
     'passing: while children.next().is_some() {}
     children

@@ -12,8 +12,8 @@ use std::test::Fail;
 
 // Asks an iterator that has nothing left: it gives `None`, and can be asked again.
 fn ask_at_the_end<P: Partial>(children: &mut VersionedNodeIter<'_, P, u64>)
-    requires { children_left P.bytes children.old ≡ [] }
-    ensures { children_left P.bytes children.new ≡ [] }
+    requires { children_left children.old ≡ [] }
+    ensures { children_left children.new ≡ [] }
 {
     match children.next() {
         None => {}

@@ -1,5 +1,4 @@
 //! Nodes: their parts, and how they change.
-ghost use Rattle.rart_node.specs.NodeShapes.{node_shape};
 ghost use Rattle.rart_node.specs.Shape.{IsAscending};
 ghost use Rattle.rart_below.specs.Bytes.{IsAdmitted};
 ghost use Rattle.std.specs.Prelude.{ℕ};
@@ -137,7 +136,7 @@ fn merged<P: Partial>(
     alloc: Global,
     node: &VersionedNode<P, u64>,
 ) -> Result<VersionedNode<P, u64>, AllocError>
-    requires order { IsAscending (node_shape P.bytes node.now) }
+    requires order { IsAscending node.now.shape }
     requires any { (length : ℕ) → IsAdmitted P.MAXIMUM_SIZE length }
 {
     if let Some(_value) = node.value() {

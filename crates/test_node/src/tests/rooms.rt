@@ -1,7 +1,6 @@
 //! A node with room for one more child makes no node.
 ghost use Rattle.std.specs.Prelude.{◌≡◌, ◌<◌, None, length};
 ghost use Rattle.rart_below.specs.Children.{child_at};
-ghost use Rattle.rart_node.specs.NodeShapes.{node_shape, pointer_shape};
 ghost use Rattle.rart_node.specs.Shape.{IsAscending, width_of, children_of, with_added};
 
 use crate::tests::{assert_children, leaf, prefix};
@@ -20,12 +19,11 @@ fn add_to_few<P: Partial>(
     child: NodeRef<P, u64>,
     work: &mut Work,
 )
-    requires order { IsAscending (node_shape P.bytes node.old) }
-    requires absent { child_at byte (children_of (node_shape P.bytes node.old)) ≡ None }
-    requires inner { 0 < width_of (node_shape P.bytes node.old) }
-    requires few { length (children_of (node_shape P.bytes node.old)) < 4 }
-    ensures added { node_shape P.bytes node.new
-        ≡ with_added byte (pointer_shape P.bytes child) (node_shape P.bytes node.old) }
+    requires order { IsAscending node.old.shape }
+    requires absent { child_at byte (children_of node.old.shape) ≡ None }
+    requires inner { 0 < width_of node.old.shape }
+    requires few { length (children_of node.old.shape) < 4 }
+    ensures added { node.new.shape ≡ with_added byte child.shape node.old.shape }
     ensures made { work.new.made ≡ work.old.made }
 {
     let _ = node.is_inner();

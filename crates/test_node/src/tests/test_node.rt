@@ -1,5 +1,4 @@
 //! A node as the tests call it.
-ghost use Rattle.rart_node.specs.NodeShapes.{node_shape};
 ghost use Rattle.rart_node.specs.Shape.{IsAscending};
 
 use crate::tests::{add_leaf, assert_children, assert_next_children, leaf, value_of};
@@ -13,7 +12,7 @@ use std::process::Abort;
 #[derive(Drop)]
 pub struct TestNode<P: Partial, V> {
     node: VersionedNode<P, V>,
-    ghost order: { IsAscending (node_shape P.bytes node) },
+    ghost order: { IsAscending node.shape },
 }
 
 #[tactic(auto, using(rart_node::proofs::ChildOrderLemmas::keeps_order))]
@@ -175,8 +174,8 @@ fn take_child<P: Partial, V: Drop>(
     node: &mut VersionedNode<P, V>,
     byte: u8,
 ) -> Option<NodeRef<P, V>>
-    requires { IsAscending (node_shape P.bytes node.old) }
-    ensures { IsAscending (node_shape P.bytes node.new) }
+    requires { IsAscending node.old.shape }
+    ensures { IsAscending node.new.shape }
 {
     node.delete_child(byte)
 }
@@ -184,8 +183,8 @@ fn take_child<P: Partial, V: Drop>(
 // Writes over the value, if one is lent.
 #[tactic(auto, using(rart_node::proofs::ChildOrderLemmas::keeps_order))]
 fn write_value<P: Partial>(node: &mut VersionedNode<P, u64>, value: u64) -> bool
-    requires { IsAscending (node_shape P.bytes node.old) }
-    ensures { IsAscending (node_shape P.bytes node.new) }
+    requires { IsAscending node.old.shape }
+    ensures { IsAscending node.new.shape }
 {
     match node.value_mut() {
         Some(lent) => {
@@ -203,8 +202,8 @@ fn write_child<P: Partial>(
     byte: u8,
     child: NodeRef<P, u64>,
 )
-    requires { IsAscending (node_shape P.bytes node.old) }
-    ensures { IsAscending (node_shape P.bytes node.new) }
+    requires { IsAscending node.old.shape }
+    ensures { IsAscending node.new.shape }
 {
     match node.seek_child_mut(byte) {
         Some(lent) => *lent = child,

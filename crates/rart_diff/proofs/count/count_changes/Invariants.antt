@@ -6,15 +6,14 @@ use Rattle.rart_diff.proofs.count.count_changes.Given as goal
 
 abbrev pub invariant-counting : goal.invariant-counting
 invariant-counting g l =
-    let bytes = g.P.Partial.bytes in
     let same = g.V.PartialEq.eq in
     record {
-      walk : IsChangeWalk bytes l.changes;
-      told : l.count + length (changes_left bytes same l.changes)
-          ≡ length (changes_ahead bytes same l.fn.old l.fn.new);
-      counted : IsCounted (nodes_ahead bytes l.fn.old l.fn.new) l.fn.work
-          (nodes_to_enter bytes l.changes) l.work;
+      walk : IsChangeWalk l.changes;
+      told : l.count + length (changes_left same l.changes)
+          ≡ length (changes_ahead same l.fn.old l.fn.new);
+      counted : IsCounted (nodes_ahead l.fn.old l.fn.new) l.fn.work
+          (nodes_to_enter l.changes) l.work;
     }
 
 abbrev pub decreases-counting : goal.decreases-counting
-decreases-counting g l = length (changes_left g.P.Partial.bytes g.V.PartialEq.eq l.changes)
+decreases-counting g l = length (changes_left g.V.PartialEq.eq l.changes)

@@ -18,13 +18,12 @@ visiting-init g c =
 
 pub new_from_slice-requires : goal.new_from_slice-requires
 new_from_slice-requires g c =
-    let bytes = g.P.Partial.bytes in
     let most = g.K.KeyTrait.MAXIMUM_SIZE in
     let gives = rw c.in-Some.is at c.in_ok-before.ensures.gives in
     let calls = c.visiting.invariant.calls in
     subst (λ k. IsAdmitted most (length k)) (sym c.key.ensures)
-    (next-admitted g.V.PartialEq.eq most (cursor bytes c.args.old).pairs
-    (cursor bytes c.args.new).pairs c.requires.keys.old_admitted c.requires.keys.new_admitted
+    (next-admitted g.V.PartialEq.eq most (cursor c.args.old).pairs
+    (cursor c.args.new).pairs c.requires.keys.old_admitted c.requires.keys.new_admitted
     calls.0 _ _ _ calls.1 gives)
 
 pub f-requires : goal.f-requires

@@ -8,15 +8,14 @@ use Rattle.rart_diff.proofs.views.visit_changed_views.Given as goal
 
 abbrev pub invariant-visiting : goal.invariant-visiting
 invariant-visiting g l =
-    let bytes = g.P.Partial.bytes in
     let same = g.V.PartialEq.eq in
     record {
-      walk : IsChangeWalk bytes l.changes;
+      walk : IsChangeWalk l.changes;
       calls : AnswersUpTo g.F.FnMut ByViewChange tt l.fn.f
-          (changes_ahead bytes same l.fn.old l.fn.new) (changes_left bytes same l.changes) l.f;
-      counted : IsCounted (nodes_ahead bytes l.fn.old l.fn.new) l.fn.work
-          (nodes_to_enter bytes l.changes) l.work;
+          (changes_ahead same l.fn.old l.fn.new) (changes_left same l.changes) l.f;
+      counted : IsCounted (nodes_ahead l.fn.old l.fn.new) l.fn.work
+          (nodes_to_enter l.changes) l.work;
     }
 
 abbrev pub decreases-visiting : goal.decreases-visiting
-decreases-visiting g l = length (changes_left g.P.Partial.bytes g.V.PartialEq.eq l.changes)
+decreases-visiting g l = length (changes_left g.V.PartialEq.eq l.changes)

@@ -1,12 +1,11 @@
 use Rattle.std.proofs.Common.{◌≡◌, ◌+◌, length, refl, ap, ◌∙◌, arith}
-use Rattle.rart_node.specs.NodeShapes.{node_shape}
 use Rattle.rart_node.specs.Shape.{prefix_of}
 use Rattle.rart_lending.proofs.LentPathLemmas.{step-first, step-long, step-next}
 use Rattle.rart_lending.proofs.path.next_byte.Goals as goal
 
 pub overflow_add-depth : goal.overflow_add-depth
 overflow_add-depth g c =
-    let s = node_shape g.P.Partial.bytes c.args.node.now in
+    let s = c.args.node.now.shape in
     let long = step-long s c.args.key.now c.args.depth.now c.requires.depth c.requires.there in
     let of_prefix : c.len.result ≡ length (prefix_of s) =
     c.len.ensures ∙ ap length c.prefix.ensures in
@@ -14,7 +13,7 @@ overflow_add-depth g c =
 
 pub bounds-key-depth : goal.bounds-key-depth
 bounds-key-depth g c =
-    let s = node_shape g.P.Partial.bytes c.args.node.now in
+    let s = c.args.node.now.shape in
     let long = step-long s c.args.key.now c.args.depth.now c.requires.depth c.requires.there in
     let of_prefix : c.len.result ≡ length (prefix_of s) =
     c.len.ensures ∙ ap length c.prefix.ensures in
@@ -22,7 +21,7 @@ bounds-key-depth g c =
 
 pub returns : goal.returns
 returns g c =
-    let s = node_shape g.P.Partial.bytes c.args.node.now in
+    let s = c.args.node.now.shape in
     let long = step-long s c.args.key.now c.args.depth.now c.requires.depth c.requires.there in
     let of_prefix : c.len.result ≡ length (prefix_of s) =
     c.len.ensures ∙ ap length c.prefix.ensures in

@@ -1,15 +1,14 @@
 use Rattle.std.proofs.Common.{◌≡◌, ◌+◌, ◌<◌, ◌^◌, ℕ, List, rules, of_calls, refl, arith, length}
 use Rattle.std.proofs.lemmas.List.{length-map}
 use Rattle.rart_maps.proofs.VisitLemmas.{answers-keep}
-use Rattle.rart_node.specs.NodeShapes.{pointer_shape}
 use Rattle.rart_lockstep.specs.CommonPairs.{common_pairs}
 use Rattle.rart_lockstep.proofs.CommonVisitLemmas.{answers-count, callable-count}
 use Rattle.rart_lockstep.proofs.count.count_common.Goals as goal
 
 pub visit_common_values-requires : goal.visit_common_values-requires
 visit_common_values-requires g c κs =
-    let s = pointer_shape g.P.Partial.bytes c.args.left.now in
-    let t = pointer_shape g.P.Partial.bytes c.args.right.now in
+    let s = c.args.left.now.shape in
+    let t = c.args.right.now.shape in
     let fits = c.requires.fits in
     let same = length-map {B = g.row.V.Denot × g.row.V.Denot} (common_pairs s t)
     (λ (entry : List ℕ × g.row.V.Denot × g.row.V.Denot). (entry.1, entry.2)) in (
@@ -28,8 +27,8 @@ visit_common_values-requires g c κs =
 
 pub returns-clause-count : goal.returns-clause-count
 returns-clause-count g c =
-    let s = pointer_shape g.P.Partial.bytes c.args.left.now in
-    let t = pointer_shape g.P.Partial.bytes c.args.right.now in
+    let s = c.args.left.now.shape in
+    let t = c.args.right.now.shape in
     let same = length-map {B = g.row.V.Denot × g.row.V.Denot} (common_pairs s t)
     (λ (entry : List ℕ × g.row.V.Denot × g.row.V.Denot). (entry.1, entry.2)) in
     let visit = c.visit_common_values.ensures.visits in

@@ -1,5 +1,4 @@
 use Rattle.rart_maps.specs.Visits.{ByKeyPair}
-use Rattle.rart_node.specs.NodeShapes.{pointer_shape}
 use Rattle.rart_walks.specs.KeyPaths.{HoldsBytes}
 use Rattle.rart_lockstep.specs.declared.keys.KeyMaker.{KeyMaker}
 use Rattle.rart_lockstep.proofs.IntersectionLemmas.{may-start, met-end, counted-roots}
@@ -7,8 +6,8 @@ use Rattle.rart_lockstep.proofs.keys.visit_common_keys.Goals as goal
 
 pub intersect_below-requires-clause-meets : goal.intersect_below-requires-clause-meets
 intersect_below-requires-clause-meets g c =
-    let s = pointer_shape g.P.Partial.bytes c.args.left.now in
-    let t = pointer_shape g.P.Partial.bytes c.args.right.now in
+    let s = c.args.left.now.shape in
+    let t = c.args.right.now.shape in
     let opened = c.open-at.ensures in
     may-start g.F.FnMut (ByKeyPair g.K.KeyTrait.bytes)
     (λ (maker : KeyMaker g.row.K.Denot g.row.V.Denot). HoldsBytes maker.key_path) s t _ _
@@ -18,8 +17,8 @@ intersect_below-requires-clause-meets g c =
 
 pub returns-clause-visits : goal.returns-clause-visits
 returns-clause-visits g c =
-    let s = pointer_shape g.P.Partial.bytes c.args.left.now in
-    let t = pointer_shape g.P.Partial.bytes c.args.right.now in
+    let s = c.args.left.now.shape in
+    let t = c.args.right.now.shape in
     let opened = c.open-at.ensures in
     met-end g.F.FnMut (ByKeyPair g.K.KeyTrait.bytes)
     (λ (maker : KeyMaker g.row.K.Denot g.row.V.Denot). HoldsBytes maker.key_path) s t _ _
@@ -30,8 +29,8 @@ returns-clause-visits g c =
 
 pub returns-clause-counted : goal.returns-clause-counted
 returns-clause-counted g c =
-    let s = pointer_shape g.P.Partial.bytes c.args.left.now in
-    let t = pointer_shape g.P.Partial.bytes c.args.right.now in
+    let s = c.args.left.now.shape in
+    let t = c.args.right.now.shape in
     let opened = c.open-at.ensures in
     counted-roots s t _ _ opened.left opened.right c.args.work.now _ _ opened.work
     c.intersect_below.ensures.enters

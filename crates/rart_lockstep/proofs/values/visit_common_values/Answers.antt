@@ -1,6 +1,5 @@
 use Rattle.std.proofs.Common.{refl}
 use Rattle.rart_maps.specs.Visits.{ByValuePair}
-use Rattle.rart_node.specs.NodeShapes.{pointer_shape}
 use Rattle.rart_lockstep.specs.CommonPairs.{common_pairs}
 use Rattle.rart_lockstep.specs.Entries.{ByItsValues}
 use Rattle.rart_lockstep.proofs.IntersectionLemmas.{visits-sure}
@@ -9,8 +8,8 @@ use Rattle.rart_lockstep.proofs.values.visit_common_values.Goals as goal
 
 pub visit_common-met-requires : goal.visit_common-met-requires
 visit_common-met-requires g c κs =
-    let s = pointer_shape g.P.Partial.bytes c.args.left.now in
-    let t = pointer_shape g.P.Partial.bytes c.args.right.now in
+    let s = c.args.left.now.shape in
+    let t = c.args.right.now.shape in
     let may = visitable-as g.F.FnMut ByItsValues ByValuePair (λ entry. (entry.1, entry.2))
     (λ a x is. is)
     (common_pairs s t) _ refl c.args.f.now c.requires.visitable in
@@ -18,8 +17,8 @@ visit_common-met-requires g c κs =
 
 pub returns-clause-visits : goal.returns-clause-visits
 returns-clause-visits g c =
-    let s = pointer_shape g.P.Partial.bytes c.args.left.now in
-    let t = pointer_shape g.P.Partial.bytes c.args.right.now in
+    let s = c.args.left.now.shape in
+    let t = c.args.right.now.shape in
     let met = c.visit_common-met in
     visits-sure g.F.FnMut ByValuePair c.args.f.now met.new.f _ met.result met.ensures.refused
     (visits-as g.F.FnMut ByItsValues ByValuePair (λ entry. (entry.1, entry.2)) (λ a x is. is)

@@ -1,11 +1,10 @@
-use Rattle.rart_node.specs.NodeShapes.{pointer_shape}
 use Rattle.rart_lockstep.proofs.IntersectionLemmas.{may-start, met-end, counted-roots}
 use Rattle.rart_lockstep.proofs.visit.visit_common.Goals as goal
 
 pub intersect_below-requires-clause-meets : goal.intersect_below-requires-clause-meets
 intersect_below-requires-clause-meets g c =
-    let s = pointer_shape g.P.Partial.bytes c.args.left.now in
-    let t = pointer_shape g.P.Partial.bytes c.args.right.now in
+    let s = c.args.left.now.shape in
+    let t = c.args.right.now.shape in
     let opened = c.open-at.ensures in
     may-start g.T.IntersectionPath.calls g.T.IntersectionPath.Shows g.T.KeyPath.holds s t _ _
     opened.left
@@ -14,8 +13,8 @@ intersect_below-requires-clause-meets g c =
 
 pub returns-clause-visits : goal.returns-clause-visits
 returns-clause-visits g c =
-    let s = pointer_shape g.P.Partial.bytes c.args.left.now in
-    let t = pointer_shape g.P.Partial.bytes c.args.right.now in
+    let s = c.args.left.now.shape in
+    let t = c.args.right.now.shape in
     let opened = c.open-at.ensures in
     met-end g.T.IntersectionPath.calls g.T.IntersectionPath.Shows g.T.KeyPath.holds s t _ _
     opened.left
@@ -24,8 +23,8 @@ returns-clause-visits g c =
 
 pub returns-clause-counted : goal.returns-clause-counted
 returns-clause-counted g c =
-    let s = pointer_shape g.P.Partial.bytes c.args.left.now in
-    let t = pointer_shape g.P.Partial.bytes c.args.right.now in
+    let s = c.args.left.now.shape in
+    let t = c.args.right.now.shape in
     let opened = c.open-at.ensures in
     counted-roots s t _ _ opened.left opened.right c.args.work.now _ _ opened.work
     c.intersect_below.ensures.enters

@@ -1,5 +1,4 @@
 use Rattle.std.proofs.Common.{◌<◌, arith, sym, subst, ◌∙◌}
-use Rattle.rart_node.specs.NodeShapes.{pointer_shape}
 use Rattle.rart_node.specs.Shape.{Shape}
 use Rattle.rart_shape.specs.Trees.{IsTaken}
 use Rattle.rart_shape.proofs.CountingLemmas.{counts-most, counts-opened, counts-then}
@@ -8,9 +7,9 @@ use Rattle.rart_removal.proofs.edit.+edit_below.Goals as goal
 
 pub returns-then-depth-eq0 : goal.returns-then-depth-eq0
 returns-then-depth-eq0 g t c =
-    let s = pointer_shape g.P.Partial.bytes c.args.at.now in
+    let s = c.args.at.now.shape in
     let removes =
-    removes-here g.P.Partial.bytes c.args.edit c.args.depth c.args.key.now s c.if-depth-eq0.true
+    removes-here c.args.edit c.args.depth c.args.key.now s c.if-depth-eq0.true
     c.requires.planned in
     record {
       taken = on-ok c.edit_here.result
@@ -24,46 +23,46 @@ returns-then-depth-eq0 g t c =
 
 pub rest_of-rest-requires : goal.rest_of-rest-requires
 rest_of-rest-requires g t c =
-    let s = pointer_shape g.P.Partial.bytes c.args.at.now in
+    let s = c.args.at.now.shape in
     let some : 0 < c.args.depth = omega (arith, c.if-depth-eq0.false) in
-    steps-within g.P.Partial.bytes c.args.edit c.args.depth s _ c.args.key.now _ _ some
+    steps-within c.args.edit c.args.depth s _ c.args.key.now _ _ some
     c.requires.planned c.in_ok-node.ensures.shown c.prefix.ensures c.len.ensures
 
 pub unreachable-requires : goal.unreachable-requires
 unreachable-requires g t c =
-    let s = pointer_shape g.P.Partial.bytes c.args.at.now in
+    let s = c.args.at.now.shape in
     let some : 0 < c.args.depth = omega (arith, c.if-depth-eq0.false) in
     let down =
-    steps-down g.P.Partial.bytes c.args.edit c.args.depth s _ c.args.key.now _ _ some
+    steps-down c.args.edit c.args.depth s _ c.args.key.now _ _ some
     c.requires.planned c.in_ok-node.ensures.shown c.prefix.ensures c.len.ensures
     c.rest_of-rest.result.now c.rest_of-rest.ensures in
-    no-end g.P.Partial.bytes c.args.edit down c.in_default.ensures.value
+    no-end c.args.edit down c.in_default.ensures.value
 
 pub unreachable-requires-in_default-seek_child_mut :
     goal.unreachable-requires-in_default-seek_child_mut
 unreachable-requires-in_default-seek_child_mut g t c =
-    let s = pointer_shape g.P.Partial.bytes c.args.at.now in
+    let s = c.args.at.now.shape in
     let some : 0 < c.args.depth = omega (arith, c.if-depth-eq0.false) in
     let down =
-    steps-down g.P.Partial.bytes c.args.edit c.args.depth s _ c.args.key.now _ _ some
+    steps-down c.args.edit c.args.depth s _ c.args.key.now _ _ some
     c.requires.planned c.in_ok-node.ensures.shown c.prefix.ensures c.len.ensures
     c.rest_of-rest.result.now c.rest_of-rest.ensures in
-    no-gap g.P.Partial.bytes c.args.edit down _ _ c.in_ok-node.ensures.shown
+    no-gap c.args.edit down _ _ c.in_ok-node.ensures.shown
     c.in-Some.ensures.value c.in_default-seek_child_mut.ensures.value
 
 pub edit_below-requires : goal.edit_below-requires
 edit_below-requires g t c κs within =
-    let s = pointer_shape g.P.Partial.bytes c.args.at.now in
+    let s = c.args.at.now.shape in
     let some : 0 < c.args.depth = omega (arith, c.if-depth-eq0.false) in
     let down =
-    steps-down g.P.Partial.bytes c.args.edit c.args.depth s _ c.args.key.now _ _ some
+    steps-down c.args.edit c.args.depth s _ c.args.key.now _ _ some
     c.requires.planned c.in_ok-node.ensures.shown c.prefix.ensures c.len.ensures
     c.rest_of-rest.result.now c.rest_of-rest.ensures in
     let goes =
-    down-goes g.P.Partial.bytes c.args.edit down _ _ c.in_ok-node.ensures.shown
+    down-goes c.args.edit down _ _ c.in_ok-node.ensures.shown
     c.in-Some.ensures.value _ c.in-Some-seek_child_mut.ensures.value in
     let removes =
-    down-removes g.P.Partial.bytes c.args.edit down _ _ c.in_ok-node.ensures.shown
+    down-removes c.args.edit down _ _ c.in_ok-node.ensures.shown
     c.in-Some.ensures.value _ c.in-Some-seek_child_mut.ensures.value in (
       omega (arith, some, c.decreases),
       (
@@ -83,14 +82,14 @@ edit_below-requires g t c κs within =
 
 pub returns : goal.returns
 returns g t c =
-    let s = pointer_shape g.P.Partial.bytes c.args.at.now in
+    let s = c.args.at.now.shape in
     let some : 0 < c.args.depth = omega (arith, c.if-depth-eq0.false) in
     let down =
-    steps-down g.P.Partial.bytes c.args.edit c.args.depth s _ c.args.key.now _ _ some
+    steps-down c.args.edit c.args.depth s _ c.args.key.now _ _ some
     c.requires.planned c.in_ok-node.ensures.shown c.prefix.ensures c.len.ensures
     c.rest_of-rest.result.now c.rest_of-rest.ensures in
     let goes =
-    down-goes g.P.Partial.bytes c.args.edit down _ _ c.in_ok-node.ensures.shown
+    down-goes c.args.edit down _ _ c.in_ok-node.ensures.shown
     c.in-Some.ensures.value _ c.in-Some-seek_child_mut.ensures.value in
     let replaced =
     when-some c.seek_child_mut.result _ c.in-Some-seek_child_mut.is

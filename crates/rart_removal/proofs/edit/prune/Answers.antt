@@ -1,12 +1,11 @@
 use Rattle.std.proofs.Common.{arith}
-use Rattle.rart_node.specs.NodeShapes.{pointer_shape}
 use Rattle.rart_removal.proofs.EditLemmas.{when-ok, when-some, pruned-is, pruned-value, refused-takes, replaced-ascending, kept-is}
 use Rattle.rart_shape.proofs.CountingLemmas.{counts-opened, counts-then}
 use Rattle.rart_removal.proofs.edit.prune.Goals as goal
 
 pub returns-in_err-value : goal.returns-in_err-value
 returns-in_err-value g c =
-    let s = pointer_shape g.P.Partial.bytes c.args.at.now in
+    let s = c.args.at.now.shape in
     let replaced =
     when-some c.seek_child_mut.result _ c.in-Some.is
     (c.seek_child_mut.follows.holds c.take.new.at) in
@@ -21,7 +20,7 @@ returns-in_err-value g c =
 
 pub delete_child-requires : goal.delete_child-requires
 delete_child-requires g c =
-    let s = pointer_shape g.P.Partial.bytes c.args.at.now in
+    let s = c.args.at.now.shape in
     let replaced =
     when-some c.seek_child_mut.result _ c.in-Some.is
     (c.seek_child_mut.follows.holds c.take.new.at) in
@@ -29,7 +28,7 @@ delete_child-requires g c =
 
 pub returns : goal.returns
 returns g c =
-    let s = pointer_shape g.P.Partial.bytes c.args.at.now in
+    let s = c.args.at.now.shape in
     let replaced =
     when-some c.seek_child_mut.result _ c.in-Some.is
     (c.seek_child_mut.follows.holds c.take.new.at) in

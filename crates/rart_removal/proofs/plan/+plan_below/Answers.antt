@@ -1,5 +1,4 @@
 use Rattle.std.proofs.Common.{◌≡◌, ◌+◌, ◌*◌, suc, is_some, sym, ap, subst, arith, ◌∙◌}
-use Rattle.rart_node.specs.NodeShapes.{pointer_shape}
 use Rattle.rart_node.specs.Shape.{Shape}
 use Rattle.rart_shape.specs.Trees.{path_bound}
 use Rattle.rart_shape.proofs.CountingLemmas.{path-one}
@@ -11,14 +10,14 @@ use Rattle.rart_removal.proofs.plan.+plan_below.Goals as goal
 
 pub returns-in_default-first : goal.returns-in_default-first
 returns-in_default-first g t c =
-    let s = pointer_shape g.P.Partial.bytes c.args.at.now in
+    let s = c.args.at.now.shape in
     let one = path-one s c.args.key.now in
     let value =
-    ends-found g.P.Partial.bytes s _ c.args.key.now _ _ c.open-node.ensures.shown c.prefix.ensures
+    ends-found s _ c.args.key.now _ _ c.open-node.ensures.shown c.prefix.ensures
     c.in-Some.ensures c.in_default-first.ensures.value in
     record {
       plan = if-ok c.plan_here.result
-          (ends-here g.P.Partial.bytes s _ c.args.key.now _ _ c.open-node.ensures.shown
+          (ends-here s _ c.args.key.now _ _ c.open-node.ensures.shown
           c.prefix.ensures c.in-Some.ensures c.in_default-first.ensures.value)
           c.plan_here.ensures.plan;
       present = on-err c.plan_here.result (λ there. ap is_some value ∙ there)
@@ -32,7 +31,7 @@ returns-in_default-first g t c =
 
 pub returns-in_default-seek_child : goal.returns-in_default-seek_child
 returns-in_default-seek_child g t c =
-    let s = pointer_shape g.P.Partial.bytes c.args.at.now in
+    let s = c.args.at.now.shape in
     let one = path-one s c.args.key.now in
     record {
       plan = absent-here s _ c.args.key.now _ _ c.open-node.ensures.shown c.prefix.ensures
@@ -46,7 +45,7 @@ returns-in_default-seek_child g t c =
 
 pub plan_below-requires : goal.plan_below-requires
 plan_below-requires g t c κs within =
-    let s = pointer_shape g.P.Partial.bytes c.args.at.now in
+    let s = c.args.at.now.shape in
     let goes =
     goes-on s _ c.args.key.now _ _ c.open-node.ensures.shown c.prefix.ensures
     c.in-Some.ensures _ c.in-Some-first.ensures.value _
@@ -68,7 +67,7 @@ plan_below-requires g t c κs within =
 
 pub returns-in_err-plan_below : goal.returns-in_err-plan_below
 returns-in_err-plan_below g t c =
-    let s = pointer_shape g.P.Partial.bytes c.args.at.now in
+    let s = c.args.at.now.shape in
     let goes =
     goes-on s _ c.args.key.now _ _ c.open-node.ensures.shown c.prefix.ensures
     c.in-Some.ensures _ c.in-Some-first.ensures.value _
@@ -91,14 +90,14 @@ returns-in_err-plan_below g t c =
 
 pub returns-in_err-plan_without-in-Leaf : goal.returns-in_err-plan_without-in-Leaf
 returns-in_err-plan_without-in-Leaf g t c =
-    let s = pointer_shape g.P.Partial.bytes c.args.at.now in
+    let s = c.args.at.now.shape in
     let goes =
     goes-on s _ c.args.key.now _ _ c.open-node.ensures.shown c.prefix.ensures
     c.in-Some.ensures _ c.in-Some-first.ensures.value _
     c.in-Some-seek_child.ensures in
     let planned =
-    subst (λ z. IsPlan g.P.Partial.bytes z c.in-Some.rest.now
-    (pointer_shape g.P.Partial.bytes c.in-Some-seek_child.child.now)) c.in-Leaf.is
+    subst (λ z. IsPlan z c.in-Some.rest.now
+    c.in-Some-seek_child.child.now.shape) c.in-Leaf.is
     c.in_ok-plan_below.ensures.plan in
     let leads : LeadsToLeaf c.in-Some-first.byte.now c.args.key.now s = (_, _, goes, planned) in
     let there = found-leaf s _ c.requires.tree c.args.key.now leads in
@@ -106,8 +105,8 @@ returns-in_err-plan_without-in-Leaf g t c =
     let cost = ap cost_of c.in_ok-plan_below.was ∙ ap plan_cost c.in-Leaf.is in
     let first =
     leaving-both {most = 1} {entered = 2 * path_bound
-    (pointer_shape g.P.Partial.bytes c.in-Some-seek_child.child.now) c.in-Some.rest.now + 1}
-    {made = path_bound (pointer_shape g.P.Partial.bytes c.in-Some-seek_child.child.now)
+    c.in-Some-seek_child.child.now.shape c.in-Some.rest.now + 1}
+    {made = path_bound c.in-Some-seek_child.child.now.shape
     c.in-Some.rest.now} (leaving-open _ _ c.open-node.ensures.work) c.plan_below.ensures.counted
     (omega (arith, cost)) (omega (arith, cost)) in
     let edit = ap edit_cost_of c.in_err-plan_without-in-Leaf.was in
@@ -126,14 +125,14 @@ returns-in_err-plan_without-in-Leaf g t c =
 
 pub returns-in-Absent : goal.returns-in-Absent
 returns-in-Absent g t c =
-    let s = pointer_shape g.P.Partial.bytes c.args.at.now in
+    let s = c.args.at.now.shape in
     let goes =
     goes-on s _ c.args.key.now _ _ c.open-node.ensures.shown c.prefix.ensures
     c.in-Some.ensures _ c.in-Some-first.ensures.value _
     c.in-Some-seek_child.ensures in
     let planned =
-    subst (λ z. IsPlan g.P.Partial.bytes z c.in-Some.rest.now
-    (pointer_shape g.P.Partial.bytes c.in-Some-seek_child.child.now)) c.in-Absent.is
+    subst (λ z. IsPlan z c.in-Some.rest.now
+    c.in-Some-seek_child.child.now.shape) c.in-Absent.is
     c.in_ok-plan_below.ensures.plan in
     let deep = deeper-path c.requires.tree goes in
     let cost = ap cost_of c.in_ok-plan_below.was ∙ ap plan_cost c.in-Absent.is in
@@ -150,14 +149,14 @@ returns-in-Absent g t c =
 
 pub returns-in_ok-plan_without-in-Leaf : goal.returns-in_ok-plan_without-in-Leaf
 returns-in_ok-plan_without-in-Leaf g t c =
-    let s = pointer_shape g.P.Partial.bytes c.args.at.now in
+    let s = c.args.at.now.shape in
     let goes =
     goes-on s _ c.args.key.now _ _ c.open-node.ensures.shown c.prefix.ensures
     c.in-Some.ensures _ c.in-Some-first.ensures.value _
     c.in-Some-seek_child.ensures in
     let planned =
-    subst (λ z. IsPlan g.P.Partial.bytes z c.in-Some.rest.now
-    (pointer_shape g.P.Partial.bytes c.in-Some-seek_child.child.now)) c.in-Leaf.is
+    subst (λ z. IsPlan z c.in-Some.rest.now
+    c.in-Some-seek_child.child.now.shape) c.in-Leaf.is
     c.in_ok-plan_below.ensures.plan in
     let leads : LeadsToLeaf c.in-Some-first.byte.now c.args.key.now s = (_, _, goes, planned) in
     let there = found-leaf s _ c.requires.tree c.args.key.now leads in
@@ -165,15 +164,15 @@ returns-in_ok-plan_without-in-Leaf g t c =
     let cost = ap cost_of c.in_ok-plan_below.was ∙ ap plan_cost c.in-Leaf.is in
     let first =
     leaving-both {most = 1} {entered = 2 * path_bound
-    (pointer_shape g.P.Partial.bytes c.in-Some-seek_child.child.now) c.in-Some.rest.now + 1}
-    {made = path_bound (pointer_shape g.P.Partial.bytes c.in-Some-seek_child.child.now)
+    c.in-Some-seek_child.child.now.shape c.in-Some.rest.now + 1}
+    {made = path_bound c.in-Some-seek_child.child.now.shape
     c.in-Some.rest.now} (leaving-open _ _ c.open-node.ensures.work) c.plan_below.ensures.counted
     (omega (arith, cost)) (omega (arith, cost)) in
     let edit = ap edit_cost_of c.in_ok-plan_without-in-Leaf.was in
     let shown = c.open-node.ensures.shown in
     record {
       plan = (
-        subst (λ (z : Shape g.row.V.Denot). Removes g.P.Partial.bytes
+        subst (λ (z : Shape g.row.V.Denot). Removes
             c.in_ok-plan_without-in-Leaf.field-0 c.args.key.now z) shown
             (c.in_ok-plan_without-in-Leaf.ensures.removes c.args.key.now
             (subst (λ (z : Shape g.row.V.Denot).
@@ -192,14 +191,14 @@ returns-in_ok-plan_without-in-Leaf g t c =
 
 pub returns-in-At : goal.returns-in-At
 returns-in-At g t c =
-    let s = pointer_shape g.P.Partial.bytes c.args.at.now in
+    let s = c.args.at.now.shape in
     let goes =
     goes-on s _ c.args.key.now _ _ c.open-node.ensures.shown c.prefix.ensures
     c.in-Some.ensures _ c.in-Some-first.ensures.value _
     c.in-Some-seek_child.ensures in
     let planned =
-    subst (λ z. IsPlan g.P.Partial.bytes z c.in-Some.rest.now
-    (pointer_shape g.P.Partial.bytes c.in-Some-seek_child.child.now)) c.in-At.is
+    subst (λ z. IsPlan z c.in-Some.rest.now
+    c.in-Some-seek_child.child.now.shape) c.in-At.is
     c.in_ok-plan_below.ensures.plan in
     let deep = deeper-path c.requires.tree goes in
     let cost = ap cost_of c.in_ok-plan_below.was ∙ ap plan_cost c.in-At.is in
@@ -207,7 +206,7 @@ returns-in-At g t c =
     let there = there-deeper c.requires.tree goes planned.1 in
     record {
       plan = (
-        subst (λ n. RemovesBelow g.P.Partial.bytes n c.in-At.edit c.args.key.now s) (sym one)
+        subst (λ n. RemovesBelow n c.in-At.edit c.args.key.now s) (sym one)
             (_, _, _, goes, planned.0),
         there,
       );

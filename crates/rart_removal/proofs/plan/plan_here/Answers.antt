@@ -1,12 +1,11 @@
 use Rattle.std.proofs.Common.{None, false, true, sym, ap, arith, refl, ◌<◌, length, ◌∙◌, subst, IsSome}
-use Rattle.rart_node.specs.NodeShapes.{node_shape}
 use Rattle.rart_node.specs.Shape.{value_of, children_of, with_value}
 use Rattle.rart_removal.proofs.PlanLemmas.{not_some-None, not-none, no-value, value-there, here-found, here-leaf, one-child, here-admitted, here-removes, here-replaces, leaving-same, leaving-done}
 use Rattle.rart_removal.proofs.plan.plan_here.Goals as goal
 
 pub returns-then-is_none : goal.returns-then-is_none
 returns-then-is_none g c =
-    let s = node_shape g.P.Partial.bytes c.args.node.now in
+    let s = c.args.node.now.shape in
     record {
       plan = here-found s ∙ not_some-None (value_of s)
           (value-there c.value.result _ false c.value.ensures c.if-is_none.ensures);
@@ -17,7 +16,7 @@ returns-then-is_none g c =
 
 pub merge-requires : goal.merge-requires
 merge-requires g c =
-    let s = node_shape g.P.Partial.bytes c.args.node.now in
+    let s = c.args.node.now.shape in
     let copied = c.in_ok-copy-in-1.ensures c.requires.clones in
     let is = c.take_value-value.ensures.new ∙ ap (with_value None) copied in
     record {
@@ -30,7 +29,7 @@ merge-requires g c =
 
 pub returns-in-0 : goal.returns-in-0
 returns-in-0 g c =
-    let s = node_shape g.P.Partial.bytes c.args.node.now in
+    let s = c.args.node.now.shape in
     record {
       plan = here-leaf s (sym c.num_children.ensures.count ∙ c.in-0.is)
           (value-there c.value.result _ true c.value.ensures c.if-is_none.ensures);
@@ -41,14 +40,13 @@ returns-in-0 g c =
 
 pub returns-in_ok-merged-in-1 : goal.returns-in_ok-merged-in-1
 returns-in_ok-merged-in-1 g c =
-    let bytes = g.P.Partial.bytes in
-    let s = node_shape bytes c.args.node.now in
+    let s = c.args.node.now.shape in
     let there = value-there c.value.result _ true c.value.ensures c.if-is_none.ensures in
     let copied = c.in_ok-copy-in-1.ensures c.requires.clones in
     let is = c.take_value-value.ensures.new ∙ ap (with_value None) copied in
     record {
       plan = (
-        here-replaces bytes c.in_ok-merged-in-1.merged c.take_value-value.result s _
+        here-replaces c.in_ok-merged-in-1.merged c.take_value-value.result s _
             (one-child s _ is (sym c.num_children.ensures.count ∙ c.in-1.is))
             c.in_ok-merged-in-1.ensures.told c.requires.tree is
             (c.take_value-value.ensures.old ∙ ap value_of copied),
@@ -61,13 +59,12 @@ returns-in_ok-merged-in-1 g c =
 
 pub returns-in_default : goal.returns-in_default
 returns-in_default g c =
-    let bytes = g.P.Partial.bytes in
-    let s = node_shape bytes c.args.node.now in
+    let s = c.args.node.now.shape in
     let count = c.num_children.ensures.count in
     let some : 1 < length (children_of s) = omega (arith, count, c.in_default) in
     record {
       plan = (
-        here-removes bytes s c.requires.tree some,
+        here-removes s c.requires.tree some,
         subst IsSome (sym (here-found s))
             (value-there c.value.result _ true c.value.ensures c.if-is_none.ensures),
       );

@@ -1,5 +1,4 @@
 use Rattle.std.proofs.Common.{ap, arith, ◌∙◌}
-use Rattle.rart_node.specs.NodeShapes.{node_shape}
 use Rattle.rart_node.specs.Shape.{value_of, with_deleted}
 use Rattle.rart_shape.proofs.CountingLemmas.{counts-then}
 use Rattle.rart_removal.proofs.PlanLemmas.{prune-removes, one-left, kept-value, leaf-admitted, leaf-replaces, leaving-same, leaving-done}
@@ -8,7 +7,7 @@ use Rattle.rart_removal.proofs.plan.plan_without.Goals as goal
 pub returns-then-can_lose_a_child : goal.returns-then-can_lose_a_child
 returns-then-can_lose_a_child g c =
     record {
-      removes = prune-removes g.P.Partial.bytes (node_shape g.P.Partial.bytes c.args.node.now)
+      removes = prune-removes c.args.node.now.shape
           c.args.byte c.requires.may.tree
           (c.can_lose_a_child.ensures.stays c.if-can_lose_a_child.true);
       counted = leaving-same 2 2 _ (omega arith);
@@ -16,7 +15,7 @@ returns-then-can_lose_a_child g c =
 
 pub merge-requires : goal.merge-requires
 merge-requires g c =
-    let s = node_shape g.P.Partial.bytes c.args.node.now in
+    let s = c.args.node.now.shape in
     let goes = c.if-can_lose_a_child.false in
     let copied = c.in_ok-copy.ensures c.requires.may.clones in
     let is = c.delete_child.ensures.seen ∙ ap (with_deleted c.args.byte) copied in
@@ -32,13 +31,13 @@ merge-requires g c =
 
 pub returns : goal.returns
 returns g c =
-    let s = node_shape g.P.Partial.bytes c.args.node.now in
+    let s = c.args.node.now.shape in
     let goes = c.if-can_lose_a_child.false in
     let copied = c.in_ok-copy.ensures c.requires.may.clones in
     let is = c.delete_child.ensures.seen ∙ ap (with_deleted c.args.byte) copied in
     let none = c.can_lose_a_child.ensures.value goes in
     record {
-      removes = leaf-replaces g.P.Partial.bytes c.in_ok-merge.field-0 c.in_ok-value.value s _
+      removes = leaf-replaces c.in_ok-merge.field-0 c.in_ok-value.value s _
           (one-left s c.args.byte c.requires.may.tree c.requires.leaf.0 c.requires.leaf.1 _ is none
           (c.can_lose_a_child.ensures.children goes))
           c.in_ok-merge.ensures.told c.requires.may.tree c.args.byte is none

@@ -1,12 +1,11 @@
-use Rattle.rart_node.specs.NodeShapes.{pointer_shape}
 use Rattle.rart_node.specs.Shape.{height}
 use Rattle.rart_search.proofs.LookupPathLemmas.{IsSearchDown}
 use Rattle.rart_search.proofs.depth.path_length.Given as goal
 
 abbrev pub invariant-down : goal.invariant-down
 invariant-down g l =
-    IsSearchDown (pointer_shape g.P.Partial.bytes l.fn.root) l.fn.key l.fn.work l.steps
-    (pointer_shape g.P.Partial.bytes l.at) l.rest l.work
+    IsSearchDown l.fn.root.shape l.fn.key l.fn.work l.steps
+    l.at.shape l.rest l.work
 
 abbrev pub decreases-down : goal.decreases-down
-decreases-down g l = height (pointer_shape g.P.Partial.bytes l.at)
+decreases-down g l = height l.at.shape

@@ -1,6 +1,5 @@
 use Rattle.std.proofs.Common.{◌≡◌, ◌≤◌, ℕ, List, None, IfSome, length}
 use Rattle.std.specs.List.{last_or}
-use Rattle.rart_node.specs.NodeShapes.{pointer_shape}
 use Rattle.rart_node.specs.Shape.{height}
 use Rattle.rart_shape.proofs.SearchLemmas.{IsSearchAt}
 use Rattle.rart_search.specs.Longest.{pair_found}
@@ -9,8 +8,8 @@ use Rattle.rart_search.proofs.longest.longest_prefix_match.Given as goal
 
 abbrev pub invariant-down : goal.invariant-down
 invariant-down g l =
-    let root = pointer_shape g.P.Partial.bytes l.fn.root in
-    let s = pointer_shape g.P.Partial.bytes l.at in
+    let root = l.fn.root.shape in
+    let s = l.at.shape in
     record {
       search : IsSearchAt root l.fn.probe l.fn.work s l.rest l.work;
       passed : List (List ℕ × g.row.V.Denot);
@@ -20,4 +19,4 @@ invariant-down g l =
     }
 
 abbrev pub decreases-down : goal.decreases-down
-decreases-down g l = height (pointer_shape g.P.Partial.bytes l.at)
+decreases-down g l = height l.at.shape

@@ -1,8 +1,8 @@
 use Rattle.std.proofs.Common.{◌==◌, length, sym, ap, rules, ◌∙◌}
 use Rattle.std.proofs.lemmas.Bool.{false≢true}
 use Rattle.std.specs.Option.{option_copied, option_map}
-use Rattle.rart_node.specs.NodeShapes.{pointer_shape}
 use Rattle.rart_node.specs.Shape.{value_of}
+use Rattle.rart_search.specs.Steps.{child_under}
 use Rattle.rart_search.proofs.StepLemmas.{rest-empty, step-counted, step-entered, step-here, step-left, step-missing, step-lower, step-child}
 use Rattle.rart_search.proofs.lookup.get_below.Goals as goal
 
@@ -36,8 +36,9 @@ returns-in-None-2 g c =
     record {
       value = sym (step-missing _ _ _ _ _ _ _ at opens _ c.in_ok-passed.ensures.rest
           (λ end. false≢true (c.if-is_empty.ensures ∙ ap (λ z. length z == 0) end))
-          (sym (ap (option_map (λ child. pointer_shape g.P.Partial.bytes child.now)) c.in-None.is)
-          ∙ c.in_ok-passed.ensures.child));
+          (sym (ap (option_map (λ child. child.now.shape)) c.in-None.is)
+          ∙ c.child.ensures
+          ∙ ap (child_under c.in_ok-passed.passed.rest.now) c.in_ok-passed.ensures.node));
       counted = step-counted _ _ _ _ _ _ _ at opens;
       entered = step-entered _ _ _ _ _ _ _ at opens;
     }
@@ -46,12 +47,12 @@ pub down-smaller : goal.down-smaller
 down-smaller g c =
     step-lower _ _ _ _ _ _ _ c.down.invariant c.in_ok-passed.ensures.work _
     c.in_ok-passed.ensures.rest _
-    (sym (ap (option_map (λ child. pointer_shape g.P.Partial.bytes child.now)) c.in-Some.is)
-    ∙ c.in_ok-passed.ensures.child)
+    (sym (ap (option_map (λ child. child.now.shape)) c.in-Some.is)
+    ∙ c.child.ensures ∙ ap (child_under c.in_ok-passed.passed.rest.now) c.in_ok-passed.ensures.node)
 
 pub down-preserved : goal.down-preserved
 down-preserved g c =
     step-child _ _ _ _ _ _ _ c.down.invariant c.in_ok-passed.ensures.work _
     c.in_ok-passed.ensures.rest _
-    (sym (ap (option_map (λ child. pointer_shape g.P.Partial.bytes child.now)) c.in-Some.is)
-    ∙ c.in_ok-passed.ensures.child)
+    (sym (ap (option_map (λ child. child.now.shape)) c.in-Some.is)
+    ∙ c.child.ensures ∙ ap (child_under c.in_ok-passed.passed.rest.now) c.in_ok-passed.ensures.node)

@@ -3,16 +3,16 @@ use Rattle.std.proofs.Common.{[], ◌++◌, length, take, refl, arith, sym, ap, 
 use Rattle.std.specs.Option.{option_copied, option_map}
 use Rattle.rart_maps.specs.Visits.{BySlice, Visit}
 use Rattle.rart_maps.proofs.VisitLemmas.{answers-append, callable-part}
-use Rattle.rart_node.specs.NodeShapes.{pointer_shape}
 use Rattle.rart_node.specs.Shape.{value_of}
 use Rattle.rart_shape.proofs.SearchLemmas.{search-start}
+use Rattle.rart_search.specs.Steps.{child_under}
 use Rattle.rart_search.proofs.StepLemmas.{step-counted, step-entered, step-lower, step-child, match-start, match-left, match-fits, match-own, match-last, match-next}
 use Rattle.rart_search.proofs.prefix_matches.visit_prefix_matches.Goals as goal
 use Rattle.rart_walks.specs.Frames.{pending_pair}
 
 pub down-init : goal.down-init
 down-init g c =
-    let root = pointer_shape g.P.Partial.bytes c.args.root.now in
+    let root = c.args.root.now.shape in
     record {
       search = search-start root c.args.probe.now c.args.work.now c.requires.tree;
       passed = [];
@@ -55,8 +55,9 @@ returns-in_default-child g c =
     let last = match-last _ _ _ _ _ c.down.invariant.match _ c.in-Some.ensures.rest
     at.tree (length c.args.probe.now - length c.in-Some.passed.rest.now)
     (omega (arith, fits)) _ (c.value.ensures ∙ ap value_of c.in-Some.ensures.node)
-    (sym (ap (option_map (λ child. pointer_shape g.P.Partial.bytes child.now))
-    c.in_default-child.is) ∙ c.in-Some.ensures.child) in
+    (sym (ap (option_map (λ child. child.now.shape))
+    c.in_default-child.is) ∙ c.child.ensures
+    ∙ ap (child_under c.in-Some.passed.rest.now) c.in-Some.ensures.node) in
     record {
       visits = subst (λ list. Visit g.F.FnMut BySlice c.args.f.now list c.visit_own.new.f)
           (sym last)
@@ -70,13 +71,14 @@ pub down-smaller : goal.down-smaller
 down-smaller g c =
     step-lower _ _ _ _ _ _ _ c.down.invariant.search c.in-Some.ensures.work _
     c.in-Some.ensures.rest _
-    (sym (ap (option_map (λ child. pointer_shape g.P.Partial.bytes child.now)) c.in-Some-child.is)
-    ∙ c.in-Some.ensures.child)
+    (sym (ap (option_map (λ child. child.now.shape)) c.in-Some-child.is)
+    ∙ c.child.ensures ∙ ap (child_under c.in-Some.passed.rest.now) c.in-Some.ensures.node)
 
 pub down-preserved : goal.down-preserved
 down-preserved g c =
-    let here = sym (ap (option_map (λ child. pointer_shape g.P.Partial.bytes child.now))
-    c.in-Some-child.is) ∙ c.in-Some.ensures.child in
+    let here = sym (ap (option_map (λ child. child.now.shape))
+    c.in-Some-child.is) ∙ c.child.ensures
+    ∙ ap (child_under c.in-Some.passed.rest.now) c.in-Some.ensures.node in
     let fits = match-fits _ _ _ _ _ c.down.invariant.match _ c.in-Some.ensures.rest in
     record {
       search = step-child _ _ _ _ _ _ _ c.down.invariant.search c.in-Some.ensures.work _

@@ -1,6 +1,5 @@
 use Rattle.std.proofs.Common.{List, ℕ}
 use Rattle.rart_maps.specs.Visits.{BySlice, Visit}
-use Rattle.rart_node.specs.NodeShapes.{pointer_shape}
 use Rattle.rart_node.specs.Shape.{height}
 use Rattle.rart_shape.proofs.SearchLemmas.{IsSearchAt}
 use Rattle.rart_search.proofs.StepLemmas.{IsMatchAt}
@@ -8,8 +7,8 @@ use Rattle.rart_search.proofs.prefix_matches.visit_prefix_matches.Given as goal
 
 abbrev pub invariant-down : goal.invariant-down
 invariant-down g l =
-    let root = pointer_shape g.P.Partial.bytes l.fn.root in
-    let s = pointer_shape g.P.Partial.bytes l.at in
+    let root = l.fn.root.shape in
+    let s = l.at.shape in
     record {
       search : IsSearchAt root l.fn.probe l.fn.work s l.rest l.work;
       passed : List (List ℕ × g.row.V.Denot);
@@ -18,4 +17,4 @@ invariant-down g l =
     }
 
 abbrev pub decreases-down : goal.decreases-down
-decreases-down g l = height (pointer_shape g.P.Partial.bytes l.at)
+decreases-down g l = height l.at.shape

@@ -1,7 +1,6 @@
 use Rattle.std.proofs.Common.{◌++◌, ◌∙◌, length, arith, ap, refl, subst, sym}
 use Rattle.std.proofs.Math.Nat.{le_refl}
 use Rattle.std.proofs.lemmas.List.{length-append}
-use Rattle.rart_node.specs.NodeShapes.{node_shape, pointer_shape}
 use Rattle.rart_node.specs.Shape.{prefix_of}
 use Rattle.rart_seeking.specs.Starts.{IsStart}
 use Rattle.rart_shape.specs.Trees.{pairs_of}
@@ -12,7 +11,7 @@ use Rattle.rart_seeking.proofs.least.least.Goals as goal
 pub down-init : goal.down-init
 down-init g c = record {
   above = c.args.path.now;
-  at = start-whole c.args.path.now (node_shape g.P.Partial.bytes c.args.start.now) c.requires.tree
+  at = start-whole c.args.path.now c.args.start.now.shape c.requires.tree
       c.requires.short;
   long = let end = c.write_at-len.ensures.end in omega (arith, end);
   written = c.write_at-len.ensures.written;
@@ -24,7 +23,7 @@ down-init g c = record {
 
 pub write_at-len-requires-in-down : goal.write_at-len-requires-in-down
 write_at-len-requires-in-down g c =
-    let s = node_shape g.P.Partial.bytes c.down.node.now in
+    let s = c.down.node.now.shape in
     let fits = start-fits _ c.down.invariant.above s c.down.invariant.at in
     let segment = ap length (c.as_ref.ensures ∙ c.prefix.ensures) in
     let long = c.down.invariant.long in
@@ -32,7 +31,7 @@ write_at-len-requires-in-down g c =
 
 pub returns-in-Some : goal.returns-in-Some
 returns-in-Some g c =
-    let s = node_shape g.P.Partial.bytes c.down.node.now in
+    let s = c.down.node.now.shape in
     let above = c.down.invariant.above in
     let len = c.write_at-len-in-down.result in
     let segment = c.as_ref.ensures ∙ c.prefix.ensures in
@@ -65,7 +64,7 @@ returns-in-Some g c =
 
 pub down-smaller : goal.down-smaller
 down-smaller g c =
-    let s = node_shape g.P.Partial.bytes c.down.node.now in
+    let s = c.down.node.now.shape in
     let taken = c.in-Some-next_child.ensures in
     rw c.open-node.ensures.shown
     (first-lower _ c.down.invariant.above s c.down.invariant.at (sym c.in_default.ensures)
@@ -74,15 +73,15 @@ down-smaller g c =
 
 pub down-preserved : goal.down-preserved
 down-preserved g c =
-    let s = node_shape g.P.Partial.bytes c.down.node.now in
+    let s = c.down.node.now.shape in
     let above = c.down.invariant.above in
     let at = c.down.invariant.at in
     let none = sym c.in_default.ensures in
     let taken = c.in-Some-next_child.ensures in
     let is = sym c.iter.ensures.children ∙ taken.1 in
-    let child = pointer_shape g.P.Partial.bytes c.in-Some-next_child.child.now in
+    let child = c.in-Some-next_child.child.now.shape in
     let whole = behind_path c.args.path.now
-    (pairs_of (node_shape g.P.Partial.bytes c.args.start.now)) in
+    (pairs_of c.args.start.now.shape) in
     let deep = first-deep whole above s at none taken.0 child _ is in
     let segment = c.as_ref.ensures ∙ c.prefix.ensures in
     let count = ap length segment in
@@ -115,6 +114,6 @@ down-preserved g c =
 
 pub unreachable-requires : goal.unreachable-requires
 unreachable-requires g c =
-    let s = node_shape g.P.Partial.bytes c.down.node.now in
+    let s = c.down.node.now.shape in
     none-some s c.down.invariant.at.tree (sym c.in_default.ensures)
     (sym c.iter.ensures.children ∙ c.in-None.ensures.0)

@@ -1,6 +1,5 @@
 use Rattle.std.proofs.Common.{◌≡◌, ◌-◌, ◌++◌, [], length, refl, take, arith, rules, sym, ap, subst, ◌∙◌}
 use Rattle.rart_below.specs.Bytes.{common_length}
-use Rattle.rart_node.specs.NodeShapes.{node_shape, pointer_shape}
 use Rattle.rart_node.specs.Shape.{prefix_of, children_of}
 use Rattle.rart_node.specs.VersionedNodeIter.{children_left}
 use Rattle.rart_seeking.specs.Starts.{IsStart, AreTurns, turn_shape}
@@ -16,8 +15,9 @@ pub down-init : goal.down-init
 down-init g c = record {
   path = [];
   ahead = [];
-  seek = seek-start c.args.is_strict c.args.low.now (pointer_shape g.P.Partial.bytes
-      c.args.root.now) c.args.work.now c.requires.tree c.requires.short;
+  seek =
+      seek-start c.args.is_strict c.args.low.now c.args.root.now.shape c.args.work.now
+      c.requires.tree c.requires.short;
   turn = refl;
   deep = tt;
 }
@@ -31,8 +31,7 @@ kept_of-requires g c = record {
 
 pub returns-in-All : goal.returns-in-All
 returns-in-All g c =
-    let bytes = g.P.Partial.bytes in
-    let same : node_shape bytes c.open-node.result.now ≡ pointer_shape bytes c.down.at.now =
+    let same : c.open-node.result.now.shape ≡ c.down.at.now.shape =
     c.open-node.ensures.shown in
     let low = c.args.low.now in
     let seek = c.down.invariant.seek in
@@ -40,7 +39,7 @@ returns-in-All g c =
     let kept = rw same at c.in-All.ensures.kept in
     let way = step-counted _ _ _ _ _ _ _ _ _ seek _ _ work same in
     record {
-      start = subst (IsStart (from_low c.args.is_strict low (pointer_shape bytes c.args.root.now))
+      start = subst (IsStart (from_low c.args.is_strict low c.args.root.now.shape)
           (take (length low - length c.down.rest.now) low)) (sym same)
           (ends-with-all _ _ _ _ _ _ _ _ _ seek kept);
       counted = counts-most way (omega arith) (omega arith);
@@ -50,14 +49,13 @@ returns-in-All g c =
 
 pub returns-in-Inside : goal.returns-in-Inside
 returns-in-Inside g c =
-    let bytes = g.P.Partial.bytes in
-    let same : node_shape bytes c.open-node.result.now ≡ pointer_shape bytes c.down.at.now =
+    let same : c.open-node.result.now.shape ≡ c.down.at.now.shape =
     c.open-node.ensures.shown in
     let seek = c.down.invariant.seek in
     let work = c.open-node.ensures.work in
     let inside = rw same at c.in-Inside.ensures.kept in
     let end = c.in-Inside.ensures.ended refl ∙ ap prefix_of same in
-    let is : children_left bytes c.iter.result ≡ children_of (pointer_shape bytes c.down.at.now) =
+    let is : children_left c.iter.result ≡ children_of c.down.at.now.shape =
     c.iter.ensures.children ∙ ap children_of same in
     let turns = children-turns _ _ _ _ _ _ _ _ _ seek in
     let there = (rw is at c.turn_of.ensures.start) c.down.invariant.ahead c.down.invariant.turn
@@ -65,12 +63,11 @@ returns-in-Inside g c =
     found-turn _ _ _ _ _ (step-counted _ _ _ _ _ _ _ _ _ seek _ _ work same)
     (step-entered _ _ _ _ _ _ _ _ _ seek _ _ work same) _ _ c.open_turn.ensures
     (c.turn_of.ensures.deep c.down.invariant.deep (subst AreTurns (sym is) turns))
-    (ends-inside _ _ _ _ _ _ _ _ _ seek end (turn_shape bytes c.turn_of.result) there inside)
+    (ends-inside _ _ _ _ _ _ _ _ _ seek end (turn_shape c.turn_of.result) there inside)
 
 pub returns-in-Nothing : goal.returns-in-Nothing
 returns-in-Nothing g c =
-    let bytes = g.P.Partial.bytes in
-    let same : node_shape bytes c.open-node.result.now ≡ pointer_shape bytes c.down.at.now =
+    let same : c.open-node.result.now.shape ≡ c.down.at.now.shape =
     c.open-node.ensures.shown in
     let none = rw same at c.in-Nothing.ensures.kept in
     let seek = c.down.invariant.seek in
@@ -78,7 +75,7 @@ returns-in-Nothing g c =
     found-turn _ _ _ _ _ (step-counted _ _ _ _ _ _ _ _ _ seek _ _ work same)
     (step-entered _ _ _ _ _ _ _ _ _ seek _ _ work same) _ _ c.open_turn-in-Nothing.ensures
     c.down.invariant.deep
-    (ends-with-none _ _ _ _ _ _ _ _ _ seek (turn_shape bytes c.down.turn) c.down.invariant.turn
+    (ends-with-none _ _ _ _ _ _ _ _ _ seek (turn_shape c.down.turn) c.down.invariant.turn
     none)
 
 pub rest_of-rest-requires : goal.rest_of-rest-requires
@@ -89,8 +86,7 @@ rest_of-rest-requires g c =
 
 pub bounds-rest-0 : goal.bounds-rest-0
 bounds-rest-0 g c =
-    let bytes = g.P.Partial.bytes in
-    let o = node_shape bytes c.open-node.result.now in
+    let o = c.open-node.result.now.shape in
     let matched : c.prefix_length_slice-common.result
     ≡ common_length (prefix_of o) c.down.rest.now = c.prefix_length_slice-common.ensures
     ∙ ap (λ p. common_length p c.down.rest.now) c.prefix.ensures in
@@ -104,9 +100,8 @@ bounds-rest-0 g c =
 
 pub returns-in-None : goal.returns-in-None
 returns-in-None g c =
-    let bytes = g.P.Partial.bytes in
-    let o = node_shape bytes c.open-node.result.now in
-    let same : o ≡ pointer_shape bytes c.down.at.now = c.open-node.ensures.shown in
+    let o = c.open-node.result.now.shape in
+    let same : o ≡ c.down.at.now.shape = c.open-node.ensures.shown in
     let matched : c.prefix_length_slice-common.result
     ≡ common_length (prefix_of o) c.down.rest.now = c.prefix_length_slice-common.ensures
     ∙ ap (λ p. common_length p c.down.rest.now) c.prefix.ensures in
@@ -118,8 +113,8 @@ returns-in-None g c =
     (let most = c.if-common-len.false in omega (arith, long, most)) in
     let seek = c.down.invariant.seek in
     let work = c.open-node.ensures.work in
-    let later = children_left bytes c.around.result.1 in
-    let turn = turn_shape bytes c.turn_of-turn.result in
+    let later = children_left c.around.result.1 in
+    let turn = turn_shape c.turn_of-turn.result in
     let missing = rw c.in-None.is at c.around.ensures.child in
     let turns =
     step-turns _ _ _ _ _ _ _ _ _ seek o c.open-node.new.work work same _ _ goes later
@@ -138,9 +133,8 @@ returns-in-None g c =
 
 pub down-smaller : goal.down-smaller
 down-smaller g c =
-    let bytes = g.P.Partial.bytes in
-    let o = node_shape bytes c.open-node.result.now in
-    let same : o ≡ pointer_shape bytes c.down.at.now = c.open-node.ensures.shown in
+    let o = c.open-node.result.now.shape in
+    let same : o ≡ c.down.at.now.shape = c.open-node.ensures.shown in
     let matched : c.prefix_length_slice-common.result
     ≡ common_length (prefix_of o) c.down.rest.now = c.prefix_length_slice-common.ensures
     ∙ ap (λ p. common_length p c.down.rest.now) c.prefix.ensures in
@@ -152,13 +146,12 @@ down-smaller g c =
     (let most = c.if-common-len.false in omega (arith, long, most)) in
     let here = rw c.in-Some.is at c.around.ensures.child in
     step-lower _ _ _ _ _ _ _ _ _ c.down.invariant.seek o c.open-node.new.work
-    c.open-node.ensures.work same _ _ goes (pointer_shape bytes c.in-Some.child.now) here
+    c.open-node.ensures.work same _ _ goes c.in-Some.child.now.shape here
 
 pub down-preserved : goal.down-preserved
 down-preserved g c =
-    let bytes = g.P.Partial.bytes in
-    let s = pointer_shape bytes c.down.at.now in
-    let o = node_shape bytes c.open-node.result.now in
+    let s = c.down.at.now.shape in
+    let o = c.open-node.result.now.shape in
     let same : o ≡ s = c.open-node.ensures.shown in
     let matched : c.prefix_length_slice-common.result
     ≡ common_length (prefix_of o) c.down.rest.now = c.prefix_length_slice-common.ensures
@@ -171,7 +164,7 @@ down-preserved g c =
     (let most = c.if-common-len.false in omega (arith, long, most)) in
     let seek = c.down.invariant.seek in
     let work = c.open-node.ensures.work in
-    let later = children_left bytes c.around.result.1 in
+    let later = children_left c.around.result.1 in
     let turns =
     step-turns _ _ _ _ _ _ _ _ _ seek o c.open-node.new.work work same _ _ goes later
     c.around.ensures.later in
@@ -181,10 +174,10 @@ down-preserved g c =
       ahead = step_passed _ _ _ _ _ _ _ _ _ seek o c.open-node.new.work work same _ _ goes;
       seek =
           step-child _ _ _ _ _ _ _ _ _ seek o c.open-node.new.work work same _ _ goes
-          (pointer_shape bytes c.in-Some.child.now) here;
+          c.in-Some.child.now.shape here;
       turn =
           step-turn _ _ _ _ _ _ _ _ _ seek o c.open-node.new.work work same _ _ goes later
-          c.around.ensures.later (turn_shape bytes c.turn_of-turn.result)
+          c.around.ensures.later (turn_shape c.turn_of-turn.result)
           (c.turn_of-turn.ensures.start c.down.invariant.ahead c.down.invariant.turn turns
           (step-brief _ _ _ _ _ _ _ _ _ seek o c.open-node.new.work work same _ _ goes later
           c.around.ensures.later));

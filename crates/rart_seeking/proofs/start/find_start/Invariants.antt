@@ -1,5 +1,4 @@
 use Rattle.std.proofs.Common.{ℕ, List}
-use Rattle.rart_node.specs.NodeShapes.{pointer_shape}
 use Rattle.rart_node.specs.Shape.{height}
 use Rattle.rart_seeking.specs.Starts.{StartAt, IsDeep, turn_shape}
 use Rattle.rart_seeking.proofs.SeekStartLemmas.{IsSeekAt}
@@ -9,11 +8,11 @@ abbrev pub invariant-down : goal.invariant-down
 invariant-down g l = record {
   path : List ℕ;
   ahead : List (List ℕ × g.row.V.Denot);
-  seek : IsSeekAt l.is_strict l.fn.low (pointer_shape g.P.Partial.bytes l.fn.root) l.fn.work
-      (pointer_shape g.P.Partial.bytes l.at) l.rest l.work path ahead;
-  turn : StartAt ahead (turn_shape g.P.Partial.bytes l.turn);
-  deep : IsDeep (turn_shape g.P.Partial.bytes l.turn);
+  seek : IsSeekAt l.is_strict l.fn.low l.fn.root.shape l.fn.work
+      l.at.shape l.rest l.work path ahead;
+  turn : StartAt ahead (turn_shape l.turn);
+  deep : IsDeep (turn_shape l.turn);
 }
 
 abbrev pub decreases-down : goal.decreases-down
-decreases-down g l = height (pointer_shape g.P.Partial.bytes l.at)
+decreases-down g l = height l.at.shape

@@ -1,6 +1,5 @@
 use Rattle.std.proofs.Common.{◌<◌, ◌≤◌, length, arith, ap, subst, ◌∙◌}
 use Rattle.std.specs.Prelude.{slice_index_or}
-use Rattle.rart_node.specs.NodeShapes.{node_shape}
 use Rattle.rart_node.specs.Shape.{prefix_of}
 use Rattle.rart_shape.proofs.PrefixLemmas.{common-within}
 use Rattle.rart_walks.proofs.EndLemmas.{common-front, parts-at}
@@ -11,7 +10,7 @@ use Rattle.rart_seeking.proofs.start.kept_of.Goals as goal
 
 pub returns-then-rest-common : goal.returns-then-rest-common
 returns-then-rest-common g c =
-    let s = node_shape g.P.Partial.bytes c.args.node.now in
+    let s = c.args.node.now.shape in
     let short = c.if-common-rest.true in
     let parts =
     parts-at (prefix_of s) c.args.rest.now c.args.common c.requires.common c.requires.ends
@@ -28,7 +27,7 @@ returns-then-rest-common g c =
 
 pub returns-then-common-rest : goal.returns-then-common-rest
 returns-then-common-rest g c =
-    let s = node_shape g.P.Partial.bytes c.args.node.now in
+    let s = c.args.node.now.shape in
     let short = c.if-common-rest.true in
     let parts =
     parts-at (prefix_of s) c.args.rest.now c.args.common c.requires.common c.requires.ends
@@ -47,7 +46,7 @@ returns-then-common-rest g c =
 
 pub returns-then-not-is_strict : goal.returns-then-not-is_strict
 returns-then-not-is_strict g c =
-    let s = node_shape g.P.Partial.bytes c.args.node.now in
+    let s = c.args.node.now.shape in
     let within = (common-within (prefix_of s) c.args.rest.now).1 in
     let is = c.requires.common in
     let most = c.if-common-rest.false in
@@ -61,7 +60,7 @@ returns-then-not-is_strict g c =
 
 pub returns-then-common-len : goal.returns-then-common-len
 returns-then-common-len g c =
-    let s = node_shape g.P.Partial.bytes c.args.node.now in
+    let s = c.args.node.now.shape in
     let within = (common-within (prefix_of s) c.args.rest.now).1 in
     let is = c.requires.common in
     let most = c.if-common-rest.false in
@@ -77,7 +76,7 @@ returns-then-common-len g c =
 
 pub returns : goal.returns
 returns g c =
-    let s = node_shape g.P.Partial.bytes c.args.node.now in
+    let s = c.args.node.now.shape in
     let within = common-within (prefix_of s) c.args.rest.now in
     let shorter = within.0 in
     let fits = within.1 in

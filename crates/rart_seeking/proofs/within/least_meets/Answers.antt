@@ -2,7 +2,6 @@ use Rattle.std.proofs.Common.{◌≡◌, ◌<◌, ⊎_elim, inl, inr, ◌++◌, 
 use Rattle.std.proofs.lemmas.List.{append_assoc, append-nil, length-append}
 use Rattle.std.specs.declared.cmp.Ordering.TheVariants.{Less, Greater}
 use Rattle.rart_below.specs.Bytes.{byte_order}
-use Rattle.rart_node.specs.NodeShapes.{node_shape, pointer_shape}
 use Rattle.rart_node.specs.Shape.{prefix_of}
 use Rattle.rart_seeking.specs.Besides.{is_to}
 use Rattle.rart_seeking.specs.Starts.{IsStart}
@@ -14,7 +13,7 @@ use Rattle.rart_seeking.proofs.within.least_meets.Goals as goal
 
 pub returns-in-Before-clause-meets : goal.returns-in-Before-clause-meets
 returns-in-Before-clause-meets g c pair others is =
-    let s = node_shape g.P.Partial.bytes c.args.start.now in
+    let s = c.args.start.now.shape in
     let path = c.args.path.now in
     let high = c.args.high.now in
     let goes = first-goes _ path s (start-whole path s c.requires.tree c.requires.short) pair others
@@ -25,7 +24,7 @@ returns-in-Before-clause-meets g c pair others is =
 
 pub returns-in-Behind-clause-meets : goal.returns-in-Behind-clause-meets
 returns-in-Behind-clause-meets g c pair others is =
-    let s = node_shape g.P.Partial.bytes c.args.start.now in
+    let s = c.args.start.now.shape in
     let path = c.args.path.now in
     let high = c.args.high.now in
     let goes = first-goes _ path s (start-whole path s c.requires.tree c.requires.short) pair others
@@ -37,7 +36,7 @@ returns-in-Behind-clause-meets g c pair others is =
 pub down-init : goal.down-init
 down-init g c = record {
   above = c.args.path.now;
-  at = start-whole c.args.path.now (node_shape g.P.Partial.bytes c.args.start.now) c.requires.tree
+  at = start-whole c.args.path.now c.args.start.now.shape c.requires.tree
       c.requires.short;
   stands = c.in-Along.ensures;
   grows = omega arith;
@@ -55,7 +54,7 @@ module _ (strict : Bool) (high above rest : List ℕ) (stands : high ≡ above +
 
 pub returns-in-Before-along-clause-meets : goal.returns-in-Before-along-clause-meets
 returns-in-Before-along-clause-meets g c pair others is =
-    let s = node_shape g.P.Partial.bytes c.down.node.now in
+    let s = c.down.node.now.shape in
     let rest = c.down.rest.now in
     let goes = first-goes _ c.down.invariant.above s c.down.invariant.at pair others is in
     let segment = c.as_ref.ensures ∙ c.prefix.ensures in
@@ -79,7 +78,7 @@ returns-in-Before-along-clause-counted g c =
 
 pub returns-in-Behind-along-clause-meets : goal.returns-in-Behind-along-clause-meets
 returns-in-Behind-along-clause-meets g c pair others is =
-    let s = node_shape g.P.Partial.bytes c.down.node.now in
+    let s = c.down.node.now.shape in
     let rest = c.down.rest.now in
     let goes = first-goes _ c.down.invariant.above s c.down.invariant.at pair others is in
     let segment = c.as_ref.ensures ∙ c.prefix.ensures in
@@ -103,7 +102,7 @@ returns-in-Behind-along-clause-counted g c =
 
 pub returns-in-Some-clause-meets : goal.returns-in-Some-clause-meets
 returns-in-Some-clause-meets g c pair others is =
-    let s = node_shape g.P.Partial.bytes c.down.node.now in
+    let s = c.down.node.now.shape in
     let prefix = prefix_of s in
     let above = c.down.invariant.above in
     let ends = first-ends _ above s c.down.invariant.at pair others is c.in-Some._value.now
@@ -130,7 +129,7 @@ returns-in-Some-clause-counted g c =
 
 pub down-smaller : goal.down-smaller
 down-smaller g c =
-    let s = node_shape g.P.Partial.bytes c.down.node.now in
+    let s = c.down.node.now.shape in
     let taken = c.in-Some-next_child.ensures in
     rw c.open-node.ensures.shown
     (first-lower _ c.down.invariant.above s c.down.invariant.at (sym c.in_default.ensures)
@@ -138,16 +137,16 @@ down-smaller g c =
 
 pub down-preserved : goal.down-preserved
 down-preserved g c =
-    let s = node_shape g.P.Partial.bytes c.down.node.now in
+    let s = c.down.node.now.shape in
     let prefix = prefix_of s in
     let above = c.down.invariant.above in
     let at = c.down.invariant.at in
     let whole = behind_path c.args.path.now
-    (pairs_of (node_shape g.P.Partial.bytes c.args.start.now)) in
+    (pairs_of c.args.start.now.shape) in
     let none = sym c.in_default.ensures in
     let taken = c.in-Some-next_child.ensures in
     let is = sym c.iter.ensures.children ∙ taken.1 in
-    let child = pointer_shape g.P.Partial.bytes c.in-Some-next_child.child.now in
+    let child = c.in-Some-next_child.child.now.shape in
     let deep = first-deep whole above s at none taken.0 child _ is in
     let left = c.in-Along-along.rest.now in
     let goes = c.in-Along-along.ensures
@@ -176,6 +175,6 @@ down-preserved g c =
 
 pub unreachable-requires : goal.unreachable-requires
 unreachable-requires g c =
-    let s = node_shape g.P.Partial.bytes c.down.node.now in
+    let s = c.down.node.now.shape in
     none-some s c.down.invariant.at.tree (sym c.in_default.ensures)
     (sym c.iter.ensures.children ∙ c.in-None.ensures.0)

@@ -88,9 +88,9 @@ fn key_at<'a, K: KeyTrait, P: Partial, V: Drop>(
     alloc: Global,
     walk: &Walk<'a, P, V, BytesPath>,
 ) -> Result<K, AllocError>
-    requires walk { IsWalk P.bytes HoldsBytes None walk.now }
-    requires admitted { IsAdmitted K.MAXIMUM_SIZE (length (path_to P.bytes walk.now)) }
-    ensures { IfOk result (λ key. K.bytes key ≡ path_to P.bytes walk.now) }
+    requires walk { IsWalk HoldsBytes None walk.now }
+    requires admitted { IsAdmitted K.MAXIMUM_SIZE (length (path_to walk.now)) }
+    ensures { IfOk result (λ key. K.bytes key ≡ path_to walk.now) }
 {
     K::new_from_slice(alloc, walk.key_path().as_slice())
 }

@@ -2,7 +2,6 @@
 //! What comes next of an iterator over the pairs along a probe.
 ghost use Rattle.std.specs.Prelude.{◌≡◌, ◌≤◌, ◌<◌, ◌++◌, length, take, Some, IfOk, IfSome};
 ghost use Rattle.std.specs.Option.{option_copied};
-ghost use Rattle.rart_node.specs.NodeShapes.{pointer_shape};
 ghost use Rattle.rart_node.specs.Shape.{height};
 ghost use Rattle.rart_shape.specs.Trees.{IsTree};
 ghost use Rattle.rart_versioned.specs.IteratorFields.{EntryGives, ValueGives, height_in, matches_below};
@@ -64,11 +63,10 @@ fn next_match<'a, K: KeyTrait, P: Partial, V: Drop>(
     way: &mut Way<'a, P, V>,
     probe: &K,
 ) -> Result<Option<(K, &'a V)>, AllocError>
-    requires { IsWay P.bytes (K.bytes probe.now) way.old }
-    ensures way { IsWay P.bytes (K.bytes probe.now) way.new }
+    requires { IsWay (K.bytes probe.now) way.old }
+    ensures way { IsWay (K.bytes probe.now) way.new }
     ensures gives { IfOk result (λ entry. EntryGives K.bytes
-        (matches_on P.bytes (K.bytes probe.now) way.old) entry
-        (matches_on P.bytes (K.bytes probe.now) way.new)) }
+        (matches_on (K.bytes probe.now) way.old) entry (matches_on (K.bytes probe.now) way.new)) }
 {
     let bytes = probe.as_ref();
     let Some(value) = next_value(way, bytes) else {
@@ -80,10 +78,10 @@ fn next_match<'a, K: KeyTrait, P: Partial, V: Drop>(
 
 /// The next value on the way. Its key is as much of the probe as the way has come down then.
 fn next_value<'a, P: Partial, V: Drop>(way: &mut Way<'a, P, V>, probe: &[u8]) -> Option<&'a V>
-    requires { IsWay P.bytes probe.now way.old }
-    ensures way { IsWay P.bytes probe.now way.new }
-    ensures gives { ValueGives (matches_on P.bytes probe.now way.old)
-        (take way.new.depth probe.now) result (matches_on P.bytes probe.now way.new) }
+    requires { IsWay probe.now way.old }
+    ensures way { IsWay probe.now way.new }
+    ensures gives { ValueGives (matches_on probe.now way.old)
+        (take way.new.depth probe.now) result (matches_on probe.now way.new) }
 {
     'down: while let Some(at) = way.at {
         let (value, next) = enter(at, probe, way.depth);
@@ -101,19 +99,19 @@ fn enter<'a, P: Partial, V: Drop>(
     probe: &[u8],
     depth: usize,
 ) -> (Option<&'a V>, Way<'a, P, V>)
-    requires tree { IsTree (pointer_shape P.bytes at.now) }
+    requires tree { IsTree at.now.shape }
     requires depth { depth ≤ length probe.now }
-    ensures way { IsWay P.bytes probe.now result.1 }
-    ensures gives { matches_below probe.now depth (Some (pointer_shape P.bytes at.now))
+    ensures way { IsWay probe.now result.1 }
+    ensures gives { matches_below probe.now depth (Some at.now.shape)
         ≡ pending_pair (take result.1.depth probe.now) (option_copied result.0)
-        ++ matches_on P.bytes probe.now result.1 }
-    ensures lower { height_in (next_node P.bytes result.1) < height (pointer_shape P.bytes at.now) }
+        ++ matches_on probe.now result.1 }
+    ensures lower { height_in (next_node result.1) < height at.now.shape }
 {
     match step(at, rest_of(probe, depth), &mut Work::new()) {
         None => (None, Way { at: None, depth }),
         Some(passed) => {
             let depth = probe.len() - passed.rest.len();
-            let at = passed.child;
+            let at = passed.child();
             (passed.node.value(), Way { at, depth })
         }
     }

@@ -63,11 +63,11 @@ fn next_within<'a, K: KeyTrait, V: Drop>(
     walk: &mut Walk<'a, K::PartialType, V, BytesPath>,
     high: &Bound<K>,
 ) -> Result<Option<(K, &'a V)>, AllocError>
-    requires { IsRangeWalk K.PartialType.bytes K.MAXIMUM_SIZE walk.old }
-    ensures walk { OnOk result (IsRangeWalk K.PartialType.bytes K.MAXIMUM_SIZE walk.new) }
+    requires { IsRangeWalk K.MAXIMUM_SIZE walk.old }
+    ensures walk { OnOk result (IsRangeWalk K.MAXIMUM_SIZE walk.new) }
     ensures gives { let high = bound_map K.bytes high.now in IfOk result (λ entry.
-        EntryGives K.bytes (up_to high (cursor K.PartialType.bytes walk.old).pairs) entry
-        (up_to high (cursor K.PartialType.bytes walk.new).pairs)) }
+        EntryGives K.bytes (up_to high (cursor walk.old).pairs) entry
+        (up_to high (cursor walk.new).pairs)) }
 {
     let Some(value) = walk.next_value(&mut Work::new())? else {
         return Ok(None);

@@ -6,16 +6,15 @@ use Rattle.rart_visits.proofs.values.visit_values.Given as goal
 
 abbrev pub invariant-visiting : goal.invariant-visiting
 invariant-visiting g l =
-    let bytes = g.P.Partial.bytes in
-    let left = cursor bytes l.walk in
-    let start = cursor bytes l.fn.walk in
+    let left = cursor l.walk in
+    let start = cursor l.fn.walk in
     record {
-      walk : IsWalk bytes g.T.KeyPath.holds g.T.KeyPath.greatest l.walk;
+      walk : IsWalk g.T.KeyPath.holds g.T.KeyPath.greatest l.walk;
       calls : AnswersUpTo g.F.FnMut ByValue tt l.fn.f (map (λ pair. pair.1) start.pairs)
           (map (λ pair. pair.1) left.pairs) l.f;
       counted : IsCounted (length start.paths) l.fn.work (length left.paths) l.work;
-      each : EntersForEach bytes l.fn.walk l.fn.work l.walk l.work;
+      each : EntersForEach l.fn.walk l.fn.work l.walk l.work;
     }
 
 abbrev pub decreases-visiting : goal.decreases-visiting
-decreases-visiting g l = length (cursor g.P.Partial.bytes l.walk).pairs
+decreases-visiting g l = length (cursor l.walk).pairs

@@ -8,11 +8,10 @@ use Rattle.rart_visits.proofs.values.visit_values_until.Given as goal
 
 abbrev pub invariant-visiting : goal.invariant-visiting
 invariant-visiting g l =
-    let bytes = g.P.Partial.bytes in
-    let left = cursor bytes l.walk in
-    let start = cursor bytes l.fn.walk in
+    let left = cursor l.walk in
+    let start = cursor l.fn.walk in
     record {
-      walk : IsWalk bytes g.T.KeyPath.holds g.T.KeyPath.greatest l.walk;
+      walk : IsWalk g.T.KeyPath.holds g.T.KeyPath.greatest l.walk;
       calls : AnswersUpTo g.F.FnMut ByValue (Ok Continue) l.fn.f
           (map (λ pair. pair.1) start.pairs) (map (λ pair. pair.1) left.pairs) l.f;
       counted : IsCounted (length start.paths) l.fn.work (length left.paths) l.work;
@@ -22,4 +21,4 @@ invariant-visiting g l =
 
 abbrev pub decreases-visiting : goal.decreases-visiting
 decreases-visiting g l =
-    let left = cursor g.P.Partial.bytes l.walk in length left.pairs + length left.paths
+    let left = cursor l.walk in length left.pairs + length left.paths

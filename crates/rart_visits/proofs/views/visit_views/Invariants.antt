@@ -7,15 +7,14 @@ use Rattle.rart_visits.proofs.views.visit_views.Given as goal
 
 abbrev pub invariant-visiting : goal.invariant-visiting
 invariant-visiting g l =
-    let bytes = g.P.Partial.bytes in
-    let left = cursor bytes l.walk in
-    let start = cursor bytes l.fn.walk in
+    let left = cursor l.walk in
+    let start = cursor l.fn.walk in
     record {
-      walk : IsWalk bytes HoldsSegments (Some (2 ^ 64 - 1)) l.walk;
+      walk : IsWalk HoldsSegments (Some (2 ^ 64 - 1)) l.walk;
       calls : AnswersUpTo g.F.FnMut ByView tt l.fn.f start.pairs left.pairs l.f;
       counted : IsCounted (length start.paths) l.fn.work (length left.paths) l.work;
-      each : EntersForEach bytes l.fn.walk l.fn.work l.walk l.work;
+      each : EntersForEach l.fn.walk l.fn.work l.walk l.work;
     }
 
 abbrev pub decreases-visiting : goal.decreases-visiting
-decreases-visiting g l = length (cursor g.P.Partial.bytes l.walk).pairs
+decreases-visiting g l = length (cursor l.walk).pairs

@@ -11,12 +11,11 @@ use Rattle.rart_visits.proofs.views.visit_views_up_to.Given as goal
 
 abbrev pub invariant-visiting : goal.invariant-visiting
 invariant-visiting g l =
-    let bytes = g.P.Partial.bytes in
-    let left = cursor bytes l.walk in
-    let start = cursor bytes l.fn.walk in
+    let left = cursor l.walk in
+    let start = cursor l.fn.walk in
     let high = bound_map (λ high. high.now) l.high in
     record {
-      walk : IsWalk bytes HoldsSegments (Some (2 ^ 64 - 1)) l.walk;
+      walk : IsWalk HoldsSegments (Some (2 ^ 64 - 1)) l.walk;
       ascend : KeysAscend (λ pair. pair.0) left.pairs;
       calls : AnswersUpTo g.F.FnMut ByView tt l.fn.f (up_to high start.pairs)
           (up_to high left.pairs) l.f;
@@ -28,4 +27,4 @@ invariant-visiting g l =
 
 abbrev pub decreases-visiting : goal.decreases-visiting
 decreases-visiting g l =
-    let left = cursor g.P.Partial.bytes l.walk in length left.pairs + length left.paths
+    let left = cursor l.walk in length left.pairs + length left.paths

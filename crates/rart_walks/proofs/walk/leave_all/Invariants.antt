@@ -4,7 +4,7 @@ use Rattle.rart_walks.proofs.walk.leave_all.Given as goal
 
 abbrev pub invariant-leaving : goal.invariant-leaving
 invariant-leaving g l =
-    g.T.KeyPath.holds l.key_path (segments_of (open_nodes g.P.Partial.bytes l.frames.items))
+    g.T.KeyPath.holds l.key_path (segments_of (open_nodes l.frames.items))
 
 abbrev pub decreases-leaving : goal.decreases-leaving
 decreases-leaving g l = goal.left-leaving g l

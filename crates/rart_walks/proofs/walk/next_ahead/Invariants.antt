@@ -5,12 +5,11 @@ use Rattle.rart_walks.proofs.walk.next_ahead.Given as goal
 
 abbrev pub invariant-leaving : goal.invariant-leaving
 invariant-leaving g l =
-    let bytes = g.P.Partial.bytes in
     record {
-      holds : g.T.KeyPath.holds l.key_path (segments_of (open_nodes bytes l.frames.items));
+      holds : g.T.KeyPath.holds l.key_path (segments_of (open_nodes l.frames.items));
       spent : (left : List (OpenNode g.row.V.Denot)) × AreSpent left
-          × (open_nodes bytes l.initial.frames.items ≡ open_nodes bytes l.frames.items ++ left);
+          × (open_nodes l.initial.frames.items ≡ open_nodes l.frames.items ++ left);
     }
 
 abbrev pub decreases-leaving : goal.decreases-leaving
-decreases-leaving g l = length (open_nodes g.P.Partial.bytes l.frames.items)
+decreases-leaving g l = length (open_nodes l.frames.items)

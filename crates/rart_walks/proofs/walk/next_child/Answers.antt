@@ -8,15 +8,14 @@ use Rattle.rart_walks.proofs.walk.next_child.Goals as goal
 
 pub returns : goal.returns
 returns g c =
-    let bytes = g.P.Partial.bytes in
     let frame = c.in_ok-frame.frame.now in
     let last =
     ends-with c.args.frames.now.items (vec_len c.args.frames.now) frame c.args.frames.now.ok.0
     (c.in_ok-frame.ensures.variant.0 refl) c.in_ok-frame.ensures.value in
-    takes-last (open_nodes bytes last.front) frame.segment.now
-    (children_left bytes frame.children) (children_left bytes c.next_child.new.self) _ _ _
-    (ap (open_nodes bytes) last.is ∙ map-push _ last.front frame)
-    (ap (open_nodes bytes) (last.put
+    takes-last (open_nodes last.front) frame.segment.now
+    (children_left frame.children) (children_left c.next_child.new.self) _ _ _
+    (ap open_nodes last.is ∙ map-push _ last.front frame)
+    (ap open_nodes (last.put
     (record { segment = frame.segment; children = c.next_child.new.self }))
     ∙ map-push _ last.front (record { segment = frame.segment; children = c.next_child.new.self }))
     c.next_child.ensures

@@ -3,7 +3,7 @@ use Rattle.rart_walks.specs.WalkFields.{cursor, IsWalk}
 use Rattle.test_walks.proofs.tests.values_left.Given as goal
 
 abbrev pub invariant-walking : goal.invariant-walking
-invariant-walking g l = IsWalk g.P.Partial.bytes g.T.KeyPath.holds g.T.KeyPath.greatest l.walk
+invariant-walking g l = IsWalk g.T.KeyPath.holds g.T.KeyPath.greatest l.walk
 
 abbrev pub decreases-walking : goal.decreases-walking
-decreases-walking g l = length (cursor g.P.Partial.bytes l.walk).pairs
+decreases-walking g l = length (cursor l.walk).pairs

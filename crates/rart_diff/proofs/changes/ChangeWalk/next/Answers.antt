@@ -31,7 +31,6 @@ merging-preserved g c =
 
 pub returns : goal.returns
 returns g c =
-    let bytes = g.P.Partial.bytes in
     let walk = c.merging.self in
     let none = rw c.in_default.is at c.in_ok-before.ensures.gives in
     let next = c.in_ok-before.ensures in
@@ -39,7 +38,7 @@ returns g c =
     record {
       walk = next.walk;
       gives = c.merging.invariant.changes ∙ no-changes g.V.PartialEq.eq
-          (pairs_left bytes walk.before) (pairs_left bytes walk.after) none.0 none.1;
+          (pairs_left walk.before) (pairs_left walk.after) none.0 none.1;
       entered = counted.same;
       counted = counted-now counted;
     }

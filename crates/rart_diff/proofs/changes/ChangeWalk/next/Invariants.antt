@@ -6,16 +6,14 @@ use Rattle.rart_diff.proofs.changes.ChangeWalk.next.Given as goal
 
 abbrev pub invariant-merging : goal.invariant-merging
 invariant-merging g l =
-    let bytes = g.P.Partial.bytes in
     let same = g.V.PartialEq.eq in
     record {
-      walk : IsChangeWalk bytes l.self;
-      changes : changes_left bytes same l.initial.self ≡ changes_left bytes same l.self;
-      counted : IsCounted (nodes_to_enter bytes l.initial.self) l.initial.work
-          (nodes_to_enter bytes l.self) l.work;
+      walk : IsChangeWalk l.self;
+      changes : changes_left same l.initial.self ≡ changes_left same l.self;
+      counted : IsCounted (nodes_to_enter l.initial.self) l.initial.work
+          (nodes_to_enter l.self) l.work;
     }
 
 abbrev pub decreases-merging : goal.decreases-merging
 decreases-merging g l =
-    let bytes = g.P.Partial.bytes in
-    length (pairs_left bytes l.self.before) + length (pairs_left bytes l.self.after)
+    length (pairs_left l.self.before) + length (pairs_left l.self.after)

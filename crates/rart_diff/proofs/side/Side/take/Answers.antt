@@ -7,16 +7,15 @@ use Rattle.rart_diff.proofs.side.Side.take.Goals as goal
 
 pub returns : goal.returns
 returns g c =
-    let bytes = g.P.Partial.bytes in
     let side = c.args.self.now in
-    let ascends = rest-ascends (key_at bytes side) (option_copied side.value)
-    (cursor bytes side.walk).pairs c.requires.ascends in
+    let ascends = rest-ascends (key_at side) (option_copied side.value)
+    (cursor side.walk).pairs c.requires.ascends in
     record {
       side = rw c.take.ensures.after (record { walk = c.requires.walk; ascends = ascends });
       value = ap option_copied c.take.ensures.value;
       key = refl;
-      leads = λ some. taken-leads (key_at bytes side) side.value c.take.result c.take.new.self
-          (cursor bytes side.walk).pairs c.take.ensures.value c.take.ensures.after
+      leads = λ some. taken-leads (key_at side) side.value c.take.result c.take.new.self
+          (cursor side.walk).pairs c.take.ensures.value c.take.ensures.after
           c.requires.ascends some;
       nodes = refl;
     }

@@ -4,9 +4,7 @@ use Rattle.std.specs.Result.{is_ok}
 use Rattle.std.proofs.lemmas.Bool.{false≢true}
 use Rattle.std.proofs.lemmas.Result.{IfOk-weaker, IfErr-weaker}
 use Rattle.rart_below.specs.Children.{child_at}
-use Rattle.rart_node.specs.declared.node.VersionedNode.{VersionedNode}
-use Rattle.rart_node.specs.declared.node_ref.NodeRef.{NodeRef}
-use Rattle.rart_node.specs.NodeShapes.{node_shape, pointer_shape}
+use Rattle.rart_node.specs.Seen.{Seen, shape_of}
 use Rattle.rart_node.specs.Shape.{children_of, with_replaced}
 use Rattle.rart_lending.specs.Grafts.{graft}
 use Rattle.rart_search.specs.Paths.{step, path_end, first_byte}
@@ -20,9 +18,8 @@ use Rattle.rart_lending.proofs.path.TwicePath.down.Goals as goal
 
 pub down-requires : goal.down-requires
 down-requires g c =
-    let bytes = g.P.Partial.bytes in
     let w = c.args.key.now in
-    let s = pointer_shape bytes c.args.at.now in
+    let s = c.args.at.now.shape in
     let key = drop c.args.depth.now w in
     let steps = c.args.steps in
     let half = (steps - 1) / 2 in
@@ -39,15 +36,14 @@ down-requires g c =
 
 pub next_byte-byte-requires : goal.next_byte-byte-requires
 next_byte-byte-requires g c =
-    let bytes = g.P.Partial.bytes in
     let w = c.args.key.now in
-    let s = pointer_shape bytes c.args.at.now in
+    let s = c.args.at.now.shape in
     let key = drop c.args.depth.now w in
     let steps = c.args.steps in
     let half = (steps - 1) / 2 in
     let rest = steps - 1 - half in
     let parts : steps ≡ half + suc rest = omega (arith, c.if-steps-eq0.false) in
-    let middle = node_shape bytes c.in_ok-middle.middle.now in
+    let middle = c.in_ok-middle.middle.now.shape in
     let left = drop c.down.new.depth w in
     let reached : path_end half key s ≡ Some (middle, left) =
     c.in_ok-middle.ensures.reaches.reached in
@@ -61,15 +57,14 @@ next_byte-byte-requires g c =
 
 pub seek_child_mut-requires : goal.seek_child_mut-requires
 seek_child_mut-requires g c =
-    let bytes = g.P.Partial.bytes in
     let w = c.args.key.now in
-    let s = pointer_shape bytes c.args.at.now in
+    let s = c.args.at.now.shape in
     let key = drop c.args.depth.now w in
     let steps = c.args.steps in
     let half = (steps - 1) / 2 in
     let rest = steps - 1 - half in
     let parts : steps ≡ half + suc rest = omega (arith, c.if-steps-eq0.false) in
-    let middle = node_shape bytes c.in_ok-middle.middle.now in
+    let middle = c.in_ok-middle.middle.now.shape in
     let left = drop c.down.new.depth w in
     let reached : path_end half key s ≡ Some (middle, left) =
     c.in_ok-middle.ensures.reaches.reached in
@@ -78,15 +73,14 @@ seek_child_mut-requires g c =
 
 pub down-requires-in-Some : goal.down-requires-in-Some
 down-requires-in-Some g c =
-    let bytes = g.P.Partial.bytes in
     let w = c.args.key.now in
-    let s = pointer_shape bytes c.args.at.now in
+    let s = c.args.at.now.shape in
     let key = drop c.args.depth.now w in
     let steps = c.args.steps in
     let half = (steps - 1) / 2 in
     let rest = steps - 1 - half in
     let parts : steps ≡ half + suc rest = omega (arith, c.if-steps-eq0.false) in
-    let middle = node_shape bytes c.in_ok-middle.middle.now in
+    let middle = c.in_ok-middle.middle.now.shape in
     let left = drop c.down.new.depth w in
     let reached : path_end half key s ≡ Some (middle, left) =
     c.in_ok-middle.ensures.reaches.reached in
@@ -94,7 +88,7 @@ down-requires-in-Some g c =
     subst IsSome (back-is half (suc rest) steps key s (middle, left) parts reached)
     c.requires.there in
     let byte = c.next_byte-byte.result in
-    let child = pointer_shape bytes c.in-Some.child.now in
+    let child = c.in-Some.child.now.shape in
     let below = drop c.next_byte-byte.new.depth w in
     let here : child_at byte (children_of middle) ≡ Some child = sym c.in-Some.ensures.value in
     let goes : step left middle ≡ Some (child, below) =
@@ -111,15 +105,14 @@ down-requires-in-Some g c =
 
 pub unreachable-requires : goal.unreachable-requires
 unreachable-requires g c =
-    let bytes = g.P.Partial.bytes in
     let w = c.args.key.now in
-    let s = pointer_shape bytes c.args.at.now in
+    let s = c.args.at.now.shape in
     let key = drop c.args.depth.now w in
     let steps = c.args.steps in
     let half = (steps - 1) / 2 in
     let rest = steps - 1 - half in
     let parts : steps ≡ half + suc rest = omega (arith, c.if-steps-eq0.false) in
-    let middle = node_shape bytes c.in_ok-middle.middle.now in
+    let middle = c.in_ok-middle.middle.now.shape in
     let left = drop c.down.new.depth w in
     let reached : path_end half key s ≡ Some (middle, left) =
     c.in_ok-middle.ensures.reaches.reached in
@@ -133,15 +126,14 @@ unreachable-requires g c =
 
 pub returns : goal.returns
 returns g c =
-    let bytes = g.P.Partial.bytes in
     let w = c.args.key.now in
-    let s = pointer_shape bytes c.args.at.now in
+    let s = c.args.at.now.shape in
     let key = drop c.args.depth.now w in
     let steps = c.args.steps in
     let half = (steps - 1) / 2 in
     let rest = steps - 1 - half in
     let parts : steps ≡ half + suc rest = omega (arith, c.if-steps-eq0.false) in
-    let middle = node_shape bytes c.in_ok-middle.middle.now in
+    let middle = c.in_ok-middle.middle.now.shape in
     let left = drop c.down.new.depth w in
     let reached : path_end half key s ≡ Some (middle, left) =
     c.in_ok-middle.ensures.reaches.reached in
@@ -150,36 +142,35 @@ returns g c =
     c.requires.there in
     let tree : IsTree middle = tree-along half key s (middle, left) c.requires.tree reached in
     let byte = c.next_byte-byte.result in
-    let child = pointer_shape bytes c.in-Some.child.now in
+    let child = c.in-Some.child.now.shape in
     let below = drop c.next_byte-byte.new.depth w in
     let here : child_at byte (children_of middle) ≡ Some child = sym c.in-Some.ensures.value in
     let goes : step left middle ≡ Some (child, below) =
     c.next_byte-byte.ensures.next ∙ ap (option_map (λ z. (z, below))) here in
     let first : first_byte below ≡ byte = c.next_byte-byte.ensures.first in
-    let Pointer : Type 0 = NodeRef g.row.P.Denot g.row.V.Denot in
-    let Node : Type 0 = VersionedNode g.row.P.Denot g.row.V.Denot in
-    let put-back : (pointer : Pointer) → node_shape bytes (c.seek_child_mut.follows.lender pointer)
-    ≡ with_replaced byte (pointer_shape bytes pointer) middle =
+    let put-back : (pointer : Seen g.row.V.Denot)
+    → shape_of (c.seek_child_mut.follows.lender pointer)
+    ≡ with_replaced byte pointer.shape middle =
     λ pointer. subst (λ r. OnSome r
-    (node_shape bytes (c.seek_child_mut.follows.lender pointer)
-    ≡ with_replaced byte (pointer_shape bytes pointer) middle)) c.in-Some.is
+    (shape_of (c.seek_child_mut.follows.lender pointer)
+    ≡ with_replaced byte pointer.shape middle)) c.in-Some.is
     (c.seek_child_mut.follows.holds pointer) in
-    let above : (node : Node) → pointer_shape bytes (c.down.follows.lender node)
-    ≡ graft half (node_shape bytes node) key s =
+    let above : (node : Seen g.row.V.Denot) → shape_of (c.down.follows.lender node)
+    ≡ graft half node.shape key s =
     λ node. c.down.follows.holds node (ap is_ok c.in_ok-middle.was) in (
       (
         refl,
         (λ node ok.
             let pointer = c.down-in-Some.follows.lender node in
             let at-middle = c.seek_child_mut.follows.lender pointer in
-            let whole : graft steps (node_shape bytes node) key s
-            ≡ graft half (graft (suc rest) (node_shape bytes node) left middle) key s =
-            ap (λ n. graft n (node_shape bytes node) key s) parts
-            ∙ graft-add half (suc rest) (node_shape bytes node) key s (middle, left) reached in
-            let one : graft (suc rest) (node_shape bytes node) left middle
-            ≡ with_replaced byte (graft rest (node_shape bytes node) below child) middle =
-            graft-below rest (node_shape bytes node) left middle (child, below) goes
-            ∙ ap (λ b. with_replaced b (graft rest (node_shape bytes node) below child) middle)
+            let whole : graft steps node.shape key s
+            ≡ graft half (graft (suc rest) node.shape left middle) key s =
+            ap (λ n. graft n node.shape key s) parts
+            ∙ graft-add half (suc rest) node.shape key s (middle, left) reached in
+            let one : graft (suc rest) node.shape left middle
+            ≡ with_replaced byte (graft rest node.shape below child) middle =
+            graft-below rest node.shape left middle (child, below) goes
+            ∙ ap (λ b. with_replaced b (graft rest node.shape below child) middle)
             first in
             above at-middle ∙ ap (λ z. graft half z key s)
             (put-back pointer ∙ ap (λ z. with_replaced byte z middle)

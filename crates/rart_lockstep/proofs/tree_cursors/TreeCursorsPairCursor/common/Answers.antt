@@ -7,14 +7,14 @@ use Rattle.rart_lockstep.proofs.tree_cursors.TreeCursorsPairCursor.common.Goals 
 
 pub returns-then-not-is_longer : goal.returns-then-not-is_longer
 returns-then-not-is_longer g c =
-    let s = cursor_shape g.P.Partial.bytes c.args.self.now.left in
-    let t = cursor_shape g.P.Partial.bytes c.args.self.now.right in
+    let s = cursor_shape c.args.self.now.left in
+    let t = cursor_shape c.args.self.now.right in
     let ends : nat_lt c.common_with-common.result (length (prefix_of s)) ≡ false = search rules in
     common-ends_left s t _ c.common_with-common.ensures ends
 
 pub returns-then-not-is_longer-2 : goal.returns-then-not-is_longer-2
 returns-then-not-is_longer-2 g c =
-    let s = cursor_shape g.P.Partial.bytes c.args.self.now.left in
-    let t = cursor_shape g.P.Partial.bytes c.args.self.now.right in
+    let s = cursor_shape c.args.self.now.left in
+    let t = cursor_shape c.args.self.now.right in
     let ends : nat_lt c.common_with-common.result (length (prefix_of t)) ≡ false = search rules in
     common-ends_right s t _ c.common_with-common.ensures ends

@@ -8,8 +8,8 @@ use Rattle.rart_lockstep.proofs.tree_cursors.TreeCursorsPairCursor.same.Goals.{e
 
 pub returns-then-common_with-len : goal.returns-then-common_with-len
 returns-then-common_with-len g c =
-    let p = prefix_of (cursor_shape g.P.Partial.bytes c.args.self.now.left) in
-    let q = prefix_of (cursor_shape g.P.Partial.bytes c.args.self.now.right) in
+    let p = prefix_of (cursor_shape c.args.self.now.left) in
+    let q = prefix_of (cursor_shape c.args.self.now.right) in
     let len : length c.rest-len.result.now ≡ length p = ap length c.rest-len.ensures in
     let long : length q ≡ length p =
     sym (ap length c.rest.ensures) ∙ (c.if-rest-len.true ∙ len) in
@@ -19,7 +19,7 @@ returns-then-common_with-len g c =
 
 pub returns-else-rest-len : goal.returns-else-rest-len
 returns-else-rest-len g c =
-    let p = prefix_of (cursor_shape g.P.Partial.bytes c.args.self.now.left) in
+    let p = prefix_of (cursor_shape c.args.self.now.left) in
     λ same. elim c.else-rest-len.branch [
       | else-rest-len-via-then-rest-len+else-common_with-len w ↦
           w.if-common_with-len.false (w.common_with.ensures

@@ -6,8 +6,8 @@ use Rattle.rart_lockstep.proofs.visit.TreeCursorsOnCommonKey.meet.Goals as goal
 
 pub meet-requires : goal.meet-requires
 meet-requires g c κs =
-    let s = cursor_shape g.P.Partial.bytes c.args.self.now.left in
-    let t = cursor_shape g.P.Partial.bytes c.args.self.now.right in
+    let s = cursor_shape c.args.self.now.left in
+    let t = cursor_shape c.args.self.now.right in
     let may = c.requires.visitable in
     let here = here-callable g.T.IntersectionPath.calls g.T.IntersectionPath.Shows (concat may.0)
     s t _ _
@@ -17,8 +17,8 @@ meet-requires g c κs =
 pub returns-in-Some-clause-visits : goal.returns-in-Some-clause-visits
 returns-in-Some-clause-visits g c =
     λ segments holds.
-    let s = cursor_shape g.P.Partial.bytes c.args.self.now.left in
-    let t = cursor_shape g.P.Partial.bytes c.args.self.now.right in
+    let s = cursor_shape c.args.self.now.left in
+    let t = cursor_shape c.args.self.now.right in
     here-visits g.T.IntersectionPath.calls g.T.IntersectionPath.Shows (concat segments) s t _ _
     c.in-Some.ensures c.meet.result c.args.f.now c.meet.new.f
     (c.meet.ensures.called segments holds) c.meet.ensures.not_called

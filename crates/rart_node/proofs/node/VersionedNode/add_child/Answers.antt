@@ -1,6 +1,6 @@
 use Rattle.std.proofs.Common.{◌+◌, ap, arith, sym, ◌∙◌}
 use Rattle.std.proofs.lemmas.Bool.{false≢true}
-use Rattle.rart_node.proofs.ContentLemmas.{widenings-node_shape}
+use Rattle.rart_node.proofs.ContentLemmas.{widenings-seen}
 use Rattle.rart_node.proofs.RoomLemmas.{ready, added}
 use Rattle.rart_node.proofs.WidthLemmas.{content_shape-not_full}
 use Rattle.rart_node.proofs.node.VersionedNode.add_child.Goals as goal
@@ -9,28 +9,29 @@ pub returns-in_err-make_room-clause-made : goal.returns-in_err-make_room-clause-
 returns-in_err-make_room-clause-made g c =
     ap (λ w. w.made) c.make_room.ensures.work
     ∙ ap (λ k. c.args.work.now.made + k)
-    (sym (widenings-node_shape g.P.Partial.bytes c.args.self.now c.requires.order))
+    (sym (widenings-seen c.self.inside.content c.self.view_is c.requires.order))
 
 pub returns-in_err-make_room-clause-succeeds : goal.returns-in_err-make_room-clause-succeeds
 returns-in_err-make_room-clause-succeeds g c none =
     absurd (false≢true (c.in_err-make_room.ensures.succeeds
-    (content_shape-not_full g.P.Partial.bytes c.args.self.now c.requires.order none)))
+    (content_shape-not_full c.self.inside.content c.self.view_is c.requires.order none)))
 
 pub add_child-requires : goal.add_child-requires
 add_child-requires g c =
     let roomy = (c.in_ok-make_room.ensures {u = tt}).ok in
     let is =
-    ready g.P.Partial.bytes c.args.self.now c.make_room.new.self c.args.byte c.args.child
+    ready c.self.inside.content c.self.view_is c.make_room.new.self c.args.byte c.args.child
     c.requires.order c.ranges.byte.fits c.requires.absent roomy in
     (omega arith, (omega arith, (omega arith, (omega arith, (is.order, (is.absent, is.room))))))
 
 pub returns-clause-ok : goal.returns-clause-ok
 returns-clause-ok g c =
-    added g.P.Partial.bytes c.args.self.now c.make_room.new.self c.add_child.new.self c.args.byte
-    c.args.child c.requires.order (c.in_ok-make_room.ensures {u = tt}).ok c.add_child.ensures
+    added c.self.inside.content c.self.view_is c.make_room.new.self c.add_child.new.self
+    c.args.byte c.args.child c.requires.order (c.in_ok-make_room.ensures {u = tt}).ok
+    c.add_child.ensures
 
 pub returns-clause-made : goal.returns-clause-made
 returns-clause-made g c =
     ap (λ w. w.made) c.make_room.ensures.work
     ∙ ap (λ k. c.args.work.now.made + k)
-    (sym (widenings-node_shape g.P.Partial.bytes c.args.self.now c.requires.order))
+    (sym (widenings-seen c.self.inside.content c.self.view_is c.requires.order))

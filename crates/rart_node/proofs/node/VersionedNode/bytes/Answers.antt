@@ -1,14 +1,13 @@
 use Rattle.std.proofs.Common.{ap, sym, ◌∙◌}
 use Rattle.std.specs.Prelude.{is_some}
-use Rattle.rart_node.specs.NodeShapes.{pointer_shape}
-use Rattle.rart_node.proofs.ContentLemmas.{child_at-node_shape}
+use Rattle.rart_node.specs.Seen.{shape_of}
+use Rattle.rart_node.proofs.ContentLemmas.{child_at-seen}
 use Rattle.rart_node.proofs.ChildMapLemmas.{is_some-mapped}
 use Rattle.rart_node.proofs.node.VersionedNode.bytes.Goals as goal
 
 pub returns : goal.returns
 returns g c =
     λ byte.
-    let bytes = g.P.Partial.bytes in
     c.bytes.ensures byte
-    ∙ (is_some-mapped (pointer_shape bytes) _
-    ∙ sym (ap is_some (child_at-node_shape bytes c.args.self.now byte c.requires)))
+    ∙ (is_some-mapped shape_of _
+    ∙ sym (ap is_some (child_at-seen c.self.inside.content c.self.view_is byte c.requires)))

@@ -1,6 +1,5 @@
 use Rattle.std.proofs.Common.{◌≡◌, ◌+◌, ◌++◌, length, ap, subst, sym, ◌∙◌}
 use Rattle.rart_below.specs.Bytes.{IsAdmitted}
-use Rattle.rart_node.specs.NodeShapes.{node_shape, pointer_shape}
 use Rattle.rart_node.specs.Shape.{merged, prefix_of, with_prefix}
 use Rattle.rart_node.proofs.NodeMergeLemmas.{if-ok, one-ascending, one-first, one-only, only-child}
 use Rattle.rart_node.proofs.node.VersionedNode.merge_child.Goals as goal
@@ -20,11 +19,10 @@ partial_extended_with-requires g c =
 
 pub returns-clause-merged : goal.returns-clause-merged
 returns-clause-merged g c =
-    let bytes = g.P.Partial.bytes in
-    let s = node_shape bytes c.args.self.now in
+    let s = c.args.self.now.shape in
     let shown = c.open-child.ensures.shown in
-    let joined : bytes c.in_ok-prefix.prefix
-    ≡ prefix_of s ++ prefix_of (pointer_shape bytes c.in-Some.child.now) =
+    let joined : g.P.Partial.bytes c.in_ok-prefix.prefix
+    ≡ prefix_of s ++ prefix_of c.in-Some.child.now.shape =
     c.in_ok-prefix.ensures
     ∙ (λ i. c.prefix.ensures i ++ (c.prefix-2.ensures ∙ ap prefix_of shown) i) in
     if-ok c.copy_under.result (λ copy same clones byte child only. same clones

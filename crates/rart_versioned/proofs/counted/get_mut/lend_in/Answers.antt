@@ -3,7 +3,7 @@ use Rattle.std.specs.Option.{option_map}
 use Rattle.std.specs.Result.{is_ok, OnErr}
 use Rattle.std.specs.Str.{bytes_eq}
 use Rattle.std.proofs.lemmas.Bool.{false≢true}
-use Rattle.rart_node.specs.NodeShapes.{pointer_shape}
+use Rattle.rart_node.specs.Seen.{shape_of}
 use Rattle.rart_shape.specs.Trees.{found, IsPut}
 use Rattle.rart_versioned.specs.Roots.{found_in, IsSound}
 use Rattle.rart_shape.proofs.CountingLemmas.{counts-then, counts-most, made-none, entered-then, path-most}
@@ -13,11 +13,10 @@ use Rattle.rart_versioned.proofs.counted.get_mut.lend_in.Goals as goal
 
 pub returns-in-None-path_length : goal.returns-in-None-path_length
 returns-in-None-path_length g c =
-    let f = pointer_shape g.P.Partial.bytes in
     let w = c.args.key.now in
-    let s = f c.in-Some.at.now in
-    let root-is : Some s ≡ option_map f c.args.root.now =
-    ap (option_map f) c.in-Some.ensures.value in
+    let s = c.in-Some.at.now.shape in
+    let root-is : Some s ≡ option_map shape_of c.args.root.now =
+    ap (option_map shape_of) c.in-Some.ensures.value in
     let few = path-most s w in (
       (
         refl,
@@ -40,23 +39,23 @@ returns-in-None-path_length g c =
 
 pub returns-in-Ok : goal.returns-in-Ok
 returns-in-Ok g c =
-    let f = pointer_shape g.P.Partial.bytes in
     let w = c.args.key.now in
-    let s = f c.in-Some.at.now in
-    let root-is : Some s ≡ option_map f c.args.root.now =
-    ap (option_map f) c.in-Some.ensures.value in
+    let s = c.in-Some.at.now.shape in
+    let root-is : Some s ≡ option_map shape_of c.args.root.now =
+    ap (option_map shape_of) c.in-Some.ensures.value in
     let there : IsSome (found s w) = subst IsSome (sym c.in-Ok.ensures.value) refl in
-    let put : (value : g.row.V.Denot) → IsPut w value s (f (c.lend_below.follows.lender value)) =
+    let put : (value : g.row.V.Denot)
+    → IsPut w value s (shape_of (c.lend_below.follows.lender value)) =
     λ value. c.lend_below.follows.holds value (ap is_ok c.in-Ok.is) in
     let most-path = path-most s w in
     let few = c.in-Some-path_length.ensures.few in (
       (
         refl,
         (λ value. (
-          (λ ok q. subst (λ o. found (f (c.lend_below.follows.lender value)) q
+          (λ ok q. subst (λ o. found (shape_of (c.lend_below.follows.lender value)) q
               ≡ cond (bytes_eq q w) (Some value) (found_in o q)) root-is ((put value).1 q)),
           (λ most count sound. sound-again most count s
-              (f (c.lend_below.follows.lender value)) w value there (put value)
+              (shape_of (c.lend_below.follows.lender value)) w value there (put value)
               (subst (IsSound most count) (sym root-is) sound)),
         )),
         (tt, (λ most count sound. sound)),
@@ -81,15 +80,14 @@ returns-in-Ok g c =
 
 pub returns-in-Err : goal.returns-in-Err
 returns-in-Err g c =
-    let f = pointer_shape g.P.Partial.bytes in
     let w = c.args.key.now in
-    let s = f c.in-Some.at.now in
-    let after = f c.lend_below.follows.lender-at-none in
-    let root-is : Some s ≡ option_map f c.args.root.now =
-    ap (option_map f) c.in-Some.ensures.value in
+    let s = c.in-Some.at.now.shape in
+    let after = c.lend_below.follows.lender-at-none.shape in
+    let root-is : Some s ≡ option_map shape_of c.args.root.now =
+    ap (option_map shape_of) c.in-Some.ensures.value in
     let kept : after ≡ s =
     subst (λ r. OnErr r (after ≡ s)) c.in-Err.is c.lend_below.follows.holds-at-none in
-    let same : Some after ≡ option_map f c.args.root.now = ap Some kept ∙ root-is in
+    let same : Some after ≡ option_map shape_of c.args.root.now = ap Some kept ∙ root-is in
     let there =
     there-arrived c.in-Some-path_length.steps w s c.in-Some-path_length.ensures.arrives in
     let most-path = path-most s w in

@@ -1,15 +1,14 @@
 use Rattle.std.proofs.Common.{◌≤◌, ◌∷◌, ℕ, List, [], length, arith, sym, ap, subst, ◌∙◌}
 use Rattle.std.proofs.lemmas.Bool.{eqb-true}
 use Rattle.std.specs.Option.{option_copied}
-use Rattle.rart_node.specs.NodeShapes.{node_shape, pointer_shape}
 use Rattle.rart_node.specs.Shape.{Shape, prefix_of, value_of, children_of, width_of}
 use Rattle.rart_versioned.proofs.VersionIterationLemmas.{lone-pair}
 use Rattle.rart_versioned.proofs.counted.iter.entry_of.Goals as goal
 
 pub returns-clause-pair : goal.returns-clause-pair
 returns-clause-pair g c =
-    let s = pointer_shape g.P.Partial.bytes c.args.root.now in
-    let opened = node_shape g.P.Partial.bytes c.open-node.result.now in
+    let s = c.args.root.now.shape in
+    let opened = c.open-node.result.now.shape in
     let same = c.open-node.ensures.shown in
     let value = c.in_ok-value.value.now in
     let is = sym (ap value_of same) ∙ sym c.value.ensures ∙ ap option_copied c.in_ok-value.was in

@@ -1,5 +1,4 @@
 use Rattle.std.proofs.Common.{rules, refl, sym}
-use Rattle.rart_node.specs.NodeShapes.{node_shape}
 use Rattle.rart_shape.proofs.FindLemmas.{ascending, ordered}
 use Rattle.rart_walks.specs.WalkFields.{open_nodes}
 use Rattle.rart_walks.proofs.WalkLemmas.{whole-pairs, whole-paths, whole-trees, whole-short, path-fits}
@@ -7,7 +6,7 @@ use Rattle.rart_walks.proofs.walk.Walk.enter_whole.Goals as goal
 
 pub enter-requires : goal.enter-requires
 enter-requires g c =
-    let s = node_shape g.P.Partial.bytes c.args.node.now in
+    let s = c.args.node.now.shape in
     λ _. (
       (refl, tt),
       record {
@@ -15,15 +14,15 @@ enter-requires g c =
         holds = rw c.requires.leaf at c.requires.walk.holds_way;
         short =
             path-fits
-            (open_nodes g.P.Partial.bytes c.args.self.now.frames.items) s g.T.KeyPath.greatest
+            (open_nodes c.args.self.now.frames.items) s g.T.KeyPath.greatest
             c.requires.tree (rw c.requires.leaf at c.requires.short);
       },
     )
 
 pub returns : goal.returns
 returns g c =
-    let frames = open_nodes g.P.Partial.bytes c.args.self.now.frames.items in
-    let s = node_shape g.P.Partial.bytes c.args.node.now in
+    let frames = open_nodes c.args.self.now.frames.items in
+    let s = c.args.node.now.shape in
     let is = c.in_ok-enter.ensures.opened in
     record {
       walk = record {

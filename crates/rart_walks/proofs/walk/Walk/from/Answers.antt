@@ -3,7 +3,6 @@ use Rattle.std.proofs.Math.Nat.{le_refl}
 use Rattle.std.proofs.lemmas.Result.{IfOk-weaker}
 use Rattle.std.specs.Ordering.{is_le}
 use Rattle.rart_below.specs.Bytes.{byte_order}
-use Rattle.rart_node.specs.NodeShapes.{pointer_shape}
 use Rattle.rart_shape.specs.Trees.{pairs_of}
 use Rattle.rart_shape.proofs.CountingLemmas.{counts-most, path-most}
 use Rattle.rart_walks.specs.declared.walk.path.Part.TheVariants.{From}
@@ -14,7 +13,7 @@ use Rattle.rart_walks.proofs.walk.Walk.from.Goals as goal
 pub returns-in-Included : goal.returns-in-Included
 returns-in-Included g c =
     let starts = c.along_path.ensures in
-    let most = path-most (pointer_shape g.P.Partial.bytes c.args.root.now) c.in-Included.low.now in
+    let most = path-most c.args.root.now.shape c.in-Included.low.now in
     rw c.in-Included.is (record {
       walk = starts.walk;
       pairs = starts.pairs;
@@ -28,7 +27,7 @@ returns-in-Included g c =
 pub returns-in-Excluded : goal.returns-in-Excluded
 returns-in-Excluded g c =
     let starts = c.along_path-in-Excluded.ensures in
-    let most = path-most (pointer_shape g.P.Partial.bytes c.args.root.now) c.in-Excluded.low.now in
+    let most = path-most c.args.root.now.shape c.in-Excluded.low.now in
     rw c.in-Excluded.is (record {
       walk = starts.walk;
       pairs = starts.pairs;
@@ -42,12 +41,12 @@ returns-in-Excluded g c =
 pub returns-in-Unbounded : goal.returns-in-Unbounded
 returns-in-Unbounded g c =
     let starts = c.along_path-in-Unbounded.ensures in
-    let most = path-most (pointer_shape g.P.Partial.bytes c.args.root.now) [] in
+    let most = path-most c.args.root.now.shape [] in
     rw c.in-Unbounded.is (record {
       walk = starts.walk;
       pairs = IfOk-weaker c.along_path-in-Unbounded.result _ _
           (λ walk is. is ∙ keeping-same (λ key. is_le (byte_order [] key)) (λ key. true)
-          (pairs_of (pointer_shape g.P.Partial.bytes c.args.root.now)) (keeps-itself From refl))
+          (pairs_of c.args.root.now.shape) (keeps-itself From refl))
           starts.pairs;
       nodes = starts.nodes;
       paths = starts.paths;

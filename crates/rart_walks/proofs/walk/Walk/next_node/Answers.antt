@@ -3,7 +3,6 @@ use Rattle.std.specs.List.{concat}
 use Rattle.std.specs.Option.{option_map, option_copied}
 use Rattle.std.proofs.lemmas.List.{append-nil, length-append}
 use Rattle.rart_node.specs.Counts.{Counts, CountsUpTo}
-use Rattle.rart_node.specs.NodeShapes.{node_shape, pointer_shape}
 use Rattle.rart_node.specs.Shape.{prefix_of, children_of, value_of}
 use Rattle.rart_shape.proofs.FindLemmas.{ascending, ordered}
 use Rattle.rart_walks.specs.Frames.{segments_of, pairs_ahead, paths_ahead}
@@ -42,7 +41,7 @@ own-one path (Some value) = omega arith
 
 pub returns-in-Some : goal.returns-in-Some
 returns-in-Some g c =
-    let frames = nodes_open g.P.Partial.bytes c.args.self.now in
+    let frames = nodes_open c.args.self.now in
     let path = concat (segments_of frames) in
     let given : pending_pair path (option_map (λ value. value.now) c.args.self.now.pending)
     ++ pairs_ahead frames ≡ (path, c.in-Some.value.now) ∷ pairs_ahead frames =
@@ -76,11 +75,10 @@ returns-in-Some g c =
 
 pub returns-in_default-next_ahead : goal.returns-in_default-next_ahead
 returns-in_default-next_ahead g c =
-    let bytes = g.P.Partial.bytes in
     let takes =
-    takes-above (open_nodes bytes c.args.self.now.frames.items)
+    takes-above (open_nodes c.args.self.now.frames.items)
     (option_copied c.args.self.now.leaf) None
-    (open_nodes bytes c.next_ahead.new.frames.items)
+    (open_nodes c.next_ahead.new.frames.items)
     (rw c.leave_leaf.ensures.frames at c.in_default-next_ahead.ensures.takes) in
     let none = took-none _ _ takes in
     record {
@@ -110,13 +108,12 @@ returns-in_default-next_ahead g c =
 
 pub enter_next-requires : goal.enter_next-requires
 enter_next-requires g c =
-    let bytes = g.P.Partial.bytes in
-    let s = pointer_shape bytes c.in-Some-next_ahead.child.now in
-    let same : node_shape bytes c.open-node.result.now ≡ s = c.open-node.ensures.shown in
+    let s = c.in-Some-next_ahead.child.now.shape in
+    let same : c.open-node.result.now.shape ≡ s = c.open-node.ensures.shown in
     let takes =
-    takes-above (open_nodes bytes c.args.self.now.frames.items)
+    takes-above (open_nodes c.args.self.now.frames.items)
     (option_copied c.args.self.now.leaf) (Some s)
-    (open_nodes bytes c.next_ahead.new.frames.items)
+    (open_nodes c.next_ahead.new.frames.items)
     (rw c.leave_leaf.ensures.frames at c.in-Some-next_ahead.ensures.takes) in
     let walk = c.requires.walk in
     let tree = taken-tree _ _ s _ takes walk.trees walk.short in
@@ -134,12 +131,11 @@ enter_next-requires g c =
 
 pub returns-in-Err : goal.returns-in-Err
 returns-in-Err g c =
-    let bytes = g.P.Partial.bytes in
-    let s = pointer_shape bytes c.in-Some-next_ahead.child.now in
+    let s = c.in-Some-next_ahead.child.now.shape in
     let takes =
-    takes-above (open_nodes bytes c.args.self.now.frames.items)
+    takes-above (open_nodes c.args.self.now.frames.items)
     (option_copied c.args.self.now.leaf) (Some s)
-    (open_nodes bytes c.next_ahead.new.frames.items)
+    (open_nodes c.next_ahead.new.frames.items)
     (rw c.leave_leaf.ensures.frames at c.in-Some-next_ahead.ensures.takes) in
     let walk = c.requires.walk in
     let paths = ap length (inner-paths _ _ s _ takes walk.trees walk.short _ refl) in
@@ -157,20 +153,19 @@ returns-in-Err g c =
 
 pub returns : goal.returns
 returns g c =
-    let bytes = g.P.Partial.bytes in
-    let frames = nodes_open bytes c.args.self.now in
-    let inner = nodes_open bytes c.enter_next.new.self in
+    let frames = nodes_open c.args.self.now in
+    let inner = nodes_open c.enter_next.new.self in
     let path = concat (segments_of inner) in
-    let s = pointer_shape bytes c.in-Some-next_ahead.child.now in
-    let same : node_shape bytes c.open-node.result.now ≡ s = c.open-node.ensures.shown in
+    let s = c.in-Some-next_ahead.child.now.shape in
+    let same : c.open-node.result.now.shape ≡ s = c.open-node.ensures.shown in
     let takes =
-    takes-above (open_nodes bytes c.args.self.now.frames.items)
+    takes-above (open_nodes c.args.self.now.frames.items)
     (option_copied c.args.self.now.leaf) (Some s)
-    (open_nodes bytes c.next_ahead.new.frames.items)
+    (open_nodes c.next_ahead.new.frames.items)
     (rw c.leave_leaf.ensures.frames at c.in-Some-next_ahead.ensures.takes) in
     let walk = c.requires.walk in
     let opened = c.in_default-enter_next.ensures.opened
-    ∙ ap (λ z. open_nodes bytes c.next_ahead.new.frames.items ++ (prefix_of z, children_of z) ∷ [])
+    ∙ ap (λ z. open_nodes c.next_ahead.new.frames.items ++ (prefix_of z, children_of z) ∷ [])
     same in
     let still = c.enter_next.ensures.pending ∙ c.leave_leaf.ensures.pending in
     let none : pending_pair (concat (segments_of frames))

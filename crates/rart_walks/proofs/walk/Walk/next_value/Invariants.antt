@@ -4,16 +4,15 @@ use Rattle.rart_walks.proofs.walk.Walk.next_value.Given as goal
 
 abbrev pub invariant-node : goal.invariant-node
 invariant-node g l =
-    let bytes = g.P.Partial.bytes in
     record {
-      walk : IsWalk bytes g.T.KeyPath.holds g.T.KeyPath.greatest l.self;
-      pairs : (cursor bytes l.self).pairs ≡ (cursor bytes l.initial.self).pairs;
-      counted : l.work.entered + length (cursor bytes l.self).paths
-          ≡ l.initial.work.entered + length (cursor bytes l.initial.self).paths;
+      walk : IsWalk g.T.KeyPath.holds g.T.KeyPath.greatest l.self;
+      pairs : (cursor l.self).pairs ≡ (cursor l.initial.self).pairs;
+      counted : l.work.entered + length (cursor l.self).paths
+          ≡ l.initial.work.entered + length (cursor l.initial.self).paths;
       grows : l.initial.work.entered ≤ l.work.entered;
       made : l.work.made ≡ l.initial.work.made;
-      each : EntersForEach bytes l.initial.self l.initial.work l.self l.work;
+      each : EntersForEach l.initial.self l.initial.work l.self l.work;
     }
 
 abbrev pub decreases-node : goal.decreases-node
-decreases-node g l = length (cursor g.P.Partial.bytes l.self).paths
+decreases-node g l = length (cursor l.self).paths

@@ -1,12 +1,11 @@
 use Rattle.std.proofs.Math.Nat.{le_refl}
-use Rattle.rart_node.specs.NodeShapes.{pointer_shape}
 use Rattle.rart_shape.proofs.CountingLemmas.{counts-most, path-most}
 use Rattle.rart_walks.proofs.walk.Walk.under.Goals as goal
 
 pub returns : goal.returns
 returns g c =
     let starts = c.along_path.ensures in
-    let most = path-most (pointer_shape g.P.Partial.bytes c.args.root.now) c.args.prefix.now in
+    let most = path-most c.args.root.now.shape c.args.prefix.now in
     record {
       walk = starts.walk;
       pairs = starts.pairs;

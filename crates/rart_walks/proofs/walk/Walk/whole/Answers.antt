@@ -1,7 +1,6 @@
 use Rattle.std.proofs.Common.{◌++◌, [], length, arith, refl, ap, ◌∙◌}
 use Rattle.std.proofs.lemmas.List.{append-nil, length-map}
 use Rattle.std.specs.List.{concat}
-use Rattle.rart_node.specs.NodeShapes.{node_shape, pointer_shape}
 use Rattle.rart_shape.specs.Trees.{pairs_of}
 use Rattle.rart_walks.specs.Frames.{behind_path, under_path}
 use Rattle.rart_walks.specs.Walks.{Cursor, paths_of}
@@ -11,7 +10,7 @@ use Rattle.rart_walks.proofs.walk.Walk.whole.Goals as goal
 
 pub enter_whole-requires : goal.enter_whole-requires
 enter_whole-requires g c =
-    let s = pointer_shape g.P.Partial.bytes c.args.root.now in
+    let s = c.args.root.now.shape in
     λ _. (
       (refl, tt),
       record {
@@ -30,19 +29,19 @@ enter_whole-requires g c =
 
 pub returns : goal.returns
 returns g c =
-    let s = pointer_shape g.P.Partial.bytes c.args.root.now in
+    let s = c.args.root.now.shape in
     let start = c.new-walk.ensures.ended in
     record {
       walk = c.in_ok-enter_whole.ensures.walk;
       pairs = c.in_ok-enter_whole.ensures.pairs
           ∙ ap (λ (at : Cursor g.row.V.Denot). behind_path (concat at.segments)
-          (pairs_of (node_shape g.P.Partial.bytes c.open.result.now)) ++ at.pairs) start
+          (pairs_of c.open.result.now.shape) ++ at.pairs) start
           ∙ append-nil _ ∙ ap (λ z. behind_path [] (pairs_of z)) c.open.ensures.shown
           ∙ behind-none (pairs_of s);
       nodes =
           let paths = c.in_ok-enter_whole.ensures.paths
           ∙ ap (λ (at : Cursor g.row.V.Denot). under_path (concat at.segments)
-          (paths_of (node_shape g.P.Partial.bytes c.open.result.now)) ++ at.paths) start
+          (paths_of c.open.result.now.shape) ++ at.paths) start
           ∙ append-nil _ ∙ ap (λ z. under_path [] (paths_of z)) c.open.ensures.shown in
           let long = ap length paths in
           let paths = length-map (paths_of s) (λ path. [] ++ path) in

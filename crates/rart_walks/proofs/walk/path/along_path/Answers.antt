@@ -4,7 +4,6 @@ use Rattle.std.proofs.lemmas.List.Sums.{length-filter}
 use Rattle.std.proofs.lemmas.Result.{IfOk-from_err}
 use Rattle.rart_below.specs.Bytes.{common_length}
 use Rattle.rart_below.specs.Children.{children_from}
-use Rattle.rart_node.specs.NodeShapes.{node_shape, pointer_shape}
 use Rattle.rart_node.specs.Shape.{Shape, prefix_of, children_of}
 use Rattle.rart_node.specs.VersionedNodeIter.{children_left}
 use Rattle.rart_shape.proofs.PrefixLemmas.{common_fits}
@@ -32,7 +31,7 @@ hand-fits (Some value) start now less = omega (arith, less)
 
 pub down-init : goal.down-init
 down-init g c =
-    let root = pointer_shape g.P.Partial.bytes c.args.root.now in
+    let root = c.args.root.now.shape in
     record {
       holds_way = rw c.new-walk.ensures.leaf at c.new-walk.ensures.walk.holds_way;
       way =
@@ -46,9 +45,8 @@ down-init g c =
 
 pub returns-in_err-finish : goal.returns-in_err-finish
 returns-in_err-finish g c =
-    let bytes = g.P.Partial.bytes in
-    let s = pointer_shape bytes c.down.at.now in
-    let o = node_shape bytes c.open-node.result.now in
+    let s = c.down.at.now.shape in
+    let o = c.open-node.result.now.shape in
     let same : o ≡ s = c.open-node.ensures.shown in
     let refused = c.from_residual.ensures.0 in
     record {
@@ -65,11 +63,10 @@ returns-in_err-finish g c =
 
 pub returns-then-common-rest : goal.returns-then-common-rest
 returns-then-common-rest g c =
-    let bytes = g.P.Partial.bytes in
-    let s = pointer_shape bytes c.down.at.now in
-    let o = node_shape bytes c.open-node.result.now in
+    let s = c.down.at.now.shape in
+    let o = c.open-node.result.now.shape in
     let same : o ≡ s = c.open-node.ensures.shown in
-    let root = pointer_shape bytes c.args.root.now in
+    let root = c.args.root.now.shape in
     let kept = way-kept _ _ _ _ _ _ _ _ _ c.down.invariant.way in
     let whole = way-placed _ _ _ _ _ _ _ _ _ c.down.invariant.way in
     let paths = subst (IsEndOf _) (sym whole)
@@ -92,16 +89,14 @@ returns-then-common-rest g c =
 
 pub rest_of-rest-requires : goal.rest_of-rest-requires
 rest_of-rest-requires g c =
-    let bytes = g.P.Partial.bytes in
-    let fits = common_fits (bytes c.prefix.result.now) c.down.rest.now in
+    let fits = common_fits (g.P.Partial.bytes c.prefix.result.now) c.down.rest.now in
     let is = c.prefix_length_slice-common.ensures in
     omega (arith, fits, is)
 
 pub bounds-rest-0 : goal.bounds-rest-0
 bounds-rest-0 g c =
-    let bytes = g.P.Partial.bytes in
-    let s = pointer_shape bytes c.down.at.now in
-    let o = node_shape bytes c.open-node.result.now in
+    let s = c.down.at.now.shape in
+    let o = c.open-node.result.now.shape in
     let same : o ≡ s = c.open-node.ensures.shown in
     let matched : c.prefix_length_slice-common.result
     ≡ common_length (prefix_of o) c.down.rest.now = c.prefix_length_slice-common.ensures
@@ -116,9 +111,8 @@ bounds-rest-0 g c =
 
 pub enter_part-requires : goal.enter_part-requires
 enter_part-requires g c =
-    let bytes = g.P.Partial.bytes in
-    let s = pointer_shape bytes c.down.at.now in
-    let o = node_shape bytes c.open-node.result.now in
+    let s = c.down.at.now.shape in
+    let o = c.open-node.result.now.shape in
     let same : o ≡ s = c.open-node.ensures.shown in
     λ _. (
       (refl, tt),
@@ -131,9 +125,8 @@ enter_part-requires g c =
 
 pub returns-in_err-enter_part : goal.returns-in_err-enter_part
 returns-in_err-enter_part g c =
-    let bytes = g.P.Partial.bytes in
-    let s = pointer_shape bytes c.down.at.now in
-    let o = node_shape bytes c.open-node.result.now in
+    let s = c.down.at.now.shape in
+    let o = c.open-node.result.now.shape in
     let same : o ≡ s = c.open-node.ensures.shown in
     let refused = c.from_residual-in_err-enter_part.ensures.0 in
     record {
@@ -150,9 +143,8 @@ returns-in_err-enter_part g c =
 
 pub returns-in-None : goal.returns-in-None
 returns-in-None g c =
-    let bytes = g.P.Partial.bytes in
-    let s = pointer_shape bytes c.down.at.now in
-    let o = node_shape bytes c.open-node.result.now in
+    let s = c.down.at.now.shape in
+    let o = c.open-node.result.now.shape in
     let same : o ≡ s = c.open-node.ensures.shown in
     let matched : c.prefix_length_slice-common.result
     ≡ common_length (prefix_of o) c.down.rest.now = c.prefix_length_slice-common.ensures
@@ -163,13 +155,13 @@ returns-in-None g c =
     goes-on (prefix_of o) c.down.rest.now c.rest_of-rest.result.now
     c.prefix_length_slice-common.result c.rest_of-rest.ensures matched c.if-common-rest.false
     (let most = c.if-common-len.false in omega (arith, long, most)) in
-    let leaves : children_left bytes c.later_children-later.result
+    let leaves : children_left c.later_children-later.result
     ≡ cond (goes_on c.args.part) (children_from
     (slice_index_or c.rest_of-rest.result.now 0 0 + 1) (children_of o)) [] =
     c.later_children-later.ensures
     ∙ ap (λ t. cond t (children_from (slice_index_or c.rest_of-rest.result.now 0 0 + 1)
     (children_of o)) []) c.goes_on.ensures in
-    let inner = open_nodes bytes c.enter_part.new.self.frames.items in
+    let inner = open_nodes c.enter_part.new.self.frames.items in
     let segment = c.as_ref.ensures ∙ c.prefix-in-down.ensures in
     let missing =
     step-missing _ _ _ _ _ _ _ _ _ c.down.invariant.way o c.open-node.new.work
@@ -193,7 +185,7 @@ returns-in-None g c =
       };
       pairs = rw (none, part.pending, c.down.invariant.none) (sym missing.0);
       nodes = few-left (reaches c.args.part c.args.probe.now)
-          (pointer_shape bytes c.args.root.now) (rw none paths);
+          c.args.root.now.shape (rw none paths);
       paths = rw none paths;
       counted = step-counted _ _ _ _ _ _ _ _ _ c.down.invariant.way o c.open-node.new.work
           c.open-node.ensures.work same;
@@ -203,9 +195,8 @@ returns-in-None g c =
 
 pub down-smaller : goal.down-smaller
 down-smaller g c =
-    let bytes = g.P.Partial.bytes in
-    let s = pointer_shape bytes c.down.at.now in
-    let o = node_shape bytes c.open-node.result.now in
+    let s = c.down.at.now.shape in
+    let o = c.open-node.result.now.shape in
     let same : o ≡ s = c.open-node.ensures.shown in
     let matched : c.prefix_length_slice-common.result
     ≡ common_length (prefix_of o) c.down.rest.now = c.prefix_length_slice-common.ensures
@@ -218,13 +209,12 @@ down-smaller g c =
     (let most = c.if-common-len.false in omega (arith, long, most)) in
     step-lower _ _ _ _ _ _ _ _ _ c.down.invariant.way o c.open-node.new.work
     c.open-node.ensures.work same _ _ goes
-    (pointer_shape bytes c.in-Some.child.now) c.in-Some.ensures
+    c.in-Some.child.now.shape c.in-Some.ensures
 
 pub down-preserved : goal.down-preserved
 down-preserved g c =
-    let bytes = g.P.Partial.bytes in
-    let s = pointer_shape bytes c.down.at.now in
-    let o = node_shape bytes c.open-node.result.now in
+    let s = c.down.at.now.shape in
+    let o = c.open-node.result.now.shape in
     let same : o ≡ s = c.open-node.ensures.shown in
     let matched : c.prefix_length_slice-common.result
     ≡ common_length (prefix_of o) c.down.rest.now = c.prefix_length_slice-common.ensures
@@ -235,20 +225,20 @@ down-preserved g c =
     goes-on (prefix_of o) c.down.rest.now c.rest_of-rest.result.now
     c.prefix_length_slice-common.result c.rest_of-rest.ensures matched c.if-common-rest.false
     (let most = c.if-common-len.false in omega (arith, long, most)) in
-    let leaves : children_left bytes c.later_children-later.result
+    let leaves : children_left c.later_children-later.result
     ≡ cond (goes_on c.args.part) (children_from
     (slice_index_or c.rest_of-rest.result.now 0 0 + 1) (children_of o)) [] =
     c.later_children-later.ensures
     ∙ ap (λ t. cond t (children_from (slice_index_or c.rest_of-rest.result.now 0 0 + 1)
     (children_of o)) []) c.goes_on.ensures in
-    let inner = open_nodes bytes c.enter_part.new.self.frames.items in
+    let inner = open_nodes c.enter_part.new.self.frames.items in
     let segment = c.as_ref.ensures ∙ c.prefix-in-down.ensures in
     record {
       holds_way = c.in_ok-enter_part.ensures.holds;
       way =
           step-child _ _ _ _ _ _ _ _ _ c.down.invariant.way o c.open-node.new.work
           c.open-node.ensures.work same _ _ goes inner _ _ c.in_ok-enter_part.ensures.frames segment
-          leaves (pointer_shape bytes c.in-Some.child.now) c.in-Some.ensures;
+          leaves c.in-Some.child.now.shape c.in-Some.ensures;
       leaf = c.in_ok-enter_part.ensures.leaf ∙ c.down.invariant.leaf;
       none = c.in_ok-enter_part.ensures.pending ∙ c.down.invariant.none;
     }

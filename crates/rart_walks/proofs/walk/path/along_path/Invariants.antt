@@ -1,5 +1,4 @@
 use Rattle.std.proofs.Common.{◌≡◌, None}
-use Rattle.rart_node.specs.NodeShapes.{pointer_shape}
 use Rattle.rart_node.specs.Shape.{height}
 use Rattle.rart_walks.specs.Frames.{segments_of}
 use Rattle.rart_walks.specs.WalkFields.{open_nodes}
@@ -9,14 +8,14 @@ use Rattle.rart_walks.proofs.walk.path.along_path.Given as goal
 abbrev pub invariant-down : goal.invariant-down
 invariant-down g l = record {
   holds_way : g.T.KeyPath.holds l.walk.key_path
-      (segments_of (open_nodes g.P.Partial.bytes l.walk.frames.items));
+      (segments_of (open_nodes l.walk.frames.items));
   way : IsOnWay l.part g.T.KeyPath.greatest l.fn.probe
-      (pointer_shape g.P.Partial.bytes l.fn.root) l.fn.work
-      (pointer_shape g.P.Partial.bytes l.at) l.rest
-      (open_nodes g.P.Partial.bytes l.walk.frames.items) l.work;
+      l.fn.root.shape l.fn.work
+      l.at.shape l.rest
+      (open_nodes l.walk.frames.items) l.work;
   leaf : l.walk.leaf ≡ None;
   none : l.walk.pending ≡ None;
 }
 
 abbrev pub decreases-down : goal.decreases-down
-decreases-down g l = height (pointer_shape g.P.Partial.bytes l.at)
+decreases-down g l = height l.at.shape

@@ -1,6 +1,5 @@
 use Rattle.std.proofs.Common.{◌++◌, sym, ap, ◌∙◌}
 use Rattle.std.specs.List.{concat}
-use Rattle.rart_node.specs.NodeShapes.{node_shape}
 use Rattle.rart_node.specs.Shape.{prefix_of, children_of}
 use Rattle.rart_walks.specs.Frames.{segments_of, pairs_of_all, pairs_ahead}
 use Rattle.rart_walks.specs.WalkFields.{open_nodes}
@@ -9,8 +8,8 @@ use Rattle.rart_walks.proofs.walk.path.enter_end.Goals as goal
 
 pub returns-then-is_passed : goal.returns-then-is_passed
 returns-then-is_passed g c =
-    let frames = open_nodes g.P.Partial.bytes c.args.walk.now.frames.items in
-    let s = node_shape g.P.Partial.bytes c.args.node.now in
+    let frames = open_nodes c.args.walk.now.frames.items in
+    let s = c.args.node.now.shape in
     let path = concat (segments_of frames) in
     let enters = c.in_ok-enter_whole.ensures in
     record {

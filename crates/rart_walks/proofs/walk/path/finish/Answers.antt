@@ -1,7 +1,6 @@
 use Rattle.std.proofs.Common.{◌≡◌, ◌<◌, ◌≤◌, inl, true, false, cond, ◌&&◌, ◌++◌, length, arith, sym, ap, subst, ◌∙◌}
 use Rattle.std.specs.Prelude.{◌==◌, slice_index_or}
 use Rattle.std.specs.List.{concat}
-use Rattle.rart_node.specs.NodeShapes.{node_shape}
 use Rattle.rart_node.specs.Shape.{prefix_of}
 use Rattle.std.proofs.lemmas.Result.{on_ok_weaker}
 use Rattle.rart_shape.specs.Trees.{pairs_of}
@@ -14,14 +13,14 @@ use Rattle.rart_walks.proofs.walk.path.finish.Goals as goal
 
 pub bounds-rest-common : goal.bounds-rest-common
 bounds-rest-common g c =
-    let s = node_shape g.P.Partial.bytes c.args.node.now in
+    let s = c.args.node.now.shape in
     let fits = common_fits (prefix_of s) c.args.rest.now in
     let is = c.requires.here.common in
     omega (arith, fits, is, c.if-common-rest.false)
 
 pub returns-then-common-rest : goal.returns-then-common-rest
 returns-then-common-rest g c =
-    let s = node_shape g.P.Partial.bytes c.args.node.now in
+    let s = c.args.node.now.shape in
     let front =
     common-front (prefix_of s) c.args.rest.now
     (sym c.requires.here.common ∙ c.if-common-rest.true) in
@@ -33,7 +32,7 @@ returns-then-common-rest g c =
     ∙ ap (λ n. is_strict c.args.part && (length c.args.rest.now == n)) whole in
     let kept = end-within c.args.part s c.args.rest.now front c.requires.above.tree in
     let placed = end-within-paths c.args.part s c.args.rest.now front c.requires.above.tree in
-    let old = cursor g.P.Partial.bytes c.args.walk.now in
+    let old = cursor c.args.walk.now in
     record {
       walk = c.enter_end.ensures.walk;
       pairs =
@@ -50,8 +49,8 @@ returns-then-common-rest g c =
 
 pub returns-then-rest-common : goal.returns-then-rest-common
 returns-then-rest-common g c =
-    let s = node_shape g.P.Partial.bytes c.args.node.now in
-    let old = cursor g.P.Partial.bytes c.args.walk.now in
+    let s = c.args.node.now.shape in
+    let old = cursor c.args.walk.now in
     let parts =
     parts-at (prefix_of s) c.args.rest.now c.args.common c.requires.here.common
     c.requires.here.ends c.if-common-rest.false in
@@ -76,8 +75,8 @@ returns-then-rest-common g c =
 
 pub returns-then-not-goes_on : goal.returns-then-not-goes_on
 returns-then-not-goes_on g c =
-    let s = node_shape g.P.Partial.bytes c.args.node.now in
-    let old = cursor g.P.Partial.bytes c.args.walk.now in
+    let s = c.args.node.now.shape in
+    let old = cursor c.args.walk.now in
     let parts =
     parts-at (prefix_of s) c.args.rest.now c.args.common c.requires.here.common
     c.requires.here.ends c.if-common-rest.false in
@@ -91,8 +90,8 @@ returns-then-not-goes_on g c =
 
 pub returns : goal.returns
 returns g c =
-    let s = node_shape g.P.Partial.bytes c.args.node.now in
-    let old = cursor g.P.Partial.bytes c.args.walk.now in
+    let s = c.args.node.now.shape in
+    let old = cursor c.args.walk.now in
     let parts =
     parts-at (prefix_of s) c.args.rest.now c.args.common c.requires.here.common
     c.requires.here.ends c.if-common-rest.false in

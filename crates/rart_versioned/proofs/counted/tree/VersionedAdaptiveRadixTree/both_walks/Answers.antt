@@ -32,7 +32,7 @@ returns g c =
     let first = one.nodes in
     let second = other.nodes in
     record {
-      walks = walks-are g.V.PartialEq.eq g.K.PartialType.Partial.bytes g.K.KeyTrait.MAXIMUM_SIZE
+      walks = walks-are g.V.PartialEq.eq g.K.KeyTrait.MAXIMUM_SIZE
           c.args.self.now c.args.other.now c.in_ok-old.old c.in_ok-new.new
           one.walk other.walk one.pairs other.pairs one.admitted other.admitted;
       nodes = omega (arith, first, second);

@@ -5,9 +5,9 @@ use Rattle.std.specs.Range.Bound.{bound_map, bounds_contain}
 use Rattle.std.specs.declared.ops.Bound.{Bound}
 use Rattle.std.specs.declared.ops.Bound.TheVariants.{Included, Excluded, Unbounded}
 use Rattle.rart_below.specs.Bytes.{byte_order}
+use Rattle.rart_node.specs.Seen.{shape_of}
 use Rattle.rart_maps.proofs.RangeLemmas.{from, up_to, within-from}
 use Rattle.rart_maps.specs.Bounds.{bound_string}
-use Rattle.rart_node.specs.NodeShapes.{pointer_shape}
 use Rattle.rart_seeking.specs.Firsts.{Finds}
 use Rattle.rart_shape.proofs.CountingLemmas.{counts-most, path-most}
 use Rattle.rart_walks.specs.Parts.{start_of}
@@ -27,13 +27,13 @@ start-is Unbounded = refl
 
 pub first_from-requires-clause-tree : goal.first_from-requires-clause-tree
 first_from-requires-clause-tree g c =
-    (root-sound (pointer_shape g.K.PartialType.Partial.bytes) g.K.KeyTrait.MAXIMUM_SIZE
+    (root-sound shape_of g.K.KeyTrait.MAXIMUM_SIZE
     c.self.inside.version c.self.inside.root c.args.self.now c.self.invariant c.self.view_is
     c.in-Some.root c.in-Some.is).0
 
 pub first_from-requires-clause-short : goal.first_from-requires-clause-short
 first_from-requires-clause-short g c =
-    root-short (pointer_shape g.K.PartialType.Partial.bytes) g.K.KeyTrait.MAXIMUM_SIZE
+    root-short shape_of g.K.KeyTrait.MAXIMUM_SIZE
     c.self.inside.version c.self.inside.root c.args.self.now c.self.invariant c.self.view_is
     c.in-Some.root c.in-Some.is (Some (2 ^ 64 - 1)) (λ count less. omega (arith, less))
 
@@ -41,16 +41,15 @@ pub returns-in-None : goal.returns-in-None
 returns-in-None g c =
     record {
       first =
-          let shape = pointer_shape g.K.PartialType.Partial.bytes in
           let most = g.K.KeyTrait.MAXIMUM_SIZE in
           let test = λ (pair : List ℕ × g.row.V.Denot). bounds_contain (as_partial_cmp byte_order)
           (bound_map (λ low. low.now) c.args.low) Unbounded pair.0 in
-          let none = no-pairs shape most c.self.inside.version c.self.inside.root c.args.self.now
+          let none = no-pairs shape_of most c.self.inside.version c.self.inside.root c.args.self.now
           c.self.invariant c.self.view_is c.in-None.is in
           (ap (filter test) none, refl);
       counted = search rules;
       entered = λ keyed.
-          absurd (none-keyed (pointer_shape g.K.PartialType.Partial.bytes) g.K.KeyTrait.MAXIMUM_SIZE
+          absurd (none-keyed shape_of g.K.KeyTrait.MAXIMUM_SIZE
           c.self.inside.version c.self.inside.root c.args.self.now c.self.invariant c.self.view_is
           c.in-None.is keyed);
     }
@@ -59,17 +58,16 @@ pub returns-in-Some : goal.returns-in-Some
 returns-in-Some g c =
     record {
       first =
-          let shape = pointer_shape g.K.PartialType.Partial.bytes in
           let most = g.K.KeyTrait.MAXIMUM_SIZE in
           let low = bound_map (λ low. low.now) c.args.low in
-          let all = root-pairs shape most c.self.inside.version c.self.inside.root c.args.self.now
-          c.self.invariant c.self.view_is c.in-Some.root c.in-Some.is in
+          let all = root-pairs shape_of most c.self.inside.version c.self.inside.root
+          c.args.self.now c.self.invariant c.self.view_is c.in-Some.root c.in-Some.is in
           subst (λ list. Finds list c.first_from.result c.args.room.now c.first_from.new.room)
           (sym (within-from c.args.self.now.content low Unbounded ∙ up_to-all _ ∙ ap (from low)
           all))
           c.first_from.ensures.first;
       counted =
-          let s = pointer_shape g.K.PartialType.Partial.bytes c.in-Some.root in
+          let s = c.in-Some.root.shape in
           let low = bound_map (λ low. low.now) c.args.low in
           let most = path-most s (start_of low) in
           let same = ap length (start-is low) in

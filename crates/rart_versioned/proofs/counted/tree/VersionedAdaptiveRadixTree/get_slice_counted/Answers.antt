@@ -1,7 +1,7 @@
 use Rattle.std.proofs.Common.{rules, ◌≡◌, None, true, sym, ap, ◌∙◌, arith}
 use Rattle.std.proofs.lemmas.Bool.{true≢false}
 use Rattle.std.specs.Option.{option_map}
-use Rattle.rart_node.specs.NodeShapes.{pointer_shape}
+use Rattle.rart_node.specs.Seen.{shape_of}
 use Rattle.rart_versioned.specs.Roots.{found_in}
 use Rattle.rart_maps.specs.Versions.{has_no_key}
 use Rattle.rart_shape.proofs.CountingLemmas.{counts-most, path-most}
@@ -26,14 +26,13 @@ pub returns-in-Some : goal.returns-in-Some
 returns-in-Some g c =
     record {
       value =
-          let f = pointer_shape g.K.PartialType.Partial.bytes in
           let w = c.args.key.now in
-          let o = option_map f c.self.inside.root in
+          let o = option_map shape_of c.self.inside.root in
           rw (← c.self.view_is) (c.get_below.ensures.value
           ∙ sym (value-in g.K.KeyTrait.MAXIMUM_SIZE c.self.inside.version o c.self.inside.version w
-          c.self.invariant ∙ ap (λ z. found_in (option_map f z) w) c.in-Some.is));
+          c.self.invariant ∙ ap (λ z. found_in (option_map shape_of z) w) c.in-Some.is));
       counted =
-          let s = pointer_shape g.K.PartialType.Partial.bytes c.in-Some.root in
+          let s = c.in-Some.root.shape in
           counts-most c.get_below.ensures.counted (path-most s c.args.key.now) (omega arith);
       entered = λ keyed. c.get_below.ensures.entered;
     }

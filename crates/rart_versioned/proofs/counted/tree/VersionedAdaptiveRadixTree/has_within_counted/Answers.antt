@@ -6,11 +6,11 @@ use Rattle.std.specs.Range.Bound.{bound_map, bounds_contain}
 use Rattle.std.specs.declared.ops.Bound.{Bound}
 use Rattle.std.specs.declared.ops.Bound.TheVariants.{Included, Excluded, Unbounded}
 use Rattle.rart_below.specs.Bytes.{byte_order}
+use Rattle.rart_node.specs.Seen.{shape_of}
 use Rattle.rart_maps.proofs.RangeLemmas.{from, from-ascends, is_below, up_to, up_to-first, up_to-past, within-from}
 use Rattle.rart_maps.specs.Bounds.{bound_string}
 use Rattle.rart_maps.specs.FoundLaws.{KeysAscend}
 use Rattle.rart_maps.specs.Pairs.{pairs}
-use Rattle.rart_node.specs.NodeShapes.{pointer_shape}
 use Rattle.rart_seeking.specs.Firsts.{first_passes}
 use Rattle.rart_shape.proofs.CountingLemmas.{counts-most, path-most}
 use Rattle.rart_walks.specs.Parts.{start_of}
@@ -46,13 +46,13 @@ passes-up_to {V} high (pair ∷ list) ascends =
 
 pub has_within-requires-clause-tree : goal.has_within-requires-clause-tree
 has_within-requires-clause-tree g c =
-    (root-sound (pointer_shape g.K.PartialType.Partial.bytes) g.K.KeyTrait.MAXIMUM_SIZE
+    (root-sound shape_of g.K.KeyTrait.MAXIMUM_SIZE
     c.self.inside.version c.self.inside.root c.args.self.now c.self.invariant c.self.view_is
     c.in-Some.root c.in-Some.is).0
 
 pub has_within-requires-clause-short : goal.has_within-requires-clause-short
 has_within-requires-clause-short g c =
-    root-short (pointer_shape g.K.PartialType.Partial.bytes) g.K.KeyTrait.MAXIMUM_SIZE
+    root-short shape_of g.K.KeyTrait.MAXIMUM_SIZE
     c.self.inside.version c.self.inside.root c.args.self.now c.self.invariant c.self.view_is
     c.in-Some.root c.in-Some.is (Some (2 ^ 64 - 1)) (λ count less. omega (arith, less))
 
@@ -60,17 +60,16 @@ pub returns-in-None : goal.returns-in-None
 returns-in-None g c =
     record {
       answer =
-          let shape = pointer_shape g.K.PartialType.Partial.bytes in
           let most = g.K.KeyTrait.MAXIMUM_SIZE in
           let test = λ (pair : List ℕ × g.row.V.Denot). bounds_contain (as_partial_cmp byte_order)
           (bound_map (λ low. low.now) c.args.low) (bound_map (λ high. high.now) c.args.high) pair.0
           in
-          let none = no-pairs shape most c.self.inside.version c.self.inside.root c.args.self.now
+          let none = no-pairs shape_of most c.self.inside.version c.self.inside.root c.args.self.now
           c.self.invariant c.self.view_is c.in-None.is in
           sym (ap (λ list. not (length (filter test list) == 0)) none);
       counted = search rules;
       entered = λ keyed.
-          absurd (none-keyed (pointer_shape g.K.PartialType.Partial.bytes) g.K.KeyTrait.MAXIMUM_SIZE
+          absurd (none-keyed shape_of g.K.KeyTrait.MAXIMUM_SIZE
           c.self.inside.version c.self.inside.root c.args.self.now c.self.invariant c.self.view_is
           c.in-None.is keyed);
     }
@@ -79,19 +78,18 @@ pub returns-in-Some : goal.returns-in-Some
 returns-in-Some g c =
     record {
       answer =
-          let shape = pointer_shape g.K.PartialType.Partial.bytes in
           let most = g.K.KeyTrait.MAXIMUM_SIZE in
           let low = bound_map (λ low. low.now) c.args.low in
           let high = bound_map (λ high. high.now) c.args.high in
-          let all = root-pairs shape most c.self.inside.version c.self.inside.root c.args.self.now
-          c.self.invariant c.self.view_is c.in-Some.root c.in-Some.is in
+          let all = root-pairs shape_of most c.self.inside.version c.self.inside.root
+          c.args.self.now c.self.invariant c.self.view_is c.in-Some.root c.in-Some.is in
           let content = c.args.self.now.content in
           c.has_within.ensures.passes
           ∙ sym (ap (λ list. first_passes (is_below high) (from low list)) all)
           ∙ passes-up_to high (from low (pairs content)) (from-ascends content low)
           ∙ sym (ap (λ list. not (length list == 0)) (within-from content low high));
       counted =
-          let s = pointer_shape g.K.PartialType.Partial.bytes c.in-Some.root in
+          let s = c.in-Some.root.shape in
           let low = bound_map (λ low. low.now) c.args.low in
           let high = bound_map (λ high. high.now) c.args.high in
           let most = path-most s (start_of low) in

@@ -1,7 +1,7 @@
 use Rattle.std.proofs.Common.{rules, ◌+◌, ◌≤◌, ℕ, List, length, sym, subst, arith}
+use Rattle.rart_node.specs.Seen.{shape_of}
 use Rattle.rart_maps.specs.Visits.{BySlice, Visit, Visitable}
 use Rattle.rart_maps.proofs.VisitLemmas.{up_to-over, up_to-start}
-use Rattle.rart_node.specs.NodeShapes.{pointer_shape}
 use Rattle.rart_shape.specs.Trees.{path_bound}
 use Rattle.rart_shape.proofs.CountingLemmas.{counts-most, path-most}
 use Rattle.rart_versioned.proofs.VersionVisitLemmas.{none-keyed, none-prefix_matches, root-prefix_matches}
@@ -10,7 +10,7 @@ use Rattle.rart_versioned.proofs.counted.tree.VersionedAdaptiveRadixTree.prefix_
 pub visit_prefix_matches-requires-clause-visitable :
     goal.visit_prefix_matches-requires-clause-visitable
 visit_prefix_matches-requires-clause-visitable g c =
-    let same = root-prefix_matches (pointer_shape g.K.PartialType.Partial.bytes)
+    let same = root-prefix_matches shape_of
     g.K.KeyTrait.MAXIMUM_SIZE
     c.self.inside.version
     c.self.inside.root c.args.self.now c.self.invariant c.self.view_is
@@ -21,7 +21,7 @@ pub returns-in-None : goal.returns-in-None
 returns-in-None g c =
     record {
       visits =
-          let none = none-prefix_matches (pointer_shape g.K.PartialType.Partial.bytes)
+          let none = none-prefix_matches shape_of
           g.K.KeyTrait.MAXIMUM_SIZE
           c.self.inside.version
           c.self.inside.root c.args.self.now c.self.invariant c.self.view_is
@@ -29,7 +29,7 @@ returns-in-None g c =
           up_to-over g.F.FnMut BySlice tt none (up_to-start g.F.FnMut BySlice tt c.args.f.now _);
       counted = search rules;
       entered = λ keyed.
-          absurd (none-keyed (pointer_shape g.K.PartialType.Partial.bytes) g.K.KeyTrait.MAXIMUM_SIZE
+          absurd (none-keyed shape_of g.K.KeyTrait.MAXIMUM_SIZE
           c.self.inside.version
           c.self.inside.root c.args.self.now c.self.invariant c.self.view_is
           c.in-None.is keyed);
@@ -39,7 +39,7 @@ pub returns-in-Some : goal.returns-in-Some
 returns-in-Some g c =
     record {
       visits =
-          let same = root-prefix_matches (pointer_shape g.K.PartialType.Partial.bytes)
+          let same = root-prefix_matches shape_of
           g.K.KeyTrait.MAXIMUM_SIZE
           c.self.inside.version
           c.self.inside.root c.args.self.now c.self.invariant c.self.view_is
@@ -48,7 +48,7 @@ returns-in-Some g c =
           (sym same)
           c.visit_prefix_matches.ensures.visits;
       counted =
-          let s = pointer_shape g.K.PartialType.Partial.bytes c.in-Some.root in
+          let s = c.in-Some.root.shape in
           let probe = c.as_ref.result.now in
           let most = subst (λ (k : List ℕ). path_bound s probe ≤ length k + 1) c.as_ref.ensures
           (path-most s probe) in

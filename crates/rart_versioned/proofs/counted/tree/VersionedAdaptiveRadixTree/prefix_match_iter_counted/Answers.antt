@@ -3,7 +3,7 @@ use Rattle.std.specs.Prelude.{filter}
 use Rattle.std.specs.Borrow.{Bor}
 use Rattle.std.specs.Option.{option_map, option_copied}
 use Rattle.rart_below.specs.Bytes.{begins}
-use Rattle.rart_node.specs.NodeShapes.{pointer_shape}
+use Rattle.rart_node.specs.Seen.{shape_of}
 use Rattle.rart_versioned.specs.IteratorFields.{matches_below}
 use Rattle.rart_versioned.proofs.VersionIterationLemmas.{content-pairs}
 use Rattle.rart_versioned.proofs.ProbeLemmas.{matches-all}
@@ -17,15 +17,14 @@ seen-through f (Some at) = refl
 
 pub returns-clause-pairs : goal.returns-clause-pairs
 returns-clause-pairs g c =
-    let shape = pointer_shape g.K.PartialType.Partial.bytes in
     let probe = g.K.KeyTrait.bytes c.args.probe in
     let test = λ (pair : List ℕ × g.row.V.Denot). begins pair.0 probe in
-    let root = seen-through shape c.as_ref-at.result
-    ∙ ap (option_map shape) c.as_ref-at.ensures.value in
+    let root = seen-through shape_of c.as_ref-at.result
+    ∙ ap (option_map shape_of) c.as_ref-at.ensures.value in
     let most = g.K.KeyTrait.MAXIMUM_SIZE in
-    let list = content-pairs shape most c.self.inside.version c.self.inside.root
+    let list = content-pairs shape_of most c.self.inside.version c.self.inside.root
     c.args.self.now c.self.invariant c.self.view_is in
     ap (λ (pairs : List (List ℕ × g.row.V.Denot)). Some pairs)
     (ap (matches_below probe 0) root
-    ∙ matches-all probe (option_map shape c.self.inside.root)
+    ∙ matches-all probe (option_map shape_of c.self.inside.root)
     ∙ ap (filter test) (sym list))

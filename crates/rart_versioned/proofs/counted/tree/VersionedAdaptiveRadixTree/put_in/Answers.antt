@@ -3,7 +3,7 @@ use Rattle.rart_maps.specs.Versions.{has_no_key}
 use Rattle.std.proofs.Common.{◌≡◌, ◌+◌, None, Some, true, length, sym, ap, subst, ◌∙◌, arith, rules}
 use Rattle.std.specs.Option.{option_map}
 use Rattle.rart_below.specs.Bytes.{IsAdmitted}
-use Rattle.rart_node.specs.NodeShapes.{pointer_shape}
+use Rattle.rart_node.specs.Seen.{shape_of}
 use Rattle.rart_shape.proofs.CountingLemmas.{counts-most, path-most}
 use Rattle.rart_versioned.specs.Roots.{IsSound, found_in}
 use Rattle.rart_versioned.proofs.VersionMapLemmas.{get-found}
@@ -18,9 +18,9 @@ leaf_of-requires g c =
 
 pub insert_below-requires : goal.insert_below-requires
 insert_below-requires g c =
-    let f = pointer_shape g.K.PartialType.Partial.bytes in
-    let sound : IsSound g.K.KeyTrait.MAXIMUM_SIZE c.self.inside.version (Some (f c.in-Some.root)) =
-    subst (λ z. IsSound g.K.KeyTrait.MAXIMUM_SIZE c.self.inside.version (option_map f z))
+    let most = g.K.KeyTrait.MAXIMUM_SIZE in
+    let sound : IsSound most c.self.inside.version (Some c.in-Some.root.shape) =
+    subst (λ z. IsSound g.K.KeyTrait.MAXIMUM_SIZE c.self.inside.version (option_map shape_of z))
     c.in-Some.is c.self.invariant in
     record {
       clones = c.requires.clones;
@@ -32,12 +32,11 @@ insert_below-requires g c =
 
 pub invariant_of-self-in-None : goal.invariant_of-self-in-None
 invariant_of-self-in-None g c =
-    let f = pointer_shape g.K.PartialType.Partial.bytes in
     let w = c.args.key.now in
     let n = c.self.inside.version in
     let raised = c.requires.raised in
     sound-put g.K.KeyTrait.MAXIMUM_SIZE n (n + c.args.more) None
-    (f c.in_ok-leaf-in-None.leaf) w c.args.value tt (omega (arith, raised)) (
+    c.in_ok-leaf-in-None.leaf.shape w c.args.value tt (omega (arith, raised)) (
       (c.requires.admitted, omega arith),
       all-bytes c.args.key.now c.type_inv.key,
     )
@@ -46,20 +45,19 @@ invariant_of-self-in-None g c =
 
 pub invariant_of-self-in-Some : goal.invariant_of-self-in-Some
 invariant_of-self-in-Some g c =
-    let f = pointer_shape g.K.PartialType.Partial.bytes in
     let w = c.args.key.now in
     let n = c.self.inside.version in
     let raised = c.requires.raised in
-    let sound : IsSound g.K.KeyTrait.MAXIMUM_SIZE n (Some (f c.in-Some.root)) =
-    subst (λ z. IsSound g.K.KeyTrait.MAXIMUM_SIZE n (option_map f z)) c.in-Some.is
+    let sound : IsSound g.K.KeyTrait.MAXIMUM_SIZE n (Some c.in-Some.root.shape) =
+    subst (λ z. IsSound g.K.KeyTrait.MAXIMUM_SIZE n (option_map shape_of z)) c.in-Some.is
     c.self.invariant in
-    sound-put g.K.KeyTrait.MAXIMUM_SIZE n (n + c.args.more) (Some (f c.in-Some.root))
-    (f c.insert_below.new.at) w c.args.value sound (omega (arith, raised)) (
+    sound-put g.K.KeyTrait.MAXIMUM_SIZE n (n + c.args.more) (Some c.in-Some.root.shape)
+    c.insert_below.new.at.shape w c.args.value sound (omega (arith, raised)) (
       (c.requires.admitted, omega arith),
       all-bytes c.args.key.now c.type_inv.key,
     )
-    (root-put w c.args.value (f c.in-Some.root)
-    (f c.insert_below.new.at) c.in_ok-old-in-Some.ensures.puts.0)
+    (root-put w c.args.value c.in-Some.root.shape
+    c.insert_below.new.at.shape c.in_ok-old-in-Some.ensures.puts.0)
 
 pub returns-in_ok-leaf-in-None : goal.returns-in_ok-leaf-in-None
 returns-in_ok-leaf-in-None g c =
@@ -96,7 +94,7 @@ returns-in_err-old-in-Some g c = record {
   counted = record {
     at_most =
         counts-most c.insert_below.ensures.counted
-        (path-most (pointer_shape g.K.PartialType.Partial.bytes c.in-Some.root) c.args.key.now)
+        (path-most c.in-Some.root.shape c.args.key.now)
         (omega arith);
     at_least = λ keyed. c.insert_below.ensures.entered;
   };
@@ -105,28 +103,27 @@ returns-in_err-old-in-Some g c = record {
 
 pub returns-in_ok-old-in-Some : goal.returns-in_ok-old-in-Some
 returns-in_ok-old-in-Some g c =
-    let f = pointer_shape g.K.PartialType.Partial.bytes in
     let w = c.args.key.now in
     let n = c.self.inside.version in
-    let o = option_map f c.self.inside.root in
-    let sound : IsSound g.K.KeyTrait.MAXIMUM_SIZE n (Some (f c.in-Some.root)) =
-    subst (λ z. IsSound g.K.KeyTrait.MAXIMUM_SIZE n (option_map f z)) c.in-Some.is
+    let o = option_map shape_of c.self.inside.root in
+    let sound : IsSound g.K.KeyTrait.MAXIMUM_SIZE n (Some c.in-Some.root.shape) =
+    subst (λ z. IsSound g.K.KeyTrait.MAXIMUM_SIZE n (option_map shape_of z)) c.in-Some.is
     c.self.invariant in
     record {
       changes = (
         rw (← c.self.view_is) (c.in_ok-old-in-Some.ensures.puts.1
             ∙ sym (value-in g.K.KeyTrait.MAXIMUM_SIZE n o n w c.self.invariant
-            ∙ ap (λ z. found_in (option_map f z) w) c.in-Some.is)),
+            ∙ ap (λ z. found_in (option_map shape_of z) w) c.in-Some.is)),
         rw (← c.self.view_is, c.in-Some.is)
             (ap (λ m. record { content = m; number = n + c.args.more })
-            (map-put (Some (f c.in-Some.root)) (f c.insert_below.new.at) w c.args.value sound.0
-            (root-put w c.args.value (f c.in-Some.root)
-            (f c.insert_below.new.at) c.in_ok-old-in-Some.ensures.puts.0))),
+            (map-put (Some c.in-Some.root.shape) c.insert_below.new.at.shape w c.args.value sound.0
+            (root-put w c.args.value c.in-Some.root.shape
+            c.insert_below.new.at.shape c.in_ok-old-in-Some.ensures.puts.0))),
       );
       counted = record {
         at_most =
             counts-most c.insert_below.ensures.counted
-            (path-most (pointer_shape g.K.PartialType.Partial.bytes c.in-Some.root) c.args.key.now)
+            (path-most c.in-Some.root.shape c.args.key.now)
             (omega arith);
         at_least = λ keyed. c.insert_below.ensures.entered;
       };

@@ -1,7 +1,7 @@
 use Rattle.std.proofs.Common.{arith, rules, refl, is_some, true, Some, None, ◌≡◌, ◌+◌, sym, ap, subst, ◌∙◌}
 use Rattle.std.specs.Option.{option_map}
 use Rattle.std.proofs.lemmas.Bool.{true≢false}
-use Rattle.rart_node.specs.NodeShapes.{pointer_shape}
+use Rattle.rart_node.specs.Seen.{shape_of}
 use Rattle.rart_shape.specs.Trees.{found}
 use Rattle.rart_removal.specs.Removals.{IsTakenOr}
 use Rattle.rart_removal.proofs.EditLemmas.{on-any}
@@ -17,40 +17,39 @@ use Rattle.rart_versioned.proofs.counted.tree.VersionedAdaptiveRadixTree.take_in
 
 pub remove_below-requires : goal.remove_below-requires
 remove_below-requires g c =
-    let f = pointer_shape g.K.PartialType.Partial.bytes in
-    let sound : IsSound g.K.KeyTrait.MAXIMUM_SIZE c.self.inside.version (Some (f c.in-Some.root)) =
-    subst (λ o. IsSound g.K.KeyTrait.MAXIMUM_SIZE c.self.inside.version (option_map f o))
+    let most = g.K.KeyTrait.MAXIMUM_SIZE in
+    let sound : IsSound most c.self.inside.version (Some c.in-Some.root.shape) =
+    subst (λ o. IsSound g.K.KeyTrait.MAXIMUM_SIZE c.self.inside.version (option_map shape_of o))
     c.in-Some.is c.self.invariant in
     record {
       clones = c.requires.clones;
       tree = sound.0;
       lengths =
-          sound-admitted g.K.KeyTrait.MAXIMUM_SIZE _ c.self.inside.version (f c.in-Some.root)
+          sound-admitted g.K.KeyTrait.MAXIMUM_SIZE _ c.self.inside.version c.in-Some.root.shape
           sound g.met.K.KeyTrait.maximum_of_partial;
     }
 
 pub invariant_of-self-2 : goal.invariant_of-self-2
 invariant_of-self-2 g c =
-    let f = pointer_shape g.K.PartialType.Partial.bytes in
     let w = c.args.key.now in
-    let before = option_map f c.self.inside.root in
+    let before = option_map shape_of c.self.inside.root in
     let tree = tree-in g.K.KeyTrait.MAXIMUM_SIZE c.self.inside.version before c.self.invariant in
-    let after = option_map f c.if-removed.self-inside.root in
+    let after = option_map shape_of c.if-removed.self-inside.root in
     let left = c.in_ok-removed.removed.left_empty in
-    let root_is : after ≡ kept left (f c.remove_below.new.root) = elim c.if-removed.branch [
-      | then-removed+in-Some-1 b ↦ ap (λ (i : _). option_map f i.root) b.self-inside-is
-          ∙ ap (λ t. kept t (f c.remove_below.new.root)) (sym b.if-removed.true)
-      | then-removed+in-None-1 b ↦ ap (λ (i : _). option_map f i.root) b.self-inside-is
-          ∙ ap (λ t. kept t (f c.remove_below.new.root)) (sym b.if-removed.true)
-      | else-removed b ↦ ap (λ (i : _). option_map f i.root) b.self-inside-is
-          ∙ ap (λ t. kept t (f c.remove_below.new.root)) (sym b.if-removed.false)
+    let root_is : after ≡ kept left c.remove_below.new.root.shape = elim c.if-removed.branch [
+      | then-removed+in-Some-1 b ↦ ap (λ (i : _). option_map shape_of i.root) b.self-inside-is
+          ∙ ap (λ t. kept t c.remove_below.new.root.shape) (sym b.if-removed.true)
+      | then-removed+in-None-1 b ↦ ap (λ (i : _). option_map shape_of i.root) b.self-inside-is
+          ∙ ap (λ t. kept t c.remove_below.new.root.shape) (sym b.if-removed.true)
+      | else-removed b ↦ ap (λ (i : _). option_map shape_of i.root) b.self-inside-is
+          ∙ ap (λ t. kept t c.remove_below.new.root.shape) (sym b.if-removed.false)
     ] in
-    let at_root : IsTakenOr left w (f c.in-Some.root) (f c.remove_below.new.root) =
+    let at_root : IsTakenOr left w c.in-Some.root.shape c.remove_below.new.root.shape =
     c.in_ok-removed.ensures.taken in
     let taken : IsTakenIn w before after =
-    subst (λ o. IsTakenIn w (option_map f o) after) (sym c.in-Some.is)
-    (root-taken w (f c.in-Some.root)
-    (f c.remove_below.new.root) left after at_root root_is) in
+    subst (λ o. IsTakenIn w (option_map shape_of o) after) (sym c.in-Some.is)
+    (root-taken w c.in-Some.root.shape
+    c.remove_below.new.root.shape left after at_root root_is) in
     sound-taken g.K.KeyTrait.MAXIMUM_SIZE c.self.inside.version _ before after w c.self.invariant
     (omega arith) taken
 
@@ -72,14 +71,13 @@ returns-in_default g c =
 
 pub returns-in_err-removed : goal.returns-in_err-removed
 returns-in_err-removed g c =
-    let f = pointer_shape g.K.PartialType.Partial.bytes in
     let w = c.args.key.now in
-    let before = option_map f c.self.inside.root in
+    let before = option_map shape_of c.self.inside.root in
     let tree = tree-in g.K.KeyTrait.MAXIMUM_SIZE c.self.inside.version before c.self.invariant in
-    let value_is : found (f c.in-Some.root) w ≡ value_at c.args.self.now w =
-    ap (λ o. found_in (option_map f o) w) (sym c.in-Some.is) ∙ sym (get-found before w tree)
+    let value_is : found c.in-Some.root.shape w ≡ value_at c.args.self.now w =
+    ap (λ o. found_in (option_map shape_of o) w) (sym c.in-Some.is) ∙ sym (get-found before w tree)
     ∙ ap (λ (v : Version g.row.V.Denot). value_at v w) c.self.view_is in
-    let most = path-most (f c.in-Some.root) w in
+    let most = path-most c.in-Some.root.shape w in
     record {
       changes = search rules;
       present = on-any c.from_residual.result
@@ -91,25 +89,24 @@ returns-in_err-removed g c =
 
 pub returns-then-is_none : goal.returns-then-is_none
 returns-then-is_none g c =
-    let f = pointer_shape g.K.PartialType.Partial.bytes in
     let w = c.args.key.now in
-    let before = option_map f c.self.inside.root in
+    let before = option_map shape_of c.self.inside.root in
     let tree = tree-in g.K.KeyTrait.MAXIMUM_SIZE c.self.inside.version before c.self.invariant in
-    let value_is : found (f c.in-Some.root) w ≡ value_at c.args.self.now w =
-    ap (λ o. found_in (option_map f o) w) (sym c.in-Some.is) ∙ sym (get-found before w tree)
+    let value_is : found c.in-Some.root.shape w ≡ value_at c.args.self.now w =
+    ap (λ o. found_in (option_map shape_of o) w) (sym c.in-Some.is) ∙ sym (get-found before w tree)
     ∙ ap (λ (v : Version g.row.V.Denot). value_at v w) c.self.view_is in
     let gone = not_some-None c.in_ok-removed.removed.value c.if-is_none.ensures in
     let none = sym c.in_ok-removed.ensures.value ∙ gone in
     let absent =
     absent-changes c.args.self.now w c.args.more (sym value_is ∙ none) in
-    let most = path-most (f c.in-Some.root) w in
+    let most = path-most c.in-Some.root.shape w in
     record {
       changes = (
         absent.0,
         ap (λ z. record { content = map_of (Some z); number = c.self.inside.version })
             (c.in_ok-removed.ensures.absent none)
             ∙ ap (λ o. record {
-              content = map_of (option_map f o);
+              content = map_of (option_map shape_of o);
               number = c.self.inside.version;
             }) (sym c.in-Some.is) ∙ c.self.view_is ∙ absent.1,
       );
@@ -121,31 +118,30 @@ returns-then-is_none g c =
 
 pub returns : goal.returns
 returns g c =
-    let f = pointer_shape g.K.PartialType.Partial.bytes in
     let w = c.args.key.now in
-    let before = option_map f c.self.inside.root in
+    let before = option_map shape_of c.self.inside.root in
     let tree = tree-in g.K.KeyTrait.MAXIMUM_SIZE c.self.inside.version before c.self.invariant in
-    let value_is : found (f c.in-Some.root) w ≡ value_at c.args.self.now w =
-    ap (λ o. found_in (option_map f o) w) (sym c.in-Some.is) ∙ sym (get-found before w tree)
+    let value_is : found c.in-Some.root.shape w ≡ value_at c.args.self.now w =
+    ap (λ o. found_in (option_map shape_of o) w) (sym c.in-Some.is) ∙ sym (get-found before w tree)
     ∙ ap (λ (v : Version g.row.V.Denot). value_at v w) c.self.view_is in
-    let after = option_map f c.if-removed.self-inside.root in
+    let after = option_map shape_of c.if-removed.self-inside.root in
     let left = c.in_ok-removed.removed.left_empty in
-    let root_is : after ≡ kept left (f c.remove_below.new.root) = elim c.if-removed.branch [
-      | then-removed+in-Some-1 b ↦ ap (λ (i : _). option_map f i.root) b.self-inside-is
-          ∙ ap (λ t. kept t (f c.remove_below.new.root)) (sym b.if-removed.true)
-      | then-removed+in-None-1 b ↦ ap (λ (i : _). option_map f i.root) b.self-inside-is
-          ∙ ap (λ t. kept t (f c.remove_below.new.root)) (sym b.if-removed.true)
-      | else-removed b ↦ ap (λ (i : _). option_map f i.root) b.self-inside-is
-          ∙ ap (λ t. kept t (f c.remove_below.new.root)) (sym b.if-removed.false)
+    let root_is : after ≡ kept left c.remove_below.new.root.shape = elim c.if-removed.branch [
+      | then-removed+in-Some-1 b ↦ ap (λ (i : _). option_map shape_of i.root) b.self-inside-is
+          ∙ ap (λ t. kept t c.remove_below.new.root.shape) (sym b.if-removed.true)
+      | then-removed+in-None-1 b ↦ ap (λ (i : _). option_map shape_of i.root) b.self-inside-is
+          ∙ ap (λ t. kept t c.remove_below.new.root.shape) (sym b.if-removed.true)
+      | else-removed b ↦ ap (λ (i : _). option_map shape_of i.root) b.self-inside-is
+          ∙ ap (λ t. kept t c.remove_below.new.root.shape) (sym b.if-removed.false)
     ] in
-    let at_root : IsTakenOr left w (f c.in-Some.root) (f c.remove_below.new.root) =
+    let at_root : IsTakenOr left w c.in-Some.root.shape c.remove_below.new.root.shape =
     c.in_ok-removed.ensures.taken in
     let taken : IsTakenIn w before after =
-    subst (λ o. IsTakenIn w (option_map f o) after) (sym c.in-Some.is)
-    (root-taken w (f c.in-Some.root)
-    (f c.remove_below.new.root) left after at_root root_is) in
+    subst (λ o. IsTakenIn w (option_map shape_of o) after) (sym c.in-Some.is)
+    (root-taken w c.in-Some.root.shape
+    c.remove_below.new.root.shape left after at_root root_is) in
     let answer_is = c.in_ok-removed.ensures.value ∙ value_is in
-    let most = path-most (f c.in-Some.root) w in
+    let most = path-most c.in-Some.root.shape w in
     record {
       changes = (
         answer_is,

@@ -1,4 +1,4 @@
-use Rattle.std.proofs.Common.{arith, length, map, Ok, refl, sym, ap, subst, ◌∙◌}
+use Rattle.std.proofs.Common.{arith, map, Ok, refl, sym, ap, subst, ◌∙◌}
 use Rattle.rart_below.specs.declared.visit.VisitControl.TheVariants.{Continue}
 use Rattle.rart_maps.specs.Pairs.{under}
 use Rattle.rart_maps.specs.Visits.{ByValue, VisitableUntil, VisitsUntil}

@@ -5,8 +5,8 @@ use Rattle.std.specs.Range.Bound.{is_from_start, is_up_to_end, bound_map}
 use Rattle.std.proofs.lemmas.List.Elements.{All-filter}
 use Rattle.std.proofs.lemmas.Result.{IfOk-weaker}
 use Rattle.rart_below.specs.Bytes.{IsAdmitted, byte_order}
+use Rattle.rart_node.specs.Seen.{shape_of}
 use Rattle.rart_maps.specs.Pairs.{pairs}
-use Rattle.rart_node.specs.NodeShapes.{pointer_shape}
 use Rattle.rart_versioned.specs.IteratorFields.{AreAdmitted}
 use Rattle.rart_versioned.proofs.VersionIterationLemmas.{content-admitted, no-pairs, root-sound, root-pairs, root-short}
 use Rattle.rart_versioned.proofs.VersionVisitLemmas.{start-is, none-keyed, root-range}
@@ -17,11 +17,10 @@ use Rattle.rart_versioned.proofs.counted.tree.VersionedAdaptiveRadixTree.walk_fr
 
 pub from-requires : goal.from-requires
 from-requires g c κs =
-    let shape = pointer_shape g.K.PartialType.Partial.bytes in
     let most = g.K.KeyTrait.MAXIMUM_SIZE in
-    let sound = root-sound shape most c.self.inside.version c.self.inside.root c.args.self.now
+    let sound = root-sound shape_of most c.self.inside.version c.self.inside.root c.args.self.now
     c.self.invariant c.self.view_is c.in-Some.root c.in-Some.is in
-    let short = root-short shape most c.self.inside.version c.self.inside.root c.args.self.now
+    let short = root-short shape_of most c.self.inside.version c.self.inside.root c.args.self.now
     c.self.invariant c.self.view_is c.in-Some.root c.in-Some.is in
     ((refl, tt), (sound.0, short g.T.KeyPath.greatest c.requires))
 
@@ -30,11 +29,10 @@ returns-in-None g c =
     record {
       walk = c.new.ensures.walk;
       pairs =
-          let shape = pointer_shape g.K.PartialType.Partial.bytes in
           let most = g.K.KeyTrait.MAXIMUM_SIZE in
           let test = λ (pair : List ℕ × g.row.V.Denot). is_from_start (as_partial_cmp byte_order)
           (bound_map (λ low. low.now) c.args.low) pair.0 in
-          let none = no-pairs shape most c.self.inside.version c.self.inside.root c.args.self.now
+          let none = no-pairs shape_of most c.self.inside.version c.self.inside.root c.args.self.now
           c.self.invariant c.self.view_is c.in-None.is in
           ap (λ stand. stand.pairs) c.new.ensures.ended ∙ sym (ap (filter test) none);
       admitted = subst (AreAdmitted g.K.KeyTrait.MAXIMUM_SIZE)
@@ -46,7 +44,7 @@ returns-in-None g c =
           omega (arith, left);
       counted = search rules;
       entered = λ keyed.
-          absurd (none-keyed (pointer_shape g.K.PartialType.Partial.bytes) g.K.KeyTrait.MAXIMUM_SIZE
+          absurd (none-keyed shape_of g.K.KeyTrait.MAXIMUM_SIZE
           c.self.inside.version c.self.inside.root c.args.self.now c.self.invariant c.self.view_is
           c.in-None.is keyed);
       at_hand = let none : at_hand c.new.result ≡ 0 = ap (λ pending. cond (is_some pending) 1 0)
@@ -59,22 +57,20 @@ returns-in-Some g c =
     record {
       walk = c.from.ensures.walk;
       pairs =
-          let shape = pointer_shape g.K.PartialType.Partial.bytes in
           let most = g.K.KeyTrait.MAXIMUM_SIZE in
           let test = λ (pair : List ℕ × g.row.V.Denot). is_from_start (as_partial_cmp byte_order)
           (bound_map (λ low. low.now) c.args.low) pair.0 in
-          let all = root-pairs shape most c.self.inside.version c.self.inside.root c.args.self.now
-          c.self.invariant c.self.view_is c.in-Some.root c.in-Some.is in
+          let all = root-pairs shape_of most c.self.inside.version c.self.inside.root
+          c.args.self.now c.self.invariant c.self.view_is c.in-Some.root c.in-Some.is in
           IfOk-weaker c.from.result _ _ (λ walk is. is ∙ sym (ap (filter test) all))
           c.from.ensures.pairs;
       admitted =
-          let shape = pointer_shape g.K.PartialType.Partial.bytes in
           let most = g.K.KeyTrait.MAXIMUM_SIZE in
           let test = λ (pair : List ℕ × g.row.V.Denot). is_from_start (as_partial_cmp byte_order)
           (bound_map (λ low. low.now) c.args.low) pair.0 in
-          let all = root-pairs shape most c.self.inside.version c.self.inside.root c.args.self.now
-          c.self.invariant c.self.view_is c.in-Some.root c.in-Some.is in
-          let whole = content-admitted shape most c.self.inside.version c.self.inside.root
+          let all = root-pairs shape_of most c.self.inside.version c.self.inside.root
+          c.args.self.now c.self.invariant c.self.view_is c.in-Some.root c.in-Some.is in
+          let whole = content-admitted shape_of most c.self.inside.version c.self.inside.root
           c.args.self.now
           c.self.invariant c.self.view_is in
           let kept = All-filter test (λ (pair : List ℕ × g.row.V.Denot). IsAdmitted most (length
@@ -84,10 +80,9 @@ returns-in-Some g c =
           (λ walk is. subst (AreAdmitted most) (sym (is ∙ sym (ap (filter test) all))) kept)
           c.from.ensures.pairs;
       few =
-          let shape = pointer_shape g.K.PartialType.Partial.bytes in
           let most = g.K.KeyTrait.MAXIMUM_SIZE in
           let low = bound_map (λ low. low.now) c.args.low in
-          let within = root-range shape most c.self.inside.version c.self.inside.root
+          let within = root-range shape_of most c.self.inside.version c.self.inside.root
           c.args.self.now
           c.self.invariant c.self.view_is c.in-Some.root c.in-Some.is low in
           IfOk-weaker c.from.result _ _ (λ walk end high. within high _ end) c.from.ensures.paths;

@@ -3,8 +3,8 @@ use Rattle.std.specs.Prelude.{filter, length}
 use Rattle.std.proofs.lemmas.List.Elements.{All-filter}
 use Rattle.std.proofs.lemmas.Result.{IfOk-weaker}
 use Rattle.rart_below.specs.Bytes.{IsAdmitted, begins, byte_order}
+use Rattle.rart_node.specs.Seen.{shape_of}
 use Rattle.rart_maps.specs.Pairs.{pairs}
-use Rattle.rart_node.specs.NodeShapes.{pointer_shape}
 use Rattle.rart_versioned.specs.IteratorFields.{AreAdmitted}
 use Rattle.rart_versioned.proofs.VersionVisitLemmas.{none-keyed, root-reach, root-reach_by_pairs, root-under}
 use Rattle.rart_versioned.proofs.VersionIterationLemmas.{content-admitted, no-pairs, root-sound, root-pairs, root-short}
@@ -16,11 +16,10 @@ use Rattle.rart_versioned.proofs.counted.tree.VersionedAdaptiveRadixTree.walk_un
 
 pub under-requires : goal.under-requires
 under-requires g c κs =
-    let shape = pointer_shape g.K.PartialType.Partial.bytes in
     let most = g.K.KeyTrait.MAXIMUM_SIZE in
-    let sound = root-sound shape most c.self.inside.version c.self.inside.root c.args.self.now
+    let sound = root-sound shape_of most c.self.inside.version c.self.inside.root c.args.self.now
     c.self.invariant c.self.view_is c.in-Some.root c.in-Some.is in
-    let short = root-short shape most c.self.inside.version c.self.inside.root c.args.self.now
+    let short = root-short shape_of most c.self.inside.version c.self.inside.root c.args.self.now
     c.self.invariant c.self.view_is c.in-Some.root c.in-Some.is in
     ((refl, tt), (sound.0, short g.T.KeyPath.greatest c.requires))
 
@@ -29,10 +28,9 @@ returns-in-None g c =
     record {
       walk = c.new.ensures.walk;
       pairs =
-          let shape = pointer_shape g.K.PartialType.Partial.bytes in
           let most = g.K.KeyTrait.MAXIMUM_SIZE in
           let test = λ (pair : List ℕ × g.row.V.Denot). begins c.args.prefix.now pair.0 in
-          let none = no-pairs shape most c.self.inside.version c.self.inside.root c.args.self.now
+          let none = no-pairs shape_of most c.self.inside.version c.self.inside.root c.args.self.now
           c.self.invariant c.self.view_is c.in-None.is in
           ap (λ stand. stand.pairs) c.new.ensures.ended ∙ sym (ap (filter test) none);
       admitted = subst (AreAdmitted g.K.KeyTrait.MAXIMUM_SIZE)
@@ -48,7 +46,7 @@ returns-in-None g c =
           omega (arith, left);
       counted = search rules;
       entered = λ keyed.
-          absurd (none-keyed (pointer_shape g.K.PartialType.Partial.bytes) g.K.KeyTrait.MAXIMUM_SIZE
+          absurd (none-keyed shape_of g.K.KeyTrait.MAXIMUM_SIZE
           c.self.inside.version c.self.inside.root c.args.self.now c.self.invariant c.self.view_is
           c.in-None.is keyed);
       at_hand = let none : at_hand c.new.result ≡ 0 = ap (λ pending. cond (is_some pending) 1 0)
@@ -61,20 +59,18 @@ returns-in-Some g c =
     record {
       walk = c.under.ensures.walk;
       pairs =
-          let shape = pointer_shape g.K.PartialType.Partial.bytes in
           let most = g.K.KeyTrait.MAXIMUM_SIZE in
           let test = λ (pair : List ℕ × g.row.V.Denot). begins c.args.prefix.now pair.0 in
-          let all = root-pairs shape most c.self.inside.version c.self.inside.root c.args.self.now
-          c.self.invariant c.self.view_is c.in-Some.root c.in-Some.is in
+          let all = root-pairs shape_of most c.self.inside.version c.self.inside.root
+          c.args.self.now c.self.invariant c.self.view_is c.in-Some.root c.in-Some.is in
           IfOk-weaker c.under.result _ _ (λ walk is. is ∙ sym (ap (filter test) all))
           c.under.ensures.pairs;
       admitted =
-          let shape = pointer_shape g.K.PartialType.Partial.bytes in
           let most = g.K.KeyTrait.MAXIMUM_SIZE in
           let test = λ (pair : List ℕ × g.row.V.Denot). begins c.args.prefix.now pair.0 in
-          let all = root-pairs shape most c.self.inside.version c.self.inside.root c.args.self.now
-          c.self.invariant c.self.view_is c.in-Some.root c.in-Some.is in
-          let whole = content-admitted shape most c.self.inside.version c.self.inside.root
+          let all = root-pairs shape_of most c.self.inside.version c.self.inside.root
+          c.args.self.now c.self.invariant c.self.view_is c.in-Some.root c.in-Some.is in
+          let whole = content-admitted shape_of most c.self.inside.version c.self.inside.root
           c.args.self.now
           c.self.invariant c.self.view_is in
           let kept = All-filter test (λ (pair : List ℕ × g.row.V.Denot). IsAdmitted most (length
@@ -84,21 +80,21 @@ returns-in-Some g c =
           (λ walk is. subst (AreAdmitted most) (sym (is ∙ sym (ap (filter test) all))) kept)
           c.under.ensures.pairs;
       nodes =
-          let within = root-reach (pointer_shape g.K.PartialType.Partial.bytes)
+          let within = root-reach shape_of
           g.K.KeyTrait.MAXIMUM_SIZE
           c.self.inside.version
           c.self.inside.root c.args.self.now c.self.invariant c.self.view_is
           c.in-Some.root c.in-Some.is c.args.prefix.now in
           IfOk-weaker c.under.result _ _ (λ walk most. within _ most) c.under.ensures.nodes;
       few =
-          let within = root-reach_by_pairs (pointer_shape g.K.PartialType.Partial.bytes)
+          let within = root-reach_by_pairs shape_of
           g.K.KeyTrait.MAXIMUM_SIZE
           c.self.inside.version
           c.self.inside.root c.args.self.now c.self.invariant c.self.view_is
           c.in-Some.root c.in-Some.is c.args.prefix.now in
           IfOk-weaker c.under.result _ _ (λ walk most. within _ most) c.under.ensures.nodes;
       few_up_to =
-          let within = root-under (pointer_shape g.K.PartialType.Partial.bytes)
+          let within = root-under shape_of
           g.K.KeyTrait.MAXIMUM_SIZE
           c.self.inside.version c.self.inside.root c.args.self.now c.self.invariant c.self.view_is
           c.in-Some.root c.in-Some.is c.args.prefix.now in

@@ -1,6 +1,6 @@
 use Rattle.std.proofs.Common.{rules, length, arith, refl, sym, ap, subst, ◌∙◌}
 use Rattle.std.proofs.lemmas.Result.{IfOk-weaker}
-use Rattle.rart_node.specs.NodeShapes.{pointer_shape}
+use Rattle.rart_node.specs.Seen.{shape_of}
 use Rattle.rart_versioned.specs.IteratorFields.{AreAdmitted}
 use Rattle.rart_versioned.proofs.VersionIterationLemmas.{content-admitted, no-pairs, root-sound, root-pairs, root-short}
 use Rattle.rart_versioned.proofs.VersionVisitLemmas.{none-keyed, none-walk, root-walk, some-node}
@@ -8,11 +8,10 @@ use Rattle.rart_versioned.proofs.counted.tree.VersionedAdaptiveRadixTree.whole_w
 
 pub whole-requires : goal.whole-requires
 whole-requires g c κs =
-    let shape = pointer_shape g.K.PartialType.Partial.bytes in
     let most = g.K.KeyTrait.MAXIMUM_SIZE in
-    let sound = root-sound shape most c.self.inside.version c.self.inside.root c.args.self.now
+    let sound = root-sound shape_of most c.self.inside.version c.self.inside.root c.args.self.now
     c.self.invariant c.self.view_is c.in-Some.root c.in-Some.is in
-    let short = root-short shape most c.self.inside.version c.self.inside.root c.args.self.now
+    let short = root-short shape_of most c.self.inside.version c.self.inside.root c.args.self.now
     c.self.invariant c.self.view_is c.in-Some.root c.in-Some.is in
     ((refl, tt), (sound.0, short g.T.KeyPath.greatest c.requires))
 
@@ -21,15 +20,14 @@ returns-in-None g c =
     record {
       walk = c.new.ensures.walk;
       pairs =
-          let shape = pointer_shape g.K.PartialType.Partial.bytes in
           let most = g.K.KeyTrait.MAXIMUM_SIZE in
-          let none = no-pairs shape most c.self.inside.version c.self.inside.root c.args.self.now
+          let none = no-pairs shape_of most c.self.inside.version c.self.inside.root c.args.self.now
           c.self.invariant c.self.view_is c.in-None.is in
           ap (λ stand. stand.pairs) c.new.ensures.ended ∙ sym (none);
       admitted = subst (AreAdmitted g.K.KeyTrait.MAXIMUM_SIZE)
           (sym (ap (λ stand. stand.pairs) c.new.ensures.ended)) (search rules);
       nodes =
-          let none = none-walk (pointer_shape g.K.PartialType.Partial.bytes)
+          let none = none-walk shape_of
           g.K.KeyTrait.MAXIMUM_SIZE
           c.self.inside.version c.self.inside.root c.args.self.now
           c.self.invariant c.self.view_is c.in-None.is in
@@ -38,7 +36,7 @@ returns-in-None g c =
       counted = search rules;
       one = search rules;
       entered = λ keyed.
-          absurd (none-keyed (pointer_shape g.K.PartialType.Partial.bytes) g.K.KeyTrait.MAXIMUM_SIZE
+          absurd (none-keyed shape_of g.K.KeyTrait.MAXIMUM_SIZE
           c.self.inside.version c.self.inside.root c.args.self.now c.self.invariant c.self.view_is
           c.in-None.is keyed);
     }
@@ -48,17 +46,15 @@ returns-in-Some g c =
     record {
       walk = c.whole.ensures.walk;
       pairs =
-          let shape = pointer_shape g.K.PartialType.Partial.bytes in
           let most = g.K.KeyTrait.MAXIMUM_SIZE in
-          let all = root-pairs shape most c.self.inside.version c.self.inside.root c.args.self.now
-          c.self.invariant c.self.view_is c.in-Some.root c.in-Some.is in
+          let all = root-pairs shape_of most c.self.inside.version c.self.inside.root
+          c.args.self.now c.self.invariant c.self.view_is c.in-Some.root c.in-Some.is in
           IfOk-weaker c.whole.result _ _ (λ walk is. is ∙ sym (all)) c.whole.ensures.pairs;
       admitted =
-          let shape = pointer_shape g.K.PartialType.Partial.bytes in
           let most = g.K.KeyTrait.MAXIMUM_SIZE in
-          let all = root-pairs shape most c.self.inside.version c.self.inside.root c.args.self.now
-          c.self.invariant c.self.view_is c.in-Some.root c.in-Some.is in
-          let whole = content-admitted shape most c.self.inside.version c.self.inside.root
+          let all = root-pairs shape_of most c.self.inside.version c.self.inside.root
+          c.args.self.now c.self.invariant c.self.view_is c.in-Some.root c.in-Some.is in
+          let whole = content-admitted shape_of most c.self.inside.version c.self.inside.root
           c.args.self.now
           c.self.invariant c.self.view_is in
           let kept = whole in
@@ -66,7 +62,7 @@ returns-in-Some g c =
           (λ walk is. subst (AreAdmitted most) (sym (is ∙ sym (all))) kept)
           c.whole.ensures.pairs;
       nodes =
-          let all = root-walk (pointer_shape g.K.PartialType.Partial.bytes)
+          let all = root-walk shape_of
           g.K.KeyTrait.MAXIMUM_SIZE
           c.self.inside.version c.self.inside.root c.args.self.now
           c.self.invariant c.self.view_is c.in-Some.root c.in-Some.is in
@@ -74,8 +70,8 @@ returns-in-Some g c =
           IfOk-weaker c.whole.result _ _ (λ walk left. omega (arith, all, left, entered))
           c.whole.ensures.nodes;
       counted =
-          let root = pointer_shape g.K.PartialType.Partial.bytes c.in-Some.root in
-          let all = root-walk (pointer_shape g.K.PartialType.Partial.bytes)
+          let root = c.in-Some.root.shape in
+          let all = root-walk shape_of
           g.K.KeyTrait.MAXIMUM_SIZE
           c.self.inside.version c.self.inside.root c.args.self.now
           c.self.invariant c.self.view_is c.in-Some.root c.in-Some.is in

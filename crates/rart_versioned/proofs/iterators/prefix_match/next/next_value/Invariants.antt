@@ -5,9 +5,9 @@ use Rattle.rart_versioned.proofs.iterators.prefix_match.next.next_value.Given as
 
 abbrev pub invariant-down : goal.invariant-down
 invariant-down g l = record {
-  way : IsWay g.P.Partial.bytes l.probe l.way;
-  same : matches_on g.P.Partial.bytes l.probe l.fn.way ≡ matches_on g.P.Partial.bytes l.probe l.way;
+  way : IsWay l.probe l.way;
+  same : matches_on l.probe l.fn.way ≡ matches_on l.probe l.way;
 }
 
 abbrev pub decreases-down : goal.decreases-down
-decreases-down g l = height_in (next_node g.P.Partial.bytes l.way)
+decreases-down g l = height_in (next_node l.way)

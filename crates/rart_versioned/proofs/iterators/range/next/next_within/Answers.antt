@@ -49,7 +49,7 @@ returns-then-not-meets-clause-gives g c =
     let high = bound_map g.K.KeyTrait.bytes c.args.high.now in
     let ascends = subst (KeysAscend (λ (pair : List ℕ × g.row.V.Denot). pair.0)) gives
     c.requires.ascends in
-    let key = concat (cursor g.K.PartialType.Partial.bytes c.next_value.new.self).segments in
+    let key = concat (cursor c.next_value.new.self).segments in
     let past = ap (is_below high) (sym (c.as_slice-bytes.ensures ∙ c.key_path.ensures))
     ∙ sym c.meets.ensures ∙ c.if-not-meets.true in
     ap (up_to high) gives ∙ up_to-past high _ _ ascends past

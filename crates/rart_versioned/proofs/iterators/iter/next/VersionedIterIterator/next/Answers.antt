@@ -15,12 +15,11 @@ invariant_of-self-in-Ok g c =
 
 pub returns-in-Ok-clause-steps : goal.returns-in-Ok-clause-steps
 returns-in-Ok-clause-steps g c =
-    let bytes = g.P.Partial.bytes in
     let gives = rw c.in-Ok-Some.field-0-is at c.in-Ok-Some.ensures.gives in (
       _,
-      (cursor bytes c.next_value.new.self).pairs,
-      sym c.self.view_is ∙ ap (entries_left bytes) c.in-Some.is
-          ∙ ap (λ entries. entries_left bytes (Some entries)) c.in-Walk.is
+      (cursor c.next_value.new.self).pairs,
+      sym c.self.view_is ∙ ap entries_left c.in-Some.is
+          ∙ ap (λ entries. entries_left (Some entries)) c.in-Walk.is
           ∙ ap (λ (pairs : List (List ℕ × g.row.V.Denot)). Some pairs) gives,
       (c.in-Ok.ensures, refl),
       refl,
@@ -30,8 +29,8 @@ pub returns-in-Ok-new_from_slice-clause-steps : goal.returns-in-Ok-new_from_slic
 returns-in-Ok-new_from_slice-clause-steps g c = (
   (c.in-Entry.bytes.now, c.in-Entry.value.now),
   [],
-  sym c.self.view_is ∙ ap (entries_left g.P.Partial.bytes) c.in-Some.is
-      ∙ ap (λ entries. entries_left g.P.Partial.bytes (Some entries)) c.in-Entry.is,
+  sym c.self.view_is ∙ ap entries_left c.in-Some.is
+      ∙ ap (λ entries. entries_left (Some entries)) c.in-Entry.is,
   (c.in-Ok-new_from_slice.ensures, refl),
   refl,
 )

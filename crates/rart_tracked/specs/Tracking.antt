@@ -1,6 +1,6 @@
 -- A tracked version: the version that it began with, the current one, and the keys that were
 -- touched in between. What a change makes of it.
-use Rattle.std.specs.Prelude.{◌≡◌, ◌+◌, ℕ, ◌≤◌, Bool, false, List, Option, Result, Ok, Err, refl, if◌then◌else◌}
+use Rattle.std.specs.Prelude.{◌≡◌, ◌+◌, ℕ, ◌≤◌, Bool, false, List, Option, Result, Ok, Err, IfOk, refl, if◌then◌else◌}
 use Rattle.std.specs.Coded.{Coded, code_by, coded×, coded_ℕ, coded_list}
 use Rattle.std.specs.FinMap as finite
 use Rattle.std.specs.FinSet as set
@@ -91,6 +91,14 @@ pub record IsMarked {V : Type 0} (now : Version V) (before : Version (Unit {0}))
   pub number : after.number ≤ before.number + 1
   pub counted : after.number ≡ finite.len after.content
   pub few : after.number ≤ now.number
+
+-- The answer is the tree with one key more, unless memory is refused: its number is how many there
+-- are.
+pub record Marks {E : Type 0} (result : Result (Version (Unit {0})) E)
+    (before : Version (Unit {0})) (w : List ℕ) : Type 0 where
+  pub keys : IfOk result (λ marked. marked.content ≡ with_string before.content w)
+  pub number : IfOk result (λ marked. marked.number ≤ before.number + 1)
+  pub counted : IfOk result (λ marked. marked.number ≡ finite.len marked.content)
 
 -- The trees inside: a key that was not touched is as in the base. The number of the tree of touched
 -- keys is how many there are, and no greater than the current number.

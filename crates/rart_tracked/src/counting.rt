@@ -1,10 +1,7 @@
 //! Changes of one key, with the nodes entered and made counted.
-ghost use Rattle.std.specs.Prelude.{◌≡◌, ◌*◌, false};
-ghost use Rattle.rart_below.specs.Clones.{ClonesEqual};
-ghost use Rattle.rart_maps.specs.Bounds.{change_bound, lookup_bound};
-ghost use Rattle.rart_maps.specs.Versions.{HasRoom, has_key};
-ghost use Rattle.rart_tracked.specs.Tracking.{Leaves, insertion, replacement, removal, deletion};
-ghost use Rattle.rart_versioned.specs.Counts.{CountsUpTo};
+ghost use Rattle.rart_tracked.specs.KeyChanges.{PutsCounting, TakesCounting};
+ghost use Rattle.rart_tracked.specs.Tracking.{insertion, replacement, removal, deletion};
+ghost use Rattle.rart_versioned.specs.Asks.{CanChange};
 
 use crate::tracked::{TrackedTree, marked};
 use rart_below::KeyTrait;
@@ -20,12 +17,9 @@ impl<K: KeyTrait, V: Clone + Drop> TrackedTree<K, V> {
         value: V,
         work: &mut Work,
     ) -> Result<bool, AllocError>
-        requires clones { ClonesEqual V.is_clone }
-        requires room { HasRoom self.old.current 1 }
-        ensures leaves { Leaves result self.old self.new
-            (insertion self.old (K.bytes key.now) value) }
-        ensures counted { CountsUpTo (3 * lookup_bound (K.bytes key.now))
-            (2 * change_bound (K.bytes key.now)) work.old work.new }
+        requires { CanChange V.is_clone self.old.current 1 }
+        ensures { PutsCounting result self.old self.new
+            (insertion self.old (K.bytes key.now) value) (K.bytes key.now) work.old work.new }
     {
         Ok(
             self.insert_and_replace_k_counted(key, value, work)?
@@ -40,12 +34,9 @@ impl<K: KeyTrait, V: Clone + Drop> TrackedTree<K, V> {
         value: V,
         work: &mut Work,
     ) -> Result<Option<V>, AllocError>
-        requires clones { ClonesEqual V.is_clone }
-        requires room { HasRoom self.old.current 1 }
-        ensures leaves { Leaves result self.old self.new
-            (replacement self.old (K.bytes key.now) value) }
-        ensures counted { CountsUpTo (3 * lookup_bound (K.bytes key.now))
-            (2 * change_bound (K.bytes key.now)) work.old work.new }
+        requires { CanChange V.is_clone self.old.current 1 }
+        ensures { PutsCounting result self.old self.new
+            (replacement self.old (K.bytes key.now) value) (K.bytes key.now) work.old work.new }
     {
         let touched = marked(&self.touched, key, work)?;
         let replaced = self.current.insert_and_replace_k_counted(key, value, work)?;
@@ -57,13 +48,9 @@ impl<K: KeyTrait, V: Clone + Drop> TrackedTree<K, V> {
     /// entered than five times the bytes of the key, and at most four more made than twice these.
     /// Where the key is absent it is looked up alone, and none is made.
     pub fn remove_k_counted(&mut self, key: &K, work: &mut Work) -> Result<Option<V>, AllocError>
-        requires clones { ClonesEqual V.is_clone }
-        requires room { HasRoom self.old.current 1 }
-        ensures leaves { Leaves result self.old self.new (removal self.old (K.bytes key.now)) }
-        ensures counted { CountsUpTo (5 * lookup_bound (K.bytes key.now))
-            (2 * change_bound (K.bytes key.now)) work.old work.new }
-        ensures absent { has_key self.old.current (K.bytes key.now) ≡ false
-            → CountsUpTo (lookup_bound (K.bytes key.now)) 0 work.old work.new }
+        requires { CanChange V.is_clone self.old.current 1 }
+        ensures { TakesCounting result self.old self.new (removal self.old (K.bytes key.now))
+            (K.bytes key.now) work.old work.new }
     {
         if self.current.get_k_counted(key, work).is_none() {
             return Ok(None);
@@ -76,13 +63,9 @@ impl<K: KeyTrait, V: Clone + Drop> TrackedTree<K, V> {
 
     /// As `delete_k`, counted as by `remove_k_counted`.
     pub fn delete_k_counted(&mut self, key: &K, work: &mut Work) -> Result<bool, AllocError>
-        requires clones { ClonesEqual V.is_clone }
-        requires room { HasRoom self.old.current 1 }
-        ensures leaves { Leaves result self.old self.new (deletion self.old (K.bytes key.now)) }
-        ensures counted { CountsUpTo (5 * lookup_bound (K.bytes key.now))
-            (2 * change_bound (K.bytes key.now)) work.old work.new }
-        ensures absent { has_key self.old.current (K.bytes key.now) ≡ false
-            → CountsUpTo (lookup_bound (K.bytes key.now)) 0 work.old work.new }
+        requires { CanChange V.is_clone self.old.current 1 }
+        ensures { TakesCounting result self.old self.new (deletion self.old (K.bytes key.now))
+            (K.bytes key.now) work.old work.new }
     {
         Ok(self.remove_k_counted(key, work)?.is_some())
     }

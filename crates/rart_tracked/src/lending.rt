@@ -1,14 +1,15 @@
 //! A value lent for writing: the key is touched, and the current version lends its value.
-ghost use Rattle.std.specs.Prelude.{◌≡◌, ◌+◌, ◌*◌, Some, false, IfOk, IfErr, OnOk, OnErr, IsTrue};
+ghost use Rattle.std.specs.Prelude.{◌≡◌, ◌*◌, Some, false, IfOk, IfErr, OnErr, IsTrue};
 ghost use Rattle.std.specs.Borrow.{sem};
-ghost use Rattle.std.specs.FinMap as finite;
 ghost use Rattle.std.specs.Option.{option_map};
 ghost use Rattle.rart_below.specs.Clones.{ClonesEqual};
 ghost use Rattle.rart_maps.specs.Bounds.{change_bound, lookup_bound};
 ghost use Rattle.rart_maps.specs.Versions.{HasRoom, has_key, value_at};
+ghost use Rattle.rart_tracked.specs.Asks.{CanMark, CanTouch};
 ghost use Rattle.rart_tracked.specs.Lending.{LendsFound, LendsOrStays, LendsTouched};
 ghost use Rattle.rart_tracked.specs.Missing.{Explains, found_value, value_or_why};
-ghost use Rattle.rart_tracked.specs.Tracking.{IsMarked};
+ghost use Rattle.rart_tracked.specs.Touching.{MarksThere, Touches};
+ghost use Rattle.rart_versioned.specs.Asks.{CanChange};
 ghost use Rattle.rart_versioned.specs.ChangeCounts.{CountsChange};
 ghost use Rattle.rart_versioned.specs.Counts.{CountsUpTo};
 ghost use Rattle.rart_versioned.specs.Lent.{LendsValue};
@@ -33,8 +34,7 @@ impl<K: KeyTrait, V: Clone + Drop> TrackedTree<K, V> {
     /// Where the key is absent the answer is `None`, all is as before, and no memory is taken.
     /// Refused for memory, all is as before.
     pub fn get_mut_k(&mut self, key: &K) -> Result<Option<&mut V>, AllocError>
-        requires clones { ClonesEqual V.is_clone }
-        requires room { HasRoom self.old.current 1 }
+        requires { CanChange V.is_clone self.old.current 1 }
         ensures* writes_back { sem 𝓛 (LendsFound K.row V.row K.PartialType.row K.MAXIMUM_SIZE
             K.bytes K.eq K.cmp K.partial_cmp K.PartialType.Partial V.Clone self.entry
             (K.bytes key.now) result) }
@@ -47,8 +47,7 @@ impl<K: KeyTrait, V: Clone + Drop> TrackedTree<K, V> {
 
     /// As `get_mut_k`, the key by value.
     pub fn get_mut(&mut self, key: K) -> Result<Option<&mut V>, AllocError>
-        requires clones { ClonesEqual V.is_clone }
-        requires room { HasRoom self.old.current 1 }
+        requires { CanChange V.is_clone self.old.current 1 }
         ensures* writes_back { sem 𝓛 (LendsFound K.row V.row K.PartialType.row K.MAXIMUM_SIZE
             K.bytes K.eq K.cmp K.partial_cmp K.PartialType.Partial V.Clone self.entry
             (K.bytes key) result) }
@@ -67,8 +66,7 @@ impl<K: KeyTrait, V: Clone + Drop> TrackedTree<K, V> {
         key: &K,
         work: &mut Work,
     ) -> Result<Option<&mut V>, AllocError>
-        requires clones { ClonesEqual V.is_clone }
-        requires room { HasRoom self.old.current 1 }
+        requires { CanChange V.is_clone self.old.current 1 }
         ensures* writes_back { sem 𝓛 (LendsFound K.row V.row K.PartialType.row K.MAXIMUM_SIZE
             K.bytes K.eq K.cmp K.partial_cmp K.PartialType.Partial V.Clone self.entry
             (K.bytes key.now) result) }
@@ -85,8 +83,7 @@ impl<K: KeyTrait, V: Clone + Drop> TrackedTree<K, V> {
 
     /// As `lent_k`, the key by value.
     fn lent(&mut self, key: K) -> Result<&mut V, Missing>
-        requires clones { ClonesEqual V.is_clone }
-        requires room { HasRoom self.old.current 1 }
+        requires { CanChange V.is_clone self.old.current 1 }
         ensures* writes_back { sem 𝓛 (LendsTouched K.row V.row K.PartialType.row K.MAXIMUM_SIZE
             K.bytes K.eq K.cmp K.partial_cmp K.PartialType.Partial V.Clone self.entry
             (K.bytes key) result) }
@@ -100,8 +97,7 @@ impl<K: KeyTrait, V: Clone + Drop> TrackedTree<K, V> {
 
     /// As `get_mut_k`, and tells an absent key from a refusal in one answer.
     fn lent_k(&mut self, key: &K) -> Result<&mut V, Missing>
-        requires clones { ClonesEqual V.is_clone }
-        requires room { HasRoom self.old.current 1 }
+        requires { CanChange V.is_clone self.old.current 1 }
         ensures* writes_back { sem 𝓛 (LendsTouched K.row V.row K.PartialType.row K.MAXIMUM_SIZE
             K.bytes K.eq K.cmp K.partial_cmp K.PartialType.Partial V.Clone self.entry
             (K.bytes key.now) result) }
@@ -115,8 +111,7 @@ impl<K: KeyTrait, V: Clone + Drop> TrackedTree<K, V> {
 
     /// As `lent_k`, with the nodes entered and made counted into `work`.
     fn lent_k_counted(&mut self, key: &K, work: &mut Work) -> Result<&mut V, Missing>
-        requires clones { ClonesEqual V.is_clone }
-        requires room { HasRoom self.old.current 1 }
+        requires { CanChange V.is_clone self.old.current 1 }
         ensures* writes_back { sem 𝓛 (LendsTouched K.row V.row K.PartialType.row K.MAXIMUM_SIZE
             K.bytes K.eq K.cmp K.partial_cmp K.PartialType.Partial V.Clone self.entry
             (K.bytes key.now) result) }
@@ -141,24 +136,12 @@ fn lend_in<'a, K: KeyTrait, V: Clone + Drop>(
     key: &K,
     work: &mut Work,
 ) -> Result<&'a mut V, Missing>
-    requires clones { ClonesEqual V.is_clone }
-    requires room { HasRoom current.old 1 }
-    requires touchable { HasRoom touched.old 1 }
-    requires few { touched.old.number ≡ finite.len touched.old.content }
+    requires { CanTouch V.is_clone current.old touched.old }
     ensures* writes_back { sem 𝓛 (LendsOrStays K.row V.row K.PartialType.row K.MAXIMUM_SIZE
         K.bytes K.eq K.cmp K.partial_cmp K.PartialType.Partial V.Clone current.entry
         (K.bytes key.now) result) }
-    ensures value { IfOk result (λ value. value_at current.old (K.bytes key.now)
-        ≡ Some value.now) }
-    ensures missing { IfErr result
-        (λ missing. Explains missing (value_at current.old (K.bytes key.now))) }
-    ensures marked { OnOk result
-        (IsMarked current.old touched.old (K.bytes key.now) touched.new) }
-    ensures kept { OnErr result (touched.new ≡ touched.old) }
-    ensures counted { CountsUpTo (5 * lookup_bound (K.bytes key.now))
-        (2 * change_bound (K.bytes key.now)) work.old work.new }
-    ensures absent { has_key current.old (K.bytes key.now) ≡ false
-        → CountsUpTo (lookup_bound (K.bytes key.now)) 0 work.old work.new }
+    ensures touches { Touches result current.old touched.old (K.bytes key.now) touched.new
+        work.old work.new }
 {
     match marked_there(current, touched, key, work) {
         Ok(marked) => match value_mut(current, key, work) {
@@ -179,17 +162,8 @@ fn marked_there<K: KeyTrait, V: Clone + Drop>(
     key: &K,
     work: &mut Work,
 ) -> Result<VersionedAdaptiveRadixTree<K, ()>, Missing>
-    requires touchable { HasRoom touched.now 1 }
-    requires few { touched.now.number ≡ finite.len touched.now.content }
-    ensures marked { IfOk result
-        (λ marked. IsMarked current.now touched.now (K.bytes key.now) marked) }
-    ensures there { OnOk result (IsTrue (has_key current.now (K.bytes key.now))) }
-    ensures missing { IfErr result
-        (λ missing. Explains missing (value_at current.now (K.bytes key.now))) }
-    ensures counted { CountsUpTo (3 * lookup_bound (K.bytes key.now))
-        (change_bound (K.bytes key.now)) work.old work.new }
-    ensures absent { has_key current.now (K.bytes key.now) ≡ false
-        → CountsUpTo (lookup_bound (K.bytes key.now)) 0 work.old work.new }
+    requires { CanMark touched.now }
+    ensures { MarksThere result current.now touched.now (K.bytes key.now) work.old work.new }
 {
     if current.get_k_counted(key, work).is_none() {
         return Err(Missing::Absent);

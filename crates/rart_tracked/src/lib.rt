@@ -6,6 +6,7 @@ mod changing;
 mod conflicts;
 mod counting;
 mod keys;
+pub mod laws;
 mod lending;
 mod listing;
 mod rebasing;

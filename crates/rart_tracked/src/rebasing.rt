@@ -1,14 +1,11 @@
 //! The same changes, made on another base.
-ghost use Rattle.std.specs.Prelude.{◌≡◌, ◌+◌, ◌⊎◌, List, ℕ, [], ◌∷◌, length, map, Contains, IsTrue, OnOk, OnErr};
+ghost use Rattle.std.specs.Prelude.{◌≡◌, [], ◌∷◌, map, Contains, OnOk};
 ghost use Rattle.std.specs.Option.{option_copied};
 ghost use Rattle.std.specs.FinMap as finite;
-ghost use Rattle.rart_below.specs.Clones.{ClonesEqual};
-ghost use Rattle.rart_maps.specs.Versions.{HasRoom};
-ghost use Rattle.rart_changes.specs.ChangeLists.{changes, effects, patched};
-ghost use Rattle.rart_maps.specs.FoundLaws.{KeysAscend};
+ghost use Rattle.rart_tracked.specs.Asks.{CanReplay};
 ghost use Rattle.rart_tracked.specs.ChangeVisits.{changes_at};
-ghost use Rattle.rart_tracked.specs.Rebasing.{IsSetTo, IsWithin};
-ghost use Rattle.rart_tracked.specs.Tracking.{is_in};
+ghost use Rattle.rart_tracked.specs.Rebasing.{IsSetTo, Rebases, Replays};
+ghost use Rattle.rart_versioned.specs.Asks.{CanChange};
 
 use crate::keys::keys_of;
 use crate::showing::do_differ;
@@ -27,16 +24,8 @@ impl<K: KeyTrait, V: Clone + Drop + Eq> TrackedTree<K, V> {
     /// It asks for room for as many changes as keys are touched. Refused for memory, all is as
     /// before.
     pub fn rebase(&mut self, onto: &VersionedAdaptiveRadixTree<K, V>) -> Result<(), AllocError>
-        requires clones { ClonesEqual V.is_clone }
-        requires room { HasRoom onto.now (finite.len self.old.touched) }
-        ensures base { OnOk result (self.new.base ≡ onto.now) }
-        ensures current { OnOk result (self.new.current.content ≡ patched onto.now.content
-            (changes V.eq self.old.base.content self.old.current.content)) }
-        ensures number { OnOk result (self.new.current.number ≡ onto.now.number
-            + effects onto.now.content
-            (changes V.eq self.old.base.content self.old.current.content)) }
-        ensures touched { OnOk result (IsWithin self.new.touched self.old.touched) }
-        ensures refused { OnErr result (self.new ≡ self.old) }
+        requires { CanChange V.is_clone onto.now (finite.len self.old.touched) }
+        ensures { Rebases V.eq result self.old onto.now self.new }
     {
         let keys = keys_of(self.alloc, &self.touched, &mut Work::new())?;
         let mut next = TrackedTree::begin(self.alloc, onto)?;
@@ -52,17 +41,10 @@ impl<K: KeyTrait, V: Clone + Drop + Eq> TrackedTree<K, V> {
         new: &VersionedAdaptiveRadixTree<K, V>,
         keys: Vec<K>,
     ) -> Result<(), AllocError>
-        requires clones { ClonesEqual V.is_clone }
-        requires room { HasRoom self.old.current (length keys.items) }
-        requires ascending { KeysAscend K.bytes keys.items }
-        ensures base { OnOk result (self.new.base ≡ self.old.base) }
-        ensures current { OnOk result (self.new.current.content ≡ patched self.old.current.content
-            (changes_at V.eq old.now.content new.now.content (map K.bytes keys.items))) }
-        ensures number { OnOk result (self.new.current.number ≡ self.old.current.number
-            + effects self.old.current.content
-            (changes_at V.eq old.now.content new.now.content (map K.bytes keys.items))) }
-        ensures touched { OnOk result ((q : List ℕ) → IsTrue (is_in self.new.touched q)
-            → Contains (map K.bytes keys.items) q ⊎ IsTrue (is_in self.old.touched q)) }
+        requires { CanReplay V.is_clone K.bytes self.old.current keys.items }
+        ensures { OnOk result (Replays self.old self.new
+            (changes_at V.eq old.now.content new.now.content (map K.bytes keys.items))
+            (λ q. Contains (map K.bytes keys.items) q)) }
     {
         for key in keys {
             self.replay_one(old, new, key)?;
@@ -77,16 +59,10 @@ impl<K: KeyTrait, V: Clone + Drop + Eq> TrackedTree<K, V> {
         new: &VersionedAdaptiveRadixTree<K, V>,
         key: K,
     ) -> Result<(), AllocError>
-        requires clones { ClonesEqual V.is_clone }
-        requires room { HasRoom self.old.current 1 }
-        ensures base { OnOk result (self.new.base ≡ self.old.base) }
-        ensures current { OnOk result (self.new.current.content ≡ patched self.old.current.content
-            (changes_at V.eq old.now.content new.now.content (K.bytes key ∷ []))) }
-        ensures number { OnOk result (self.new.current.number ≡ self.old.current.number
-            + effects self.old.current.content
-            (changes_at V.eq old.now.content new.now.content (K.bytes key ∷ []))) }
-        ensures touched { OnOk result ((q : List ℕ) → IsTrue (is_in self.new.touched q)
-            → (q ≡ K.bytes key) ⊎ IsTrue (is_in self.old.touched q)) }
+        requires { CanChange V.is_clone self.old.current 1 }
+        ensures { OnOk result (Replays self.old self.new
+            (changes_at V.eq old.now.content new.now.content (K.bytes key ∷ []))
+            (λ q. q ≡ K.bytes key)) }
     {
         let after = new.get_k(&key);
         if do_differ(old.get_k(&key), after) {
@@ -97,8 +73,7 @@ impl<K: KeyTrait, V: Clone + Drop + Eq> TrackedTree<K, V> {
 
     // Sets a key to a copy of the value, or takes it out where there is none.
     fn set_to(&mut self, key: K, value: Option<&V>) -> Result<(), AllocError>
-        requires clones { ClonesEqual V.is_clone }
-        requires room { HasRoom self.old.current 1 }
+        requires { CanChange V.is_clone self.old.current 1 }
         ensures { OnOk result (IsSetTo self.old (K.bytes key) (option_copied value.entry)
             self.new) }
     {

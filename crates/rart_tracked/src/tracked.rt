@@ -1,10 +1,11 @@
 //! The tracked version itself: how it begins, and what is read off it.
-ghost use Rattle.std.specs.Prelude.{◌≡◌, ◌+◌, ◌*◌, ◌≤◌, ◌<◌, false, IfOk, OnOk, OnErr};
+ghost use Rattle.std.specs.Prelude.{◌≡◌, ◌*◌, false, IfOk};
 ghost use Rattle.std.specs.FinMap as finite;
 ghost use Rattle.std.specs.Option.{option_copied};
 ghost use Rattle.rart_maps.specs.Bounds.{change_bound, lookup_bound};
-ghost use Rattle.rart_maps.specs.Versions.{HasRoom, empty_at, value_at};
-ghost use Rattle.rart_tracked.specs.Tracking.{IsTracked, is_in, tracking_from, with_string};
+ghost use Rattle.rart_maps.specs.Versions.{empty_at, value_at};
+ghost use Rattle.rart_tracked.specs.Asks.{CanMark};
+ghost use Rattle.rart_tracked.specs.Tracking.{IsTracked, Marks, is_in, tracking_from};
 ghost use Rattle.rart_versioned.specs.Counts.{CountsUpTo};
 
 use rart_below::KeyTrait;
@@ -134,12 +135,8 @@ pub(crate) fn marked<K: KeyTrait>(
     key: &K,
     work: &mut Work,
 ) -> Result<VersionedAdaptiveRadixTree<K, ()>, AllocError>
-    requires room { HasRoom touched.now 1 }
-    requires counted { touched.now.number ≡ finite.len touched.now.content }
-    ensures keys { IfOk result (λ marked. marked.content
-        ≡ with_string touched.now.content (K.bytes key.now)) }
-    ensures number { IfOk result (λ marked. marked.number ≤ touched.now.number + 1) }
-    ensures counted { IfOk result (λ marked. marked.number ≡ finite.len marked.content) }
+    requires { CanMark touched.now }
+    ensures marks { Marks result touched.now (K.bytes key.now) }
     ensures work { CountsUpTo (2 * lookup_bound (K.bytes key.now)) (change_bound (K.bytes key.now))
         work.old work.new }
 {

@@ -1,8 +1,7 @@
 //! Insertion that tests for room itself.
-ghost use Rattle.std.specs.Prelude.{◌≡◌, Err, IsOkUnless};
 ghost use Rattle.rart_below.specs.Clones.{ClonesEqual};
-ghost use Rattle.rart_maps.specs.Versions.{HasRoom};
-ghost use Rattle.rart_tracked.specs.Tracking.{Leaves, insertion};
+ghost use Rattle.rart_tracked.specs.KeyChanges.{TriesInsertion};
+ghost use Rattle.rart_tracked.specs.Tracking.{insertion};
 
 use crate::tracked::TrackedTree;
 use rart_below::KeyTrait;
@@ -13,10 +12,8 @@ impl<K: KeyTrait, V: Clone + Drop> TrackedTree<K, V> {
     /// there alone; `NoMemory` where memory was refused. Refused, all is as before.
     pub fn try_insert_k(&mut self, key: &K, value: V) -> Result<bool, InsertError<V>>
         requires clones { ClonesEqual V.is_clone }
-        ensures changes { Leaves result self.old self.new
-            (insertion self.old (K.bytes key.now) value) }
-        ensures no_room { ¬ HasRoom self.old.current 1 → result ≡ Err (InsertError.NoRoom value) }
-        ensures room { HasRoom self.old.current 1 → IsOkUnless result InsertError.NoMemory }
+        ensures { TriesInsertion result self.old self.new
+            (insertion self.old (K.bytes key.now) value) value }
     {
         if self.current().version() == u64::MAX {
             return Err(InsertError::NoRoom(value));
@@ -30,9 +27,8 @@ impl<K: KeyTrait, V: Clone + Drop> TrackedTree<K, V> {
     /// As `try_insert_k`, the key by value.
     pub fn try_insert(&mut self, key: K, value: V) -> Result<bool, InsertError<V>>
         requires clones { ClonesEqual V.is_clone }
-        ensures changes { Leaves result self.old self.new (insertion self.old (K.bytes key) value) }
-        ensures no_room { ¬ HasRoom self.old.current 1 → result ≡ Err (InsertError.NoRoom value) }
-        ensures room { HasRoom self.old.current 1 → IsOkUnless result InsertError.NoMemory }
+        ensures { TriesInsertion result self.old self.new
+            (insertion self.old (K.bytes key) value) value }
     {
         self.try_insert_k(&key, value)
     }

@@ -1,14 +1,7 @@
 //! Updates of a key's slot by a callback: the current version is updated as a tree is, and the key
 //! is touched where it was there or is now.
-ghost use Rattle.std.specs.Prelude.{◌≡◌, ◌+◌, ◌*◌, OnOk, OnErr};
-ghost use Rattle.std.specs.Fn.{FnOnceTakesAtMut};
-ghost use Rattle.rart_below.specs.Clones.{ClonesEqual};
-ghost use Rattle.rart_maps.specs.Bounds.{change_bound, lookup_bound, enter_bound};
-ghost use Rattle.rart_maps.specs.Changes.{slot_of};
-ghost use Rattle.rart_maps.specs.Versions.{HasRoom, value_at};
-ghost use Rattle.rart_tracked.specs.Updating.{TracksUpdate, TracksTry};
-ghost use Rattle.rart_versioned.specs.Counts.{CountsUpTo};
-ghost use Rattle.rart_versioned.specs.UpdateLookups.{UpdateSets, TriedUpdateSets};
+ghost use Rattle.rart_tracked.specs.KeyUpdates.{TriesCounting, TriesKey, UpdatesCounting, UpdatesKey};
+ghost use Rattle.rart_versioned.specs.Asks.{CanUpdate};
 
 use crate::tracked::{TrackedTree, marked};
 use rart_below::{KeyTrait, Refusal, Slot, SlotUpdate};
@@ -25,14 +18,8 @@ impl<K: KeyTrait, V: Clone + Drop> TrackedTree<K, V> {
         key: &K,
         f: F,
     ) -> Result<bool, AllocError>
-        requires clones { ClonesEqual V.is_clone }
-        requires room { HasRoom self.old.current 1 }
-        requires callable { FnOnceTakesAtMut F.FnOnce f
-            (slot_of (value_at self.old.current (K.bytes key.now))) }
-        ensures tracks { TracksUpdate F.FnOnce f self.old (K.bytes key.now) result self.new }
-        ensures sets { OnOk result (UpdateSets F.FnOnce f self.old.current (K.bytes key.now)
-            self.new.current) }
-        ensures refused { OnErr result (self.new ≡ self.old) }
+        requires { CanUpdate V.is_clone F.FnOnce f self.old.current (K.bytes key.now) 1 }
+        ensures { UpdatesKey F.FnOnce f self.old (K.bytes key.now) result self.new }
     {
         self.update_k_counted(key, f, &mut Work::new())
     }
@@ -43,14 +30,8 @@ impl<K: KeyTrait, V: Clone + Drop> TrackedTree<K, V> {
         key: K,
         f: F,
     ) -> Result<bool, AllocError>
-        requires clones { ClonesEqual V.is_clone }
-        requires room { HasRoom self.old.current 1 }
-        requires callable { FnOnceTakesAtMut F.FnOnce f
-            (slot_of (value_at self.old.current (K.bytes key))) }
-        ensures tracks { TracksUpdate F.FnOnce f self.old (K.bytes key) result self.new }
-        ensures sets { OnOk result (UpdateSets F.FnOnce f self.old.current (K.bytes key)
-            self.new.current) }
-        ensures refused { OnErr result (self.new ≡ self.old) }
+        requires { CanUpdate V.is_clone F.FnOnce f self.old.current (K.bytes key) 1 }
+        ensures { UpdatesKey F.FnOnce f self.old (K.bytes key) result self.new }
     {
         self.update_k(&key, f)
     }
@@ -63,17 +44,9 @@ impl<K: KeyTrait, V: Clone + Drop> TrackedTree<K, V> {
         f: F,
         work: &mut Work,
     ) -> Result<bool, AllocError>
-        requires clones { ClonesEqual V.is_clone }
-        requires room { HasRoom self.old.current 1 }
-        requires callable { FnOnceTakesAtMut F.FnOnce f
-            (slot_of (value_at self.old.current (K.bytes key.now))) }
-        ensures tracks { TracksUpdate F.FnOnce f self.old (K.bytes key.now) result self.new }
-        ensures sets { OnOk result (UpdateSets F.FnOnce f self.old.current (K.bytes key.now)
-            self.new.current) }
-        ensures refused { OnErr result (self.new ≡ self.old) }
-        ensures counted { CountsUpTo
-            (2 * lookup_bound (K.bytes key.now) + enter_bound (K.bytes key.now))
-            (2 * change_bound (K.bytes key.now)) work.old work.new }
+        requires { CanUpdate V.is_clone F.FnOnce f self.old.current (K.bytes key.now) 1 }
+        ensures { UpdatesCounting F.FnOnce f self.old (K.bytes key.now) result self.new
+            work.old work.new }
     {
         let touched = marked(&self.touched, key, work)?;
         if !self.current.update_k_counted(key, f, work)? {
@@ -93,14 +66,8 @@ impl<K: KeyTrait, V: Clone + Drop> TrackedTree<K, V> {
         key: &K,
         f: F,
     ) -> Result<bool, Refusal<E>>
-        requires clones { ClonesEqual V.is_clone }
-        requires room { HasRoom self.old.current 2 }
-        requires callable { FnOnceTakesAtMut F.FnOnce f
-            (slot_of (value_at self.old.current (K.bytes key.now))) }
-        ensures tracks { TracksTry F.FnOnce f self.old (K.bytes key.now) result self.new }
-        ensures sets { OnOk result (TriedUpdateSets F.FnOnce f self.old.current (K.bytes key.now)
-            self.new.current) }
-        ensures refused { OnErr result (self.new.current.content ≡ self.old.current.content) }
+        requires { CanUpdate V.is_clone F.FnOnce f self.old.current (K.bytes key.now) 2 }
+        ensures { TriesKey F.FnOnce f self.old (K.bytes key.now) result self.new }
     {
         self.try_update_k_counted(key, f, &mut Work::new())
     }
@@ -111,14 +78,8 @@ impl<K: KeyTrait, V: Clone + Drop> TrackedTree<K, V> {
         key: K,
         f: F,
     ) -> Result<bool, Refusal<E>>
-        requires clones { ClonesEqual V.is_clone }
-        requires room { HasRoom self.old.current 2 }
-        requires callable { FnOnceTakesAtMut F.FnOnce f
-            (slot_of (value_at self.old.current (K.bytes key))) }
-        ensures tracks { TracksTry F.FnOnce f self.old (K.bytes key) result self.new }
-        ensures sets { OnOk result (TriedUpdateSets F.FnOnce f self.old.current (K.bytes key)
-            self.new.current) }
-        ensures refused { OnErr result (self.new.current.content ≡ self.old.current.content) }
+        requires { CanUpdate V.is_clone F.FnOnce f self.old.current (K.bytes key) 2 }
+        ensures { TriesKey F.FnOnce f self.old (K.bytes key) result self.new }
     {
         self.try_update_k(&key, f)
     }
@@ -130,17 +91,9 @@ impl<K: KeyTrait, V: Clone + Drop> TrackedTree<K, V> {
         f: F,
         work: &mut Work,
     ) -> Result<bool, Refusal<E>>
-        requires clones { ClonesEqual V.is_clone }
-        requires room { HasRoom self.old.current 2 }
-        requires callable { FnOnceTakesAtMut F.FnOnce f
-            (slot_of (value_at self.old.current (K.bytes key.now))) }
-        ensures tracks { TracksTry F.FnOnce f self.old (K.bytes key.now) result self.new }
-        ensures sets { OnOk result (TriedUpdateSets F.FnOnce f self.old.current (K.bytes key.now)
-            self.new.current) }
-        ensures refused { OnErr result (self.new.current.content ≡ self.old.current.content) }
-        ensures counted { CountsUpTo
-            (2 * lookup_bound (K.bytes key.now) + enter_bound (K.bytes key.now))
-            (2 * change_bound (K.bytes key.now)) work.old work.new }
+        requires { CanUpdate V.is_clone F.FnOnce f self.old.current (K.bytes key.now) 2 }
+        ensures { TriesCounting F.FnOnce f self.old (K.bytes key.now) result self.new
+            work.old work.new }
     {
         let touched = match marked(&self.touched, key, work) {
             Ok(touched) => touched,

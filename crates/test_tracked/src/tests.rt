@@ -1,3 +1,4 @@
 mod draft;
+mod forms;
 mod inline;
 mod steps;

@@ -1,37 +1,47 @@
-use Rattle.std.proofs.Common.{sym, ap, ◌∙◌, rules, is_some}
+use Rattle.std.proofs.Common.{sym, ap, ◌∙◌, arith, rules, is_some}
 use Rattle.std.specs.FinMap as finite
 use Rattle.rart_maps.specs.Versions.{Version, value_at}
 use Rattle.rart_tracked.proofs.TrackingLemmas.{copied-some, one-more, with-again}
 use Rattle.rart_tracked.proofs.tracked.marked.Goals as goal
 use Rattle.rart_tracked.proofs.tracked.marked.Goals.{then-is_none+in_ok-insert_k_counted, else-is_none}
 
-pub returns-clause-keys : goal.returns-clause-keys
-returns-clause-keys g c =
-    let w = g.K.KeyTrait.bytes c.args.key.now in
-    elim c.if-is_none.branch [
-      | then-is_none+in_ok-insert_k_counted branch ↦ search rules
-      | else-is_none branch ↦
-          ap (λ (v : Version (Unit {0})). v.content) (branch.marked-is ∙ c.in_ok-marked.ensures)
-          ∙ sym (with-again c.args.touched.now.content w
-          (ap (λ (v : Version (Unit {0})). is_some (value_at v w)) (sym c.in_ok-marked.ensures)
-          ∙ sym (ap is_some c.get_k_counted.ensures.value)
-          ∙ sym (copied-some c.get_k_counted.result)
-          ∙ branch.if-is_none.ensures))
-    ]
-
-pub returns-clause-counted : goal.returns-clause-counted
-returns-clause-counted g c =
+pub returns-clause-marks : goal.returns-clause-marks
+returns-clause-marks g c =
     let w = g.K.KeyTrait.bytes c.args.key.now in
     let counted = ap (λ (v : Version (Unit {0})). v.number) c.in_ok-marked.ensures
     ∙ c.requires.counted
     ∙ ap (λ (v : Version (Unit {0})). finite.len v.content) (sym c.in_ok-marked.ensures) in
-    elim c.if-is_none.branch [
-      | then-is_none+in_ok-insert_k_counted branch ↦
-          one-more c.in_ok-marked.marked c.if-is_none.marked w counted
-          (sym (ap is_some c.get_k_counted.ensures.value) ∙ sym (copied-some c.get_k_counted.result)
-          ∙ branch.if-is_none.ensures)
-          (branch.marked-is ∙ branch.in_ok-insert_k_counted.ensures.changes.1)
-      | else-is_none branch ↦
-          ap (λ (v : Version (Unit {0})). v.number) branch.marked-is ∙ counted
-          ∙ ap (λ (v : Version (Unit {0})). finite.len v.content) (sym branch.marked-is)
-    ]
+    record {
+      keys = elim c.if-is_none.branch [
+        | then-is_none+in_ok-insert_k_counted branch ↦ search rules
+        | else-is_none branch ↦
+            ap (λ (v : Version (Unit {0})). v.content) (branch.marked-is ∙ c.in_ok-marked.ensures)
+            ∙ sym (with-again c.args.touched.now.content w
+            (ap (λ (v : Version (Unit {0})). is_some (value_at v w)) (sym c.in_ok-marked.ensures)
+            ∙ sym (ap is_some c.get_k_counted.ensures.value)
+            ∙ sym (copied-some c.get_k_counted.result)
+            ∙ branch.if-is_none.ensures))
+      ];
+      number = elim c.if-is_none.branch [
+        | then-is_none+in_ok-insert_k_counted branch ↦
+            let more = ap (λ (v : Version (Unit {0})). v.number)
+            (branch.marked-is ∙ branch.in_ok-insert_k_counted.ensures.changes.1) in
+            let was = ap (λ (v : Version (Unit {0})). v.number) c.in_ok-marked.ensures in
+            omega (arith, more, was)
+        | else-is_none branch ↦
+            let same = ap (λ (v : Version (Unit {0})). v.number)
+            (branch.marked-is ∙ c.in_ok-marked.ensures) in
+            omega (arith, same)
+      ];
+      counted = elim c.if-is_none.branch [
+        | then-is_none+in_ok-insert_k_counted branch ↦
+            one-more c.in_ok-marked.marked c.if-is_none.marked w counted
+            (sym (ap is_some c.get_k_counted.ensures.value)
+            ∙ sym (copied-some c.get_k_counted.result)
+            ∙ branch.if-is_none.ensures)
+            (branch.marked-is ∙ branch.in_ok-insert_k_counted.ensures.changes.1)
+        | else-is_none branch ↦
+            ap (λ (v : Version (Unit {0})). v.number) branch.marked-is ∙ counted
+            ∙ ap (λ (v : Version (Unit {0})). finite.len v.content) (sym branch.marked-is)
+      ];
+    }

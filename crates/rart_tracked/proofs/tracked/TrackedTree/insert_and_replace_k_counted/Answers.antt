@@ -8,7 +8,8 @@ pub invariant_of-self-2 : goal.invariant_of-self-2
 invariant_of-self-2 g c =
     let w = g.K.KeyTrait.bytes c.args.key.now in
     let changes = c.in_ok-replaced.ensures.changes in
+    let marked = c.in_ok-touched.ensures.marks in
     keeps-touched w _ c.self.invariant
-    (replacement-sets _ _ w {E = AllocError} _ (Ok _) changes) c.in_ok-touched.ensures.keys
-    c.in_ok-touched.ensures.number c.in_ok-touched.ensures.counted
+    (replacement-sets _ _ w {E = AllocError} _ (Ok _) changes) marked.keys marked.number
+    marked.counted
     (ap (λ v. v.number) changes.1)

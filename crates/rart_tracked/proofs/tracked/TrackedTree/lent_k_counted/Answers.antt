@@ -10,7 +10,7 @@ use Rattle.rart_tracked.proofs.tracked.TrackedTree.lent_k_counted.Goals as goal
 pub invariant_of-self-lent : goal.invariant_of-self-lent
 invariant_of-self-lent g c =
     let w = g.K.KeyTrait.bytes c.args.key.now in
-    let told = c.lend_in.ensures in
+    let told = c.lend_in.ensures.touches in
     λ result. (
       (λ value. keeps-lent w c.lend_in.result value c.self.invariant told.marked told.kept
           (c.lend_in.follows.holds value)),
@@ -22,7 +22,7 @@ pub returns : goal.returns
 returns g c =
     let w = g.K.KeyTrait.bytes c.args.key.now in
     let seen = c.args.self.now in
-    let told = c.lend_in.ensures in
+    let told = c.lend_in.ensures.touches in
     let touched = c.self.inside.touched in
     let marked = c.lend_in.new.touched in
     let here : value_at seen.current w ≡ value_at c.self.inside.current w =

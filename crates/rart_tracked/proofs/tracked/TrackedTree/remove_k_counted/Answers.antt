@@ -10,6 +10,7 @@ invariant_of-self-2 g c =
     let changes = c.in_ok-removed.ensures.changes in
     let there = sym (ap is_some c.get_k_counted.ensures.value)
     ∙ sym (copied-some c.get_k_counted.result) ∙ c.if-is_none.ensures in
+    let marked = c.in_ok-touched.ensures.marks in
     keeps-touched w _ c.self.invariant (removal-sets _ _ w {E = AllocError} (Ok _) changes)
-    c.in_ok-touched.ensures.keys c.in_ok-touched.ensures.number c.in_ok-touched.ensures.counted
+    marked.keys marked.number marked.counted
     (removal-number c.self.inside.current c.remove_k_counted.new.self w there changes.1)

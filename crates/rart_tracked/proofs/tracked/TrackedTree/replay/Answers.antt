@@ -29,11 +29,11 @@ loop-key-init g c =
       touched = λ q there. inr there;
     }
 
-pub replay_one-requires-clause-room : goal.replay_one-requires-clause-room
-replay_one-requires-clause-room g c =
+pub replay_one-requires : goal.replay_one-requires
+replay_one-requires g c =
     let more = ap length c.in-Some.ensures.steps.0 in
     let room = c.loop-key.invariant.room in
-    omega (arith, more, room)
+    record { clones = c.requires.clones; room = omega (arith, more, room) }
 
 pub loop-key-preserved : goal.loop-key-preserved
 loop-key-preserved g c =
@@ -84,27 +84,18 @@ loop-key-preserved g c =
           (made.touched q there);
     }
 
-pub returns-clause-base : goal.returns-clause-base
-returns-clause-base g c = c.loop-key.invariant.base
-
-pub returns-clause-current : goal.returns-clause-current
-returns-clause-current g c =
-    let bytes = g.K.KeyTrait.bytes in
-    let at = changes_at g.V.PartialEq.eq c.args.old.now.content c.args.new.now.content in
-    let before = c.loop-key.invariant in
-    let none = nothing-left _ (sym before.count ∙ c.in-None.ensures.steps.0) in
-    sym (ap (λ items. patched c.loop-key.self.current.content (at (map bytes items))) none)
-    ∙ before.current
-
-pub returns-clause-number : goal.returns-clause-number
-returns-clause-number g c =
+pub returns : goal.returns
+returns g c =
     let bytes = g.K.KeyTrait.bytes in
     let at = changes_at g.V.PartialEq.eq c.args.old.now.content c.args.new.now.content in
     let before = c.loop-key.invariant in
     let none = nothing-left _ (sym before.count ∙ c.in-None.ensures.steps.0) in
     let over = ap (λ items. effects c.loop-key.self.current.content (at (map bytes items))) none in
     let was = before.number in
-    omega (arith, over, was)
-
-pub returns-clause-touched : goal.returns-clause-touched
-returns-clause-touched g c = c.loop-key.invariant.touched
+    record {
+      base = before.base;
+      current = sym (ap (λ items. patched c.loop-key.self.current.content (at (map bytes items)))
+          none) ∙ before.current;
+      number = omega (arith, over, was);
+      touched = before.touched;
+    }

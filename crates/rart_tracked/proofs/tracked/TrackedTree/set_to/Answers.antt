@@ -10,4 +10,4 @@ returns-in_ok-insert-in-Some g c =
 pub returns-in_ok-delete-in-None : goal.returns-in_ok-delete-in-None
 returns-in_ok-delete-in-None g c =
     rw c.in-None.is (set-by-deletion c.args.self.now c.delete.new.self
-    (g.K.KeyTrait.bytes c.args.key) c.in_ok-delete-in-None.ensures.1)
+    (g.K.KeyTrait.bytes c.args.key) c.in_ok-delete-in-None.ensures.leaves.1)

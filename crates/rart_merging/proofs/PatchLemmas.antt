@@ -15,15 +15,10 @@ use Rattle.rart_maps.proofs.ElementLemmas.{Contains-here}
 use Rattle.rart_changes.specs.ChangeLists.{Change, changes, effects, patched, takes_effect}
 use Rattle.rart_changes.specs.ChangeVisits.{ByKeyChange}
 use Rattle.rart_changes.proofs.ChangeLemmas.{changes-ascend, changes-from, patched-elsewhere}
+use Rattle.rart_merging.specs.Patching.{IsPatched}
 use Rattle.rart_merging.specs.Setting.{IsSetTo}
 use Rattle.rart_merging.proofs.CallLemmas.{holds-of_all, holds-up_to}
 use Rattle.rart_merging.proofs.SettingLemmas.{apart-before, patched-append}
-
--- These changes were made.
-pub record IsPatched {V : Type 0} (start : Version V) (made : List (Change V)) (now : Version V)
-    : Type 0 where
-  pub content : now.content ≡ patched start.content made
-  pub number : now.number ≡ start.number + effects start.content made
 
 module _ {V : Type 0} (start : Version V) where
   pub patched-start : (now : Version V) → now ≡ start → IsPatched start [] now

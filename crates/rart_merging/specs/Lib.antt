@@ -1,3 +1,4 @@
 pub mod Merging
+pub mod Patching
 pub mod Setting
 pub mod Settling

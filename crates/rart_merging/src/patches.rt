@@ -1,9 +1,11 @@
 //! The changes from one version to another, made on a copy of a third.
-ghost use Rattle.std.specs.Prelude.{◌≡◌, ◌+◌, length, IfOk, IsOk};
+ghost use Rattle.std.specs.Prelude.{◌≡◌, length, IfOk, IsOk};
 ghost use Rattle.rart_below.specs.Clones.{ClonesEqual};
-ghost use Rattle.rart_changes.specs.ChangeLists.{changes, effects, patched};
+ghost use Rattle.rart_changes.specs.ChangeLists.{changes};
 ghost use Rattle.rart_maps.specs.Versions.{HasRoom, value_at};
+ghost use Rattle.rart_merging.specs.Patching.{IsPatched};
 ghost use Rattle.rart_merging.specs.Setting.{IsSetTo};
+ghost use Rattle.rart_versioned.specs.Asks.{CanChange};
 
 use crate::drafts::Draft;
 use rart_below::KeyTrait;
@@ -16,12 +18,10 @@ pub(crate) fn patched_copy<K: KeyTrait, V: Clone + Drop + Eq>(
     old: &VersionedAdaptiveRadixTree<K, V>,
     new: &VersionedAdaptiveRadixTree<K, V>,
 ) -> Result<VersionedAdaptiveRadixTree<K, V>, AllocError>
-    requires clones { ClonesEqual V.is_clone }
-    requires room { HasRoom tree.now (length (changes V.eq old.now.content new.now.content)) }
-    ensures content { IfOk result (λ after. after.content
-        ≡ patched tree.now.content (changes V.eq old.now.content new.now.content)) }
-    ensures number { IfOk result (λ after. after.number ≡ tree.now.number
-        + effects tree.now.content (changes V.eq old.now.content new.now.content)) }
+    requires { CanChange V.is_clone tree.now
+        (length (changes V.eq old.now.content new.now.content)) }
+    ensures { IfOk result (λ after. IsPatched tree.now
+        (changes V.eq old.now.content new.now.content) after) }
 {
     let mut draft = Draft::of(tree)?;
     // (the value is looked up once more: a closure that lends the draft alone gets no proof here)

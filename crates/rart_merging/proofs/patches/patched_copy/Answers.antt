@@ -22,23 +22,8 @@ diff_with-requires g c =
       };
     }
 
-pub returns-clause-content : goal.returns-clause-content
-returns-clause-content g c =
-    let bytes = g.K.KeyTrait.bytes in
-    let old = c.args.old.now.content in
-    let new = c.args.new.now.content in
-    let begins = c.in_ok-draft.ensures.next in
-    let visit = c.in_ok-diff_with.ensures.visits in
-    let patches = patched-visit _ bytes (λ s. s.0.now.made) (λ s. s.0.now.next)
-    (λ s. s.1.now.content) (λ s a s' called ok. search (rules, of_calls))
-    (λ s a s' called. let new : s'.1.now ≡ s.1.now = search (rules, of_calls) in
-    ap (λ v. v.content) new) g.V.PartialEq.eq old new c.args.tree.now _ _ visit begins refl in
-    let draft = answers-keep _ _ _ (λ s s'. s'.0.ghost_name ≡ s.0.ghost_name) (λ s. refl)
-    (λ s change s' last called later. search (rules, of_calls)) _ _ _ visit in
-    search rules
-
-pub returns-clause-number : goal.returns-clause-number
-returns-clause-number g c =
+pub returns : goal.returns
+returns g c =
     let bytes = g.K.KeyTrait.bytes in
     let old = c.args.old.now.content in
     let new = c.args.new.now.content in

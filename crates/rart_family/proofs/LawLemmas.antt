@@ -5,7 +5,7 @@ use Rattle.std.specs.Prelude.{Option, Some, None, slice_get, slice_set}
 use Rattle.rart_maps.specs.Versions.{Version, with_rise}
 use Rattle.rart_family.specs.declared.family.command.Command.{Command}
 use Rattle.rart_family.specs.declared.family.command.Command.TheVariants.{New, NewAt, Snapshot, Duplicate, Discard, Version as NumberOf, IsEmpty, Get, GetMut, Insert, Replace, Remove, Delete, Update, TryUpdate, Iter, Values as ValuesOf, Range, Prefix, Matches, MatchesEach, Views, PrefixViews, RangeViews, PrefixValues, Until, Intersect, IntersectViews, IntersectValues, IntersectCount, Flatten, Longest}
-use Rattle.rart_family.specs.Replies.{Reply, NoRoom, NoMemory}
+use Rattle.rart_family.specs.Replies.{Reply, NoRoom}
 use Rattle.rart_family.specs.Families.{Family, Outcome, call_outcome, placement, intersection_outcome, change_outcome, version_at, after}
 use Rattle.rart_family.specs.Runs.{Step, Run}
 use Rattle.rart_family.specs.Laws.{place_changed, StepsAreIsolated, PlacesStay, RepliesFixSteps, RepliesFixRuns, StepsReplyTheirOwn, RunsReplyToEach, NoReplyIsWant}

@@ -1,6 +1,6 @@
 -- Commands that only read: they leave the family, visitors are replied as iterators, and
 -- intersections swap with their places.
-use Rattle.std.proofs.Common.{◌≡◌, ℕ, List, map, length, refl, sym, ap, ◌∙◌, ⊎_elim}
+use Rattle.std.proofs.Common.{◌≡◌, ℕ, List, length, refl, sym, ap, ◌∙◌, ⊎_elim}
 use Rattle.std.proofs.lemmas.List.{length-map}
 use Rattle.std.proofs.lemmas.Simd.{map-map}
 use Rattle.std.specs.Prelude.{Option, Some, None}
@@ -10,7 +10,7 @@ use Rattle.rart_maps.proofs.PairLawLemmas.{common_swaps}
 use Rattle.rart_family.specs.declared.family.command.Command.{Command}
 use Rattle.rart_family.specs.declared.family.command.Command.TheVariants.{Version as NumberOf, IsEmpty, Get, Iter, Values as ValuesOf, Range, Prefix, Matches, MatchesEach, Views, PrefixViews, RangeViews, PrefixValues, Until, Intersect, IntersectViews, IntersectValues, IntersectCount, Flatten, Longest}
 use Rattle.rart_family.specs.Replies.{Reply, Pairs, ValuePairs, Count, NoVersion}
-use Rattle.rart_family.specs.Families.{Family, Outcome, call_outcome, value_pairs_of, intersection_outcome, version_at, after}
+use Rattle.rart_family.specs.Families.{Family, call_outcome, value_pairs_of, version_at, after}
 use Rattle.rart_family.specs.Laws.{swapped_reply, OnlyReads, ReadsLeaveFamily, VisitorsReplyAsIterators, IntersectionsSwap}
 
 called_leaves : {V : Type 0} (f : Family V) (reply : Version V → Reply V)

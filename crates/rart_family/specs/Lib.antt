@@ -4,7 +4,7 @@ pub mod Costs
 pub mod Countdowns
 pub mod Families
 pub mod Laws
-pub mod PlaceChanges
+pub mod Lent
 pub mod Replies
 pub mod Runs
 pub mod Writing

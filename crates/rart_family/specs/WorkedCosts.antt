@@ -209,3 +209,46 @@ RefusedMemoryIsARun = (new : Family ℕ) × Run (λ key. key) [] refused_memory.
 -- but for a removal, which enters a node before memory can be refused.
 abbrev pub RefusedMemoryCosts : Type 0
 RefusedMemoryCosts = Costs refused_memory 0 5 1 15 1
+
+-- The worked runs cost what was found by hand, and out of memory may be replied in one.
+pub record CostsAreWorked : Type 0 where
+  pub snapshot_costs : SnapshotCosts
+  pub changes_apart_cost : ChangesApartCost
+  pub clone_costs : CloneCosts
+  pub replacements_cost : ReplacementsCost
+  pub absent_removal_costs : AbsentRemovalCosts
+  pub deletion_costs : DeletionCosts
+  pub failed_update_costs : FailedUpdateCosts
+  pub discarded_place_costs : DiscardedPlaceCosts
+  pub written_and_inserted_costs : WrittenAndInsertedCosts
+  pub room_for_one_costs : RoomForOneCosts
+  pub room_for_two_costs : RoomForTwoCosts
+  pub insertion_by_update_costs : InsertionByUpdateCosts
+  pub written_and_removed_costs : WrittenAndRemovedCosts
+  pub numbers_of_removals_cost : NumbersOfRemovalsCost
+  pub updates_of_an_absent_key_cost : UpdatesOfAnAbsentKeyCost
+  pub lists_cost : ListsCost
+  pub visits_cost : VisitsCost
+  pub flattening_costs : FlatteningCosts
+  pub intersections_cost : IntersectionsCost
+  pub intersection_after_deletion_costs : IntersectionAfterDeletionCosts
+  pub empty_intersections_cost : EmptyIntersectionsCost
+  pub prefix_matches_cost : PrefixMatchesCost
+  pub lost_places_cost : LostPlacesCost
+  pub longest_matches_cost : LongestMatchesCost
+  pub second_value_costs : SecondValueCosts
+  pub absent_deletion_costs : AbsentDeletionCosts
+  pub discarding_costs : DiscardingCosts
+  pub greatest_number_costs : GreatestNumberCosts
+  pub greatest_number_with_a_key_costs : GreatestNumberWithAKeyCosts
+  pub settings_cost : SettingsCost
+  pub removals_cost : RemovalsCost
+  pub last_snapshot_costs : LastSnapshotCosts
+  pub vacant_slot_costs : VacantSlotCosts
+  pub prefix_costs : PrefixCosts
+  pub matches_cost : MatchesCost
+  pub bounds_cost : BoundsCost
+  pub one_key_costs : OneKeyCosts
+  pub refusals_cost : RefusalsCost
+  pub refused_memory_costs : RefusedMemoryCosts
+  pub refused_memory_is_a_run : RefusedMemoryIsARun

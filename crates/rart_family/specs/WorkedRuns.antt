@@ -543,3 +543,45 @@ refusals = (
 -- Where a version is lacking that is replied first, and then where room is.
 abbrev pub RefusalsComeInOrder : Type 0
 RefusalsComeInOrder = IsReplied refusals
+
+-- The worked runs are replied as was found by hand.
+pub record RunsAreWorked : Type 0 where
+  pub snapshot_keeps_its_value : SnapshotKeepsItsValue
+  pub changes_stay_apart : ChangesStayApart
+  pub clone_keeps_number : CloneKeepsNumber
+  pub replacement_gives_old_value : ReplacementGivesOldValue
+  pub absent_key_stays_absent : AbsentKeyStaysAbsent
+  pub deletion_is_not_seen_in_snapshot : DeletionIsNotSeenInSnapshot
+  pub failed_update_keeps_value : FailedUpdateKeepsValue
+  pub discarded_place_is_not_used_again : DiscardedPlaceIsNotUsedAgain
+  pub answer_outweighs_write : AnswerOutweighsWrite
+  pub room_is_asked : RoomIsAsked
+  pub room_two_is_asked : RoomTwoIsAsked
+  pub insertion_by_update_takes_one : InsertionByUpdateTakesOne
+  pub removal_outweighs_write : RemovalOutweighsWrite
+  pub removals_raise_number : RemovalsRaiseNumber
+  pub updates_of_an_absent_key : UpdatesOfAnAbsentKey
+  pub lists_are_of_one_version : ListsAreOfOneVersion
+  pub visits_are_counted_from_one : VisitsAreCountedFromOne
+  pub flattening_leaves_its_version : FlatteningLeavesItsVersion
+  pub intersection_has_keys_of_both : IntersectionHasKeysOfBoth
+  pub deleted_key_is_in_no_intersection : DeletedKeyIsInNoIntersection
+  pub empty_version_meets_nothing : EmptyVersionMeetsNothing
+  pub prefix_is_no_key_of_both : PrefixIsNoKeyOfBoth
+  pub intersection_needs_both_versions : IntersectionNeedsBothVersions
+  pub longest_match_is_alone : LongestMatchIsAlone
+  pub second_value_stays : SecondValueStays
+  pub absent_key_is_not_deleted : AbsentKeyIsNotDeleted
+  pub places_are_discarded_once : PlacesAreDiscardedOnce
+  pub greatest_number_has_no_room : GreatestNumberHasNoRoom
+  pub greatest_number_keeps_its_keys : GreatestNumberKeepsItsKeys
+  pub settings_take_the_last_room : SettingsTakeTheLastRoom
+  pub removals_take_the_last_room : RemovalsTakeTheLastRoom
+  pub snapshot_takes_the_last_room : SnapshotTakesTheLastRoom
+  pub vacant_slot_takes_no_write : VacantSlotTakesNoWrite
+  pub prefix_is_among_its_keys : PrefixIsAmongItsKeys
+  pub probe_is_among_its_matches : ProbeIsAmongItsMatches
+  pub bounds_are_included_or_not : BoundsAreIncludedOrNot
+  pub one_key_is_listed : OneKeyIsListed
+  pub refusals_come_in_order : RefusalsComeInOrder
+  pub vacant_slot_keeps_its_value : VacantSlotKeepsItsValue

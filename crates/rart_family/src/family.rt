@@ -1,4 +1,5 @@
 //! Families of versions: commands on them, and their replies.
+ghost use Rattle.std.specs.Borrow.{sem};
 ghost use Rattle.std.specs.Prelude.{◌≡◌, ◌+◌, ◌*◌, ◌≤◌, [], map, length, Some, IfOk, IfErr, OnOk, OnErr, MatchOption};
 ghost use Rattle.std.specs.Option.{option_copied};
 ghost use Rattle.rart_versioned.specs.Clones.{ClonesEqual};
@@ -6,6 +7,7 @@ ghost use Rattle.rart_maps.specs.Versions.{HasRoom};
 ghost use Rattle.rart_family.specs.Attempts.{Tries, Gives, reply_or_want};
 ghost use Rattle.rart_family.specs.Costs.{read_cost, read_least, change_cost, change_least, enter_least, CountsReads, CountsChanges};
 ghost use Rattle.rart_family.specs.Families.{version_at, placement};
+ghost use Rattle.rart_family.specs.Lent.{LendsVersion};
 ghost use Rattle.rart_family.specs.Replies.{reply_value};
 ghost use Rattle.rart_family.specs.Runs.{Step, Run};
 ghost use Rattle.rart_family.specs.declared.family.reply.Reply.TheVariants.{NoVersion, NoRoom};
@@ -237,20 +239,26 @@ impl<K: KeyTrait, V: Clone + Drop> Family<K, V> {
         Ok(Reply::Place(place))
     }
 
-    // The version at a place, where its number can be raised by so much; else the reply that
-    // refuses.
-    fn version_with_room(
-        &self,
+    // The version at a place, for writing, where its number can be raised by so much; else the
+    // reply that refuses.
+    fn version_to_change(
+        &mut self,
         place: usize,
         rise: u64,
-    ) -> Result<&VersionedAdaptiveRadixTree<K, V>, Reply<K, V>>
-        ensures found { IfOk result (λ version. version_at self.now place ≡ Some version.now) }
+    ) -> Result<&mut VersionedAdaptiveRadixTree<K, V>, Reply<K, V>>
+        ensures* writes_back { sem 𝓛 (LendsVersion K.row V.row K.PartialType.row K.MAXIMUM_SIZE
+            K.bytes K.eq K.cmp K.partial_cmp K.PartialType.Partial V.Clone self.entry place
+            result) }
+        ensures found { IfOk result (λ version. version_at self.old place ≡ Some version.now) }
         ensures room { IfOk result (λ version. HasRoom version.now rise) }
-        ensures refused { IfErr result (λ refusal. MatchOption (version_at self.now place)
+        ensures refused { IfErr result (λ refusal. MatchOption (version_at self.old place)
             (refusal ≡ NoVersion)
             (λ version. (refusal ≡ NoRoom) × ¬ (HasRoom version rise))) }
     {
-        let Some(version) = self.version_at(place) else {
+        let Some(slot) = self.versions.get_mut(place) else {
+            return Err(Reply::NoVersion);
+        };
+        let Some(version) = slot.as_mut() else {
             return Err(Reply::NoVersion);
         };
         if version.version() > u64::MAX - rise {

@@ -1,18 +1,12 @@
 // Commands that change the version at their place by one key.
-ghost use Rattle.std.specs.Prelude.{◌*◌, ◌<◌, OnErr, OnOk, IsSomeAnd, IfSome, IsTrue};
 ghost use Rattle.rart_versioned.specs.Clones.{ClonesEqual};
-ghost use Rattle.rart_maps.specs.Bounds.{lookup_bound};
-ghost use Rattle.rart_maps.specs.Changes.{writing, insertion, replacement, removal, deletion};
-ghost use Rattle.rart_maps.specs.Versions.{HasRoom, has_key};
 ghost use Rattle.rart_family.specs.Attempts.{Tries, reply_or_want};
 ghost use Rattle.rart_family.specs.Costs.{CountsChanges};
-ghost use Rattle.rart_family.specs.Families.{version_at};
-ghost use Rattle.rart_family.specs.PlaceChanges.{ChangesAt, CountsChangeAt};
 ghost use Rattle.rart_family.specs.declared.family.command.Command.TheVariants.{GetMut, Insert, Replace, Remove, Delete};
 
 use super::writing::write_value;
 use super::{Family, Reply};
-use rart_versioned::{KeyTrait, VersionedAdaptiveRadixTree, Work};
+use rart_versioned::{KeyTrait, Work};
 use std::alloc::AllocError;
 
 impl<K: KeyTrait, V: Clone + Drop> Family<K, V> {
@@ -28,11 +22,12 @@ impl<K: KeyTrait, V: Clone + Drop> Family<K, V> {
         ensures changes { CountsChanges K.bytes self.old (GetMut place key.now value.now)
             (reply_or_want K.bytes result) changes.old changes.new }
     {
-        if let Err(refusal) = self.version_with_room(place, 1) {
-            return Ok(refusal);
-        }
+        let version = match self.version_to_change(place, 1) {
+            Ok(version) => version,
+            Err(refusal) => return Ok(refusal),
+        };
         let value = value.clone()?;
-        let found = rewrite_at(&mut self.versions, place, key, value, changes)?;
+        let found = write_value(version, key, value, changes)?;
         Ok(Reply::Flag(found))
     }
 
@@ -48,11 +43,12 @@ impl<K: KeyTrait, V: Clone + Drop> Family<K, V> {
         ensures changes { CountsChanges K.bytes self.old (Insert place key.now value.now)
             (reply_or_want K.bytes result) changes.old changes.new }
     {
-        if let Err(refusal) = self.version_with_room(place, 1) {
-            return Ok(refusal);
-        }
+        let version = match self.version_to_change(place, 1) {
+            Ok(version) => version,
+            Err(refusal) => return Ok(refusal),
+        };
         let value = value.clone()?;
-        let replaced = insert_at(&mut self.versions, place, key, value, changes)?;
+        let replaced = version.insert_k_counted(key, value, changes)?;
         Ok(Reply::Flag(replaced))
     }
 
@@ -68,11 +64,12 @@ impl<K: KeyTrait, V: Clone + Drop> Family<K, V> {
         ensures changes { CountsChanges K.bytes self.old (Replace place key.now value.now)
             (reply_or_want K.bytes result) changes.old changes.new }
     {
-        if let Err(refusal) = self.version_with_room(place, 1) {
-            return Ok(refusal);
-        }
+        let version = match self.version_to_change(place, 1) {
+            Ok(version) => version,
+            Err(refusal) => return Ok(refusal),
+        };
         let value = value.clone()?;
-        let replaced = replace_at(&mut self.versions, place, key, value, changes)?;
+        let replaced = version.insert_and_replace_k_counted(key, value, changes)?;
         Ok(Reply::Value(replaced))
     }
 
@@ -87,10 +84,11 @@ impl<K: KeyTrait, V: Clone + Drop> Family<K, V> {
         ensures changes { CountsChanges K.bytes self.old (Remove place key.now)
             (reply_or_want K.bytes result) changes.old changes.new }
     {
-        if let Err(refusal) = self.version_with_room(place, 1) {
-            return Ok(refusal);
-        }
-        let found = remove_at(&mut self.versions, place, key, changes)?;
+        let version = match self.version_to_change(place, 1) {
+            Ok(version) => version,
+            Err(refusal) => return Ok(refusal),
+        };
+        let found = version.remove_k_counted(key, changes)?;
         Ok(Reply::Value(found))
     }
 
@@ -105,116 +103,11 @@ impl<K: KeyTrait, V: Clone + Drop> Family<K, V> {
         ensures changes { CountsChanges K.bytes self.old (Delete place key.now)
             (reply_or_want K.bytes result) changes.old changes.new }
     {
-        if let Err(refusal) = self.version_with_room(place, 1) {
-            return Ok(refusal);
-        }
-        let found = delete_at(&mut self.versions, place, key, changes)?;
+        let version = match self.version_to_change(place, 1) {
+            Ok(version) => version,
+            Err(refusal) => return Ok(refusal),
+        };
+        let found = version.delete_k_counted(key, changes)?;
         Ok(Reply::Flag(found))
     }
-}
-
-fn rewrite_at<K: KeyTrait, V: Clone + Drop>(
-    versions: &mut [Option<VersionedAdaptiveRadixTree<K, V>>],
-    place: usize,
-    key: &K,
-    value: V,
-    changes: &mut Work,
-) -> Result<bool, AllocError>
-    requires clones { ClonesEqual V.is_clone }
-    requires there { IsSomeAnd (version_at versions.old place) (λ v. HasRoom v 1) }
-    ensures changes { ChangesAt place result versions.old versions.new (λ v.
-        writing v (K.bytes key.now) value) }
-    ensures present { OnErr result (IfSome (version_at versions.old place) (λ v.
-        IsTrue (has_key v (K.bytes key.now)))) }
-    ensures counted { CountsChangeAt (2 * lookup_bound (K.bytes key.now)) versions.old place
-        (K.bytes key.now) changes.old changes.new }
-{
-    let Some(version) = &mut versions[place] else {
-        unreachable!();
-    };
-    write_value(version, key, value, changes)
-}
-
-fn insert_at<K: KeyTrait, V: Clone + Drop>(
-    versions: &mut [Option<VersionedAdaptiveRadixTree<K, V>>],
-    place: usize,
-    key: &K,
-    value: V,
-    changes: &mut Work,
-) -> Result<bool, AllocError>
-    requires clones { ClonesEqual V.is_clone }
-    requires there { IsSomeAnd (version_at versions.old place) (λ v. HasRoom v 1) }
-    ensures changes { ChangesAt place result versions.old versions.new (λ v.
-        insertion v (K.bytes key.now) value) }
-    ensures counted { CountsChangeAt (lookup_bound (K.bytes key.now)) versions.old place
-        (K.bytes key.now) changes.old changes.new }
-    ensures made { OnOk result (changes.old.made < changes.new.made) }
-{
-    let Some(version) = &mut versions[place] else {
-        unreachable!();
-    };
-    version.insert_k_counted(key, value, changes)
-}
-
-fn replace_at<K: KeyTrait, V: Clone + Drop>(
-    versions: &mut [Option<VersionedAdaptiveRadixTree<K, V>>],
-    place: usize,
-    key: &K,
-    value: V,
-    changes: &mut Work,
-) -> Result<Option<V>, AllocError>
-    requires clones { ClonesEqual V.is_clone }
-    requires there { IsSomeAnd (version_at versions.old place) (λ v. HasRoom v 1) }
-    ensures changes { ChangesAt place result versions.old versions.new (λ v.
-        replacement v (K.bytes key.now) value) }
-    ensures counted { CountsChangeAt (lookup_bound (K.bytes key.now)) versions.old place
-        (K.bytes key.now) changes.old changes.new }
-    ensures made { OnOk result (changes.old.made < changes.new.made) }
-{
-    let Some(version) = &mut versions[place] else {
-        unreachable!();
-    };
-    version.insert_and_replace_k_counted(key, value, changes)
-}
-
-fn remove_at<K: KeyTrait, V: Clone + Drop>(
-    versions: &mut [Option<VersionedAdaptiveRadixTree<K, V>>],
-    place: usize,
-    key: &K,
-    changes: &mut Work,
-) -> Result<Option<V>, AllocError>
-    requires clones { ClonesEqual V.is_clone }
-    requires there { IsSomeAnd (version_at versions.old place) (λ v. HasRoom v 1) }
-    ensures changes { ChangesAt place result versions.old versions.new (λ v.
-        removal v (K.bytes key.now)) }
-    ensures present { OnErr result (IfSome (version_at versions.old place) (λ v.
-        IsTrue (has_key v (K.bytes key.now)))) }
-    ensures counted { CountsChangeAt (2 * lookup_bound (K.bytes key.now)) versions.old place
-        (K.bytes key.now) changes.old changes.new }
-{
-    let Some(version) = &mut versions[place] else {
-        unreachable!();
-    };
-    version.remove_k_counted(key, changes)
-}
-
-fn delete_at<K: KeyTrait, V: Clone + Drop>(
-    versions: &mut [Option<VersionedAdaptiveRadixTree<K, V>>],
-    place: usize,
-    key: &K,
-    changes: &mut Work,
-) -> Result<bool, AllocError>
-    requires clones { ClonesEqual V.is_clone }
-    requires there { IsSomeAnd (version_at versions.old place) (λ v. HasRoom v 1) }
-    ensures changes { ChangesAt place result versions.old versions.new (λ v.
-        deletion v (K.bytes key.now)) }
-    ensures present { OnErr result (IfSome (version_at versions.old place) (λ v.
-        IsTrue (has_key v (K.bytes key.now)))) }
-    ensures counted { CountsChangeAt (2 * lookup_bound (K.bytes key.now)) versions.old place
-        (K.bytes key.now) changes.old changes.new }
-{
-    let Some(version) = &mut versions[place] else {
-        unreachable!();
-    };
-    version.delete_k_counted(key, changes)
 }

@@ -1,15 +1,16 @@
 // Commands that update the slot of a key by a callback.
-ghost use Rattle.std.specs.Prelude.{◌≡◌, IfOk, IfSome, IsSome, IsSomeAnd, OnErr, Some};
+ghost use Rattle.std.specs.Prelude.{◌≡◌, IfOk, IsSome, OnErr, Some};
 ghost use Rattle.rart_versioned.specs.Clones.{ClonesEqual};
-ghost use Rattle.rart_maps.specs.Versions.{HasRoom, value_at};
-ghost use Rattle.rart_maps.specs.Changes.{slot_of, slot_update, slot_attempt};
+ghost use Rattle.rart_maps.specs.Versions.{value_at};
+ghost use Rattle.rart_maps.specs.Changes.{Changes, slot_of, slot_update, slot_attempt};
 ghost use Rattle.rart_maps.specs.Bounds.{enter_bound};
 ghost use Rattle.rart_family.specs.Attempts.{Tries, reply_or_want};
 ghost use Rattle.rart_family.specs.Costs.{CountsChanges};
-ghost use Rattle.rart_family.specs.Families.{version_at, value_after_write, callback_answer};
-ghost use Rattle.rart_family.specs.PlaceChanges.{ChangesAt, CountsChangeAt};
+ghost use Rattle.rart_family.specs.Families.{value_after_write, callback_answer};
 ghost use Rattle.rart_family.specs.Updates.{Inserts, IsThereOrSet};
 ghost use Rattle.rart_family.specs.declared.family.command.Command.TheVariants.{Update, TryUpdate};
+ghost use Rattle.rart_versioned.specs.Asks.{CanChange};
+ghost use Rattle.rart_versioned.specs.ChangeCounts.{CountsChange};
 
 use super::{Failure, Family, Reply};
 use rart_versioned::{KeyTrait, Refusal, Slot, SlotUpdate, VersionedAdaptiveRadixTree, Work};
@@ -30,12 +31,13 @@ impl<K: KeyTrait, V: Clone + Drop> Family<K, V> {
         ensures changes { CountsChanges K.bytes self.old (Update place key.now write.now answer.now)
             (reply_or_want K.bytes result) changes.old changes.new }
     {
-        if let Err(refusal) = self.version_with_room(place, 1) {
-            return Ok(refusal);
-        }
+        let version = match self.version_to_change(place, 1) {
+            Ok(version) => version,
+            Err(refusal) => return Ok(refusal),
+        };
         let write = write_copy(write)?;
         let answer = answer_copy(answer)?;
-        let is_there = update_at(&mut self.versions, place, key, write, answer, changes)?;
+        let is_there = update_in(version, key, write, answer, changes)?;
         Ok(Reply::Flag(is_there))
     }
 
@@ -54,15 +56,16 @@ impl<K: KeyTrait, V: Clone + Drop> Family<K, V> {
             (TryUpdate place key.now write.now answer.now)
             (reply_or_want K.bytes result) changes.old changes.new }
     {
-        if let Err(refusal) = self.version_with_room(place, 2) {
-            return Ok(refusal);
-        }
+        let version = match self.version_to_change(place, 2) {
+            Ok(version) => version,
+            Err(refusal) => return Ok(refusal),
+        };
         let write = write_copy(write)?;
         let answer = match answer {
             Some(answer) => Some(answer_copy(answer)?),
             None => None,
         };
-        match try_update_at(&mut self.versions, place, key, write, answer, changes)? {
+        match try_update_in(version, key, write, answer, changes)? {
             Ok(is_there) => Ok(Reply::Flag(is_there)),
             Err(Failure) => Ok(Reply::Failed),
         }
@@ -103,28 +106,22 @@ fn write_slot<V: Drop>(slot: &mut Slot<V>, write: Option<V>)
     }
 }
 
-fn update_at<K: KeyTrait, V: Clone + Drop>(
-    versions: &mut [Option<VersionedAdaptiveRadixTree<K, V>>],
-    place: usize,
+// Updates a key of this version by a callback that writes and answers so.
+fn update_in<K: KeyTrait, V: Clone + Drop>(
+    version: &mut VersionedAdaptiveRadixTree<K, V>,
     key: &K,
     write: Option<V>,
     answer: SlotUpdate<V>,
     changes: &mut Work,
 ) -> Result<bool, AllocError>
-    requires clones { ClonesEqual V.is_clone }
-    requires there { IsSomeAnd (version_at versions.old place) (λ v. HasRoom v 1) }
-    ensures changes { ChangesAt place result versions.old versions.new (λ v.
-        slot_update v (K.bytes key.now)
-        (slot_of (value_after_write (value_at v (K.bytes key.now)) write))
-        answer) }
-    ensures refused { OnErr result (IfSome (version_at versions.old place) (λ v.
-        IsThereOrSet v (K.bytes key.now) (Some answer))) }
-    ensures counted { CountsChangeAt (enter_bound (K.bytes key.now)) versions.old place
-        (K.bytes key.now) changes.old changes.new }
+    requires { CanChange V.is_clone version.old 1 }
+    ensures changes { Changes result version.old version.new
+        (slot_update version.old (K.bytes key.now)
+        (slot_of (value_after_write (value_at version.old (K.bytes key.now)) write)) answer) }
+    ensures refused { OnErr result (IsThereOrSet version.old (K.bytes key.now) (Some answer)) }
+    ensures counted { CountsChange (enter_bound (K.bytes key.now)) version.old (K.bytes key.now)
+        changes.old changes.new }
 {
-    let Some(version) = &mut versions[place] else {
-        unreachable!();
-    };
     version.update_k_counted(
         key,
         move |slot: &mut Slot<V>| -> SlotUpdate<V> {
@@ -135,28 +132,23 @@ fn update_at<K: KeyTrait, V: Clone + Drop>(
     )
 }
 
-fn try_update_at<K: KeyTrait, V: Clone + Drop>(
-    versions: &mut [Option<VersionedAdaptiveRadixTree<K, V>>],
-    place: usize,
+// The same by a callback that fails where there is no answer.
+fn try_update_in<K: KeyTrait, V: Clone + Drop>(
+    version: &mut VersionedAdaptiveRadixTree<K, V>,
     key: &K,
     write: Option<V>,
     answer: Option<SlotUpdate<V>>,
     changes: &mut Work,
 ) -> Result<Result<bool, Failure>, AllocError>
-    requires clones { ClonesEqual V.is_clone }
-    requires there { IsSomeAnd (version_at versions.old place) (λ v. HasRoom v 2) }
-    ensures changes { ChangesAt place result versions.old versions.new (λ v.
-        slot_attempt v (K.bytes key.now)
-        (slot_of (value_after_write (value_at v (K.bytes key.now)) write))
+    requires { CanChange V.is_clone version.old 2 }
+    ensures changes { Changes result version.old version.new
+        (slot_attempt version.old (K.bytes key.now)
+        (slot_of (value_after_write (value_at version.old (K.bytes key.now)) write))
         (callback_answer answer)) }
-    ensures refused { OnErr result (IfSome (version_at versions.old place) (λ v.
-        IsThereOrSet v (K.bytes key.now) answer)) }
-    ensures counted { CountsChangeAt (enter_bound (K.bytes key.now)) versions.old place
-        (K.bytes key.now) changes.old changes.new }
+    ensures refused { OnErr result (IsThereOrSet version.old (K.bytes key.now) answer) }
+    ensures counted { CountsChange (enter_bound (K.bytes key.now)) version.old (K.bytes key.now)
+        changes.old changes.new }
 {
-    let Some(version) = &mut versions[place] else {
-        unreachable!();
-    };
     let tried = version.try_update_k_counted(
         key,
         move |slot: &mut Slot<V>| -> Result<SlotUpdate<V>, Failure> {

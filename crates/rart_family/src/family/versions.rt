@@ -18,7 +18,7 @@ impl<K: KeyTrait, V: Clone + Drop> Family<K, V> {
     pub(super) fn snapshot(&mut self, place: usize) -> Result<Reply<K, V>, AllocError>
         ensures { Tries K.bytes self.old (Snapshot place) result self.new }
     {
-        let version = match self.version_with_room(place, 1) {
+        let version = match self.version_to_change(place, 1) {
             Ok(version) => version,
             Err(refusal) => return Ok(refusal),
         };

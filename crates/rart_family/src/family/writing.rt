@@ -5,6 +5,7 @@ ghost use Rattle.rart_versioned.specs.Clones.{ClonesEqual};
 ghost use Rattle.rart_maps.specs.Versions.{HasRoom, value_at, has_key};
 ghost use Rattle.rart_maps.specs.Changes.{Changes, writing};
 ghost use Rattle.rart_maps.specs.Bounds.{lookup_bound};
+ghost use Rattle.rart_versioned.specs.Asks.{CanChange};
 ghost use Rattle.rart_versioned.specs.ChangeCounts.{CountsChange};
 ghost use Rattle.rart_versioned.specs.Lent.{LendsValue};
 ghost use Rattle.rart_family.specs.Writing.{value_or_why, Explains};
@@ -28,8 +29,7 @@ pub(super) fn write_value<K: KeyTrait, V: Clone + Drop>(
     value: V,
     changes: &mut Work,
 ) -> Result<bool, AllocError>
-    requires clones { ClonesEqual V.is_clone }
-    requires room { HasRoom version.old 1 }
+    requires { CanChange V.is_clone version.old 1 }
     ensures changes { Changes result version.old version.new
         (writing version.old (K.bytes key.now) value) }
     ensures present { OnErr result (IsTrue (has_key version.old (K.bytes key.now))) }

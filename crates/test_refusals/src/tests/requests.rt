@@ -49,6 +49,10 @@ fn read(rt: &impl Abort, it: &Prepared) {
     assert_eq!(rt; it.tree.get_slice(b"team").copied(), Some(1));
     assert!(rt; it.tree.longest_slice(b"teapot").is_some());
     assert!(rt; it.tree.has_within(Bound::Excluded(b"te"), Bound::Unbounded));
+    let mut room = [0; 8];
+    let found = it.tree.first_slice(Bound::Excluded(b"tea"), &mut room);
+    assert!(rt; matches!(found, Some((4, 1))));
+    assert!(rt; room.starts_with(b"team"));
     assert!(rt; matches!(it.tree.longest_prefix_match_k(&it.absent), Ok(None)));
     it.tree.prefix_match_for_each_k(
         &it.longer,

@@ -8,7 +8,8 @@ ghost use Rattle.rart_seeking.specs.Firsts.{Finds};
 /// The call was done. Where it answers a value, there was one, and it is written.
 pub const DONE: u8 = 0;
 
-/// There is no such key, and nothing is written.
+/// There was no such key, and no value is written. An insertion has set it. Of a page: no pair is
+/// left behind it.
 pub const ABSENT: u8 = 1;
 
 /// The number is 2^64 - 1 and can't be raised. Nothing changed.

@@ -9,6 +9,7 @@ mod answer;
 mod bytes;
 mod changing;
 mod handle;
+mod laws;
 mod map;
 mod paging;
 mod reading;

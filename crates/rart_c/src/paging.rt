@@ -33,9 +33,10 @@ pub struct RartEntry {
 /// Writes the first pairs within two bounds, as many as there is room for: their keys one behind
 /// the other to the front of `bytes`, an entry of each to the front of `entries`, and how many they
 /// are to `count`. What `bytes` has behind the keys is not told; `entries` is as before there.
-/// Answers `ABSENT` where no pair within the bounds is left, `DONE` where one is. `TOO_SMALL` says
-/// that not even the first has room, and writes the length of its key to `needed`. A bound is of
-/// the kind `INCLUDED`, `EXCLUDED` or `UNBOUNDED`. It takes no memory.
+/// Answers `ABSENT` where no pair within the bounds is left behind them, `DONE` where one is: the
+/// next page begins `EXCLUDED` at a copy of the last key. `TOO_SMALL` says that not even the first
+/// has room, and writes the length of its key to `needed`. A bound is of the kind `INCLUDED`,
+/// `EXCLUDED` or `UNBOUNDED`. It takes no memory.
 #[unsafe(no_mangle)]
 pub extern "C" fn rart_page(
     alloc: Global,

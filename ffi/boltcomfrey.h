@@ -1,7 +1,8 @@
 // A versioned ordered map from byte strings to 64-bit numbers, or to byte strings. A snapshot is a
 // map of its own.
 //
-// Each function is proved to do what its comment says, and none panics. Written by ffi/generate.
+// Each function is proved to answer and to leave what its comment says, and none panics.
+// Written by ffi/generate.
 #ifndef BOLTCOMFREY_H
 #define BOLTCOMFREY_H
 
@@ -35,7 +36,8 @@ typedef uint8_t rart_answer;
 enum {
     // The call was done. Where it answers a value, there was one, and it is written.
     RART_DONE = 0,
-    // There is no such key, and nothing is written.
+    // There was no such key, and no value is written. An insertion has set it. Of a page: no pair
+    // is left behind it.
     RART_ABSENT = 1,
     // The number is 2^64 - 1 and can't be raised. Nothing changed.
     RART_NO_ROOM = 2,
@@ -56,9 +58,11 @@ enum {
 };
 
 // What a caller owes to each call:
-// - a tree is all zeros, or as a call left it, and is copied nowhere;
-// - no pointer is null, also of no bytes, and no two of one call overlap;
-// - trees of which one was made from the other are used by one thread at a time;
+// - a tree is all zeros, or as a call left it, and is copied nowhere; one that is moved leaves its
+//   old place all zeros;
+// - no pointer is null, also of no bytes, and no two of one call overlap: no key that is handed in
+//   lies in the room that the call writes to;
+// - trees that come from one tree, also through others, stay on one thread;
 // - a key is at most some 2,000 bytes where a thread has 2 MiB of stack.
 
 // Makes copy the same map, its number one greater, and frees what copy was. RART_NO_ROOM says that
@@ -145,9 +149,10 @@ rart_answer rart_remove(rart_tree *tree, const uint8_t *key, size_t key_len, uin
 // Writes the first pairs within two bounds, as many as there is room for: their keys one behind the
 // other to the front of bytes, an entry of each to the front of entries, and how many they are to
 // count. What bytes has behind the keys is not told; entries is as before there. Answers
-// RART_ABSENT where no pair within the bounds is left, RART_DONE where one is. RART_TOO_SMALL says
-// that not even the first has room, and writes the length of its key to needed. A bound is of the
-// kind RART_INCLUDED, RART_EXCLUDED or RART_UNBOUNDED. It takes no memory.
+// RART_ABSENT where no pair within the bounds is left behind them, RART_DONE where one is: the next
+// page begins RART_EXCLUDED at a copy of the last key. RART_TOO_SMALL says that not even the first
+// has room, and writes the length of its key to needed. A bound is of the kind RART_INCLUDED,
+// RART_EXCLUDED or RART_UNBOUNDED. It takes no memory.
 rart_answer rart_page(
     rart_tree *tree,
     const uint8_t *low,

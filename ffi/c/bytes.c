@@ -177,9 +177,10 @@ static void step(size_t at) {
 // At the greatest number a change is refused, and changes nothing.
 static void run_out(void) {
     rart_bytes tree = {0}, other = {0};
+    const uint8_t tea[] = {'t', 'e', 'a'};
     EXPECT(rart_bytes_new_at(&tree, UINT64_MAX) == RART_DONE);
-    EXPECT(rart_bytes_insert(&tree, letters, 1, letters, 2) == RART_NO_ROOM);
-    EXPECT(rart_bytes_remove(&tree, letters, 1) == RART_ABSENT);
+    EXPECT(rart_bytes_insert(&tree, tea, 3, tea, 3) == RART_NO_ROOM);
+    EXPECT(rart_bytes_remove(&tree, tea, 3) == RART_ABSENT);
     EXPECT(rart_bytes_snapshot(&tree, &other) == RART_NO_ROOM);
     EXPECT(rart_bytes_version(&tree) == UINT64_MAX && rart_bytes_is_empty(&tree));
     rart_bytes_clear(&tree);

@@ -16,8 +16,9 @@ static struct table tables[TREES];
 static void insert(size_t at) {
     struct key key = random_key();
     struct table *table = &tables[at];
-    uint64_t value = random_below(1000), replaced = 0;
+    uint64_t value = random_below(UINT64_MAX), replaced = 99;
     rart_answer answer = rart_insert(&trees[at], key.bytes, key.len, value, &replaced);
+    EXPECT(answer == RART_DONE || replaced == 99);
     if (is_refused(answer)) {
         return;
     }
@@ -32,8 +33,9 @@ static void insert(size_t at) {
 static void take_out(size_t at) {
     struct key key = random_key();
     struct table *table = &tables[at];
-    uint64_t value = 0;
+    uint64_t value = 99;
     rart_answer answer = rart_remove(&trees[at], key.bytes, key.len, &value);
+    EXPECT(answer == RART_DONE || value == 99);
     if (is_refused(answer)) {
         EXPECT(table->has[key.number]);
         return;
@@ -62,33 +64,45 @@ static void copy(size_t at) {
 
 // The longest key that begins the probe is there at one of its lengths, or at none.
 static void look_longest(size_t at, const struct key *probe) {
-    size_t len = 0;
-    uint64_t value = 0;
+    size_t len = 99;
+    uint64_t value = 99;
     rart_answer answer = rart_longest(&trees[at], probe->bytes, probe->len, &len, &value);
     size_t wanted = probe->len + 1;
     while (wanted > 0 && !tables[at].has[number_of(probe->bytes, wanted - 1)]) {
         wanted--;
     }
     EXPECT(answer == (wanted > 0 ? RART_DONE : RART_ABSENT));
+    EXPECT(wanted > 0 || (len == 99 && value == 99));
     EXPECT(wanted == 0 || len == wanted - 1);
     EXPECT(wanted == 0 || value == tables[at].values[number_of(probe->bytes, len)]);
 }
 
-// Asks for the first key behind another, or at it, first with less room than it needs.
+// Asks for the first key behind another, or at it, first with any room.
 static bool step_to(size_t at, const struct key *from, bool is_strict, struct key *found) {
-    size_t len = 99;
-    uint64_t value = 0;
+    enum { MOST_ROOM = MOST_BYTES + 2 };
+    uint8_t room[MOST_ROOM];
+    size_t len = 99, size = random_below(MOST_ROOM + 1);
+    uint64_t value = 99;
     rart_answer (*call)(rart_tree *, const uint8_t *, size_t, uint8_t *, size_t, size_t *,
                         uint64_t *) = is_strict ? rart_next : rart_seek;
-    rart_answer answer = call(&trees[at], from->bytes, from->len, found->bytes, 0, &len, &value);
+    memset(room, 7, MOST_ROOM);
+    rart_answer answer = call(&trees[at], from->bytes, from->len, room, size, &len, &value);
     if (answer == RART_ABSENT) {
-        EXPECT(len == 99 && value == 0);
+        EXPECT(len == 99 && value == 99 && room[0] == 7);
         return false;
     }
-    EXPECT(answer == RART_TOO_SMALL || (answer == RART_DONE && len == 0));
-    EXPECT(len <= MOST_BYTES);
-    answer = call(&trees[at], from->bytes, from->len, found->bytes, len, &found->len, &value);
-    EXPECT(answer == RART_DONE && found->len == len);
+    EXPECT(len <= MOST_BYTES && answer == (len > size ? RART_TOO_SMALL : RART_DONE));
+    if (answer == RART_TOO_SMALL) {
+        EXPECT(value == 99 && room[size] == 7);
+        memset(room, 7, MOST_ROOM);
+        answer = call(&trees[at], from->bytes, from->len, room, len, &found->len, &value);
+        EXPECT(answer == RART_DONE && found->len == len);
+    }
+    for (size_t behind = len; behind < MOST_ROOM; behind++) {
+        EXPECT(room[behind] == 7);
+    }
+    memcpy(found->bytes, room, len);
+    found->len = len;
     found->number = number_of(found->bytes, len);
     EXPECT(tables[at].has[found->number] && value == tables[at].values[found->number]);
     return true;
@@ -99,7 +113,7 @@ static struct key key_of(size_t number) {
     struct key key = {.number = number};
     for (size_t left = number; left > 0; left = (left - 1) / LETTERS) {
         memmove(key.bytes + 1, key.bytes, key.len++);
-        key.bytes[0] = letters[(left - 1) % LETTERS];
+        key.bytes[0] = letter((left - 1) % LETTERS);
     }
     return key;
 }
@@ -146,13 +160,19 @@ static void read_pages(size_t at) {
     }
     for (rart_answer answer = RART_DONE; answer != RART_ABSENT; met += count) {
         uint8_t bytes[MOST_ROOM];
-        rart_entry entries[MOST_ENTRIES];
+        rart_entry entries[MOST_ENTRIES] = {0};
+        needed = 99;
         size_t room = random_below(MOST_ROOM + 1), most = random_below(MOST_ENTRIES + 1);
         answer = rart_page(&trees[at], low.key.bytes, low.key.len, low.kind, high.key.bytes,
                            high.key.len, high.kind, bytes, room, entries, most, &count, &needed);
         EXPECT(count <= most);
         EXPECT(answer != RART_TOO_SMALL || (count == 0 && (most == 0 || room < needed)));
         EXPECT(answer != RART_DONE || count > 0);
+        EXPECT(answer == RART_TOO_SMALL || needed == 99);
+        EXPECT((met + count == wanted) == (answer == RART_ABSENT));
+        for (size_t entry = count; entry < MOST_ENTRIES; entry++) {
+            EXPECT(entries[entry].end == 0 && entries[entry].value == 0);
+        }
         expect_page(at, bytes, entries, count, &low, &high);
     }
     EXPECT(met == wanted);
@@ -160,10 +180,10 @@ static void read_pages(size_t at) {
 
 static void look(size_t at) {
     struct key key = random_key();
-    uint64_t value = 0;
+    uint64_t value = 99;
     rart_answer answer = rart_get(&trees[at], key.bytes, key.len, &value);
     EXPECT(answer == (tables[at].has[key.number] ? RART_DONE : RART_ABSENT));
-    EXPECT(answer == RART_ABSENT || value == tables[at].values[key.number]);
+    EXPECT(value == (answer == RART_ABSENT ? 99 : tables[at].values[key.number]));
     look_longest(at, &key);
 }
 
@@ -200,14 +220,23 @@ static void step(size_t at) {
 // At the greatest number a change is refused, and changes nothing.
 static void run_out(void) {
     rart_tree tree = {0}, other = {0};
-    uint64_t value = 0;
-    EXPECT(rart_new_at(&tree, UINT64_MAX) == RART_DONE);
-    EXPECT(rart_insert(&tree, letters, 1, 7, &value) == RART_NO_ROOM);
-    EXPECT(rart_remove(&tree, letters, 1, &value) == RART_ABSENT);
-    EXPECT(rart_snapshot(&tree, &other) == RART_NO_ROOM);
-    EXPECT(rart_version(&tree) == UINT64_MAX && rart_is_empty(&tree));
+    const uint8_t tea[] = {'t', 'e', 'a'};
+    uint64_t value = 99;
+    EXPECT(rart_insert(&other, tea, 2, 5, &value) == RART_ABSENT);
+    EXPECT(rart_new_at(&tree, UINT64_MAX - 1) == RART_DONE);
+    EXPECT(rart_insert(&tree, tea, 3, 7, &value) == RART_ABSENT);
+    EXPECT(rart_insert(&tree, tea, 3, 8, &value) == RART_NO_ROOM);
+    EXPECT(rart_remove(&tree, tea, 3, &value) == RART_NO_ROOM);
+    EXPECT(rart_remove(&tree, tea, 2, &value) == RART_ABSENT);
+    EXPECT(rart_snapshot(&tree, &other) == RART_NO_ROOM && value == 99);
+    EXPECT(rart_version(&tree) == UINT64_MAX && rart_len(&tree) == 1);
+    EXPECT(rart_get(&tree, tea, 3, &value) == RART_DONE && value == 7);
+    EXPECT(rart_get(&other, tea, 2, &value) == RART_DONE && value == 5);
+    EXPECT(rart_new_at(&other, 3) == RART_DONE);
+    EXPECT(rart_version(&other) == 3 && rart_is_empty(&other));
     rart_clear(&tree);
-    EXPECT(rart_version(&tree) == 0);
+    rart_clear(&other);
+    EXPECT(rart_version(&tree) == 0 && rart_is_empty(&tree));
 }
 
 int main(int count, char **words) {

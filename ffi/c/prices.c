@@ -50,12 +50,25 @@ static void show(struct prices *prices, const char *name) {
     }
 }
 
+// Shows the list in the order of names. (No name is longer than 63 bytes.)
+static void show_all(struct prices *prices) {
+    uint8_t name[64], last[64] = {0};
+    size_t len;
+    uint64_t price;
+    rart_answer answer = rart_seek(&prices->now, last, 0, name, sizeof name, &len, &price);
+    while (answer == RART_DONE) {
+        printf("%.*s is %llu\n", (int)len, (const char *)name, (unsigned long long)price);
+        memcpy(last, name, len);
+        answer = rart_next(&prices->now, last, len, name, sizeof name, &len, &price);
+    }
+}
+
 int main(void) {
     struct prices prices = {0};
-    if (!set_price(&prices, "tea", 300) || !set_price(&prices, "tea", 350)) {
+    if (!set_price(&prices, "tea", 300) || !set_price(&prices, "milk", 100)) {
         return 1;
     }
-    show(&prices, "tea");
+    show_all(&prices);
     undo(&prices);
     show(&prices, "tea");
     undo(&prices);

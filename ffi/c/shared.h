@@ -1,5 +1,4 @@
-// What the models share: random keys of few letters, which often begin one another; walks from key
-// to key; and how random calls are made.
+// What the models share: random keys, walks from key to key, and how random calls are made.
 #ifndef SHARED_H
 #define SHARED_H
 
@@ -9,9 +8,17 @@
 #include <stdlib.h>
 #include <string.h>
 
+// Keys have few letters, so that they often begin one another; or any, so that nodes are wide.
+#ifdef ANY_LETTER
+enum { MOST_BYTES = 2, LETTERS = 256, KEYS = 65793 };
+#else
 enum { MOST_BYTES = 7, LETTERS = 4, KEYS = 21845 };
+#endif
 
-static const uint8_t letters[LETTERS] = {0, 'a', 'b', 255};
+static uint8_t letter(size_t number) {
+    static const uint8_t few[] = {0, 'a', 'b', 255};
+    return LETTERS == 4 ? few[number % 4] : (uint8_t)number;
+}
 
 // A key: its bytes, and its number among all keys of at most seven of these letters.
 struct key {
@@ -40,11 +47,11 @@ static uint64_t random_below(uint64_t most) {
 static size_t number_of(const uint8_t *bytes, size_t len) {
     size_t number = 0;
     for (size_t at = 0; at < len; at++) {
-        size_t letter = 0;
-        while (letters[letter] != bytes[at]) {
-            letter++;
+        size_t place = 0;
+        while (letter(place) != bytes[at]) {
+            place++;
         }
-        number = LETTERS * number + letter + 1;
+        number = LETTERS * number + place + 1;
     }
     return number;
 }
@@ -52,7 +59,7 @@ static size_t number_of(const uint8_t *bytes, size_t len) {
 static struct key random_key(void) {
     struct key key = {.len = random_below(MOST_BYTES + 1)};
     for (size_t at = 0; at < key.len; at++) {
-        key.bytes[at] = letters[random_below(LETTERS)];
+        key.bytes[at] = letter(random_below(LETTERS));
     }
     key.number = number_of(key.bytes, key.len);
     return key;

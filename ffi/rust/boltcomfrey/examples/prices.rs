@@ -29,13 +29,19 @@ impl Prices {
             None => println!("{name} has no price"),
         }
     }
+
+    fn show_all(&self) {
+        for (name, price) in &self.now {
+            println!("{} is {price}", name.escape_ascii());
+        }
+    }
 }
 
 fn main() -> Result<(), Refusal> {
     let mut prices = Prices::default();
     prices.set("tea", 300)?;
-    prices.set("tea", 350)?;
-    prices.show("tea");
+    prices.set("milk", 100)?;
+    prices.show_all();
     prices.undo();
     prices.show("tea");
     prices.undo();

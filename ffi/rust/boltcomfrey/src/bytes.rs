@@ -161,17 +161,20 @@ impl VersionedBytes {
     }
 
     /// The pairs whose keys are in a range, in order. Bounds the other way round are no fault: no
-    /// key is between them.
+    /// key is between them. Where a range alone doesn't say of what type its keys are, name it.
     ///
     /// ```
     /// # use boltcomfrey::VersionedBytes;
+    /// # use std::ops::Bound;
     /// let mut names = VersionedBytes::new();
     /// names.try_extend([("milk", "Milk"), ("salt", "Salt"), ("tea", "Tea")])?;
     /// assert_eq!(names.range("n"..).count(), 2);
     /// assert_eq!(names.range("milk".."tea").count(), 2);
+    /// let behind = (Bound::Excluded("milk"), Bound::Unbounded);
+    /// assert_eq!(names.range::<str>(behind).count(), 2);
     /// # Ok::<(), boltcomfrey::Refusal>(())
     /// ```
-    pub fn range<K: AsRef<[u8]>>(&self, range: impl RangeBounds<K>) -> Iter<'_, Vec<u8>> {
+    pub fn range<K: AsRef<[u8]> + ?Sized>(&self, range: impl RangeBounds<K>) -> Iter<'_, Vec<u8>> {
         Iter::within(&self.tree, range)
     }
 
@@ -325,7 +328,8 @@ impl Eq for VersionedBytes {}
 /// # use boltcomfrey::VersionedBytes;
 /// let mut names = VersionedBytes::new();
 /// names.insert("tea", "Tea")?;
-/// assert_eq!(format!("{names:?}"), r#"{"tea": "Tea"}"#);
+/// names.insert(b"\xff", "\n")?;
+/// assert_eq!(format!("{names:?}"), r#"{"tea": "Tea", "\xff": "\n"}"#);
 /// # Ok::<(), boltcomfrey::Refusal>(())
 /// ```
 impl fmt::Debug for VersionedBytes {

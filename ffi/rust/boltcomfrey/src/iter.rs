@@ -10,27 +10,37 @@ const MOST_PAIRS: usize = 64;
 /// Pairs in the order of their keys, which stand one behind the other: each entry says where its
 /// key ends, and its value.
 pub struct Page<V> {
+    // Room for keys, kept from page to page. What stands behind the last key says nothing.
     pub bytes: Vec<u8>,
     pub entries: VecDeque<(usize, V)>,
 }
 
 /// A tree to be walked over, whose values are these.
 pub trait Pages<V> {
-    /// Fills an empty page with the first pairs within two bounds, at most so many as are asked
-    /// for, and one at least where there is one. Answers whether others may be left.
-    fn fill(
-        &self,
-        low: Bound<&[u8]>,
-        high: Bound<&[u8]>,
-        asked: usize,
-        page: &mut Page<V>,
-    ) -> bool;
+    /// Fills a page without entries with the first pairs within two bounds, at most so many as are
+    /// asked for, and one at least where there is one. Answers whether others may be left.
+    fn fill(&self, low: Bound<&[u8]>, high: Bound<&[u8]>, asked: usize, page: &mut Page<V>)
+    -> bool;
 }
 
 /// The pairs of a map within two bounds, in the order of their keys.
 ///
 /// It takes them by pages. The library takes no memory for it; the pages, and the copies of keys
 /// and of byte strings, do.
+///
+/// It borrows the map, which doesn't change meanwhile, and stays on its thread.
+///
+/// ```compile_fail
+/// let mut map = boltcomfrey::VersionedMap::new();
+/// let mut pairs = map.iter();
+/// map.remove("tea").ok();
+/// pairs.next();
+/// ```
+///
+/// ```compile_fail
+/// fn sends<T: Send>(_: T) {}
+/// sends(boltcomfrey::VersionedMap::new().iter());
+/// ```
 pub struct Iter<'a, V = u64> {
     tree: &'a dyn Pages<V>,
     // What is left behind the page.
@@ -50,7 +60,7 @@ impl<'a, V> Iter<'a, V> {
     }
 
     /// Those whose keys are in a range.
-    pub(crate) fn within<K: AsRef<[u8]>>(
+    pub(crate) fn within<K: AsRef<[u8]> + ?Sized>(
         tree: &'a dyn Pages<V>,
         range: impl RangeBounds<K>,
     ) -> Iter<'a, V> {
@@ -64,11 +74,7 @@ impl<'a, V> Iter<'a, V> {
         Iter::between(tree, Bound::Included(prefix.to_vec()), behind_all(prefix))
     }
 
-    fn between(
-        tree: &'a dyn Pages<V>,
-        low: Bound<Vec<u8>>,
-        high: Bound<Vec<u8>>,
-    ) -> Iter<'a, V> {
+    fn between(tree: &'a dyn Pages<V>, low: Bound<Vec<u8>>, high: Bound<Vec<u8>>) -> Iter<'a, V> {
         Iter {
             tree,
             low,
@@ -87,7 +93,6 @@ impl<'a, V> Iter<'a, V> {
     fn turn(&mut self) {
         let (low, high) = (self.low.as_ref(), self.high.as_ref());
         let (low, high) = (low.map(Vec::as_slice), high.map(Vec::as_slice));
-        self.page.bytes.clear();
         self.is_last = !self.tree.fill(low, high, self.asked, &mut self.page);
         self.asked = MOST_PAIRS.min(self.asked * 4);
         self.start = 0;

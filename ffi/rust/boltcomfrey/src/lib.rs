@@ -17,17 +17,20 @@
 //!
 //! Proved is what the exports do, as `boltcomfrey.h` says it. This crate round them is tested.
 #![warn(missing_docs)]
+#![deny(unsafe_code)]
 
 mod bytes;
 mod error;
 mod iter;
 mod map;
+#[allow(unsafe_code)]
 mod raw;
+#[allow(unsafe_code)]
 mod sys;
 
 pub use bytes::VersionedBytes;
 pub use error::Refusal;
 pub use iter::Iter;
+pub use map::VersionedMap;
 #[cfg(feature = "refusals")]
 pub use sys::refusals;
-pub use map::VersionedMap;

@@ -144,17 +144,20 @@ impl VersionedMap {
     }
 
     /// The pairs whose keys are in a range, in order. Bounds the other way round are no fault: no
-    /// key is between them.
+    /// key is between them. Where a range alone doesn't say of what type its keys are, name it.
     ///
     /// ```
     /// # use boltcomfrey::VersionedMap;
+    /// # use std::ops::Bound;
     /// let mut prices = VersionedMap::new();
     /// prices.try_extend([("milk", 100), ("salt", 50), ("tea", 300)])?;
     /// assert_eq!(prices.range("n"..).count(), 2);
     /// assert_eq!(prices.range("milk".."tea").count(), 2);
+    /// let behind = (Bound::Excluded("milk"), Bound::Unbounded);
+    /// assert_eq!(prices.range::<str>(behind).count(), 2);
     /// # Ok::<(), boltcomfrey::Refusal>(())
     /// ```
-    pub fn range<K: AsRef<[u8]>>(&self, range: impl RangeBounds<K>) -> Iter<'_> {
+    pub fn range<K: AsRef<[u8]> + ?Sized>(&self, range: impl RangeBounds<K>) -> Iter<'_> {
         Iter::within(&self.tree, range)
     }
 
@@ -200,11 +203,7 @@ impl VersionedMap {
     /// assert_eq!(prices.insert("tea", 350)?, Some(300));
     /// # Ok::<(), boltcomfrey::Refusal>(())
     /// ```
-    pub fn insert(
-        &mut self,
-        key: impl AsRef<[u8]>,
-        value: u64,
-    ) -> Result<Option<u64>, Refusal> {
+    pub fn insert(&mut self, key: impl AsRef<[u8]>, value: u64) -> Result<Option<u64>, Refusal> {
         self.tree.insert(key.as_ref(), value)
     }
 

@@ -76,8 +76,7 @@ impl Tree {
         let mut replaced = 0;
         let (at, len) = (key.as_ptr(), key.len());
         // SAFETY: as above; `replaced` is this call's own.
-        let answer =
-            unsafe { sys::rart_insert(self.handle.get(), at, len, value, &mut replaced) };
+        let answer = unsafe { sys::rart_insert(self.handle.get(), at, len, value, &mut replaced) };
         found(answer, replaced)
     }
 
@@ -118,7 +117,7 @@ impl Pages<u64> for Tree {
         let asked = asked.min(entries.len());
         let (mut count, mut needed) = (0, asked * KEY_ROOM);
         loop {
-            page.bytes.resize(needed.max(page.bytes.capacity()), 0);
+            make_room(&mut page.bytes, needed);
             let (from, to) = ((low.as_ptr(), low.len()), (high.as_ptr(), high.len()));
             let (at, end) = (page.bytes.as_mut_ptr(), page.bytes.len());
             // SAFETY: as above; the page, the entries and both numbers are this call's own.
@@ -238,8 +237,7 @@ impl BytesTree {
 
     pub fn remove(&mut self, key: &[u8]) -> Result<bool, Refusal> {
         // SAFETY: as above.
-        let answer =
-            unsafe { sys::rart_bytes_remove(self.handle.get(), key.as_ptr(), key.len()) };
+        let answer = unsafe { sys::rart_bytes_remove(self.handle.get(), key.as_ptr(), key.len()) };
         Ok(found(answer, ())?.is_some())
     }
 
@@ -259,27 +257,26 @@ impl BytesTree {
 }
 
 impl BytesTree {
-    /// The value of the first key that meets a bound, and that key in `room`, whatever stood there.
-    fn first(&self, low: Bound<&[u8]>, room: &mut Vec<u8>) -> Option<Vec<u8>> {
+    /// The first key that meets a bound, written to the front of `room`: its length, and its value.
+    fn first(&self, low: Bound<&[u8]>, room: &mut Vec<u8>) -> Option<(usize, Vec<u8>)> {
         let (from, kind) = parts_of(low);
-        let call = if kind == EXCLUDED { sys::rart_bytes_next } else { sys::rart_bytes_seek };
+        let call = if kind == EXCLUDED {
+            sys::rart_bytes_next
+        } else {
+            sys::rart_bytes_seek
+        };
         let (tree, key, mut key_len) = (self.handle.get(), (from.as_ptr(), from.len()), 0);
-        room.resize(room.capacity(), 0);
         let value = read_out(|into, len| {
             let (at, end) = (room.as_mut_ptr(), room.len());
             let (start, size) = (into.as_mut_ptr(), into.len());
             // SAFETY: as above; `key_len` is this call's own, and `room`, `into` and `len` are
             // borrowed to be written, so no two overlap.
-            let answer = unsafe {
-                call(tree, key.0, key.1, at, end, &mut key_len, start, size, len)
-            };
-            if room.len() < key_len {
-                room.resize(key_len, 0); // (it fits when the call is made once more)
-            }
+            let answer =
+                unsafe { call(tree, key.0, key.1, at, end, &mut key_len, start, size, len) };
+            make_room(room, key_len); // (it fits when the call is made once more)
             answer
         })?;
-        room.truncate(key_len);
-        Some(value)
+        Some((key_len, value))
     }
 }
 
@@ -292,10 +289,10 @@ impl Pages<Vec<u8>> for BytesTree {
         _asked: usize,
         page: &mut Page<Vec<u8>>,
     ) -> bool {
-        page.bytes.reserve(KEY_ROOM);
+        make_room(&mut page.bytes, KEY_ROOM);
         match self.first(low, &mut page.bytes) {
-            Some(value) if meets(&page.bytes, high) => {
-                page.entries.push_back((page.bytes.len(), value));
+            Some((len, value)) if meets(&page.bytes[..len], high) => {
+                page.entries.push_back((len, value));
                 true
             }
             _ => false,
@@ -313,6 +310,13 @@ impl Drop for BytesTree {
     fn drop(&mut self) {
         // SAFETY: as above.
         unsafe { sys::rart_bytes_clear(self.handle.get()) }
+    }
+}
+
+/// Lengthens a room to so many bytes. One that is longer stays as it is.
+fn make_room(room: &mut Vec<u8>, bytes: usize) {
+    if room.len() < bytes {
+        room.resize(bytes, 0);
     }
 }
 

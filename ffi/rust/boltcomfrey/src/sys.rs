@@ -149,7 +149,7 @@ unsafe extern "C" {
     pub fn rart_bytes_remove(tree: *mut RartBytes, key: *const u8, key_len: usize) -> u8;
 }
 
-/// Whether memory is given, and where. The library asks for an alignment of 16 at most.
+/// Whether memory is given, and where.
 #[repr(C)]
 pub struct Block {
     is_given: usize,
@@ -157,6 +157,9 @@ pub struct Block {
 }
 
 impl Block {
+    // How the C library aligns what it gives. (The library never asks for more.)
+    const ALIGN: usize = 16;
+
     const REFUSED: Block = Block {
         is_given: 0,
         at: null_mut(),
@@ -179,11 +182,13 @@ unsafe extern "C" {
 
 #[unsafe(no_mangle)]
 extern "C" fn rattle_alloc(size: usize, align: usize) -> Block {
-    if is_refused() {
+    if align > Block::ALIGN || is_refused() {
         return Block::REFUSED;
     }
     // SAFETY: any number of bytes may be asked for.
-    Block::of(unsafe { malloc(if size == 0 { align } else { size }) })
+    let block = Block::of(unsafe { malloc(if size == 0 { align } else { size }) });
+    count_blocks(block.is_given as i64);
+    block
 }
 
 #[unsafe(no_mangle)]
@@ -193,7 +198,7 @@ unsafe extern "C" fn rattle_realloc(
     size: usize,
     align: usize,
 ) -> Block {
-    if is_refused() {
+    if align > Block::ALIGN || is_refused() {
         return Block::REFUSED;
     }
     // SAFETY: the library got this block here, and has not freed it.
@@ -204,6 +209,7 @@ unsafe extern "C" fn rattle_realloc(
 unsafe extern "C" fn rattle_dealloc(at: *mut c_void) {
     // SAFETY: the library got this block here, and uses it no more.
     unsafe { free(at) }
+    count_blocks(-1);
 }
 
 #[cfg(not(feature = "refusals"))]
@@ -216,7 +222,15 @@ fn is_refused() -> bool {
     refusals::next()
 }
 
-/// For tests: one request for memory in `every` is refused.
+#[cfg(not(feature = "refusals"))]
+fn count_blocks(_more: i64) {}
+
+#[cfg(feature = "refusals")]
+fn count_blocks(more: i64) {
+    refusals::count_blocks(more);
+}
+
+/// For tests: some requests for memory are refused, and the blocks that are given are counted.
 #[cfg(feature = "refusals")]
 pub mod refusals {
     use std::cell::Cell;
@@ -224,11 +238,21 @@ pub mod refusals {
     thread_local! {
         static ONE_IN: Cell<u64> = const { Cell::new(0) };
         static COUNT: Cell<u64> = const { Cell::new(0) };
+        static BLOCKS: Cell<i64> = const { Cell::new(0) };
     }
 
-    /// Refuses one request in `every` from here on, and none where the number is 0.
+    /// Refuses one request in `one_in` from here on, and none where the number is 0.
     pub fn set(one_in: u64) {
         ONE_IN.set(one_in);
+    }
+
+    /// How many blocks this thread's maps hold.
+    pub fn blocks() -> i64 {
+        BLOCKS.get()
+    }
+
+    pub(super) fn count_blocks(more: i64) {
+        BLOCKS.set(BLOCKS.get() + more);
     }
 
     pub(super) fn next() -> bool {

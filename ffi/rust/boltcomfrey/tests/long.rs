@@ -34,6 +34,16 @@ fn one_long_pair_is_met() -> Result<(), Refusal> {
     Ok(())
 }
 
+#[test]
+fn short_keys_are_met_behind_a_long_one() -> Result<(), Refusal> {
+    let mut map = VersionedMap::new();
+    let mut pairs = vec![(vec![b'a'; 500], 0)];
+    pairs.extend((1..200).map(|at| ([[b'b'; 49].as_slice(), &[at]].concat(), u64::from(at))));
+    map.try_extend(pairs.clone())?;
+    assert!(map.iter().eq(pairs));
+    Ok(())
+}
+
 // (a test has a thread of its own, whose stack has 2 MiB)
 #[test]
 fn chains_of_2000_keys_are_safe() -> Result<(), Refusal> {

@@ -3,7 +3,7 @@
 
 mod common;
 
-use boltcomfrey::refusals;
+use boltcomfrey::{Refusal, VersionedBytes, VersionedMap, refusals};
 use common::{Compared, bytes, calls};
 
 #[test]
@@ -13,6 +13,8 @@ fn refused_calls_change_nothing() {
     (0..calls()).for_each(|_| compared.step());
     refusals::set(0);
     assert!(compared.refused > 0);
+    drop(compared);
+    assert_eq!(refusals::blocks(), 0);
 }
 
 #[test]
@@ -22,4 +24,48 @@ fn nor_do_those_on_byte_strings() {
     (0..calls()).for_each(|_| compared.step());
     refusals::set(0);
     assert!(compared.refused > 0);
+    drop(compared);
+    assert_eq!(refusals::blocks(), 0);
+}
+
+#[test]
+fn maps_hold_blocks_until_they_are_dropped() -> Result<(), Refusal> {
+    let mut map = VersionedMap::new();
+    assert_eq!(refusals::blocks(), 0);
+    map.insert("tea", 300)?;
+    assert!(refusals::blocks() > 0);
+    let before = map.snapshot()?;
+    drop(map);
+    assert_eq!(before.get("tea"), Some(300));
+    assert!(refusals::blocks() > 0);
+    drop(before);
+    assert_eq!(refusals::blocks(), 0);
+    Ok(())
+}
+
+#[test]
+fn what_was_set_before_a_refusal_stays() {
+    let mut map = VersionedMap::new();
+    refusals::set(20);
+    let told = map.try_extend((0..100).map(|at: u8| ([at], u64::from(at))));
+    refusals::set(0);
+    assert_eq!(told, Err(Refusal::NoMemory));
+    assert!(map.len() < 100);
+    let set: Vec<_> = (0..map.len() as u8)
+        .map(|at| (vec![at], u64::from(at)))
+        .collect();
+    assert!(map.iter().eq(set));
+}
+
+#[test]
+fn so_do_byte_strings() {
+    let mut map = VersionedBytes::new();
+    refusals::set(20);
+    let told = map.try_extend((0..100).map(|at: u8| ([at], [at])));
+    refusals::set(0);
+    assert_eq!(told, Err(Refusal::NoMemory));
+    let set: Vec<_> = (0..map.len() as u8)
+        .map(|at| (vec![at], vec![at]))
+        .collect();
+    assert!(set.len() < 100 && map.iter().eq(set));
 }

@@ -25,12 +25,16 @@ impl Compared {
         match self.random.below(2000) {
             0..20 => self.copy(at),
             20 => self.walk(at),
-            21..600 => self.read(at),
+            21..41 => self.count_common(at),
+            41..600 => self.read(at),
             600..1300 => self.remove(at),
             _ => self.insert(at),
         }
         let (map, model) = &self.versions[at];
-        assert_eq!((map.version(), map.len()), (model.number, model.pairs.len()));
+        assert_eq!(
+            (map.version(), map.len()),
+            (model.number, model.pairs.len())
+        );
         assert_eq!(map.is_empty(), model.pairs.is_empty());
     }
 
@@ -76,16 +80,24 @@ impl Compared {
     }
 
     fn read(&mut self, at: usize) {
-        let (key, other) = (self.random.key(), self.random.below(self.versions.len() as u64));
+        let key = self.random.key();
         let (map, model) = &self.versions[at];
         assert_eq!(map.get(&key).as_ref(), model.pairs.get(&key));
         assert_eq!(map.value_len(&key), model.pairs.get(&key).map(Vec::len));
         assert_eq!(map.contains_key(&key), model.pairs.contains_key(&key));
         assert_eq!(map.longest_prefix(&key), model.longest_prefix(&key));
-        assert_eq!(map.range(key.clone()..).next(), model.range(key.clone()..).next());
+        assert_eq!(
+            map.range(key.clone()..).next(),
+            model.range(key.clone()..).next()
+        );
         let behind = (Excluded(key), Unbounded);
         assert_eq!(map.range(behind.clone()).next(), model.range(behind).next());
-        let (other, others) = &self.versions[other as usize];
+    }
+
+    /// (As often as in C, since the model looks each key up.)
+    fn count_common(&mut self, at: usize) {
+        let other = self.random.below(self.versions.len() as u64) as usize;
+        let ((map, model), (other, others)) = (&self.versions[at], &self.versions[other]);
         assert_eq!(map.common_count(other), model.common_count(others));
     }
 
@@ -95,8 +107,15 @@ impl Compared {
         let (map, model) = &self.versions[at];
         assert!(map.iter().eq(model.range(..)));
         assert!(map.prefix(&key).eq(model.prefix(&key)));
-        let (low, high) = if key <= other { (key, other) } else { (other, key) };
-        assert!(map.range(low.clone()..=high.clone()).eq(model.range(low..=high)));
+        let (low, high) = if key <= other {
+            (key, other)
+        } else {
+            (other, key)
+        };
+        assert!(
+            map.range(low.clone()..=high.clone())
+                .eq(model.range(low..=high))
+        );
         let (other, others) = &self.versions[0];
         assert_eq!(map == other, model.pairs == others.pairs);
     }

@@ -19,10 +19,17 @@ impl Random {
         self.0 % most
     }
 
-    /// A key of at most seven bytes, of few that often begin one another.
+    /// A key of at most seven bytes, of few that often begin one another. The last of a short one
+    /// may be any, so that nodes of each width are met.
     fn key(&mut self) -> Vec<u8> {
         let len = self.below(8);
-        (0..len).map(|_| [0, b'a', b'b', u8::MAX][self.below(4) as usize]).collect()
+        let mut key: Vec<_> = (0..len)
+            .map(|_| [0, b'a', b'b', u8::MAX][self.below(4) as usize])
+            .collect();
+        if let ([.., last], 1..=2) = (&mut key[..], len) {
+            *last = self.below(256) as u8;
+        }
+        key
     }
 }
 
@@ -36,12 +43,16 @@ struct Model<V> {
 impl<V: Clone> Model<V> {
     fn longest_prefix(&self, probe: &[u8]) -> Option<(usize, V)> {
         let starts = (0..=probe.len()).rev();
-        starts.map(|len| &probe[..len]).find_map(|it| Some((it.len(), self.pairs.get(it)?.clone())))
+        starts
+            .map(|len| &probe[..len])
+            .find_map(|it| Some((it.len(), self.pairs.get(it)?.clone())))
     }
 
     /// The pairs within two bounds, as the map gives them.
     fn range(&self, range: impl RangeBounds<Vec<u8>>) -> impl Iterator<Item = (Vec<u8>, V)> {
-        self.pairs.range(range).map(|(key, value)| (key.clone(), value.clone()))
+        self.pairs
+            .range(range)
+            .map(|(key, value)| (key.clone(), value.clone()))
     }
 
     /// The pairs that a prefix begins.
@@ -50,7 +61,10 @@ impl<V: Clone> Model<V> {
     }
 
     fn common_count(&self, other: &Model<V>) -> usize {
-        self.pairs.keys().filter(|it| other.pairs.contains_key(*it)).count()
+        self.pairs
+            .keys()
+            .filter(|it| other.pairs.contains_key(*it))
+            .count()
     }
 
     fn insert(&mut self, key: &[u8], value: V) -> Option<V> {
@@ -93,17 +107,21 @@ impl Compared {
         match self.random.below(2000) {
             0..20 => self.copy(at),
             20 => self.walk(at),
-            21..600 => self.read(at),
+            21..41 => self.count_common(at),
+            41..600 => self.read(at),
             600..1300 => self.remove(at),
             _ => self.insert(at),
         }
         let (map, model) = &self.versions[at];
-        assert_eq!((map.version(), map.len()), (model.number, model.pairs.len()));
+        assert_eq!(
+            (map.version(), map.len()),
+            (model.number, model.pairs.len())
+        );
         assert_eq!(map.is_empty(), model.pairs.is_empty());
     }
 
     fn insert(&mut self, at: usize) {
-        let (key, value) = (self.random.key(), self.random.below(1000));
+        let (key, value) = (self.random.key(), self.random.below(u64::MAX));
         let (map, model) = &mut self.versions[at];
         match map.insert(&key, value) {
             Ok(replaced) => assert_eq!(replaced, model.insert(&key, value)),
@@ -137,15 +155,23 @@ impl Compared {
     }
 
     fn read(&mut self, at: usize) {
-        let (key, other) = (self.random.key(), self.random.below(self.versions.len() as u64));
+        let key = self.random.key();
         let (map, model) = &self.versions[at];
         assert_eq!(map.get(&key), model.pairs.get(&key).copied());
         assert_eq!(map.contains_key(&key), model.pairs.contains_key(&key));
         assert_eq!(map.longest_prefix(&key), model.longest_prefix(&key));
-        assert_eq!(map.range(key.clone()..).next(), model.range(key.clone()..).next());
+        assert_eq!(
+            map.range(key.clone()..).next(),
+            model.range(key.clone()..).next()
+        );
         let behind = (Excluded(key), Unbounded);
         assert_eq!(map.range(behind.clone()).next(), model.range(behind).next());
-        let (other, others) = &self.versions[other as usize];
+    }
+
+    /// (As often as in C, since the model looks each key up.)
+    fn count_common(&mut self, at: usize) {
+        let other = self.random.below(self.versions.len() as u64) as usize;
+        let ((map, model), (other, others)) = (&self.versions[at], &self.versions[other]);
         assert_eq!(map.common_count(other), model.common_count(others));
     }
 
@@ -155,8 +181,15 @@ impl Compared {
         let (map, model) = &self.versions[at];
         assert!(map.iter().eq(model.range(..)));
         assert!(map.prefix(&key).eq(model.prefix(&key)));
-        let (low, high) = if key <= other { (key, other) } else { (other, key) };
-        assert!(map.range(low.clone()..=high.clone()).eq(model.range(low..=high)));
+        let (low, high) = if key <= other {
+            (key, other)
+        } else {
+            (other, key)
+        };
+        assert!(
+            map.range(low.clone()..=high.clone())
+                .eq(model.range(low..=high))
+        );
         let (other, others) = &self.versions[0];
         assert_eq!(map == other, model.pairs == others.pairs);
     }

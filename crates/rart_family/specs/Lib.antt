@@ -3,6 +3,7 @@ pub mod Collections
 pub mod Costs
 pub mod Countdowns
 pub mod Families
+pub mod Keys
 pub mod Laws
 pub mod Lent
 pub mod Replies

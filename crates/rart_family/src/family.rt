@@ -17,6 +17,7 @@ mod collection;
 mod command;
 mod flatten;
 mod intersections;
+mod keys;
 mod reads;
 mod reply;
 mod updates;

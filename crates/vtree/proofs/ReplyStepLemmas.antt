@@ -9,7 +9,7 @@ use Rattle.rart_family.specs.declared.family.command.Command.TheVariants.{Discar
 use Rattle.rart_family.specs.Replies.{Reply, Value, Flag, NoVersion, NoRoom}
 use Rattle.rart_family.specs.Families.{Family, outcome, reply_to}
 use Rattle.rart_family.specs.Runs.{Step, may_want_memory}
-use Rattle.vtree.specs.Reading.{by_bytes}
+use Rattle.rart_family.specs.Keys.{by_bytes}
 use Rattle.vtree.specs.Transcript.{Replies}
 
 pub bound_same : (bound : Bound (List ℕ)) → bound_map (λ key. key) bound ≡ bound

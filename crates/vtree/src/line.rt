@@ -2,7 +2,8 @@
 ghost use Rattle.std.specs.Prelude.{◌≡◌, ◌≢◌, ℕ, List, [], ◌∷◌, length, map, MatchBool};
 ghost use Rattle.vtree.specs.Lines.{words};
 ghost use Rattle.vtree.specs.Grammar.{Said, Says};
-ghost use Rattle.vtree.specs.Reading.{Reads, by_bytes};
+ghost use Rattle.rart_family.specs.Keys.{by_bytes};
+ghost use Rattle.vtree.specs.Reading.{Reads};
 ghost use Rattle.vtree.specs.Shapes.{name_of, HasPlace, HasPair, HasKey, HasValue, IsRest, IsKeyed, IsIntersection, IsRange, IsUpdate, IsTryUpdate, IsUntil};
 
 use crate::words::{

@@ -1,7 +1,7 @@
 //! A session: lines come byte by byte, and a reply is written at the end of each.
 ghost use Rattle.std.specs.Prelude.{◌≡◌, ℕ, List, [], ◌∷◌, ◌++◌, Option};
 ghost use Rattle.rart_family.specs.Replies.{reply_value};
-ghost use Rattle.vtree.specs.Reading.{by_bytes};
+ghost use Rattle.rart_family.specs.Keys.{by_bytes};
 ghost use Rattle.vtree.specs.Transcript.{Replies};
 ghost use Rattle.vtree.specs.Sessions.{IsReading, EndsLine, Commands, Serving, Takes, Finishes};
 

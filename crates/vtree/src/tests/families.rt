@@ -16,172 +16,24 @@ fn key_of<K: KeyTrait>(alloc: Global, byte: u8) -> Result<K, AllocError>
     K::new_from_slice(alloc, &[byte])
 }
 
-fn bound_of<K: KeyTrait>(alloc: Global, bound: &Bound<u8>) -> Result<Bound<K>, AllocError>
-    requires { (length : ℕ) → length ≤ 1 → IsAdmitted K.MAXIMUM_SIZE length }
-{
-    Ok(match bound {
-        Bound::Included(byte) => Bound::Included(key_of(alloc, *byte)?),
-        Bound::Excluded(byte) => Bound::Excluded(key_of(alloc, *byte)?),
-        Bound::Unbounded => Bound::Unbounded,
-    })
-}
-
-fn answer_of(answer: &SlotUpdate<u64>) -> SlotUpdate<u64> {
-    match answer {
-        SlotUpdate::Keep => SlotUpdate::Keep,
-        SlotUpdate::Insert(value) => SlotUpdate::Insert(*value),
-        SlotUpdate::Remove => SlotUpdate::Remove,
-    }
-}
-
-// The same command, its key as the one byte that stands for it.
-fn keyed<K: KeyTrait>(
-    alloc: Global,
-    command: &Command<u8, u64>,
-) -> Result<Command<K, u64>, AllocError>
-    requires { (length : ℕ) → length ≤ 1 → IsAdmitted K.MAXIMUM_SIZE length }
-{
-    Ok(match command {
-        Command::New => Command::New,
-        Command::NewAt { number } => Command::NewAt { number: *number },
-        Command::Snapshot { place } => Command::Snapshot { place: *place },
-        Command::Duplicate { place } => Command::Duplicate { place: *place },
-        Command::Discard { place } => Command::Discard { place: *place },
-        Command::Version { place } => Command::Version { place: *place },
-        Command::IsEmpty { place } => Command::IsEmpty { place: *place },
-        Command::Get { place, key } => Command::Get {
-            place: *place,
-            key: key_of(alloc, *key)?,
-        },
-        Command::GetMut { place, key, value } => Command::GetMut {
-            place: *place,
-            key: key_of(alloc, *key)?,
-            value: *value,
-        },
-        Command::Insert { place, key, value } => Command::Insert {
-            place: *place,
-            key: key_of(alloc, *key)?,
-            value: *value,
-        },
-        Command::Replace { place, key, value } => Command::Replace {
-            place: *place,
-            key: key_of(alloc, *key)?,
-            value: *value,
-        },
-        Command::Remove { place, key } => Command::Remove {
-            place: *place,
-            key: key_of(alloc, *key)?,
-        },
-        Command::Delete { place, key } => Command::Delete {
-            place: *place,
-            key: key_of(alloc, *key)?,
-        },
-        Command::Update {
-            place,
-            key,
-            write,
-            answer,
-        } => Command::Update {
-            place: *place,
-            key: key_of(alloc, *key)?,
-            write: *write,
-            answer: answer_of(answer),
-        },
-        Command::TryUpdate {
-            place,
-            key,
-            write,
-            answer,
-        } => Command::TryUpdate {
-            place: *place,
-            key: key_of(alloc, *key)?,
-            write: *write,
-            answer: answer.as_ref().map(answer_of),
-        },
-        Command::Iter { place } => Command::Iter { place: *place },
-        Command::Values { place } => Command::Values { place: *place },
-        Command::Range { place, lo, hi } => Command::Range {
-            place: *place,
-            lo: bound_of(alloc, lo)?,
-            hi: bound_of(alloc, hi)?,
-        },
-        Command::Prefix { place, prefix } => Command::Prefix {
-            place: *place,
-            prefix: key_of(alloc, *prefix)?,
-        },
-        Command::Matches { place, key } => Command::Matches {
-            place: *place,
-            key: key_of(alloc, *key)?,
-        },
-        Command::MatchesEach { place, key } => Command::MatchesEach {
-            place: *place,
-            key: key_of(alloc, *key)?,
-        },
-        Command::Longest { place, key } => Command::Longest {
-            place: *place,
-            key: key_of(alloc, *key)?,
-        },
-        Command::Views { place } => Command::Views { place: *place },
-        Command::Flatten { place } => Command::Flatten { place: *place },
-        Command::Intersect { left, right } => Command::Intersect {
-            left: *left,
-            right: *right,
-        },
-        Command::IntersectViews { left, right } => Command::IntersectViews {
-            left: *left,
-            right: *right,
-        },
-        Command::IntersectValues { left, right } => Command::IntersectValues {
-            left: *left,
-            right: *right,
-        },
-        Command::IntersectCount { left, right } => Command::IntersectCount {
-            left: *left,
-            right: *right,
-        },
-        Command::PrefixViews { place, prefix } => Command::PrefixViews {
-            place: *place,
-            prefix: key_of(alloc, *prefix)?,
-        },
-        Command::RangeViews { place, lo, hi } => Command::RangeViews {
-            place: *place,
-            lo: bound_of(alloc, lo)?,
-            hi: bound_of(alloc, hi)?,
-        },
-        Command::PrefixValues { place, prefix } => Command::PrefixValues {
-            place: *place,
-            prefix: key_of(alloc, *prefix)?,
-        },
-        Command::Until {
-            place,
-            prefix,
-            visits,
-            fails,
-        } => Command::Until {
-            place: *place,
-            prefix: key_of(alloc, *prefix)?,
-            visits: *visits,
-            fails: *fails,
-        },
-    })
-}
-
 // Does the commands in one run on a family with such keys, and compares the lines of the replies.
-fn assert_run<K: KeyTrait>(
+// The number of commands is bounded, so that they have a size.
+fn assert_run<K: KeyTrait, const N: usize>(
     rt: &impl Abort,
     alloc: Global,
-    commands: &[Command<u8, u64>],
+    commands: [Command<u8, u64>; N],
     lines: &str,
 ) -> Result<Family<K, u64>, Fail>
-    requires { (length : ℕ) → length ≤ 1 → IsAdmitted K.MAXIMUM_SIZE length }
+    requires keys { (length : ℕ) → length ≤ 1 → IsAdmitted K.MAXIMUM_SIZE length }
+    requires size { N ≤ 16 }
 {
     let mut family: Family<K, u64> = Family::new(alloc);
-    let mut keyed_commands = Vec::new(alloc);
+    let mut keyed = Vec::new(alloc);
     for command in commands {
-        keyed_commands.push(keyed(alloc, command)?)?;
+        keyed.push(command.map_keys(|byte| key_of(alloc, byte))?)?;
     }
     let mut text = Vec::new(alloc);
-    for reply in &family.run(&keyed_commands, &mut Work::new(), &mut Work::new())? {
+    for reply in &family.run(&keyed, &mut Work::new(), &mut Work::new())? {
         write_reply(reply, &mut text)?;
     }
     assert_eq!(rt; str::from_utf8(&text)?, lines);
@@ -191,10 +43,10 @@ fn assert_run<K: KeyTrait>(
 fn assert_versions_are_made<K: KeyTrait>(rt: &impl Abort, alloc: Global) -> Result<(), Fail>
     requires { (length : ℕ) → length ≤ 1 → IsAdmitted K.MAXIMUM_SIZE length }
 {
-    let family = assert_run::<K>(
+    let family = assert_run::<K, _>(
         rt,
         alloc,
-        &[
+        [
             Command::New,
             Command::NewAt { number: 7 },
             Command::Snapshot { place: 1 },
@@ -217,10 +69,10 @@ fn assert_versions_are_made<K: KeyTrait>(rt: &impl Abort, alloc: Global) -> Resu
 fn assert_versions_are_changed<K: KeyTrait>(rt: &impl Abort, alloc: Global) -> Result<(), Fail>
     requires { (length : ℕ) → length ≤ 1 → IsAdmitted K.MAXIMUM_SIZE length }
 {
-    assert_run::<K>(
+    assert_run::<K, _>(
         rt,
         alloc,
-        &[
+        [
             Command::New,
             Command::Insert {
                 place: 0,
@@ -255,10 +107,10 @@ fn assert_versions_are_changed<K: KeyTrait>(rt: &impl Abort, alloc: Global) -> R
 fn assert_slots_are_updated<K: KeyTrait>(rt: &impl Abort, alloc: Global) -> Result<(), Fail>
     requires { (length : ℕ) → length ≤ 1 → IsAdmitted K.MAXIMUM_SIZE length }
 {
-    assert_run::<K>(
+    assert_run::<K, _>(
         rt,
         alloc,
-        &[
+        [
             Command::New,
             Command::Update {
                 place: 0,
@@ -295,10 +147,10 @@ fn assert_slots_are_updated<K: KeyTrait>(rt: &impl Abort, alloc: Global) -> Resu
 fn assert_walks_list<K: KeyTrait>(rt: &impl Abort, alloc: Global) -> Result<(), Fail>
     requires { (length : ℕ) → length ≤ 1 → IsAdmitted K.MAXIMUM_SIZE length }
 {
-    assert_run::<K>(
+    assert_run::<K, _>(
         rt,
         alloc,
-        &[
+        [
             Command::New,
             Command::Insert {
                 place: 0,
@@ -336,10 +188,10 @@ fn assert_walks_list<K: KeyTrait>(rt: &impl Abort, alloc: Global) -> Result<(), 
 fn assert_visits_list<K: KeyTrait>(rt: &impl Abort, alloc: Global) -> Result<(), Fail>
     requires { (length : ℕ) → length ≤ 1 → IsAdmitted K.MAXIMUM_SIZE length }
 {
-    assert_run::<K>(
+    assert_run::<K, _>(
         rt,
         alloc,
-        &[
+        [
             Command::New,
             Command::Insert {
                 place: 0,
@@ -391,10 +243,10 @@ fn assert_visits_list<K: KeyTrait>(rt: &impl Abort, alloc: Global) -> Result<(),
 fn assert_intersections_list<K: KeyTrait>(rt: &impl Abort, alloc: Global) -> Result<(), Fail>
     requires { (length : ℕ) → length ≤ 1 → IsAdmitted K.MAXIMUM_SIZE length }
 {
-    assert_run::<K>(
+    assert_run::<K, _>(
         rt,
         alloc,
-        &[
+        [
             Command::New,
             Command::Insert {
                 place: 0,
@@ -445,6 +297,18 @@ fn heap_keys_are_commanded(rt: HostRuntime) -> Result<(), Fail> {
 
 #[test]
 fn no_command_has_no_reply(rt: HostRuntime) -> Result<(), Fail> {
-    assert_run::<VectorKey>(&rt, rt.alloc(), &[], "")?;
+    assert_run::<VectorKey, 0>(&rt, rt.alloc(), [], "")?;
+    Ok(())
+}
+
+#[test]
+fn error_of_a_bounds_key_is_told(rt: HostRuntime) -> Result<(), Fail> {
+    let range: Command<u8, u64> = Command::Range {
+        place: 0,
+        lo: Bound::Included(1),
+        hi: Bound::Excluded(2),
+    };
+    let mapped = range.map_keys(|byte| if byte == 2 { Err(byte) } else { Ok(byte) });
+    assert_eq!(rt; mapped.err(), Some(2));
     Ok(())
 }

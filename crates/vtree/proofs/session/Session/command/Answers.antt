@@ -1,4 +1,4 @@
-use Rattle.vtree.specs.Reading.{by_bytes}
+use Rattle.rart_family.specs.Keys.{by_bytes}
 use Rattle.vtree.proofs.SessionLemmas.{no_line, is_line, commands_none, command_made}
 use Rattle.vtree.proofs.session.Session.command.Goals as goal
 

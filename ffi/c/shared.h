@@ -1,9 +1,10 @@
-// What the models share: random keys, walks from key to key, and how random calls are made.
+// What the two models share: random keys, tables of what eight trees should have, and random calls
+// on both. A model says before it includes this of what type its trees are (TREE) and how their
+// calls are named (CALL), and behind it what a value is.
 #ifndef SHARED_H
 #define SHARED_H
 
 #include "boltcomfrey.h"
-#include <stdint.h>
 #include <stdio.h>
 #include <stdlib.h>
 #include <string.h>
@@ -15,17 +16,34 @@ enum { MOST_BYTES = 2, LETTERS = 256, KEYS = 65793 };
 enum { MOST_BYTES = 7, LETTERS = 4, KEYS = 21845 };
 #endif
 
+enum { TREES = 8, MOST_VALUE = 300, MOST_ROOM = MOST_VALUE + 2 };
+
+// What a byte and a number are before a call that may write them.
+enum { NO_BYTE = 7, NO_NUMBER = 99 };
+
 static uint8_t letter(size_t number) {
     static const uint8_t few[] = {0, 'a', 'b', 255};
     return LETTERS == 4 ? few[number % 4] : (uint8_t)number;
 }
 
-// A key: its bytes, and its number among all keys of at most seven of these letters.
+// A key: its bytes, and its number among all keys of so many letters at most. The empty key is 0,
+// longer ones stand behind shorter.
 struct key {
     uint8_t bytes[MOST_BYTES];
     size_t len;
     size_t number;
 };
+
+// What a tree should have: of each key whether it is there, and its value.
+struct table {
+    bool has[KEYS];
+    uint64_t values[KEYS];
+    uint64_t number;
+    size_t len;
+};
+
+static TREE trees[TREES];
+static struct table tables[TREES];
 
 #define EXPECT(claim)                                                                              \
     do {                                                                                           \
@@ -43,26 +61,52 @@ static uint64_t random_below(uint64_t most) {
     return state % most;
 }
 
-// The number of a key's first bytes: the empty key is 0, longer ones stand behind it by letters.
-static size_t number_of(const uint8_t *bytes, size_t len) {
+// The key of a number.
+static struct key key_of(size_t number) {
+    struct key key = {.number = number};
+    for (size_t left = number; left > 0; left = (left - 1) / LETTERS) {
+        memmove(key.bytes + 1, key.bytes, key.len++);
+        key.bytes[0] = letter((left - 1) % LETTERS);
+    }
+    return key;
+}
+
+// A key of any length, which random numbers would seldom be.
+static struct key random_key(void) {
     size_t number = 0;
-    for (size_t at = 0; at < len; at++) {
-        size_t place = 0;
-        while (letter(place) != bytes[at]) {
-            place++;
-        }
-        number = LETTERS * number + place + 1;
+    for (size_t left = random_below(MOST_BYTES + 1); left > 0; left--) {
+        number = LETTERS * number + random_below(LETTERS) + 1;
+    }
+    return key_of(number);
+}
+
+// The number of the key behind this one in the order of bytes, of all that there may be: its first
+// extension, else what follows it or the longest of its beginnings that something follows.
+static size_t number_behind(size_t number) {
+    if (LETTERS * number + 1 < KEYS) {
+        return LETTERS * number + 1;
+    }
+    while (number > 0 && number % LETTERS == 0) {
+        number = (number - 1) / LETTERS;
+    }
+    return number > 0 ? number + 1 : KEYS;
+}
+
+// The number of a tree's first key from this number on, KEYS where there is none.
+static size_t first_from(size_t at, size_t number) {
+    while (number < KEYS && !tables[at].has[number]) {
+        number = number_behind(number);
     }
     return number;
 }
 
-static struct key random_key(void) {
-    struct key key = {.len = random_below(MOST_BYTES + 1)};
-    for (size_t at = 0; at < key.len; at++) {
-        key.bytes[at] = letter(random_below(LETTERS));
+// The number of a tree's longest key that begins the probe, KEYS where there is none.
+static size_t longest_of(size_t at, const struct key *probe) {
+    size_t number = probe->number;
+    while (number > 0 && !tables[at].has[number]) {
+        number = (number - 1) / LETTERS;
     }
-    key.number = number_of(key.bytes, key.len);
-    return key;
+    return tables[at].has[number] ? number : KEYS;
 }
 
 // Whether the one key stands before the other, in the order of bytes.
@@ -72,49 +116,234 @@ static bool is_before(const struct key *key, const struct key *other) {
     return order < 0 || (order == 0 && key->len < other->len);
 }
 
-// Asks a tree for its first key at another, or strictly behind it, and tells whether there is one.
-typedef bool find_first(size_t at, const struct key *from, bool is_strict, struct key *found);
+// Bytes that a call may write to, how many of them it is told of, and the length that it writes.
+struct room {
+    uint8_t bytes[MOST_ROOM];
+    size_t size;
+    size_t len;
+};
 
-// A walk from key to key meets as many as there are, in order; and the first of them at or behind
-// another key is what is found from there.
-static void expect_walk(size_t at, size_t len, find_first *find) {
-    struct key probe = random_key(), sought = {0}, last = {0}, next = {0};
-    bool is_found = find(at, &probe, false, &sought), is_met = false;
-    size_t met = 0;
-    for (bool goes_on = find(at, &last, false, &next); goes_on;
-         goes_on = find(at, &last, true, &next)) {
-        EXPECT(met == 0 || is_before(&last, &next));
-        if (!is_met && !is_before(&next, &probe)) {
-            EXPECT(is_found && sought.number == next.number);
-            is_met = true;
-        }
-        last = next;
-        met++;
+// A room for so many bytes, which is often just long enough, or one byte too short.
+static struct room room_for(size_t len) {
+    struct room room = {.size = len, .len = NO_NUMBER};
+    memset(room.bytes, NO_BYTE, MOST_ROOM);
+    uint64_t what = random_below(4);
+    if (what == 0 && len > 0) {
+        room.size = len - 1;
+    } else if (what > 1) {
+        room.size = random_below(len + 3);
     }
-    EXPECT(met == len && is_met == is_found);
+    return room;
 }
 
+// A room for a key of this number, or for one that isn't there.
+static struct room room_for_key(size_t number) {
+    return room_for(number < KEYS ? key_of(number).len : MOST_BYTES);
+}
+
+// That a call has written these bytes to the front of a room, and nothing behind them.
+static void expect_front(const struct room *room, const uint8_t *bytes, size_t len) {
+    EXPECT(memcmp(room->bytes, bytes, len) == 0);
+    for (size_t at = len; at < MOST_ROOM; at++) {
+        EXPECT(room->bytes[at] == NO_BYTE);
+    }
+}
+
+// Whether a room has the key of this number, which its length says even where it doesn't fit; and
+// that nothing was written where there is no key.
+static bool has_key(const struct room *room, size_t number) {
+    struct key key = key_of(number < KEYS ? number : 0);
+    EXPECT(room->len == (number < KEYS ? key.len : NO_NUMBER));
+    bool fits = number < KEYS && key.len <= room->size;
+    bool is_cut = number < KEYS && !fits; // (what it has then is not told)
+    expect_front(room, is_cut ? room->bytes : key.bytes, is_cut ? room->size : key.len);
+    return fits;
+}
+
+// The calls that take or write a value, and what each is to write. Those that read also expect
+// their answer: they are told the number of the key to be found, KEYS where there is none.
+static rart_answer insert(size_t at, const struct key *key, uint64_t value);
+static rart_answer take_out(size_t at, const struct key *key);
+static void look(size_t at, const struct key *key, size_t wanted);
+static void look_longest(size_t at, const struct key *probe, size_t wanted);
+static void look_first(size_t at, const struct key *from, bool is_strict, size_t wanted);
+static void read_all(size_t at);
+
+// What refusing.c keeps to and counts.
 void refuse_one_in(unsigned long long so_many);
+unsigned long long requests_refused(void);
+unsigned long long reallocs_refused(void);
+long long blocks_held(void);
 
 static unsigned long long refused;
 
-// Whether the answer says that memory was refused.
-static bool is_refused(rart_answer answer) {
+// Whether memory was refused, or else that the answer is the wanted one.
+static bool is_refused(rart_answer answer, rart_answer wanted) {
     refused += answer == RART_NO_MEMORY;
+    EXPECT(answer == RART_NO_MEMORY || answer == wanted);
     return answer == RART_NO_MEMORY;
 }
 
-// Makes random calls on some trees. The first word is how many calls, 100,000 without it; the
-// second refuses one request for memory in that many.
-static unsigned long long make_calls(int count, char **words, size_t trees, void (*step)(size_t)) {
+// What is read of a tree without a walk, and of one key.
+static void expect_state(size_t at, const struct key *key) {
+    EXPECT(CALL(version)(&trees[at]) == tables[at].number);
+    EXPECT(CALL(len)(&trees[at]) == tables[at].len);
+    EXPECT(CALL(is_empty)(&trees[at]) == (tables[at].len == 0));
+    look(at, key, tables[at].has[key->number] ? key->number : KEYS);
+}
+
+// What a change answers where memory is given: the number must rise if there is something to
+// change.
+static rart_answer answer_of_change(size_t at, const struct key *key, bool must_rise) {
+    if (must_rise && tables[at].number == UINT64_MAX) {
+        return RART_NO_ROOM;
+    }
+    return tables[at].has[key->number] ? RART_DONE : RART_ABSENT;
+}
+
+static void expect_insert(size_t at, const struct key *key, uint64_t value) {
+    rart_answer wanted = answer_of_change(at, key, true);
+    if (!is_refused(insert(at, key, value), wanted) && wanted != RART_NO_ROOM) {
+        tables[at].len += wanted == RART_ABSENT;
+        tables[at].number++;
+        tables[at].has[key->number] = true;
+        tables[at].values[key->number] = value;
+    }
+    expect_state(at, key);
+}
+
+static void expect_take_out(size_t at, const struct key *key) {
+    bool is_there = tables[at].has[key->number];
+    rart_answer wanted = answer_of_change(at, key, is_there);
+    if (is_refused(take_out(at, key), wanted)) {
+        EXPECT(is_there);
+    } else if (wanted == RART_DONE) {
+        tables[at].len--;
+        tables[at].number++;
+        tables[at].has[key->number] = false;
+    }
+    expect_state(at, key);
+}
+
+static void expect_copy(size_t at, size_t to, bool is_snapshot) {
+    struct key key = random_key();
+    bool has_room = !is_snapshot || tables[at].number < UINT64_MAX;
+    rart_answer answer =
+        is_snapshot ? CALL(snapshot)(&trees[at], &trees[to]) : CALL(clone)(&trees[at], &trees[to]);
+    if (!is_refused(answer, has_room ? RART_DONE : RART_NO_ROOM) && has_room) {
+        tables[to] = tables[at];
+        tables[to].number += is_snapshot;
+    }
+    expect_state(at, &key);
+    expect_state(to, &key);
+}
+
+// In place of what the tree was, one without a key.
+static void expect_new(size_t at, uint64_t number) {
+    struct key key = random_key();
+    if (!is_refused(CALL(new_at)(&trees[at], number), RART_DONE)) {
+        memset(&tables[at], 0, sizeof tables[at]);
+        tables[at].number = number;
+    }
+    expect_state(at, &key);
+}
+
+static void expect_clear(size_t at) {
+    struct key key = random_key();
+    CALL(clear)(&trees[at]);
+    memset(&tables[at], 0, sizeof tables[at]);
+    expect_state(at, &key);
+}
+
+static size_t expect_first(size_t at, const struct key *from, bool is_strict) {
+    size_t wanted = first_from(at, is_strict ? number_behind(from->number) : from->number);
+    look_first(at, from, is_strict, wanted);
+    return wanted;
+}
+
+// A walk from key to key meets as many as there are, in order.
+static void walk(size_t at) {
+    struct key last = {0};
+    size_t met = 0;
+    for (size_t next = expect_first(at, &last, false); next < KEYS;
+         next = expect_first(at, &last, true)) {
+        struct key key = key_of(next);
+        EXPECT(met == 0 || is_before(&last, &key));
+        last = key;
+        met++;
+    }
+    EXPECT(met == tables[at].len);
+}
+
+static void count_common(size_t at, size_t other) {
+    size_t wanted = 0;
+    for (size_t key = 0; key < KEYS; key++) {
+        wanted += tables[at].has[key] && tables[other].has[key];
+    }
+    EXPECT(CALL(common)(&trees[at], &trees[other]) == wanted);
+}
+
+static void make_call(size_t at) {
+    uint64_t what = random_below(2000);
+    size_t other = (at + 1 + random_below(TREES - 1)) % TREES;
+    struct key key = random_key();
+    if (what < 1) {
+        expect_new(at, random_below(8) > 0 ? 0 : UINT64_MAX - random_below(1000));
+    } else if (what < 20) {
+        expect_copy(at, other, random_below(2) == 0);
+    } else if (what < 40) {
+        count_common(at, other);
+    } else if (what < 60) {
+        read_all(at);
+    } else if (what < 600) {
+        look_longest(at, &key, longest_of(at, &key));
+        expect_first(at, &key, random_below(2) == 0);
+    } else if (what < 1300) {
+        expect_take_out(at, &key);
+    } else {
+        expect_insert(at, &key, random_below(UINT64_MAX));
+    }
+    expect_state(at, &key);
+}
+
+// At the greatest number a change is refused, and changes nothing.
+static void run_out(void) {
+    const struct key tea = key_of(1), milk = key_of(2);
+    expect_insert(1, &milk, 5);
+    expect_new(0, UINT64_MAX - 1);
+    expect_insert(0, &tea, 7);
+    expect_insert(0, &tea, 8);
+    expect_insert(0, &milk, 8);
+    expect_take_out(0, &tea);
+    expect_take_out(0, &milk);
+    expect_copy(0, 1, true);
+    expect_state(1, &milk);
+    expect_copy(0, 1, false);
+    expect_state(1, &tea);
+    expect_new(1, 3);
+}
+
+// Makes random calls. The first word is how many, 100,000 without it; with a second one new block
+// in that many is refused, and some that are to be longer. Each refusal refuses one call, and at
+// the end no block is left.
+static int compare(int count, char **words, const char *values) {
     unsigned long long calls = count > 1 ? strtoull(words[1], NULL, 10) : 100000;
+    run_out();
     refuse_one_in(count > 2 ? strtoull(words[2], NULL, 10) : 0);
     for (unsigned long long call = 0; call < calls; call++) {
-        step(random_below(trees));
+        make_call(random_below(TREES));
     }
     refuse_one_in(0);
-    EXPECT((refused > 0) == (count > 2));
-    return calls;
+    EXPECT(refused == requests_refused() && (refused > 0) == (count > 2));
+    EXPECT((reallocs_refused() > 0) == (count > 2));
+    EXPECT(blocks_held() > 0);
+    for (size_t at = 0; at < TREES; at++) {
+        expect_clear(at);
+    }
+    EXPECT(blocks_held() == 0);
+    printf("%llu calls on %s from C are as the tables say, %llu refused, of them %llu reallocs\n",
+           calls, values, refused, reallocs_refused());
+    return 0;
 }
 
 #endif

@@ -182,7 +182,7 @@ unsafe extern "C" {
 
 #[unsafe(no_mangle)]
 extern "C" fn rattle_alloc(size: usize, align: usize) -> Block {
-    if align > Block::ALIGN || is_refused() {
+    if align > Block::ALIGN || is_refused(Request::New) {
         return Block::REFUSED;
     }
     // SAFETY: any number of bytes may be asked for.
@@ -198,7 +198,7 @@ unsafe extern "C" fn rattle_realloc(
     size: usize,
     align: usize,
 ) -> Block {
-    if align > Block::ALIGN || is_refused() {
+    if align > Block::ALIGN || is_refused(Request::Longer) {
         return Block::REFUSED;
     }
     // SAFETY: the library got this block here, and has not freed it.
@@ -212,14 +212,23 @@ unsafe extern "C" fn rattle_dealloc(at: *mut c_void) {
     count_blocks(-1);
 }
 
+/// What is asked for: a new block, or a longer one in place of one that is there.
+enum Request {
+    New,
+    Longer,
+}
+
 #[cfg(not(feature = "refusals"))]
-fn is_refused() -> bool {
+fn is_refused(_request: Request) -> bool {
     false
 }
 
 #[cfg(feature = "refusals")]
-fn is_refused() -> bool {
-    refusals::next()
+fn is_refused(request: Request) -> bool {
+    match request {
+        Request::New => refusals::NEW.with(refusals::Requests::next),
+        Request::Longer => refusals::LONGER.with(refusals::Requests::next),
+    }
 }
 
 #[cfg(not(feature = "refusals"))]
@@ -235,15 +244,56 @@ fn count_blocks(more: i64) {
 pub mod refusals {
     use std::cell::Cell;
 
+    // Longer blocks are seldom asked for, so more of them are refused.
+    const ONE_LONGER_IN: u64 = 4;
+
+    /// The requests of a kind: one in how many is refused, how many were made, how many refused.
+    pub(super) struct Requests {
+        one_in: Cell<u64>,
+        made: Cell<u64>,
+        refused: Cell<u64>,
+    }
+
+    impl Requests {
+        const fn new() -> Requests {
+            Requests {
+                one_in: Cell::new(0),
+                made: Cell::new(0),
+                refused: Cell::new(0),
+            }
+        }
+
+        /// Whether the next request is refused.
+        pub(super) fn next(&self) -> bool {
+            self.made.set(self.made.get() + 1);
+            let one_in = self.one_in.get();
+            let is_refused = one_in != 0 && self.made.get() % one_in == 0;
+            self.refused.set(self.refused.get() + u64::from(is_refused));
+            is_refused
+        }
+    }
+
     thread_local! {
-        static ONE_IN: Cell<u64> = const { Cell::new(0) };
-        static COUNT: Cell<u64> = const { Cell::new(0) };
+        pub(super) static NEW: Requests = const { Requests::new() };
+        pub(super) static LONGER: Requests = const { Requests::new() };
         static BLOCKS: Cell<i64> = const { Cell::new(0) };
     }
 
-    /// Refuses one request in `one_in` from here on, and none where the number is 0.
+    /// Refuses one new block in `one_in` from here on, and some that are to be longer; none where
+    /// the number is 0.
     pub fn set(one_in: u64) {
-        ONE_IN.set(one_in);
+        NEW.with(|it| it.one_in.set(one_in));
+        LONGER.with(|it| it.one_in.set(one_in.min(ONE_LONGER_IN)));
+    }
+
+    /// How many requests of this thread were refused.
+    pub fn refused() -> u64 {
+        NEW.with(|it| it.refused.get()) + longer_refused()
+    }
+
+    /// How many of them were to lengthen a block.
+    pub fn longer_refused() -> u64 {
+        LONGER.with(|it| it.refused.get())
     }
 
     /// How many blocks this thread's maps hold.
@@ -253,10 +303,5 @@ pub mod refusals {
 
     pub(super) fn count_blocks(more: i64) {
         BLOCKS.set(BLOCKS.get() + more);
-    }
-
-    pub(super) fn next() -> bool {
-        COUNT.set(COUNT.get() + 1);
-        ONE_IN.get() != 0 && COUNT.get() % ONE_IN.get() == 0
     }
 }

@@ -1,4 +1,4 @@
-//! The same calls, one request for memory in forty refused.
+//! The same calls, one request in forty for a new block refused, and one in four for a longer one.
 #![cfg(feature = "refusals")]
 
 mod common;
@@ -6,13 +6,20 @@ mod common;
 use boltcomfrey::{Refusal, VersionedBytes, VersionedMap, refusals};
 use common::{Compared, bytes, calls};
 
+/// Ends the refusals, of which there were some of each kind: each has refused one call.
+fn expect_refused(calls: u64) {
+    refusals::set(0);
+    assert_eq!(refusals::refused(), calls);
+    assert!((1..calls).contains(&refusals::longer_refused()));
+    assert!(refusals::blocks() > 0);
+}
+
 #[test]
 fn refused_calls_change_nothing() {
     let mut compared = Compared::new();
     refusals::set(40);
     (0..calls()).for_each(|_| compared.step());
-    refusals::set(0);
-    assert!(compared.refused > 0);
+    expect_refused(compared.refused);
     drop(compared);
     assert_eq!(refusals::blocks(), 0);
 }
@@ -22,8 +29,7 @@ fn nor_do_those_on_byte_strings() {
     let mut compared = bytes::Compared::new();
     refusals::set(40);
     (0..calls()).for_each(|_| compared.step());
-    refusals::set(0);
-    assert!(compared.refused > 0);
+    expect_refused(compared.refused);
     drop(compared);
     assert_eq!(refusals::blocks(), 0);
 }

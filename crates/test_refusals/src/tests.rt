@@ -17,4 +17,5 @@ mod readings;
 mod requests;
 mod seen;
 mod told;
+mod tracking;
 mod trial;

@@ -41,15 +41,15 @@ pub fn assert_memoryless(rt: &impl Abort, alloc: Global, family: &Versions) -> R
     Ok(())
 }
 
-// A key is made, once more where that is refused.
-fn key_of(alloc: Global, bytes: &[u8]) -> Result<VectorKey, AllocError> {
+/// A key, which is made once more where that is refused.
+pub fn key_of(alloc: Global, bytes: &[u8]) -> Result<VectorKey, AllocError> {
     match VectorKey::new_from_slice(alloc, bytes) {
         Ok(key) => Ok(key),
         Err(AllocError) => VectorKey::new_from_slice(alloc, bytes),
     }
 }
 
-fn number_of(value: Option<&Fragile>) -> Option<u64> {
+pub fn number_of(value: Option<&Fragile>) -> Option<u64> {
     Some(value?.number())
 }
 

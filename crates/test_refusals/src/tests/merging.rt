@@ -84,8 +84,8 @@ fn made_at_once(alloc: Global, fuse: &Rc<Fuse>) -> Result<Versions, AllocError> 
     Ok(Versions { base, ours, theirs })
 }
 
-// Sets a key, or takes it out, where there is room.
-fn put(
+/// Sets a key, or takes it out, where there is room.
+pub fn put(
     alloc: Global,
     fuse: &Rc<Fuse>,
     version: &mut Version,

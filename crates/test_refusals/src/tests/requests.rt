@@ -3,7 +3,8 @@
 ghost use Rattle.std.specs.Prelude.{IsTrue};
 ghost use Rattle.rart_maps.specs.Versions.{HasRoom};
 
-use rart_family::{KeyTrait, Slot, SlotUpdate, VectorKey, VersionedAdaptiveRadixTree};
+use rart_family::{KeyTrait, Slot, SlotUpdate, VectorKey, VersionedAdaptiveRadixTree, Work};
+use rart_tracked::TrackedTree;
 use std::alloc::{AllocError, Global};
 use std::ops::Bound;
 use std::process::Abort;
@@ -17,11 +18,12 @@ fn has_room(tree: &Tree) -> bool
     tree.version() <= u64::MAX - 2
 }
 
-// A tree with two keys, one that is there, one that begins none and is begun by none, and one whose
-// first bytes are a key.
+// A tree with two keys, and a tracked version that began with it. One key that is there, one that
+// begins none and is begun by none, and one whose first bytes are a key.
 #[derive(Drop)]
 struct Prepared {
     tree: Tree,
+    tracked: TrackedTree<VectorKey, u64>,
     present: VectorKey,
     absent: VectorKey,
     longer: VectorKey,
@@ -36,6 +38,7 @@ fn prepare(alloc: Global) -> Result<Prepared, AllocError> {
         }
     }
     Ok(Prepared {
+        tracked: TrackedTree::begin(alloc, &tree)?,
         tree,
         present: VectorKey::new_from_slice(alloc, b"tea")?,
         absent: VectorKey::new_from_slice(alloc, b"milk")?,
@@ -71,6 +74,20 @@ fn read(rt: &impl Abort, it: &Prepared) {
     assert_eq!(rt; sum, 4);
 }
 
+fn read_tracked(rt: &impl Abort, it: &Prepared) {
+    let tracked = &it.tracked;
+    assert_eq!(rt; tracked.get_k(&it.present).copied(), Some(0));
+    assert!(rt;
+        tracked
+            .get_k_counted(&it.absent, &mut Work::new())
+            .is_none()
+    );
+    assert!(rt; !tracked.is_touched(&it.present));
+    assert_eq!(rt; tracked.touched_count(), 0);
+    assert_eq!(rt; tracked.current().version(), 2);
+    assert_eq!(rt; tracked.base().version(), 2);
+}
+
 fn change_nothing(rt: &impl Abort, it: &mut Prepared) {
     let keep = |_slot: &mut Slot<u64>| SlotUpdate::Keep;
     assert!(rt; has_room(&it.tree));
@@ -85,11 +102,27 @@ fn change_nothing(rt: &impl Abort, it: &mut Prepared) {
     assert!(rt; it.tree.update_k(&it.absent, keep) == Ok(false));
 }
 
+fn change_nothing_tracked(rt: &impl Abort, it: &mut Prepared) {
+    assert!(rt; has_room(it.tracked.current()));
+    assert!(rt; matches!(it.tracked.get_mut_k(&it.absent), Ok(None)));
+    assert!(rt; has_room(it.tracked.current()));
+    assert!(rt; it.tracked.remove_k(&it.absent) == Ok(None));
+    assert!(rt; has_room(it.tracked.current()));
+    assert!(rt; it.tracked.delete_k(&it.absent) == Ok(false));
+}
+
+// Makes each call.
+fn make_calls(rt: &impl Abort, it: &mut Prepared) {
+    read(rt, it);
+    read_tracked(rt, it);
+    change_nothing(rt, it);
+    change_nothing_tracked(rt, it);
+}
+
 #[test]
 fn memoryless_calls_are_made_once(rt: HostRuntime) -> Result<(), Fail> {
     if let Ok(mut prepared) = prepare(rt.alloc()) {
-        read(&rt, &prepared);
-        change_nothing(&rt, &mut prepared);
+        make_calls(&rt, &mut prepared);
     }
     Ok(())
 }
@@ -97,10 +130,8 @@ fn memoryless_calls_are_made_once(rt: HostRuntime) -> Result<(), Fail> {
 #[test]
 fn memoryless_calls_are_made_twice(rt: HostRuntime) -> Result<(), Fail> {
     if let Ok(mut prepared) = prepare(rt.alloc()) {
-        read(&rt, &prepared);
-        read(&rt, &prepared);
-        change_nothing(&rt, &mut prepared);
-        change_nothing(&rt, &mut prepared);
+        make_calls(&rt, &mut prepared);
+        make_calls(&rt, &mut prepared);
     }
     Ok(())
 }

@@ -28,6 +28,11 @@ impl<'a> Told<'a> {
         self.is_prefix
     }
 
+    /// Whether nothing was told.
+    pub fn is_nothing(&self) -> bool {
+        self.is_prefix && self.told == 0
+    }
+
     /// Whether what was told is all changes.
     pub fn is_whole(&self) -> bool {
         self.is_prefix && self.told == self.wanted.len()

@@ -135,7 +135,7 @@ impl Source {
             6 => Ok(Command::Version { place }),
             7 => Ok(Command::IsEmpty { place }),
             kind if kind < 30 => self.change(place, kind),
-            kind if kind >= 45 => Ok(self.meeting(place, places, kind)),
+            kind if kind >= 45 => Ok(self.intersection(place, places, kind)),
             kind => self.reading(place, kind),
         }
     }
@@ -198,7 +198,7 @@ impl Source {
         })
     }
 
-    fn meeting(&mut self, left: usize, places: usize, kind: u32) -> LineCommand {
+    fn intersection(&mut self, left: usize, places: usize, kind: u32) -> LineCommand {
         let right = self.place(places);
         match kind {
             45 => Command::Intersect { left, right },

@@ -39,7 +39,7 @@ impl<'a> Answer<'a> {
             (Answer::Stopped(wanted, is_failed), Reply::Stopped { values, failed }) => {
                 *failed == is_failed && are_values(values, wanted)
             }
-            (Answer::Pairs(wanted), Reply::Pairs(entries)) => are_meetings(entries, wanted),
+            (Answer::Pairs(wanted), Reply::Pairs(entries)) => are_common_keys(entries, wanted),
             (Answer::ValuePairs(wanted), Reply::ValuePairs(pairs)) => {
                 are_value_pairs(pairs, wanted)
             }
@@ -72,9 +72,9 @@ fn are_values(values: &[Fragile], wanted: &[u64]) -> bool {
     values.len() == wanted.len()
 }
 
-fn are_meetings(entries: &[(VectorKey, Fragile, Fragile)], wanted: &[OnCommonKey]) -> bool {
-    for ((key, left, right), meeting) in entries.iter().zip(wanted) {
-        if key.as_ref() != meeting.0 || left.number() != meeting.1 || right.number() != meeting.2 {
+fn are_common_keys(entries: &[(VectorKey, Fragile, Fragile)], wanted: &[OnCommonKey]) -> bool {
+    for ((key, left, right), common) in entries.iter().zip(wanted) {
+        if key.as_ref() != common.0 || left.number() != common.1 || right.number() != common.2 {
             return false;
         }
     }

@@ -5,8 +5,8 @@ use super::Command;
 use std::ops::Bound;
 
 impl<K: Drop, V: Drop> Command<K, V> {
-    /// The command with, in place of each key, the one that `make` makes of it. The first error of
-    /// `make` ends it, and the command is dropped.
+    /// The command with, in place of each key, the one that `make` makes of it. An error of `make`
+    /// ends it, and the command is dropped.
     pub fn map_keys<L: Drop, E, F: Fn(K) -> Result<L, E>>(self, make: F) -> Result<Command<L, V>, E>
         requires { KeysAre (F.pre make) self }
         ensures { MapsKeys (F.post make) self result }

@@ -6,4 +6,4 @@ pub mod RebaseLemmas
 pub mod ShowLemmas
 pub mod TrackingLemmas
 pub mod UpdateLemmas
-pub mod WorkedBoundLemmas
+pub mod WorkedChangeBoundLemmas

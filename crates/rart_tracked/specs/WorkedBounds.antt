@@ -12,8 +12,8 @@ one_key = with_string no_key (codes "a")
 abbrev pub two_keys : Strings
 two_keys = with_string one_key (codes "bc")
 
--- Two for each of the two keys. A lookup of the one enters two at most, of the other three, and each
--- is looked up in two maps.
+-- Two for each of the two keys. A lookup of the one enters two at most, of the other three, and
+-- each is looked up in two maps.
 abbrev pub ChangesOfTwo : Type 0
 ChangesOfTwo = changes_bound two_keys ≡ 14
 

@@ -1,5 +1,5 @@
 use Rattle.rart_tracked.proofs.laws.worked_bounds.Goals as goal
-use Rattle.rart_tracked.proofs.WorkedBoundLemmas.{changes_of_two, conflicts_of_two, one_within_two}
+use Rattle.rart_tracked.proofs.WorkedChangeBoundLemmas.{changes_of_two, conflicts_of_two, one_within_two}
 
 pub returns-clause-changes : goal.returns-clause-changes
 returns-clause-changes c = changes_of_two

@@ -18,10 +18,6 @@ no-word words byte none =
     ap (λ (word : ℕ). bit_at word (byte % 64) == 1) none
     ∙ ap (λ (bit : ℕ). bit == 1) (bit_at-zero (byte % 64))
 
-pub no-words : (count byte : ℕ) (words : List ℕ)
-    → ((place : ℕ) → get_or words place 0 ≡ 0) → has_bit words byte ≡ false
-no-words count byte words each = no-word words byte (each (byte / 64))
-
 -- ---- one byte put in, or taken out
 module _ (words : List ℕ) (byte : ℕ) (wide : length words ≡ 4) (fits : byte < 256) where
   word_within : byte / 64 < length words
@@ -165,14 +161,6 @@ first-bit words place within before some fits =
             ∙ ap (λ (n : ℕ). n == 1) (lowest.2 (byte % 64) low)
       ];
     }
-
-pub no-first : (words : List ℕ) → length words ≡ 4
-    → ((before : ℕ) → before < 4 → get_or words before 0 ≡ 0) → (byte : ℕ)
-    → has_bit words byte ≡ false
-no-first words wide before byte = no-word words byte (elim (cases_lt (byte / 64) 4) [
-  | inl early ↦ before (byte / 64) early
-  | inr late ↦ get_or_past words (byte / 64) 0 (omega (arith, wide, late))
-])
 
 -- ---- the bytes of a list
 abbrev pub holds_key : ℕ → List ℕ → Bool

@@ -31,24 +31,6 @@ counted-next less before entered counted =
       made = omega (arith, made, kept, none);
     }
 
--- and the last one, which may have been refused.
-pub counted-end : {nodes left : ℕ} {start now after : Counts} → IsCounted nodes start left now →
-    CountsUpTo left 0 now after → CountsUpTo nodes 0 start after
-counted-end before counted =
-    let same = before.same in
-    let grows = before.grows in
-    let made = before.made in
-    let more = counted.entered_grows in
-    let most = counted.entered_at_most in
-    let kept = counted.made_grows in
-    let none = counted.made_at_most in
-    record {
-      entered_grows = omega (arith, grows, more);
-      entered_at_most = omega (arith, same, most);
-      made_grows = omega (arith, made, kept);
-      made_at_most = omega (arith, made, none);
-    }
-
 -- No step at all.
 pub counted-now : {nodes left : ℕ} {start now : Counts} → IsCounted nodes start left now →
     CountsUpTo nodes 0 start now

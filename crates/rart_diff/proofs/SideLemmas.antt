@@ -1,6 +1,6 @@
 -- Which of two ascending lists of pairs has the first key, and what is left behind it.
-use Rattle.std.proofs.Common.{◌≡◌, ◌+◌, ◌≤◌, ◌<◌, ◌⊎◌, ℕ, true, List, [], ◌∷◌, ◌++◌, Option, Some, None, length, refl, sym, ap, subst, ◌∙◌, ⊎_elim, inl, inr, arith}
-use Rattle.std.specs.Prelude.{Contains, IsSome}
+use Rattle.std.proofs.Common.{◌≡◌, ◌+◌, ◌⊎◌, ℕ, true, List, [], ◌∷◌, ◌++◌, Option, Some, None, refl, sym, subst, ◌∙◌, ⊎_elim, inl, inr, arith}
+use Rattle.std.specs.Prelude.{IsSome}
 use Rattle.std.specs.Borrow.{Bor}
 use Rattle.std.specs.Option.{is_some, option_copied}
 use Rattle.std.specs.declared.cmp.Ordering.{Ordering}
@@ -9,7 +9,7 @@ use Rattle.std.proofs.lemmas.Bool.{false≢true}
 use Rattle.rart_below.specs.Bytes.{byte_order}
 use Rattle.rart_maps.specs.FoundLaws.{KeysAscend}
 use Rattle.rart_maps.specs.Order.{IsBefore}
-use Rattle.rart_maps.proofs.ElementLemmas.{Contains-nil, Contains-cases, All-from_contains, AllPairs-first, AllPairs-rest}
+use Rattle.rart_maps.proofs.ElementLemmas.{Contains-cases, All-from_contains, AllPairs-first, AllPairs-rest}
 use Rattle.rart_maps.proofs.OrderLemmas.{order_is_of_first_difference}
 use Rattle.rart_walks.specs.Walks.{pending_pair}
 use Rattle.rart_walks.specs.WalkFields.{cursor}
@@ -31,11 +31,6 @@ before-before (b ∷ u) (c ∷ v) (d ∷ w) one two =
     one
 
 module _ {V : Type 0} where
-  pub none-behind : (key : List ℕ) (pairs : List (List ℕ × V)) → pairs ≡ [] → AreBehind key pairs
-  none-behind key pairs none =
-      All-from_contains (λ pair. IsBefore key pair.0) pairs
-      (λ pair there. absurd (Contains-nil pair (subst (λ xs. Contains xs pair) none there)))
-
   -- The first of pairs in order leads the others.
   pub first-leads : (key : List ℕ) (x : V) (rest : List (List ℕ × V))
       → KeysAscend (λ pair. pair.0) ((key, x) ∷ rest)
@@ -95,36 +90,6 @@ module _ {V : Type 0} where
   rest-ascends key None rest ascends = ascends
   rest-ascends key (Some x) rest ascends =
       AllPairs-rest (λ a b. IsBefore a.0 b.0) (key, x) rest ascends
-
-  -- Fewer pairs are left where there is a value.
-  leads-length : {key : List ℕ} {value : Option V} {before after : List (List ℕ × V)}
-      → Leads key value before after → length after ≤ length before
-  leads-length {key} {value} {before} {after} leads =
-      elim value as (λ o. before ≡ pending_pair key o ++ after → length after ≤ length before) [
-        | None ↦ λ is. let same = ap length is in omega (arith, same)
-        | Some x ↦ λ is. let same = ap length is in omega (arith, same)
-      ] leads.pairs
-
-  some-length : {key : List ℕ} {value : Option V} {before after : List (List ℕ × V)}
-      → Leads key value before after → IsSome value → length after < length before
-  some-length {key} {value} {before} {after} leads some =
-      elim value as (λ o. IsSome o → before ≡ pending_pair key o ++ after
-      → length after < length before) [
-        | None ↦ λ none _. absurd (false≢true none)
-        | Some x ↦ λ _ is. let same = ap length is in omega (arith, same)
-      ] some leads.pairs
-
-  pub fewer-left : {key : List ℕ} {before after : Option V}
-      {old old' new new' : List (List ℕ × V)} → Leads key before old old'
-      → Leads key after new new' → IsSome before ⊎ IsSome after
-      → length old' + length new' < length old + length new
-  fewer-left first second some =
-      let one = leads-length first in
-      let two = leads-length second in
-      ⊎_elim
-      (λ is. let less = some-length first is in omega (arith, less, two))
-      (λ is. let less = some-length second is in omega (arith, less, one))
-      some
 
 module _ {P V : Type 0} {partial : _} where
   -- Of two keys the order tells which is the first.

@@ -69,9 +69,6 @@ module _ {W A X E : Type 0} (gives : W → Option (Result A E) → W → Type 0)
       GivesAll gives Shows found start →
       (rest : List X) × (collected ++ rest ≡ found) × GivesAll gives Shows rest w
 
-  pub collected-start : (found : List X) (start : W) → Collected [] start found start
-  collected-start found start all = (found, refl, all)
-
   next_member : {w w' : W} {item : A} (found : List X) → GivesAll gives Shows found w →
       gives w (Some (Ok item)) w' →
       (x : X) × (rest : List X) × (found ≡ x ∷ rest) × Shows item x × GivesAll gives Shows rest w'

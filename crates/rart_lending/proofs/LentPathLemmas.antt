@@ -30,15 +30,6 @@ module _ {V : Type 0} where
   step-short (node prefix value width forest) key short =
       rw (strip_prefix-short prefix key short) refl
 
-  pub step-child : (s : Shape V) (key : List ℕ) (byte : ℕ)
-      → length (prefix_of s) ≤ common_length (prefix_of s) key
-      → slice_get (drop (common_length (prefix_of s) key) key) 0 ≡ Some byte
-      → step key s ≡ option_map (λ child. (child, drop (common_length (prefix_of s) key) key))
-      (child_at byte (children_of s))
-  step-child (node prefix value width forest) key byte whole next =
-      let parts = first-parts (drop (common_length prefix key) key) byte next in
-      rw (strip_prefix-whole prefix key whole, parts.1) refl
-
   -- a step down goes to a child, under the first byte of what is left
   pub record IsStep (key : List ℕ) (s : Shape V) (below : Shape V × List ℕ) : Type 0 where
     pub whole : length (prefix_of s) ≤ common_length (prefix_of s) key

@@ -3,23 +3,15 @@ use Rattle.std.proofs.Common.{◌≡◌, ◌⊎◌, ⊎_elim, ℕ, List, [], ◌
 use Rattle.std.specs.List.{cons_option}
 use Rattle.std.specs.Option.{option_map}
 use Rattle.rart_below.specs.Children.{child_at}
-use Rattle.rart_node.specs.Shape.{Shape, node, IsAscending, prefix_of, value_of, children_of, entries_of, with_prefix}
+use Rattle.rart_node.specs.Shape.{Shape, node, IsAscending, prefix_of, children_of, entries_of, with_prefix}
 use Rattle.rart_lockstep.specs.Branches.{first_byte}
 use Rattle.rart_lockstep.specs.Children.{common_children}
-use Rattle.rart_lockstep.specs.TreeCursors.{value_here, next_children}
+use Rattle.rart_lockstep.specs.TreeCursors.{next_children}
 use Rattle.rart_lockstep.proofs.ChildLemmas.{common-first, common-none}
 
 module _ {V : Type 0} where
   pub children-with : (s : Shape V) (p : List ℕ) → children_of (with_prefix p s) ≡ children_of s
   children-with (node prefix value width forest) p = refl
-
-  pub next_children-ended : (s : Shape V) → prefix_of s ≡ [] → next_children s ≡ children_of s
-  next_children-ended (node [] value width forest) end = refl
-  next_children-ended (node (b ∷ prefix) value width forest) end = cc
-
-  pub value-ended : (s : Shape V) → prefix_of s ≡ [] → value_here s ≡ value_of s
-  value-ended (node [] value width forest) end = refl
-  value-ended (node (b ∷ prefix) value width forest) end = cc
 
   -- The right one goes on with a byte: the left one has ended, and its child under the byte is
   -- next.
@@ -43,20 +35,6 @@ module _ {V : Type 0} where
       ∙ ap (λ byte. cons_option (option_map (λ child. (c, (child, t)))
       (child_at byte (entries_of below))) []) same
 
-  -- So the other way round.
-  pub branch-right : (s t : Shape V) (b : ℕ) → prefix_of t ≡ []
-      → slice_get (prefix_of s) 0 ≡ Some b
-      → common_children (next_children s) (next_children t)
-      ≡ cons_option (option_map (λ child. (first_byte (prefix_of s), (s, child)))
-      (child_at b (children_of t))) []
-  branch-right (node [] value width forest) t b ends first = cc
-  branch-right (node (c ∷ p) value width forest) t b ends first =
-      let s : Shape V = node (c ∷ p) value width forest in
-      let same : c ≡ b = cc in
-      ap (λ children. common_children ((c, s) ∷ []) children) (next_children-ended t ends)
-      ∙ ap (λ byte. cons_option (option_map (λ child. (c, (s, child)))
-      (child_at byte (children_of t))) []) same
-
   abbrev to_left : Shape V → Option (Shape V) → List (ℕ × (Shape V × Shape V))
   to_left t found =
       cons_option (option_map (λ child. (first_byte (prefix_of t), (child, t))) found) []
@@ -75,12 +53,3 @@ module _ {V : Type 0} where
       ap (λ w. slice_get w 0) (sym is) ∙ sym first in
       ap (to_left t) here
       ∙ sym (branch-left (node p value width forest) t b order ends first_of)
-
-  pub step-right : (s n : Shape V) (p rest : List ℕ) (b : ℕ) (found : Option (Shape V))
-      → p ≡ [] → rest ≡ prefix_of s
-      → Some b ≡ slice_get rest 0 → found ≡ child_at b (children_of n)
-      → to_right s found ≡ common_children (next_children s) (next_children (with_prefix p n))
-  step-right s (node q value width forest) p rest b found ends is first here =
-      let first_of : slice_get (prefix_of s) 0 ≡ Some b =
-      ap (λ w. slice_get w 0) (sym is) ∙ sym first in
-      ap (to_right s) here ∙ sym (branch-right s (node p value width forest) b ends first_of)

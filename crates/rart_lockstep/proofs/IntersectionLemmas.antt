@@ -39,11 +39,6 @@ module _ {V : Type 0} (path : List ℕ) where
       let same : (one, other) ≡ (left, right) = same_Some (one, other) (left, right) there in
       (λ i. (path, sym (ap (λ z. z.0) same) i, sym (ap (λ z. z.1) same) i) ∷ [])
 
-  entry-none : (left right : Option V) → None ≡ both left right → own_entry path left right ≡ []
-  entry-none None right none = refl
-  entry-none (Some left) None none = refl
-  entry-none (Some left) (Some right) none = cc
-
 module _ {F A V : Type 0} (g : Mut F A (Unit {0})) (Shows : A → List ℕ × V × V → Type 0)
     (path : List ℕ) (s t : Shape V) where
   module _ (one other : V) (there : Some (one, other) ≡ both (value_here s) (value_here t)) where
@@ -73,13 +68,6 @@ module _ {F A V : Type 0} (g : Mut F A (Unit {0})) (Shows : A → List ℕ × V 
       subst (λ f'. AnswersUpTo g Shows tt f (entry_here path s t) (entry_here path s t) f')
           (sym still) (up_to-start g Shows tt f (entry_here path s t)),
     )
-
-  -- There is no key here.
-  pub here-none : None ≡ both (value_here s) (value_here t) → (f : F)
-      → Visit g Shows f (entry_here path s t) f
-  here-none none f =
-      subst (λ members. Visit g Shows f members f)
-      (sym (entry-none path (value_here s) (value_here t) none)) refl
 
 -- ---- from the roots
 module _ {T F A V : Type 0} (g : Mut F A (Unit {0})) (Shows : A → List ℕ × V × V → Type 0)

@@ -1,9 +1,9 @@
 -- Two leaves side by side: what they have in common is their key, if it is the same.
-use Rattle.std.proofs.Common.{◌≡◌, ◌≢◌, ◌<◌, ◌≤◌, ◌⊎◌, inl, inr, ℕ, suc, true, false, cond, ⊎_elim, List, [], ◌∷◌, ◌++◌, Some, None, Ok, length, take, drop, get_or, refl, sym, ap, ◌∙◌, arith}
-use Rattle.std.specs.Prelude.{Bool, ◌==◌}
+use Rattle.std.proofs.Common.{◌≡◌, ◌≢◌, ◌⊎◌, inl, inr, ℕ, suc, cond, ⊎_elim, List, [], ◌∷◌, ◌++◌, Some, None, Ok, length, take, drop, refl, sym, ap, ◌∙◌, arith}
+use Rattle.std.specs.Prelude.{Bool}
 use Rattle.std.specs.Fn.{Mut}
 use Rattle.std.specs.List.{concat}
-use Rattle.std.proofs.lemmas.Bool.{cases_lt, eq-eqb, ne_eqb}
+use Rattle.std.proofs.lemmas.Bool.{cases_lt, eq-eqb}
 use Rattle.std.proofs.lemmas.List.{append-nil, drop_all}
 use Rattle.rart_below.specs.Bytes.{common_length}
 use Rattle.rart_maps.specs.Visits.{Visits}
@@ -33,22 +33,6 @@ same-from-common p q long all =
     sym (split-whole p q (omega (arith, all))
     ∙ (ap (λ (rest : List ℕ). p ++ rest) (drop_all (common_length p q) q (omega (arith, long, all)))
     ∙ append-nil p))
-
--- Where their second bytes differ, they have one byte in common at most.
-pub common-one : (p q : List ℕ) → 1 < length p → 1 < length q → get_or p 1 0 ≢ get_or q 1 0
-    → common_length p q ≤ 1
-common-one [] q some also differ = absurd (omega (arith, some))
-common-one (a ∷ []) q some also differ = absurd (omega (arith, some))
-common-one (a ∷ b ∷ p) [] some also differ = absurd (omega (arith, also))
-common-one (a ∷ b ∷ p) (c ∷ []) some also differ = absurd (omega (arith, also))
-common-one (a ∷ b ∷ p) (c ∷ d ∷ q) some also differ =
-    let second : cond (b == d) (suc (common_length p q)) 0 ≡ 0 =
-    ap (λ (t : Bool). cond t (suc (common_length p q)) 0) (ne_eqb b d differ) in
-    elim (a == c) as (λ (t : Bool).
-    cond t (suc (cond (b == d) (suc (common_length p q)) 0)) 0 ≤ 1) [
-      | true ↦ omega (arith, second)
-      | false ↦ omega arith
-    ]
 
 module _ {V : Type 0} where
   pub same-common : (s t : Shape V) (count : ℕ) → SameBytes s t (Some count)

@@ -60,9 +60,6 @@ module _ {V : Type 0} where
   pub height-with : (s : Shape V) (p : List ℕ) → height (with_prefix p s) ≡ height s
   height-with (node prefix value width forest) p = refl
 
-  pub behind-none : (s : Shape V) → behind_bytes 0 s ≡ s
-  behind-none (node prefix value width forest) = refl
-
   -- ---- what is in common
   pub own-none : (path : List ℕ) (value : Option V) → own_entry path value None ≡ []
   own-none path None = refl

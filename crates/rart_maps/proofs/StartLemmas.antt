@@ -360,22 +360,6 @@ module _ {C : Type 0} where
       let parts = strings_under-at_least strings s bytes once in
       omega (arith, same, parts)
 
-  -- So the strings that s begins add up over children in order, where there is one beside each byte
-  -- with which a string goes on after s.
-  pub add_up-children : (strings : Strings) (s : List ℕ) (children : List (ℕ × C))
-      → is_sorted nat_cmp children ≡ true
-      → ((b : ℕ) (rest : List ℕ) → set.contains strings (s ++ b ∷ rest) ≡ true
-      → is_some (find nat_cmp b children) ≡ true)
-      → set.len (strings_under strings s)
-      ≡ cond (set.contains strings s) 1 0
-      + sum_by (λ child. set.len (strings_under strings (with_byte s child.0))) children
-  add_up-children strings s children sorted beside =
-      strings_under_add_up strings s (map (λ child. child.0) children)
-      (λ b rest there. once-children b children sorted (beside b rest there))
-      ∙ ap (λ n. cond (set.contains strings s) 1 0 + n)
-      (sum_by-map (λ b. set.len (strings_under strings (with_byte s b)))
-      (λ child. child.0) children)
-
 none_before : (b a n : ℕ) → b < a → count_by (λ c. c == b) (range_with_len a n) ≡ 0
 none_before b a zero less = refl
 none_before b a (suc n) less =

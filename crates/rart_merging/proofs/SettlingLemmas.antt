@@ -286,9 +286,6 @@ module _ {F A V : Type 0} (g : Mut F A (Option V)) (Shows : A → Conflict V →
       },
     )
 
-  pub asks-none : (f : F) (all : List (Conflict V)) → IsAskedUpTo g Shows f all f
-  asks-none f all = ([], all, record { asked = refl; calls = refl })
-
 -- What a closure makes of a draft that settles the key of each change of theirs that it is shown.
 module _ {S K F A V : Type 0}
     (closure : Mut S (K × (Option (Bor V) × (Option (Bor V) × Unit {0}))) (Unit {0}))

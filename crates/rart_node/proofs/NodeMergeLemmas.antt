@@ -4,7 +4,7 @@ use Rattle.std.specs.Result.{IfOk}
 use Rattle.std.proofs.lemmas.Option.{none-some, same_Some}
 use Rattle.rart_below.specs.Children.{children_from, first_of, IsAscending}
 use Rattle.rart_below.proofs.MoveLemmas.{children_from-zero}
-use Rattle.rart_node.specs.Shape.{Shape, node, prefix_of, with_prefix, HasOnly}
+use Rattle.rart_node.specs.Shape.{Shape, HasOnly}
 
 module _ {X : Type 0} where
   only-entry : (es : List (ℕ × X)) → length es ≡ 1 → (e : ℕ × X) × (es ≡ e ∷ [])
@@ -39,6 +39,3 @@ module _ {V : Type 0} where
       → HasOnly next other s → child ≡ other
   only-child s child other byte next one two =
       ap (λ z. z.1) (same_Some (byte, child) (next, other) (ap first_of (sym one ∙ two)))
-
-  pub same-prefix : (s : Shape V) → with_prefix (prefix_of s) s ≡ s
-  same-prefix (node prefix value width forest) = refl

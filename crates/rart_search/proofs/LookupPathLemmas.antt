@@ -1,10 +1,10 @@
 -- The way that a key takes down a tree, a node at a time, and a search that counts its steps.
-use Rattle.std.proofs.Common.{◌≡◌, ℕ, zero, suc, ◌+◌, ◌<◌, ◌≤◌, List, [], ◌∷◌, Option, Some, None, IsSome, length, refl, arith, sym, ap, ◌∙◌}
+use Rattle.std.proofs.Common.{◌≡◌, ℕ, zero, suc, ◌+◌, ◌<◌, ◌≤◌, List, [], ◌∷◌, Option, Some, None, length, refl, arith, sym, ap, ◌∙◌}
 use Rattle.std.specs.Option.{option_and_then, option_map}
 use Rattle.std.proofs.lemmas.Option.{none-some}
 use Rattle.rart_node.specs.Counts.{Counts}
-use Rattle.rart_node.specs.Shape.{Shape, node, prefix_of, value_of}
-use Rattle.rart_search.specs.Paths.{step, path_end, Arrives}
+use Rattle.rart_node.specs.Shape.{Shape, node, prefix_of}
+use Rattle.rart_search.specs.Paths.{step, path_end}
 use Rattle.rart_search.specs.Steps.{child_under}
 use Rattle.rart_search.proofs.StepLemmas.{under}
 use Rattle.rart_shape.specs.Trees.{strip_prefix, path_bound}
@@ -50,13 +50,7 @@ module _ {V : Type 0} where
 
   module _ (root : Shape V) (key : List ℕ) (start : Counts) (steps : ℕ) (s : Shape V)
       (rest : List ℕ) (now : Counts) (down : IsSearchDown root key start steps s rest now) where
-    pub search-few : steps + 1 ≤ path_bound root key
-    search-few = let one = path-one s rest in let few = down.few in omega (arith, one, few)
-
     module _ (left : List ℕ) (strips : Some left ≡ strip_prefix (prefix_of s) rest) where
-      pub search-arrives : left ≡ [] → IsSome (value_of s) → Arrives steps key root
-      search-arrives end there = ((s, rest), down.reached, sym strips ∙ ap Some end, there)
-
       module _ (child : Shape V) (here : Some child ≡ child_under left s) where
         shorter : 1 + path_bound child left ≤ path_bound s rest
         shorter = let at-byte = under left s child here in

@@ -45,8 +45,3 @@ pub is_to-behind : (strict : Bool) (high key : List ℕ) → byte_order key high
     → is_to strict high key ≡ false
 is_to-behind true high key is = ap is_lt is
 is_to-behind false high key is = ap is_le is
-
--- the key is done, and begins the bound
-pub is_to-done : (strict : Bool) (b : ℕ) (rest : List ℕ) → is_to strict (b ∷ rest) [] ≡ true
-is_to-done true b rest = refl
-is_to-done false b rest = refl

@@ -5,15 +5,6 @@ use Rattle.rart_node.specs.Shape.{Shape, node, prefix_of, entries_of, is_full_at
 use Rattle.rart_node.specs.Counts.{CountsUpTo}
 use Rattle.rart_shape.specs.Trees.{BeginsWith, path_bound, ending, cut_at}
 
-pub counts-none : (before : Counts) → CountsUpTo 0 0 before before
-counts-none before =
-    record {
-      entered_grows = omega arith;
-      entered_at_most = omega arith;
-      made_grows = omega arith;
-      made_at_most = omega arith;
-    }
-
 pub counts-then : {entered made later_entered later_made most most_made : ℕ}
     {before between after : Counts} → CountsUpTo entered made before between
     → CountsUpTo later_entered later_made between after → entered + later_entered ≤ most
@@ -109,11 +100,6 @@ module _ {V : Type 0} where
   pub path-most : (s : Shape V) (key : List ℕ) → path_bound s key ≤ length key + 1
   path-most (node [] value width forest) key = omega arith
   path-most (node (b ∷ prefix) value width forest) key = omega arith
-
-  pub path-inside : (s : Shape V) (key : List ℕ) (byte : ℕ) → BeginsWith byte (prefix_of s)
-      → 0 < length key → path_bound s key ≤ length key
-  path-inside (node [] value width forest) key byte begins some = absurd begins
-  path-inside (node (b ∷ prefix) value width forest) key byte begins some = omega (arith, some)
 
   -- one node more than from the child on, where the whole prefix was matched
   pub path-step : (s child : Shape V) (key rest : List ℕ) (byte matched : ℕ)

@@ -9,7 +9,7 @@ use Rattle.rart_below.specs.Bytes.{common_length}
 use Rattle.rart_below.specs.Children.{child_at}
 use Rattle.rart_node.specs.Shape.{Shape, Forest, node, bare, grown, prefix_of, value_of, children_of, entries_of, height, height_below, IsAscending}
 use Rattle.rart_shape.specs.Trees.{BeginsWith, found, found_below, IsTree, IsOrdered, AreBranches}
-use Rattle.rart_shape.proofs.PrefixLemmas.{strip_prefix-short, strip_prefix-whole}
+use Rattle.rart_shape.proofs.PrefixLemmas.{strip_prefix-whole}
 
 module _ {V : Type 0} where
   -- Below the children a string that is not empty has what the child under its first byte has.
@@ -24,15 +24,6 @@ module _ {V : Type 0} where
       (cond t (Some child) (child_at byte (entries_of forest))) in
       let both : (t : Bool) → P t = elim [ true ↦ refl | false ↦ found-below forest byte q ] in
       rw (unsigned_tied byte b) (both (byte == b))
-
-  pub found-short : (s : Shape V) (q : List ℕ)
-      → common_length (prefix_of s) q < length (prefix_of s) → found s q ≡ None
-  found-short (node prefix value width forest) q short = rw (strip_prefix-short prefix q short) refl
-
-  pub found-end : (s : Shape V) (q : List ℕ) → length (prefix_of s) ≤ common_length (prefix_of s) q
-      → drop (common_length (prefix_of s) q) q ≡ [] → found s q ≡ value_of s
-  found-end (node prefix value width forest) q whole end =
-      rw (strip_prefix-whole prefix q whole, end) refl
 
   pub found-child : (s : Shape V) (q : List ℕ) (byte : ℕ) (rest : List ℕ)
       → length (prefix_of s) ≤ common_length (prefix_of s) q

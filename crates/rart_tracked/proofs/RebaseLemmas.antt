@@ -21,12 +21,12 @@ use Rattle.rart_maps.proofs.FoundLemmas.{Contains-pairs, pairs_ascend_by_key}
 use Rattle.rart_maps.proofs.OrderLemmas.{IsBefore-itself, byte_order-IsAntisymmetric}
 use Rattle.rart_maps.proofs.PointLemmas.{map-contains}
 use Rattle.rart_maps.proofs.VersionLemmas.{same_key}
-use Rattle.rart_changes.specs.ChangeLists.{Change, change_of, differ, effects, patched, takes_effect}
+use Rattle.rart_changes.specs.ChangeLists.{Change, change_of, effects, patched, takes_effect}
 use Rattle.rart_changes.proofs.ChangeLemmas.{KeysAscend-kept, change_of-is, filter_map-all, patched-elsewhere}
 use Rattle.rart_tracked.specs.ChangeVisits.{changes_at}
 use Rattle.rart_tracked.specs.Rebasing.{IsSetTo}
 use Rattle.rart_tracked.specs.Tracking.{Tracking, after_insertion, after_removal, is_in, listed, no_key, touching}
-use Rattle.rart_tracked.proofs.ShowLemmas.{change-there, changes_at-cons, no-change-there}
+use Rattle.rart_tracked.proofs.ShowLemmas.{changes_at-cons}
 use Rattle.rart_tracked.proofs.TrackingLemmas.{in-with}
 
 module _ {V : Type 0} where
@@ -154,25 +154,6 @@ module _ {V : Type 0} (same : V → V → Bool) (old new : Map V) where
       (sym (effects-later m w rest (at rest)
       (λ v there is. IsBefore-itself w (subst (IsBefore w) is (before v there)))
       (λ c there. changes_at-of rest c there)))
-
--- At one key a change takes effect where it sets it, or takes it out where it is there.
-pub effects-there : {V : Type 0} (same : V → V → Bool) (old new m : Map V) (w : List ℕ)
-    (x y : Option V) → finite.get old w ≡ x → finite.get new w ≡ y → differ same x y ≡ true
-    → effects m (changes_at same old new (w ∷ []))
-    ≡ cond (is_some y || finite.contains_key m w) 1 0
-effects-there same old new m w x y before after apart =
-    ap (effects m) (change-there same old new w x y before after apart)
-    ∙ sum_by-cons (λ d. cond (takes_effect m d) 1 0) (w, x, y) []
-    ∙ plus-none (cond (is_some y || finite.contains_key m w) 1 0)
-  where
-    plus-none : (n : ℕ) → n + 0 ≡ n
-    plus-none n = omega arith
-
-pub no-effects-there : {V : Type 0} (same : V → V → Bool) (old new m : Map V) (w : List ℕ)
-    (x y : Option V) → finite.get old w ≡ x → finite.get new w ≡ y → differ same x y ≡ false
-    → effects m (changes_at same old new (w ∷ [])) ≡ 0
-no-effects-there same old new m w x y before after alike =
-    ap (effects m) (no-change-there same old new w x y before after alike)
 
 -- At one key at most one does.
 pub effects-one : {V : Type 0} (same : V → V → Bool) (old new m : Map V) (w : List ℕ)

@@ -1,5 +1,5 @@
 -- Showing the changes at some keys, one after the other: the calls, and the counts.
-use Rattle.std.proofs.Common.{◌≡◌, ◌+◌, ◌*◌, ◌≤◌, ℕ, Bool, true, false, List, [], ◌∷◌, ◌++◌, Option, length, refl, sym, ap, subst, ◌∙◌, cond, arith}
+use Rattle.std.proofs.Common.{◌≡◌, ◌+◌, ◌*◌, ◌≤◌, ℕ, Bool, true, List, [], ◌∷◌, ◌++◌, Option, length, refl, sym, ap, subst, ◌∙◌, cond, arith}
 use Rattle.std.specs.Prelude.{Some, None}
 use Rattle.std.specs.Fn.{Mut}
 use Rattle.std.specs.List.{cons_option}
@@ -15,19 +15,12 @@ use Rattle.rart_versioned.specs.Counts.{Counts, CountsUpTo}
 use Rattle.rart_tracked.specs.ChangeVisits.{lookups_bound, changes_at}
 
 module _ {V : Type 0} (same : V → V → Bool) (old new : Map V) where
-  -- Of one key there is a change where the maps differ,
+  -- Of one key there is a change where the maps differ.
   pub change-there : (w : List ℕ) (x y : Option V) → finite.get old w ≡ x → finite.get new w ≡ y
       → differ same x y ≡ true → changes_at same old new (w ∷ []) ≡ (w, x, y) ∷ []
   change-there w x y before after apart =
       (λ i. cons_option (change_of same w (before i) (after i)) [])
       ∙ ap (λ t. cons_option (cond t (Some (w, x, y)) None) []) apart
-
-  -- and else none.
-  pub no-change-there : (w : List ℕ) (x y : Option V) → finite.get old w ≡ x
-      → finite.get new w ≡ y → differ same x y ≡ false → changes_at same old new (w ∷ []) ≡ []
-  no-change-there w x y before after alike =
-      (λ i. cons_option (change_of same w (before i) (after i)) [])
-      ∙ ap (λ t. cons_option (cond t (Some (w, x, y)) None) []) alike
 
   pub changes_at-cons : (w : List ℕ) (ws : List (List ℕ)) → changes_at same old new (w ∷ ws)
       ≡ changes_at same old new (w ∷ []) ++ changes_at same old new ws

@@ -8,7 +8,7 @@ use Rattle.rart_below.specs.declared.slot.SlotUpdate.{SlotUpdate}
 use Rattle.rart_below.specs.declared.slot.SlotUpdate.TheVariants.{Keep, Insert, Remove}
 use Rattle.rart_maps.specs.Changes.{slot_update_from, slot_attempt_from}
 use Rattle.rart_maps.specs.Versions.{Version, value_at}
-use Rattle.rart_maps.proofs.LookupLemmas.{updated-sets, tried-sets, failed-keeps}
+use Rattle.rart_maps.proofs.LookupLemmas.{updated-sets, tried-sets}
 use Rattle.rart_maps.specs.Pairs.{Strings}
 use Rattle.rart_tracked.specs.Tracking.{Keeps, Tracking, updated, with_string}
 use Rattle.rart_tracked.proofs.TrackingLemmas.{keeps-raised}
@@ -47,20 +47,6 @@ module _ {V : Type 0} (before after : Version V) (w : List ℕ) where
     attempt-raises-from (Some old) left (Ok Remove) is =
         let number = ap (λ p. p.1.number) is in omega (arith, number)
     attempt-raises-from (Some old) left (Err e) is = absurd (cc (ap (λ p. p.0) is))
-
-    failure-rises-from : (was : Option V) (left : Slot V) (told : Result (SlotUpdate V) E) (e : E)
-        → (Err e, after) ≡ slot_attempt_from before w was left told
-        → before.number ≤ after.number
-    failure-rises-from None left (Ok Keep) e is = absurd (cc (ap (λ p. p.0) is))
-    failure-rises-from None left (Ok (Insert x)) e is = absurd (cc (ap (λ p. p.0) is))
-    failure-rises-from None left (Ok Remove) e is = absurd (cc (ap (λ p. p.0) is))
-    failure-rises-from None left (Err error) e is =
-        let number = ap (λ p. p.1.number) is in omega (arith, number)
-    failure-rises-from (Some old) left (Ok Keep) e is = absurd (cc (ap (λ p. p.0) is))
-    failure-rises-from (Some old) left (Ok (Insert x)) e is = absurd (cc (ap (λ p. p.0) is))
-    failure-rises-from (Some old) left (Ok Remove) e is = absurd (cc (ap (λ p. p.0) is))
-    failure-rises-from (Some old) left (Err error) e is =
-        let number = ap (λ p. p.1.number) is in omega (arith, number)
 
 module _ {V : Type 0} {base now after : Version V} {touched marked : Version (Unit {0})}
     (w : List ℕ) (keeps : Keeps base now touched) where
@@ -111,19 +97,3 @@ pub updated-view : {V : Type 0} (t now : Tracking V) (w : List ℕ) (v : Version
 updated-view t now w v touched answer is keys =
     (λ i. record { base = t.base; current = v; touched = keys i })
     ∙ ap (λ u. updated u w answer v) is
-
--- A callback's error leaves the map, and lowers no number.
-pub keeps-failure : {F V E : Type 0} {base now after : Version V} {touched : Version (Unit {0})}
-    (w : List ℕ) → Keeps base now touched → (callback : Once F (MutBor (Slot V) × Unit {0})
-    (Result (SlotUpdate V) E × (MutBor (Slot V) × Unit {0}))) (f : F) (e : E)
-    → Answers callback f now w (Err e) after → Keeps base after touched
-keeps-failure {now = now} {after = after} w keeps callback f e answers =
-    let rises = failure-rises-from now after w (value_at now w) answers.0 answers.1 e answers.3 in
-    let few = keeps.few in
-    record {
-      tracked = λ q not.
-          ap (λ m. finite.get m q) (failed-keeps now after w answers.0 answers.1 e answers.3)
-          ∙ keeps.tracked q not;
-      few = omega (arith, few, rises);
-      counted = keeps.counted;
-    }

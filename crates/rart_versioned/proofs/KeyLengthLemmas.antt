@@ -1,5 +1,5 @@
 -- How long the keys below a root are: short enough for whatever key path a walk keeps.
-use Rattle.std.proofs.Common.{◌≤◌, ◌-◌, ◌^◌, ℕ, List, Option, Some, None, is_some, length, sym, ap, subst, ◌∙◌, arith}
+use Rattle.std.proofs.Common.{◌≤◌, ◌-◌, ◌^◌, ℕ, List, Option, Some, is_some, length, sym, ap, subst, ◌∙◌, arith}
 use Rattle.std.specs.Prelude.{All, Contains}
 use Rattle.rart_below.specs.Bytes.{IsAdmitted}
 use Rattle.rart_node.specs.Shape.{Shape}
@@ -27,10 +27,6 @@ module _ {V : Type 0} (most : Option ℕ) (count : ℕ) (root : Shape V)
   short-segments =
       All-from_contains (λ (pair : List ℕ × V). length pair.0 ≤ 2 ^ 64 - 1) (pairs_of root)
       (λ pair there. let fits = (pair-length pair there).1 in omega (arith, fits))
-
-  -- for a key path of bytes, and for none
-  pub short-any : AreShort None (pairs_of root)
-  short-any = tt
 
   -- A key can be made of each.
   pub admitted-pairs :

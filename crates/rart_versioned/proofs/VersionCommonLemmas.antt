@@ -1,9 +1,8 @@
 -- What two trees have in common and share, in the words of the maps that their roots stand for.
-use Rattle.std.proofs.Common.{◌≡◌, ◌*◌, ℕ, List, Some, sym}
+use Rattle.std.proofs.Common.{◌≡◌, ℕ, List, Some}
 use Rattle.std.specs.List.{filter_map}
 use Rattle.std.specs.Option.{option_map}
 use Rattle.std.specs.FinSet as set
-use Rattle.rart_maps.specs.Bounds.{meet_bound}
 use Rattle.rart_maps.specs.Pairs.{common, shared}
 use Rattle.rart_node.specs.Shape.{Shape}
 use Rattle.rart_shape.specs.Trees.{IsTree}
@@ -20,8 +19,3 @@ module _ {V : Type 0} (left right : Shape V) (tree : IsTree left) (also : IsTree
   pub shared-roots : shared (map_of (Some left)) (map_of (Some right)) ≡ shared_of left right
   shared-roots = λ i. set.intersection (starts_of (pairs-map (Some left) tree i))
       (starts_of (pairs-map (Some right) also i))
-
-  -- So the nodes that may be entered are those of the bound.
-  pub meet-roots : 2 * set.len (shared_of left right)
-      ≡ meet_bound (map_of (Some left)) (map_of (Some right))
-  meet-roots = λ i. 2 * set.len (sym shared-roots i)

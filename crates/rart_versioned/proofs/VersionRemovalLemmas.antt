@@ -56,10 +56,6 @@ module _ {V : Type 0} where
   present-outcome v w more there = sym (ap (λ t. cond t (without_key v w more) v) there)
 
   -- ---- in the words of the map
-  pub there-found : (o : Option (Shape V)) (key : List ℕ) → IsTreeIn o
-      → IsSome (finite.get (map_of o) key) → IsSome (found_in o key)
-  there-found o key tree there = subst IsSome (get-found o key tree) there
-
   pub map-taken : (before after : Option (Shape V)) (key : List ℕ) → IsTreeIn before
       → IsTakenIn key before after → map_of after ≡ finite.remove (map_of before) key
   map-taken before after key tree taken =

@@ -1,19 +1,17 @@
 -- A visit up to an upper bound, node by node: it ends at the first node past that, and has entered
 -- no more nodes than meet the bound, and one.
-use Rattle.std.proofs.Common.{◌≡◌, ◌+◌, ◌<◌, ◌≤◌, ⊎_elim, inr, ℕ, true, false, cond, List, [], ◌∷◌, ◌++◌, Option, Some, None, length, arith, refl, ap, subst, ◌∙◌}
-use Rattle.std.specs.Prelude.{count_by, IsSome}
+use Rattle.std.proofs.Common.{◌≡◌, ◌+◌, ◌≤◌, ⊎_elim, inr, ℕ, true, false, cond, List, [], ◌∷◌, ◌++◌, Option, length, arith, refl, ap, subst, ◌∙◌}
+use Rattle.std.specs.Prelude.{count_by}
 use Rattle.std.specs.List.{concat}
 use Rattle.std.specs.Borrow.{Bor}
-use Rattle.std.specs.Option.{option_copied}
 use Rattle.std.specs.declared.ops.Bound.{Bound}
-use Rattle.std.proofs.lemmas.Bool.{false≢true}
-use Rattle.std.proofs.lemmas.List.{append-nil, length-append}
+use Rattle.std.proofs.lemmas.List.{append-nil}
 use Rattle.std.proofs.lemmas.List.Sums.{sum_by-cons}
 use Rattle.rart_maps.specs.FoundLaws.{KeysAscend}
 use Rattle.rart_maps.specs.Order.{IsBefore}
 use Rattle.rart_maps.proofs.RangeLemmas.{up_to, is_below, up_to-past, past-behind}
 use Rattle.rart_node.specs.Counts.{Counts, CountsUpTo}
-use Rattle.rart_walks.specs.Walks.{Cursor, ComesTo, GoesOnFirst, pending_pair}
+use Rattle.rart_walks.specs.Walks.{Cursor, ComesTo, GoesOnFirst}
 
 -- ---- paths past the bound
 longer-behind : (u : List ℕ) (c : ℕ) (more : List ℕ) → IsBefore u (u ++ (c ∷ more))
@@ -26,26 +24,6 @@ pub past-further : (high : Bound (List ℕ)) (u more : List ℕ) → is_below hi
 past-further high u [] past = ap (is_below high) (append-nil u) ∙ past
 past-further high u (c ∷ more) past =
     past-behind high u (u ++ (c ∷ more)) (longer-behind u c more) past
-
--- Each step of a walk leaves less.
-pub comes-smaller : {V : Type 0} {before after : Cursor V} {value : Option (Bor V)}
-    → ComesTo before value after
-    → length after.pairs + length after.paths < length before.pairs + length before.paths
-comes-smaller {V} {before} {after} {value} comes =
-    let pairs = ap length comes.pairs
-    ∙ length-append (pending_pair (concat after.segments) (option_copied value)) after.pairs in
-    ⊎_elim
-    (λ next. let long = ap length next in omega (arith, pairs, long))
-    (λ stays.
-    let long = ap length stays.0 in
-    let one = one-pending value stays.1 in
-    omega (arith, pairs, long, one))
-    comes.place
-  where
-    one-pending : (value : Option (Bor V)) → IsSome value
-        → length (pending_pair (concat after.segments) (option_copied value)) ≡ 1
-    one-pending None some = absurd (false≢true some)
-    one-pending (Some value) some = refl
 
 module _ (high : Bound (List ℕ)) where
   -- Behind a node past the bound no key meets it.
@@ -64,10 +42,6 @@ module _ (high : Bound (List ℕ)) where
         ≤ start.entered + count_by (is_below high) paths
     pub grows : start.entered ≤ now.entered
     pub made : now.made ≡ start.made
-
-  pub few-start : (paths : List (List ℕ)) (start : Counts) → IsFew paths start paths start
-  few-start paths start =
-      record { within = omega arith; grows = omega arith; made = omega arith }
 
   -- The walk goes on to a node that meets the bound.
   pub few-next : {V : Type 0} {before after : Cursor V} {value : Option (Bor V)}

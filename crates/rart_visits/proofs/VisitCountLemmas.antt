@@ -8,9 +8,6 @@ pub record IsCounted (nodes : ℕ) (start : Counts) (left : ℕ) (now : Counts) 
   pub grows : start.entered ≤ now.entered
   pub made : now.made ≡ start.made
 
-pub counted-start : (nodes : ℕ) (start : Counts) → IsCounted nodes start nodes start
-counted-start nodes start = record { same = omega arith; grows = omega arith; made = omega arith }
-
 -- A step of the walk,
 pub counted-next : {nodes left : ℕ} {start now after : Counts} (less : ℕ) →
     IsCounted nodes start left now → after.entered + less ≡ now.entered + left →

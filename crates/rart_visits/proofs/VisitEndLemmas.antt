@@ -6,7 +6,7 @@ use Rattle.std.specs.Borrow.{Bor}
 use Rattle.std.specs.Fn.{Mut}
 use Rattle.std.specs.declared.ops.Bound.{Bound}
 use Rattle.std.proofs.lemmas.Bool.{true≢false}
-use Rattle.std.proofs.lemmas.List.{append-nil, length-append, map-append}
+use Rattle.std.proofs.lemmas.List.{length-append, map-append}
 use Rattle.std.proofs.lemmas.List.Elements.{All-nil, All-cons, All-head, All-pop}
 use Rattle.rart_below.specs.declared.visit.VisitControl.{VisitControl}
 use Rattle.rart_below.specs.declared.visit.VisitControl.TheVariants.{Continue}
@@ -16,7 +16,7 @@ use Rattle.rart_maps.proofs.VisitLemmas.{answers-append}
 use Rattle.rart_node.specs.Counts.{Counts, CountsUpTo}
 use Rattle.rart_walks.specs.Walks.{Cursor, ComesTo, GoesOnFirst}
 use Rattle.rart_visits.specs.Ends.{EndsWithin, MeetUpTo, EntersUpTo}
-use Rattle.rart_visits.proofs.UpToLemmas.{IsFew, few-start, few-next, past-further}
+use Rattle.rart_visits.proofs.UpToLemmas.{IsFew, few-next, past-further}
 
 -- What begins a string that meets an upper bound meets it too.
 meets-shorter : (high : Bound (List ℕ)) (u more : List ℕ) → is_below high (u ++ more) ≡ true
@@ -53,15 +53,6 @@ module _ {F V E : Type 0} (g : Mut F (Bor V × Unit {0}) (Result VisitControl E)
     pub few : (high : Bound (List ℕ)) → MeetUpTo high front → MeetUpTo high (first_of left)
         → IsFew high paths before ahead now
     pub each : before.entered + length front + at_hand ≤ now.entered + hand
-
-  pub goes-start : GoesOn members paths hand before start
-  goes-start = record {
-    front = [];
-    is = refl;
-    calls = refl;
-    few = λ high met first. few-start high paths before;
-    each = omega arith;
-  }
 
   -- The walk comes to a node.
   module _ {at to : Cursor V} {value : Option (Bor V)} {at_hand : ℕ} {now later : Counts} {f : F}
@@ -164,22 +155,3 @@ module _ {F V E : Type 0} (g : Mut F (Bor V × Unit {0}) (Result VisitControl E)
               at_least = omega (arith, each, step, long);
             },
           )
-
-  -- No node is left: the closure was called on all values.
-  module _ {left : List (List ℕ × V)} {ahead : List (List ℕ)} {at_hand : ℕ} {now later : Counts}
-      {f : F} (goes : GoesOn left ahead at_hand now f) (none : left ≡ [])
-      (counted : CountsUpTo 1 0 now later) where
-    front-is : members ≡ goes.front
-    front-is = goes.is ∙ ap (λ left. goes.front ++ left) none ∙ append-nil goes.front
-
-    pub goes-through : Answers g ByValue (Ok Continue) start (map (λ pair. pair.1) members) f
-    goes-through =
-        subst (λ pairs. Answers g ByValue (Ok Continue) start (map (λ pair. pair.1) pairs) f)
-        (sym front-is) goes.calls
-
-    pub goes-least : before.entered + length members ≤ later.entered + hand
-    goes-least =
-        let each = goes.each in
-        let long = ap length front-is in
-        let grows = counted.entered_grows in
-        omega (arith, each, long, grows)

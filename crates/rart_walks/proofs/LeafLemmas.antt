@@ -1,14 +1,9 @@
 -- The leaf that a walk stands at, which has no frame, and what is taken of the frames above it.
-use Rattle.std.proofs.Common.{◌≡◌, ◌≤◌, ℕ, true, List, [], ◌∷◌, ◌++◌, Option, Some, None, length, arith, refl, sym, ap, ◌∙◌}
-use Rattle.std.specs.Prelude.{◌==◌}
-use Rattle.std.specs.Borrow.{Bor}
-use Rattle.std.specs.Option.{option_copied}
-use Rattle.std.proofs.lemmas.Bool.{eqb-true}
+use Rattle.std.proofs.Common.{◌≡◌, ℕ, List, [], ◌∷◌, ◌++◌, Option, Some, None, refl, sym, ap, ◌∙◌}
 use Rattle.std.proofs.lemmas.List.{append_assoc}
 use Rattle.rart_below.specs.Children.{TakesFirst}
-use Rattle.rart_node.specs.Shape.{Shape, FitsWidth, children_of, width_of}
-use Rattle.rart_walks.specs.Frames.{OpenNode, AreSpent, TakesChild, TakesAhead, segments_of, with_leaf}
-use Rattle.rart_walks.proofs.WalkLemmas.{segments-push}
+use Rattle.rart_node.specs.Shape.{Shape}
+use Rattle.rart_walks.specs.Frames.{OpenNode, AreSpent, TakesChild, TakesAhead, with_leaf}
 
 module _ {V : Type 0} where
   -- the first child of the innermost node is taken
@@ -58,21 +53,3 @@ module _ {V : Type 0} where
         ((segment, []) ∷ []),
     takes.7,
   )
-
-  pub segments-leaf : (frames : List (OpenNode V)) (leaf : Option (Bor (List ℕ)))
-      (segment : Bor (List ℕ)) → leaf ≡ Some segment
-      → segments_of (with_leaf frames (option_copied leaf))
-      ≡ segments_of frames ++ segment.now ∷ []
-  segments-leaf frames leaf segment is =
-      ap (λ it. segments_of (with_leaf frames (option_copied it))) is
-      ∙ segments-push frames (segment.now, [])
-
-  no-more : (children : List (ℕ × Shape V)) → length children ≤ 0 → children ≡ []
-  no-more [] few = refl
-  no-more (child ∷ children) few = absurd (omega (arith, few))
-
-  pub leaf-children : (s : Shape V) → (width_of s == 0) ≡ true → FitsWidth s → children_of s ≡ []
-  leaf-children s leaf fits =
-      let none = eqb-true (width_of s) 0 leaf in
-      let room = fits.has_room in
-      no-more (children_of s) (omega (arith, none, room))

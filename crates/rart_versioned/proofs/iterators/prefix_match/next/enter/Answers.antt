@@ -47,4 +47,5 @@ returns-in-Some-clause-gives g c =
     ∙ ap (λ own. pending_pair (take depth probe) own
     ++ matches_below probe depth (child_under rest s)) (sym value)
     ∙ ap (λ o. pending_pair (take depth probe) (option_copied c.value.result)
-    ++ matches_below probe depth o) (sym (c.child-at.ensures ∙ ap (child_under rest) c.in-Some.ensures.node))
+    ++ matches_below probe depth o)
+    (sym (c.child-at.ensures ∙ ap (child_under rest) c.in-Some.ensures.node))

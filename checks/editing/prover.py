@@ -1,4 +1,5 @@
 """Checks of a crate with edits by the prover, and what is read off its words."""
+import contextlib
 import dataclasses
 import functools
 import os
@@ -8,6 +9,7 @@ import signal
 import subprocess
 import tempfile
 import threading
+import weakref
 
 from .repository import PARTS, library
 
@@ -76,6 +78,33 @@ class Said:
             if it and it[1].startswith(f"{crate.name}::"):
                 found[it[1].removeprefix(f"{crate.name}::")] = it[2], it[3]
         return found
+
+
+class Kept:
+    """What the prover kept of the first check of a crate that came to its end: pages that stand as
+    they did there are not checked once more. It tells by their sums, as for `rt must-fail`."""
+
+    def __init__(self):
+        self.lock, self.folder = threading.Lock(), None
+
+    @contextlib.contextmanager
+    def lent(self):
+        """Lends a copy, or an empty folder, to one check, which may write into it."""
+        own = tempfile.mkdtemp(prefix="edits-kept-")
+        try:
+            if self.folder:
+                shutil.copytree(self.folder, own, dirs_exist_ok=True)
+            yield own
+        finally:
+            if own != self.folder:
+                shutil.rmtree(own, ignore_errors=True)
+
+    def keep(self, own):
+        """Keeps what was lent to a check that came to its end, if nothing is kept yet."""
+        with self.lock:
+            if self.folder is None:
+                self.folder = own
+                weakref.finalize(self, shutil.rmtree, own, ignore_errors=True)
 
 
 class Room:

@@ -7,6 +7,7 @@ its own that is not. With each batch goes a function as it stands, which must be
 batch shows nothing.
 """
 import collections
+import contextlib
 import dataclasses
 import enum
 import os
@@ -14,7 +15,7 @@ import re
 import threading
 
 from .edit import Edit, name_of
-from .prover import Room, own_reason, refused_pages, was_killed, words
+from .prover import Kept, Room, own_reason, refused_pages, was_killed, words
 from .repository import functions_of, module_of
 from .source import sources_of
 
@@ -100,17 +101,17 @@ class CrateTrial:
         self.recursive = self._recursive()
         self.controls = self._controls()
         self.command = words(repository, built, crate)
-        self.checks, self.lock = 0, threading.Lock()
+        self.checks, self.lock, self.kept = 0, threading.Lock(), Kept()
 
     def _named(self):
-        """The functions of the crate that have a body and a name, outside of its tests."""
+        """The functions of the crate that have a name, outside of its tests."""
         known = None if self.crate.is_linked else self.known
         for file, source in self.before.items():
             if source is None or "tests" in module_of(file):
                 continue
             for place, function in source.functions.items():
                 name = name_of(file, place, function, known)
-                if name and function.body:
+                if name:
                     yield name, function
 
     def _recursive(self):
@@ -121,22 +122,26 @@ class CrateTrial:
 
     def _controls(self):
         """The functions that may go with a batch as they stand, those with the shortest bodies
-        first: of those that have no proof by hand."""
+        first, and laws, which have none, last: of those that have no proof by hand."""
         found = []
         for name, function in self._named():
             if function.is_shared or name in self.recursive or self._has_proof_by_hand(name):
                 continue
-            found.append((len(function.body), name))
-        return [name for _, name in sorted(found)]
+            found.append((not function.body, len(function.body), name))
+        return [name for *_, name in sorted(found)]
 
     def check(self, room, *flags):
         with self.lock:
             self.checks += 1
             number = self.checks
-        if not self.log:
-            return room.check(self.command, *flags)
-        with open(f"{self.log}/{self.crate.name}-{number}", "w", encoding="utf-8") as log:
-            return room.check(self.command, *flags, log=log)
+        with contextlib.ExitStack() as stack:
+            kept = stack.enter_context(self.kept.lent())
+            path = self.log and f"{self.log}/{self.crate.name}-{number}"
+            log = stack.enter_context(open(path, "w", encoding="utf-8")) if path else None
+            said = room.check(self.command, "--incremental", kept, *flags, log=log)
+            if said.came_to_its_end:
+                self.kept.keep(kept)
+            return said
 
     def try_batch(self, batch):
         """Tries edits of different functions in one check. Gives the results, and the edits that

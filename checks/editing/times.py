@@ -82,13 +82,14 @@ class Sampler(threading.Thread):
 
 
 def _longest_chain(crates, found):
-    """The dearest way of proofs that wait for one another, each crate's for those that it names."""
+    """The dearest way of proofs that wait for one another, and the tests at its end."""
     chains = {}
     for name, crate in crates.items():
         seconds, way = max((chains[it] for it in crate.of_repository), default=(0, ()))
         chains[name] = seconds + found[name]["proofs"], (*way, name)
     seconds, way = max((it[0] + found[name]["tests"], it[1]) for name, it in chains.items())
-    return f"Longest chain of proofs: {seconds / 60:.0f} minutes, through {', '.join(way)}."
+    told = f"{seconds / 60:.0f} minutes, through {', '.join(way)}"
+    return f"Longest chain of proofs and tests: {told}."
 
 
 def _what(process):

@@ -81,8 +81,8 @@ class Said:
 
 
 class Kept:
-    """What the prover kept of the first check of a crate that came to its end: pages that stand as
-    they did there are not checked once more. It tells by their sums, as for `rt must-fail`."""
+    """What the prover kept of the first check of a crate, with its edits, that came to its end. A
+    page that stands as it did there is not checked once more, which the prover tells by its sum."""
 
     def __init__(self):
         self.lock, self.folder = threading.Lock(), None

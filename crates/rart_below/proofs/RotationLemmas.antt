@@ -8,11 +8,6 @@ module _ {X : Type 0} where
   abbrev part : ℕ → List X → X → List X
   part m xs x = take (suc m) (set xs m x)
 
-  length-part : (m : ℕ) (xs : List X) (x : X) → m < length xs → length (part m xs x) ≡ suc m
-  length-part m [] x lt = absurd (omega arith)
-  length-part zero (y ∷ ys) x lt = refl
-  length-part (suc m) (y ∷ ys) x lt = ap suc (length-part m ys x (omega arith))
-
   last_of_part : (m : ℕ) (xs : List X) (x : X) → m < length xs → drop m (part m xs x) ≡ x ∷ []
   last_of_part m [] x lt = absurd (omega arith)
   last_of_part zero (y ∷ ys) x lt = refl

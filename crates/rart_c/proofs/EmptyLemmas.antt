@@ -1,5 +1,5 @@
 -- What the version without a key answers, which a handle shows at null.
-use Rattle.std.proofs.Common.{◌≡◌, ◌∙◌, ℕ, List, Option, None, [], ap, length, refl, sym}
+use Rattle.std.proofs.Common.{◌≡◌, ℕ, List, None, [], ap, length, refl, sym}
 use Rattle.std.specs.FinMap as finite
 use Rattle.std.specs.List.{last_or}
 use Rattle.std.specs.Option.{option_map}

@@ -1,6 +1,6 @@
 -- Pages: how the pairs within two bounds stand to those from the lower one on, and to those behind
 -- one of them; and what one pair more is.
-use Rattle.std.proofs.Common.{◌≡◌, ◌+◌, ◌<◌, ◌≤◌, ◌⊎◌, ⊎_elim, inl, inr, ℕ, suc, Bool, true, false, List, [], ◌∷◌, ◌++◌, length, take, drop, get_or, drop-cons, refl, arith, sym, ap, subst, ◌∙◌}
+use Rattle.std.proofs.Common.{◌≡◌, ◌+◌, ◌<◌, ⊎_elim, inr, ℕ, suc, Bool, true, false, List, [], ◌∷◌, ◌++◌, length, take, drop, get_or, drop-cons, refl, arith, sym, ap, subst, ◌∙◌}
 use Rattle.std.proofs.Math.ListN.{set}
 use Rattle.std.proofs.Math.Seq.{set-append_seam, take-add}
 use Rattle.std.proofs.lemmas.Bool.Decides.{nat_tests}
@@ -17,7 +17,7 @@ use Rattle.rart_maps.proofs.FoundLemmas.{ascending_lists_are_fixed, within_ascen
 use Rattle.rart_maps.proofs.OrderLemmas.{IsBefore-itself}
 use Rattle.rart_maps.proofs.RangeLemmas.{IsBefore-through, from, from-ascends, up_to, up_to-first, up_to-past, within-from}
 use Rattle.rart_maps.specs.FoundLaws.{KeysAscend}
-use Rattle.rart_maps.specs.Order.{IsBefore, MeetsLow, MeetsHigh}
+use Rattle.rart_maps.specs.Order.{IsBefore, MeetsLow}
 use Rattle.rart_maps.specs.Pairs.{pairs, within}
 use Rattle.rart_maps.specs.Versions.{Map}
 use Rattle.rart_c.specs.Pages.{entries_from, keys_of}

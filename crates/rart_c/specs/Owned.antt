@@ -1,6 +1,6 @@
 -- What a handle owns: nothing at null, which is the map without a key and number 0, else the table
 -- at its pointer and the right to free it.
-use Rattle.std.specs.Prelude.{◌≡◌, ℕ, List}
+use Rattle.std.specs.Prelude.{◌≡◌}
 use Rattle.std.specs.Box.Ownership.{box_owns}
 use Rattle.std.specs.declared.alloc.Global.{Global}
 use Rattle.std.specs.declared.clone.Clone.{Ghosts}

@@ -14,7 +14,7 @@ pub counted-start : {nodes left : ℕ} (start : Counts) → left ≡ nodes
 counted-start start is =
     record { same = omega (arith, is); grows = omega arith; made = omega arith }
 
--- A step,
+-- A step.
 pub counted-next : {nodes left : ℕ} {start now after : Counts} (less : ℕ) →
     IsCounted nodes start left now → after.entered + less ≡ now.entered + left →
     CountsUpTo left 0 now after → IsCounted nodes start less after

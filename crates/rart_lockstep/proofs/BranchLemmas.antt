@@ -39,10 +39,6 @@ module _ {V : Type 0} where
   to_left t found =
       cons_option (option_map (λ child. (first_byte (prefix_of t), (child, t))) found) []
 
-  abbrev to_right : Shape V → Option (Shape V) → List (ℕ × (Shape V × Shape V))
-  to_right s found =
-      cons_option (option_map (λ child. (first_byte (prefix_of s), (s, child))) found) []
-
   -- what is found under the byte, as the calls know it
   pub step-left : (n t : Shape V) (p rest : List ℕ) (b : ℕ) (found : Option (Shape V))
       → IsAscending (with_prefix p n) → (p ≡ []) ⊎ (prefix_of t ≡ []) → rest ≡ prefix_of t

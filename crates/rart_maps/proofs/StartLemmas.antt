@@ -5,12 +5,12 @@ use Rattle.std.specs.Prelude.{◌==◌, Contains, count_by, sum_by}
 use Rattle.std.specs.List.{range_with_len, flat_map}
 use Rattle.std.specs.Option.{is_some}
 use Rattle.std.specs.Ordering.{nat_cmp, eq_by_cmp, is_lt}
-use Rattle.std.specs.Cmp.{ranked, eq_by_cmp_equiv, unsigned_tied}
+use Rattle.std.specs.Cmp.{ranked, eq_by_cmp_equiv}
 use Rattle.std.specs.declared.cmp.Ordering.TheVariants.{Less}
 use Rattle.std.specs.Cmp.Lexicographic.{nat_list_cmp_total, bytes_decides}
 use Rattle.std.specs.Str.{bytes_eq}
 use Rattle.std.specs.FinMap as finite
-use Rattle.std.specs.FinMap.Entries.{find, is_sorted, below_all}
+use Rattle.std.specs.FinMap.Entries.{is_sorted, below_all}
 use Rattle.std.specs.FinSet as set
 use Rattle.std.proofs.lemmas.Bool.{and_parts, and_from, eqb-true, eq-eqb, ne_eqb, false≢true, cases_eq}
 use Rattle.std.proofs.lemmas.List.Elements.{All-contains, Contains-append_left, Contains-append_right}
@@ -307,24 +307,6 @@ module _ {C : Type 0} where
       sum_by-cons (λ c. cond (c == b) 1 0) child.0 (map (λ child. child.0) children)
       ∙ (λ i. cond (ne_eqb child.0 b (λ is. omega (arith, is, less)) i) 1 0
       + none_below b children parts.1 i)
-
-  -- In children in order each byte that has one stands once.
-  pub once-children : (b : ℕ) (children : List (ℕ × C)) → is_sorted nat_cmp children ≡ true
-      → is_some (find nat_cmp b children) ≡ true
-      → count_by (λ c. c == b) (map (λ child. child.0) children) ≡ 1
-  once-children b [] sorted there = absurd (false≢true there)
-  once-children b (child ∷ children) sorted there =
-      let parts =
-      and_parts (below_all nat_cmp child.0 children) (is_sorted nat_cmp children) sorted in
-      sum_by-cons (λ c. cond (c == b) 1 0) child.0 (map (λ child. child.0) children)
-      ∙ ⊎_elim
-      (λ is. λ i. cond (eq-eqb child.0 b is i) 1 0
-      + none_below b children (ap (λ a. below_all nat_cmp a children) (sym is) ∙ parts.0) i)
-      (λ other. λ i. cond (ne_eqb child.0 b other i) 1 0
-      + once-children b children parts.1
-      (ap (λ t. is_some (cond t (Some child.1) (find nat_cmp b children)))
-      (sym (unsigned_tied b child.0 ∙ ne_eqb b child.0 (λ is. other (sym is)))) ∙ there) i)
-      (cases_eq child.0 b)
 
   at_most_once-children : (children : List (ℕ × C)) → is_sorted nat_cmp children ≡ true →
       HasBytesOnce (map (λ child. child.0) children)

@@ -4,7 +4,7 @@ use Rattle.std.specs.Fn.{Mut, Called}
 use Rattle.rart_below.specs.declared.visit.VisitControl.{VisitControl}
 use Rattle.rart_below.specs.declared.visit.VisitControl.TheVariants.{Continue, Stop}
 use Rattle.rart_maps.specs.Visits.{CalledOn, CallableOn, Answers, AnswersUpTo, CallableInTurn, VisitUpTo, VisitUntil}
-use Rattle.rart_maps.specs.VisitLaws.{ArgumentsShowTheirMembers, VisitOfNothing, VisitOfOne, VisitableOfOne, VisitOfParts, FrontOfVisit, VisitableStepByStep, IfContinues, UntilNothing, UntilStepByStep, FrontOfUntil, UntilCallableStepByStep, EndsOnOne, UntilDone, UntilCallbackRefuses, UntilMemoryIsRefused}
+use Rattle.rart_maps.specs.VisitLaws.{ArgumentsShowTheirMembers, VisitsTell, VisitOfNothing, VisitOfOne, VisitableOfOne, VisitOfParts, FrontOfVisit, VisitableStepByStep, IfContinues, UntilNothing, UntilStepByStep, FrontOfUntil, UntilCallableStepByStep, EndsOnOne, UntilDone, UntilCallbackRefuses, UntilMemoryIsRefused}
 use Rattle.rart_maps.proofs.VisitLemmas.{answers-append}
 
 same_first : {A : Type 0} {x y : A} {xs ys : List A} → x ∷ xs ≡ y ∷ ys → x ≡ y
@@ -92,6 +92,10 @@ module _ {F A X : Type 0} (g : Mut F A (Unit {0})) (Shows : A → X → Type 0) 
   pub front_of_visit : FrontOfVisit g Shows
   front_of_visit members f f' =
       (λ v. (v.1.0, v.0, v.1.1, v.1.2), λ v. (v.1, (v.0, v.2, v.3)))
+
+  pub visits_tell : VisitsTell g Shows
+  visits_tell members f f' refused =
+      ((λ v. v, λ v. v), (λ v. (v.1.0, v.0, v.1.1, v.1.2), λ v. (v.1, (v.0, v.2, v.3))))
 
   pub visitable_step_by_step : VisitableStepByStep g Shows
   visitable_step_by_step x xs f =

@@ -2,7 +2,7 @@
 use Rattle.std.specs.Prelude.{◌≡◌, ◌↔◌, ◌⊎◌, ℕ, List, [], ◌∷◌, ◌++◌, map, replicate, Option, Some, None, Result, Ok, Err}
 use Rattle.std.specs.List.{AllZip, FoldsTo}
 use Rattle.std.specs.declared.alloc.AllocError.{AllocError}
-use Rattle.std.specs.Iterator.{Count, at_most}
+use Rattle.std.specs.Iterator.{at_most}
 use Rattle.rart_maps.specs.Iterations.{ByKey, ByReference, NextGives, items_left}
 
 module _ {A X : Type 0} (Shows : A → X → Type 0) where

@@ -12,7 +12,7 @@ use Rattle.rart_maps.specs.Lookups.{with_value}
 use Rattle.rart_maps.specs.Versions.{HasRoom, Map, Version}
 use Rattle.rart_maps.specs.Visits.{AnswersUpTo, CalledOn, Visit}
 use Rattle.rart_maps.proofs.ElementLemmas.{Contains-here}
-use Rattle.rart_changes.specs.ChangeLists.{Change, changes, effects, patched, takes_effect}
+use Rattle.rart_changes.specs.ChangeLists.{Change, changes, takes_effect}
 use Rattle.rart_changes.specs.ChangeVisits.{ByKeyChange}
 use Rattle.rart_changes.proofs.ChangeLemmas.{changes-ascend, changes-from, patched-elsewhere}
 use Rattle.rart_merging.specs.Patching.{IsPatched}

@@ -1,5 +1,5 @@
 -- How the value of a string is found, one node at a time.
-use Rattle.std.proofs.Common.{◌≡◌, ℕ, ◌<◌, ◌≤◌, max, List, [], ◌∷◌, Some, None, length, drop, cond, Bool, true, false, refl, arith, sym, subst}
+use Rattle.std.proofs.Common.{◌≡◌, ℕ, ◌<◌, ◌≤◌, max, List, ◌∷◌, Some, None, length, drop, cond, Bool, true, false, refl, arith, sym, subst}
 use Rattle.std.specs.Prelude.{◌==◌}
 use Rattle.std.specs.Option.{option_and_then}
 use Rattle.std.specs.Cmp.{unsigned_tied}

@@ -4,7 +4,7 @@ use Rattle.std.proofs.Common.{◌≡◌, ◌+◌, ◌*◌, ◌<◌, ◌^◌, ◌
 use Rattle.std.specs.Prelude.{◌==◌, All}
 use Rattle.std.specs.Cmp.{ranks, nat_cmp_is, tied_then, unsigned_ties}
 use Rattle.std.specs.Cmp.Lexicographic.{slice_cmp}
-use Rattle.std.specs.Int.{w32, byte_at, to_be_bytes, from_be_bytes}
+use Rattle.std.specs.Int.{w32, byte_at, to_be_bytes}
 use Rattle.std.specs.Ordering.{MatchOrdering, is_eq, nat_cmp, ordering_then}
 use Rattle.std.specs.declared.cmp.Ordering.{Ordering}
 use Rattle.std.specs.declared.cmp.Ordering.TheVariants.{Less, Equal, Greater}

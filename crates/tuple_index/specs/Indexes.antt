@@ -5,7 +5,7 @@ use Rattle.rart_maps.specs.Pairs.{pairs}
 use Rattle.rart_maps.specs.Versions.{Version}
 use Rattle.tuple_index.specs.declared.tuple.Tuple.{Tuple}
 use Rattle.tuple_index.specs.Decoding.{tuple_at}
-use Rattle.tuple_index.specs.Tuples.{Index, Tuples, key_of, columns_of}
+use Rattle.tuple_index.specs.Tuples.{Index, Tuples, key_of}
 
 -- Each column is a number of 32 bits.
 pub record IsNarrow (t : Tuple) : Type 0 where

@@ -1,8 +1,8 @@
 -- The words of a good line are its command's own.
-use Rattle.std.proofs.Common.{inl, inr, ◌≡◌, ◌≢◌, ℕ, ◌≤◌, ◌<◌, ◌+◌, ◌*◌, ◌-◌, zero, suc, List, [], ◌∷◌, ◌++◌, length, refl, sym, ◌∙◌, ap, subst, arith, rules, Bool, true, false, eqb}
+use Rattle.std.proofs.Common.{inl, inr, ◌≡◌, ℕ, ◌≤◌, ◌<◌, suc, List, [], ◌∷◌, ◌++◌, length, refl, sym, ◌∙◌, ap, subst, arith, Bool, true, false, eqb}
 use Rattle.std.proofs.lemmas.Bool.{eqb-true, eqb-false, ltb-true, leb-true}
 use Rattle.std.proofs.lemmas.Fmt.{decimal-digits_value}
-use Rattle.std.specs.Prelude.{codes, decimal, replicate, ◌&&◌, ◌^◌, nat_lt, nat_le, Option, Some, None, if◌then◌else◌}
+use Rattle.std.specs.Prelude.{decimal, replicate, ◌&&◌, ◌^◌, nat_lt, nat_le, Option, Some, None, if◌then◌else◌}
 use Rattle.std.specs.Str.{all_ascii_digits}
 use Rattle.std.specs.Char.{is_ascii_digit}
 use Rattle.std.specs.declared.ops.Bound.{Bound}
@@ -11,8 +11,8 @@ use Rattle.rart_versioned.specs.SlotUpdate.{SlotUpdate}
 use Rattle.rart_versioned.specs.SlotUpdate.TheVariants as slot
 use Rattle.rart_family.specs.declared.family.command.Command.TheVariants.{New, NewAt, Snapshot, Duplicate, Discard, Version, IsEmpty, Get, GetMut, Insert, Replace, Remove, Delete, Update, TryUpdate, Iter, Values, Range, Prefix, Matches, MatchesEach, Views, PrefixViews, RangeViews, PrefixValues, Until, Intersect, IntersectViews, IntersectValues, IntersectCount, Flatten, Longest}
 use Rattle.vtree.specs.Lines.{value_from, is_number}
-use Rattle.vtree.specs.Grammar.{Said, Says, IsNumber, IsKey, IsKeyText, IsBound, IsWrite, IsAnswer, IsFailingAnswer, IsEnd}
-use Rattle.vtree.specs.OwnLines.{key_word, bound_word, write_word, answer_words, failing_answer_words, end_word, own_words, Fits, BoundStands, WriteStands, AnswerStands, FailingAnswerStands, CanStand}
+use Rattle.vtree.specs.Grammar.{IsNumber, IsKey, IsKeyText, IsBound, IsWrite, IsAnswer, IsFailingAnswer, IsEnd}
+use Rattle.vtree.specs.OwnLines.{key_word, bound_word, write_word, answer_words, failing_answer_words, end_word, Fits, BoundStands, WriteStands, AnswerStands, FailingAnswerStands}
 use Rattle.vtree.specs.Laws.{IsOwnWord, AreOwnWords, GoodWordsAreOwn}
 use Rattle.vtree.proofs.OneCommand.{no_words}
 use Rattle.vtree.proofs.OwnLineLemmas.{own_numerals, and_left, and_right}

@@ -1,8 +1,8 @@
 -- Words that are a command's own, but for zeros before numbers, are read as it.
-use Rattle.std.proofs.Common.{inl, inr, ◌≡◌, ℕ, ◌≤◌, ◌<◌, ◌+◌, zero, suc, List, [], ◌∷◌, ◌++◌, length, refl, sym, ◌∙◌, ap, subst, arith, Bool, true, false, length-append}
+use Rattle.std.proofs.Common.{inl, inr, ◌≡◌, ℕ, ◌≤◌, ◌<◌, zero, suc, List, [], ◌∷◌, ◌++◌, length, refl, sym, ◌∙◌, ap, subst, arith, Bool, true, false, length-append}
 use Rattle.std.proofs.lemmas.List.{take_all}
 use Rattle.std.proofs.lemmas.Fmt.{decimal_is_IsNumeral, decimal_nonempty, digits_decimal, digits_value-decimal}
-use Rattle.std.specs.Prelude.{codes, decimal, replicate, Option, Some, None}
+use Rattle.std.specs.Prelude.{decimal, replicate, Option, Some, None}
 use Rattle.std.specs.Str.{all_ascii_digits}
 use Rattle.std.specs.Str.Parse.{AllDigits}
 use Rattle.std.specs.declared.ops.Bound.{Bound}
@@ -11,7 +11,7 @@ use Rattle.rart_versioned.specs.SlotUpdate.{SlotUpdate}
 use Rattle.rart_versioned.specs.SlotUpdate.TheVariants as slot
 use Rattle.rart_family.specs.declared.family.command.Command.TheVariants.{New, NewAt, Snapshot, Duplicate, Discard, Version, IsEmpty, Get, GetMut, Insert, Replace, Remove, Delete, Update, TryUpdate, Iter, Values, Range, Prefix, Matches, MatchesEach, Views, PrefixViews, RangeViews, PrefixValues, Until, Intersect, IntersectViews, IntersectValues, IntersectCount, Flatten, Longest}
 use Rattle.vtree.specs.Lines.{value_from}
-use Rattle.vtree.specs.Grammar.{Said, Says, IsNumber, IsKey, IsKeyText, IsBound, IsWrite, IsAnswer, IsFailingAnswer, IsEnd}
+use Rattle.vtree.specs.Grammar.{Said, IsNumber, IsKey, IsKeyText, IsBound, IsWrite, IsAnswer, IsFailingAnswer, IsEnd}
 use Rattle.vtree.specs.OwnLines.{key_word, bound_word, write_word, answer_words, failing_answer_words, end_word, own_words, Fits, BoundStands, WriteStands, AnswerStands, FailingAnswerStands}
 use Rattle.vtree.specs.Laws.{IsOwnWord, AreOwnWords, OwnWordsAreGood}
 use Rattle.vtree.proofs.NumberLemmas.{some_number}

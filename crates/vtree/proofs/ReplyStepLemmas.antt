@@ -1,6 +1,6 @@
 -- A command's reply, its keys seen as their bytes.
 use Rattle.std.proofs.Common.{inl, inr, ◌≡◌, ℕ, List, false, refl, ◌∙◌, ap, subst, IsTrue}
-use Rattle.std.specs.declared.option.Option.TheVariants.{Some, None}
+use Rattle.std.specs.declared.option.Option.TheVariants.{None}
 use Rattle.std.specs.declared.ops.Bound.{Bound}
 use Rattle.std.specs.declared.ops.Bound.TheVariants.{Included, Excluded, Unbounded}
 use Rattle.std.specs.Range.Bound.{bound_map}

@@ -2,7 +2,7 @@
 use Rattle.std.proofs.Common.{inl, inr, ◌≡◌, ◌≢◌, ℕ, ◌≤◌, ◌<◌, List, [], ◌∷◌, ◌++◌, take, length, sym, ◌∙◌, ap, refl, arith, min, length-append, append_assoc, subst}
 use Rattle.std.proofs.lemmas.List.{append-nil, take_all, take-append-le, length-take}
 use Rattle.std.proofs.lemmas.Bool.{ne_eqb}
-use Rattle.std.specs.Prelude.{OnOk, OnErr, IsOk, IsErr, IfOk, MatchResult, ◌^◌, ◌-◌}
+use Rattle.std.specs.Prelude.{OnOk, OnErr, IsOk, IsErr, ◌^◌, ◌-◌}
 use Rattle.std.specs.List.{concat}
 use Rattle.std.specs.declared.result.Result.{Result}
 use Rattle.std.specs.declared.result.Result.TheVariants.{Ok, Err}

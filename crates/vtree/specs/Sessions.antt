@@ -2,7 +2,6 @@
 use Rattle.std.specs.Prelude.{◌≡◌, ℕ, ◌-◌, ◌^◌, List, [], ◌∷◌, ◌++◌, ◌⊎◌, length, take, min, Option, Result, MatchOption, MatchResult}
 use Rattle.std.specs.List.{concat}
 use Rattle.std.specs.Io.KnownBytes.{Appends}
-use Rattle.rart_family.specs.Families.{Family}
 use Rattle.vtree.specs.declared.session.Session.{Session}
 use Rattle.vtree.specs.declared.served.Served.{Served}
 use Rattle.vtree.specs.declared.served.Served.TheVariants.{BadLine}

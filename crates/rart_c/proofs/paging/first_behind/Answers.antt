@@ -1,4 +1,3 @@
-use Rattle.std.proofs.Common.{drop, ap, subst}
 use Rattle.std.proofs.lemmas.List.{take_rest}
 use Rattle.rart_c.proofs.paging.first_behind.Goals as goal
 

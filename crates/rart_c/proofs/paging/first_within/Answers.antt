@@ -1,4 +1,4 @@
-use Rattle.std.proofs.Common.{◌≡◌, ◌∙◌, ◌≤◌, ◌<◌, refl, ap, sym, arith, Bool, true, false}
+use Rattle.std.proofs.Common.{◌≡◌, ◌∙◌, ap, sym, arith}
 use Rattle.std.specs.Range.Bound.{bound_map, is_up_to_end}
 use Rattle.std.specs.Ordering.{as_partial_cmp}
 use Rattle.rart_below.specs.Bytes.{byte_order}

@@ -1,4 +1,4 @@
-use Rattle.std.proofs.Common.{List, ℕ, Option, refl, ap, ◌∙◌}
+use Rattle.std.proofs.Common.{Option, refl, ap, ◌∙◌}
 use Rattle.std.specs.Cmp.Lexicographic.{lists_agrees}
 use Rattle.std.specs.Ordering.{nat_cmp, is_le, is_lt, is_some_and}
 use Rattle.std.specs.declared.cmp.Ordering.{Ordering}

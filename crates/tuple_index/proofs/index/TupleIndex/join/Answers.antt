@@ -1,4 +1,3 @@
-use Rattle.std.proofs.Common.{◌∙◌}
 use Rattle.tuple_index.proofs.IndexLemmas.{joined}
 use Rattle.tuple_index.proofs.index.TupleIndex.join.Goals as goal
 

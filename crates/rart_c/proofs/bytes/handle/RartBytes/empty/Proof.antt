@@ -1,5 +1,5 @@
 -- `empty` is null, at which nothing is owned.
-use Rattle.rart_c.proofs.Steps.{◌≡◌, ℕ, [], ◌∷◌, ◌++◌, refl, lit<, handle_tells, proved_at, leaves, ghosts, ftrue, emp, fact, fact_i, tables, yes, owns, null_ptr, ptr_val, types_at, plain, nothing, Stays, stay_dropped, walk_of, Goes-dropped, WpFn, alloc_all, pass_all, free_all, look_at, get, sets, ‵, raw, ◌⊛◌, prop, ◌$◌, ◌∵◌, !, qed, by, move, keep, split, fsplit, fjoin, regoal, use0, agg, lit, no_more, and_then, returns, enter}
+use Rattle.rart_c.proofs.Steps.{◌≡◌, [], ◌∷◌, ◌++◌, refl, lit<, handle_tells, proved_at, leaves, ghosts, ftrue, emp, fact, fact_i, tables, yes, owns, null_ptr, ptr_val, types_at, plain, nothing, Stays, stay_dropped, walk_of, Goes-dropped, WpFn, alloc_all, pass_all, free_all, look_at, get, sets, ‵, raw, ◌⊛◌, prop, ◌$◌, ◌∵◌, !, qed, by, move, keep, split, fsplit, fjoin, regoal, use0, agg, lit, no_more, and_then, returns, enter}
 use Rattle.rart_c.proofs.Handles.{Heap, heap_good, nothing_held}
 use Rattle.rart_c.proofs.Pointers.{Handle, pair, pair_good, together}
 use Rattle.rart_maps.specs.Versions.{empty_at}

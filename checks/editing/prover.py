@@ -9,7 +9,6 @@ import signal
 import subprocess
 import tempfile
 import threading
-import weakref
 
 from .repository import PARTS, library
 
@@ -81,30 +80,32 @@ class Said:
 
 
 class Kept:
-    """What the prover kept of the first check of a crate that came to its end: pages that stand as
-    they did there are not checked once more. It tells by their sums, as for `rt must-fail`."""
+    """What the prover kept of the last check of a crate, with its edits, that came to its end. A
+    page that stands as it did there is not checked once more, which the prover tells by its sum."""
 
     def __init__(self):
-        self.lock, self.folder = threading.Lock(), None
+        self.lock, self.last = threading.Lock(), None
+        self.room = tempfile.TemporaryDirectory(prefix="edits-kept-")
 
     @contextlib.contextmanager
     def lent(self):
         """Lends a copy, or an empty folder, to one check, which may write into it."""
-        own = tempfile.mkdtemp(prefix="edits-kept-")
+        own = tempfile.mkdtemp(dir=self.room.name)
+        with self.lock:
+            if self.last:
+                shutil.copytree(self.last, own, dirs_exist_ok=True)
         try:
-            if self.folder:
-                shutil.copytree(self.folder, own, dirs_exist_ok=True)
             yield own
         finally:
-            if own != self.folder:
+            if own != self.last:
                 shutil.rmtree(own, ignore_errors=True)
 
     def keep(self, own):
-        """Keeps what was lent to a check that came to its end, if nothing is kept yet."""
+        """Keeps what was lent to a check that came to its end, in place of what was kept."""
         with self.lock:
-            if self.folder is None:
-                self.folder = own
-                weakref.finalize(self, shutil.rmtree, own, ignore_errors=True)
+            old, self.last = self.last, own
+        if old:
+            shutil.rmtree(old, ignore_errors=True)
 
 
 class Room:

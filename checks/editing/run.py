@@ -1,4 +1,5 @@
 """A run of the toolchain over all crates, and the trial of the edits beside it."""
+import functools
 import os
 import re
 import shutil
@@ -124,17 +125,28 @@ class Edits:
             return
         trial = CrateTrial(self.repository, self.build.folder, crate, self.log)
         edits_of.find_bodies(edits, trial.before, self.build.folder)
+        several = [it for it in edits if it.bodies and it.names]
+        batches = batches_of(several, trial.controls)
+        begins = [functools.partial(self._put_batch, trial, it) for it in batches]
         for edit in edits:
             if edit.bodies == {}:
                 self._end(Result(edit, Outcome.KEPT, "it changes no word of the code"))
             elif not edit.bodies or not edit.names:
-                self._put_alone(trial, edit)
-        several = [it for it in edits if it.bodies and it.names]
-        for batch in batches_of(several, trial.controls):
-            self._put_batch(trial, batch, is_last=False)
+                begins.append(functools.partial(self._put_alone, trial, edit))
+        self._put_first_first(begins)
 
-    def _put_batch(self, trial, batch, is_last):
-        def then(ended):
+    def _put_first_first(self, begins):
+        """Begins the first of a crate's checks, and the others over what it kept."""
+
+        def then():
+            for begin in begins[1:]:
+                begin()
+
+        for begin in begins[:1]:
+            begin(then=then)
+
+    def _put_batch(self, trial, batch, is_last=False, then=lambda: None):
+        def end(ended):
             results, unclear = ended
             for it in results:
                 self._end(it)
@@ -145,11 +157,16 @@ class Edits:
                     # (it may be clear without the others, as where it calls one of them)
                     (alone,) = batches_of([it], trial.controls)
                     self._put_batch(trial, alone, is_last=True)
+            then()
 
-        self.lanes.put(len(batch.edits), lambda: trial.try_batch(batch), then)
+        self.lanes.put(len(batch.edits), lambda: trial.try_batch(batch), end)
 
-    def _put_alone(self, trial, edit):
-        self.lanes.put(10, lambda: trial.try_alone(edit), self._end)
+    def _put_alone(self, trial, edit, then=lambda: None):
+        def end(result):
+            self._end(result)
+            then()
+
+        self.lanes.put(10, lambda: trial.try_alone(edit), end)
 
     def _end(self, result):
         self.results.append(result)

@@ -20,7 +20,7 @@ from .repository import functions_of, module_of
 from .source import sources_of
 
 # The most edits that go into one check: with more of them one processor is at it for too long.
-MOST = 16
+MOST = 32
 # What is said where all that fails is that a proof file names what the edit took away.
 NAMES = re.compile(r"has no field|is not in scope|has no `|was not admitted")
 # How the prover tells of a text that it cannot read.
@@ -115,14 +115,14 @@ class CrateTrial:
                     yield name, function
 
     def _recursive(self):
-        """The functions that call themselves or stand in a cycle: the prover keeps a proof of theirs
-        elsewhere, so that none can stand in for it."""
+        """The functions that call themselves or stand in a cycle: the prover keeps a proof of
+        theirs elsewhere, so that none can stand in for it."""
         named = self._named()
         return {name for name, it in named if it.is_in_cycle or _calls_itself(it)}
 
     def _controls(self):
         """The functions that may go with a batch as they stand, those with the shortest bodies
-        first, and laws, which have none, last: of those that have no proof by hand."""
+        first, and those that do nothing, as laws, last: of those that have no proof by hand."""
         found = []
         for name, function in self._named():
             if function.is_shared or name in self.recursive or self._has_proof_by_hand(name):
@@ -247,15 +247,16 @@ class CrateTrial:
         return plain and plain[:160]
 
     def _has_proof(self, name):
-        """Whether a file can stand in for the proof of a function: not of a closure, which is proved
-        with the function that it stands in, nor of what drops a value of the repository's types."""
+        """Whether a file can stand in for the proof of a function: not of a closure, which is
+        proved with the function around it, nor of what drops a value of the repository's types."""
         if "::fn::" in name or not name.rpartition("::")[2].islower() or name in self.recursive:
             return False
         owner = name.split("++")[0]
         return "++" not in name or owner not in {"Destruct", *self.repository.crates}
 
     def try_alone(self, edit):
-        """Tries an edit as the toolchain tries it: by a check of the whole crate."""
+        """Tries an edit by a check of the function that it names, and else of the whole crate, as
+        the toolchain tries it, over what an earlier check kept."""
         hints = tuple(HINT.findall(edit.text.decode(errors="replace")))
         if hints:
             why, seconds = self._refused_at(edit, hints)
@@ -313,8 +314,8 @@ class CrateTrial:
         return told[0][:160] if told else None
 
     def _is_bad(self, line, edit):
-        """Whether the prover tells that it cannot read what the edit writes, or that a definition in
-        it has no meaning."""
+        """Whether the prover tells that it cannot read what the edit writes, or that a definition
+        in it has no meaning."""
         it = PLACE.match(line)
         if it and it[1].startswith("specs/") and it[1] in edit.texts and ": error" in line:
             old, new = self.crate.text(it[1]).decode().splitlines(), edit.texts[it[1]].splitlines()

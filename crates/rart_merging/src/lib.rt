@@ -9,6 +9,3 @@ mod patches;
 mod setting;
 
 pub use merging::Merging;
-
-#[cfg(test)]
-mod tests;

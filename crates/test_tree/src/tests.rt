@@ -3,13 +3,16 @@
 
 mod bucket;
 mod buckets;
+mod clones;
 mod dense;
 mod dropped;
 mod heap;
+mod indexes;
 mod interpreter;
 mod intersections;
 mod kept;
 mod lending;
+mod merging;
 mod removal;
 mod replacing;
 mod sharing;

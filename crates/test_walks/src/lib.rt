@@ -1,5 +1,5 @@
-//! Tests of walks, through their public calls alone. They show that the calls succeed where there
-//! is memory, which no contract can say.
+//! Tests of walks and of lockstep, through their public calls alone. They show that the calls
+//! succeed where there is memory, which no contract can say.
 #![tactic(auto)]
 
 #[cfg(test)]

@@ -4,7 +4,7 @@
 
 mod counted;
 
-use crate::tests::counted::{Clones, Counted};
+use crate::tests::clones::counted::{Clones, Counted};
 use rart_versioned::{ArrayKey, KeyTrait, Slot, SlotUpdate, VersionedAdaptiveRadixTree};
 use std::alloc::{AllocError, Global};
 use std::process::Abort;

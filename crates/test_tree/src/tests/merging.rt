@@ -1,11 +1,10 @@
-//! That the calls succeed where there is memory, with answers worked by hand.
+// Patches and merges.
 ghost use Rattle.std.specs.Prelude.{IfOk, IsTrue, length, nat_eq};
 ghost use Rattle.rart_changes.specs.ChangeLists.{changes};
 ghost use Rattle.rart_maps.specs.Versions.{HasRoom};
 
-use crate::Merging;
-use rart_below::{ArrayKey, KeyTrait};
-use rart_versioned::VersionedAdaptiveRadixTree;
+use rart_merging::Merging;
+use rart_versioned::{ArrayKey, KeyTrait, VersionedAdaptiveRadixTree};
 use std::alloc::{AllocError, Global};
 use std::test::Fail;
 

@@ -1,44 +1,15 @@
-ghost use Rattle.std.specs.Prelude.{◌≡◌, ◌≤◌, ◌∷◌, [], length, Some, None, IfOk};
-ghost use Rattle.rart_node.specs.Shape.{node, node_of, bare, grown};
+ghost use Rattle.std.specs.Prelude.{◌≡◌, ◌∷◌, [], Some, None, IfOk};
+ghost use Rattle.rart_node.specs.Shape.{node, bare, grown};
 
-use rart_below::{ArrPartial, ArrayKey, KeyTrait, LendingKeyView, Partial};
+use crate::tests::nodes::{Key, Root, inner, leaf, leaf_node};
+use rart_below::{KeyTrait, LendingKeyView};
 use rart_lockstep::{
     ViewsPath, count_common, visit_common, visit_common_keys, visit_common_values,
 };
-use rart_node::{NodeRef, VersionedNode, Work};
+use rart_node::{NodeRef, Work};
 use rart_walks::KeyPath;
 use std::alloc::{AllocError, Global};
 use std::test::Fail;
-
-type Key = ArrayKey<16>;
-
-type Root = NodeRef<ArrPartial<16>, u64>;
-
-type Node = VersionedNode<ArrPartial<16>, u64>;
-
-fn leaf_node(alloc: Global, bytes: &[u8], value: u64) -> Result<Node, AllocError>
-    requires { length bytes.now ≤ 16 }
-    ensures { IfOk result (λ leaf. leaf.shape ≡ node_of bytes.now (Some value) 0 []) }
-{
-    let key: Key = ArrayKey::new_from_slice(alloc, bytes)?;
-    let prefix = key.to_partial(alloc, 0)?;
-    Ok(VersionedNode::new_leaf(alloc, prefix, value, 0))
-}
-
-fn leaf(alloc: Global, bytes: &[u8], value: u64, work: &mut Work) -> Result<Root, AllocError>
-    requires { length bytes.now ≤ 16 }
-    ensures { IfOk result (λ leaf. leaf.shape ≡ node_of bytes.now (Some value) 0 []) }
-{
-    NodeRef::new(alloc, leaf_node(alloc, bytes, value)?, work)
-}
-
-fn inner(alloc: Global, bytes: &[u8]) -> Result<Node, AllocError>
-    requires { length bytes.now ≤ 16 }
-    ensures { IfOk result (λ inner. inner.shape ≡ node_of bytes.now None 4 []) }
-{
-    let key: Key = ArrayKey::new_from_slice(alloc, bytes)?;
-    VersionedNode::new_inner(alloc, key.to_partial(alloc, 0)?, 0)
-}
 
 // The keys "a", "ab" and "b" with the values 1, 2 and 3.
 fn letters(alloc: Global, work: &mut Work) -> Result<Root, AllocError>

@@ -80,20 +80,20 @@ class Said:
 
 
 class Kept:
-    """What the prover kept of the last check of a crate, with its edits, that came to its end. A
-    page that stands as it did there is not checked once more, which the prover tells by its sum."""
+    """What the prover kept of the last check of a crate in which its control was proved. A page
+    that stands as it did there, over the same pages, is not checked once more."""
 
     def __init__(self):
         self.lock, self.last = threading.Lock(), None
-        self.room = tempfile.TemporaryDirectory(prefix="edits-kept-")
+        self.folders = tempfile.TemporaryDirectory(prefix="edits-kept-")
 
     @contextlib.contextmanager
     def lent(self):
         """Lends a copy, or an empty folder, to one check, which may write into it."""
-        own = tempfile.mkdtemp(dir=self.room.name)
+        own = tempfile.mkdtemp(dir=self.folders.name)
         with self.lock:
             if self.last:
-                shutil.copytree(self.last, own, dirs_exist_ok=True)
+                shutil.copytree(self.last, own, dirs_exist_ok=True, copy_function=_linked)
         try:
             yield own
         finally:
@@ -101,11 +101,17 @@ class Kept:
                 shutil.rmtree(own, ignore_errors=True)
 
     def keep(self, own):
-        """Keeps what was lent to a check that came to its end, in place of what was kept."""
+        """Keeps what was lent to a check, in place of what was kept."""
         with self.lock:
             old, self.last = self.last, own
         if old:
             shutil.rmtree(old, ignore_errors=True)
+
+
+def _linked(file, to):
+    """Links a page that was checked, which the prover replaces and never changes, as `rt` does; it
+    copies all else."""
+    (os.link if file.endswith(".oantt") else shutil.copy2)(file, to)
 
 
 class Room:

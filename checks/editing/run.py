@@ -1,5 +1,4 @@
 """A run of the toolchain over all crates, and the trial of the edits beside it."""
-import functools
 import os
 import re
 import shutil
@@ -11,6 +10,8 @@ from .repository import Repository, library
 from .trial import CrateTrial, Outcome, Result, batches_of
 
 RECORD = "checks/refused_edits"
+# The cost of an edit that is tried alone, where one that goes with others costs 1.
+ALONE = 10
 
 
 def copy_without_edits(root, to, names=()):
@@ -83,7 +84,7 @@ class Edits:
         self.tries_all, self.log = tries_all, log
         self.repository = Repository(root)
         self.record, self.digests = Record(f"{root}/{RECORD}"), Digests(self.repository)
-        self.names = names or [*self.repository.crates]
+        self.names = [*dict.fromkeys(names)] or [*self.repository.crates]
         self.left = [self.repository.crates[it] for it in self.names]
         self.results, self.known, self.labels = [], [], set()
 
@@ -127,46 +128,47 @@ class Edits:
         edits_of.find_bodies(edits, trial.before, self.build.folder)
         several = [it for it in edits if it.bodies and it.names]
         batches = batches_of(several, trial.controls)
-        begins = [functools.partial(self._put_batch, trial, it) for it in batches]
+        puts = [(len(it.edits), self._put_batch, it) for it in batches]
         for edit in edits:
             if edit.bodies == {}:
                 self._end(Result(edit, Outcome.KEPT, "it changes no word of the code"))
             elif not edit.bodies or not edit.names:
-                begins.append(functools.partial(self._put_alone, trial, edit))
-        self._put_first_first(begins)
+                puts.append((ALONE, self._put_alone, edit))
+        self._put_first_alone(trial, puts)
 
-    def _put_first_first(self, begins):
-        """Begins the first of a crate's checks, and the others over what it kept."""
+    def _put_first_alone(self, trial, puts):
+        """Puts the first of a crate's checks into a lane, and once it ended the others, which begin
+        over what it kept."""
 
         def then():
-            for begin in begins[1:]:
-                begin()
+            for cost, put, what in puts[1:]:
+                put(trial, what, cost)
 
-        for begin in begins[:1]:
-            begin(then=then)
+        for _, put, what in puts[:1]:
+            put(trial, what, sum(cost for cost, *_ in puts), then=then)
 
-    def _put_batch(self, trial, batch, is_last=False, then=lambda: None):
+    def _put_batch(self, trial, batch, cost, is_last=False, then=lambda: None):
         def end(ended):
             results, unclear = ended
             for it in results:
                 self._end(it)
             for it in unclear:
-                if is_last:
-                    self._put_alone(trial, it)
+                if is_last or len(batch.edits) == 1:
+                    self._put_alone(trial, it, ALONE)
                 else:
                     # (it may be clear without the others, as where it calls one of them)
                     (alone,) = batches_of([it], trial.controls)
-                    self._put_batch(trial, alone, is_last=True)
+                    self._put_batch(trial, alone, 1, is_last=True)
             then()
 
-        self.lanes.put(len(batch.edits), lambda: trial.try_batch(batch), end)
+        self.lanes.put(cost, lambda: trial.try_batch(batch), end)
 
-    def _put_alone(self, trial, edit, then=lambda: None):
+    def _put_alone(self, trial, edit, cost, then=lambda: None):
         def end(result):
             self._end(result)
             then()
 
-        self.lanes.put(10, lambda: trial.try_alone(edit), end)
+        self.lanes.put(cost, lambda: trial.try_alone(edit), end)
 
     def _end(self, result):
         self.results.append(result)
@@ -192,9 +194,13 @@ class Edits:
         failed = [it for it in self.results if it.outcome is not Outcome.REFUSED]
         for it in failed:
             print(f"FAILED: {it.edit.label}: {it.outcome.value}: {it.why}")
+        told = [*(it.edit.label for it in self.results), *(it.label for it in self.known)]
+        lost = sorted(self.labels - {*told})
+        for it in lost:
+            print(f"FAILED: {it}: nothing came of it")
         alone = sum(it.is_alone for it in self.results)
         print(
             f"edits: {refused} of {len(self.results)} tried were refused, {alone} of them tried"
             f" alone; {len(self.known)} stand on the record as refused"
         )
-        return refused + len(self.known), len(failed)
+        return refused + len(self.known), len(failed) + len(lost)

@@ -130,7 +130,9 @@ class CrateTrial:
             found.append((not function.body, len(function.body), name))
         return [name for *_, name in sorted(found)]
 
-    def check(self, room, *flags):
+    def check(self, room, *flags, control=None):
+        """Checks what stands in a room over what an earlier check kept. What it leaves is kept where
+        the control is proved: nothing else is begun with."""
         with self.lock:
             self.checks += 1
             number = self.checks
@@ -139,7 +141,7 @@ class CrateTrial:
             path = self.log and f"{self.log}/{self.crate.name}-{number}"
             log = stack.enter_context(open(path, "w", encoding="utf-8")) if path else None
             said = room.check(self.command, "--incremental", kept, *flags, log=log)
-            if said.came_to_its_end:
+            if said.came_to_its_end and _is_well(said.verdicts(self.crate).get(control)):
                 self.kept.keep(kept)
             return said
 
@@ -154,7 +156,7 @@ class CrateTrial:
                 room.write(path, text)
             room.dig(it for it in self.known if it not in asked and self._has_proof(it))
             only = [word for it in asked for word in ("--only", it)]
-            said = self.check(room, *only, "--allow-holes")
+            said = self.check(room, *only, "--allow-holes", control=batch.control)
         if not said.came_to_its_end:
             return self._part(batch, said, places)
         return self.judge(batch, said, places, texts)
@@ -255,8 +257,8 @@ class CrateTrial:
         return "++" not in name or owner not in {"Destruct", *self.repository.crates}
 
     def try_alone(self, edit):
-        """Tries an edit by a check of the function that it names, and else of the whole crate, as
-        the toolchain tries it, over what an earlier check kept."""
+        """Tries an edit by a check of the functions that it names, and where that shows nothing by
+        one of the whole crate, as the toolchain tries it, over what an earlier check kept."""
         hints = tuple(HINT.findall(edit.text.decode(errors="replace")))
         if hints:
             why, seconds = self._refused_at(edit, hints)
@@ -277,7 +279,7 @@ class CrateTrial:
                 room.write(path, text)
             room.dig(it for it in self.known if it not in asked and self._has_proof(it))
             only = [word for it in asked for word in ("--only", it)]
-            said = self.check(room, *only, "--allow-holes")
+            said = self.check(room, *only, "--allow-holes", control=control)
         verdicts = said.verdicts(self.crate)
         if not said.came_to_its_end or not _is_well(verdicts.get(control)):
             return None, said.taken
@@ -310,7 +312,7 @@ class CrateTrial:
             reason = own_reason(self.crate, name, why)
             if reason:
                 return f"{name}: {reason[:160]}"
-        told += [it for it in said.lines if it.startswith("note: ")]
+        told += [it for it in said.lines if NOTED.match(it)]
         return told[0][:160] if told else None
 
     def _is_bad(self, line, edit):

@@ -1,6 +1,7 @@
-// A change needs a clone of each value in a node on its path that another version shows. Beside
-// these a node that is cut in its prefix is copied, and a removal that merges needs two: the value
-// that goes stands until nothing can be refused, and the merged node has its child's.
+//! How often changes clone values: no node is copied for nothing.
+//! A change needs a clone of each value in a node on its path that another version shows. Beside
+//! these a node that is cut in its prefix is copied, and a removal that merges needs two: the value
+//! that goes stands until nothing can be refused, and the merged node has its child's.
 
 mod counted;
 

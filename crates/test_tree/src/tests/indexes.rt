@@ -1,4 +1,4 @@
-// A worked index: what its calls answer where there is memory.
+//! A worked index: what its calls answer where there is memory.
 use std::alloc::{AllocError, Global};
 use std::process::Abort;
 use std::test::Fail;

@@ -1,4 +1,4 @@
-// Patches and merges.
+//! Patches and merges.
 ghost use Rattle.std.specs.Prelude.{IfOk, IsTrue, length, nat_eq};
 ghost use Rattle.rart_changes.specs.ChangeLists.{changes};
 ghost use Rattle.rart_maps.specs.Versions.{HasRoom};

@@ -1,3 +1,4 @@
+//! The way down two trees made by hand: their common keys, by values, keys and views.
 ghost use Rattle.std.specs.Prelude.{◌≡◌, ◌∷◌, [], Some, None, IfOk};
 ghost use Rattle.rart_node.specs.Shape.{node, bare, grown};
 

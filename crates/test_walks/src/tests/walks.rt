@@ -1,3 +1,4 @@
+//! Walks over nodes made by hand: what they give, and in which order.
 ghost use Rattle.std.specs.Prelude.{◌≡◌, ◌≤◌, ◌^◌, ◌-◌, [], List, ◌∷◌, length, slice_get, Some, None, IfOk};
 ghost use Rattle.std.specs.Option.{option_map};
 ghost use Rattle.rart_node.specs.Shape.{node, bare, grown};

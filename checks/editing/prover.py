@@ -21,6 +21,16 @@ VERDICT = re.compile(
 CHECKED = re.compile(r"checked (\S+), \d+ of \d+")
 # How the prover tells of a goal of a function's own that it did not prove.
 OWN_GOAL = re.compile(r"`search` did not prove|does not cover|has an `ensures\*`")
+# How the prover, or what stands around it, tells that a check itself went amiss.
+AMISS = re.compile(
+    r"started the check over|marked it as unusable|marked only this run's"
+    r"|Run the lower steps again|ran out of memory"
+)
+# How it tells of a limit of its own, which is no verdict.
+LIMIT = re.compile(
+    r"antt ran out of (?:stack|the (?:steps|memory) that the check of one declaration may)"
+    r"|(?:outgrew the memory limit|stopped at the step limit) \("
+)
 # What stands in for proofs.
 ASSUMED = "pub assumed : {A : Type 2} → A\nassumed = ?\n"
 # The pages of one function's proof.
@@ -66,7 +76,18 @@ class Said:
 
     @property
     def came_to_its_end(self):
-        return self.lines[-1].startswith(("only=", "logic=", "holes="))
+        return self.lines[-1].startswith(("only=", "logic=", "holes=")) and not self.amiss
+
+    @property
+    def amiss(self):
+        """The line which tells that the check went amiss, so that it shows nothing; else None."""
+        return next((it for it in self.lines if AMISS.search(it)), None)
+
+    @property
+    def errors(self):
+        """The errors that it tells of, but for those that are a limit of the prover."""
+        errors = (it.removeprefix("./") for it in self.lines if ": error" in it)
+        return [it for it in errors if not LIMIT.search(it)]
 
     def verdicts(self, crate):
         """For each function of the crate that was checked, whether it is proved or waits for others
@@ -164,6 +185,7 @@ class Room:
         said = [f"{toolchain()[0]}/bin/rattle", "check", *command, "--progress", *flags]
         with subprocess.Popen(said, **how) as ran:
             ends = threading.Timer(LONGEST, ran.kill)
+            ends.daemon = True
             ends.start()
             for line in ran.stdout:
                 lines.append(line.rstrip("\n"))

@@ -1,8 +1,10 @@
 """A run of the toolchain over all crates, and the trial of the edits beside it."""
+import collections
 import os
 import re
 import shutil
 import subprocess
+import traceback
 
 from . import edit as edits_of
 from .record import Digests, Record, is_drawn
@@ -14,14 +16,14 @@ RECORD = "checks/refused_edits"
 ALONE = 10
 
 
-def copy_without_edits(root, to, names=()):
-    """Copies the crates, or those named and what stands below them, without their edits."""
+def copy_crates(root, to, names=(), leave=()):
+    """Copies the crates, or those named and what stands below them, but for folders to leave."""
     repository = Repository(root)
     wanted = {*names} or {*repository.crates}
     wanted |= {it.name for name in wanted for it in repository.below(repository.crates[name])}
     for name in wanted:
-        leave = shutil.ignore_patterns("out", *edits_of.FOLDERS)
-        shutil.copytree(f"{root}/crates/{name}", f"{to}/crates/{name}", ignore=leave)
+        ignored = shutil.ignore_patterns("out", *leave)
+        shutil.copytree(f"{root}/crates/{name}", f"{to}/crates/{name}", ignore=ignored)
     rows = [it.line for name, it in repository.crates.items() if name in wanted]
     with open(f"{to}/crates.txt", "w", encoding="utf-8") as file:
         file.writelines(f"{row}\n" for row in rows)
@@ -29,13 +31,23 @@ def copy_without_edits(root, to, names=()):
 
 
 class Build:
-    """A run of `rt ci` in a copy of the repository, whose log tells which crates are proved."""
+    """A run of `rt ci` in a copy of the crates without edits, whose log tells which are proved.
+    `texts` is a copy with them: what is tried is what stood there when it began."""
 
-    def __init__(self, folder):
-        self.folder, self.log = folder, f"{folder}.log"
+    def __init__(self, root, room, names=()):
+        self.texts, self.folder, self.log = f"{room}/texts", f"{room}/copy", f"{room}/log"
+        copy_crates(root, self.texts, names)
+        copy_crates(self.texts, self.folder, names, leave=edits_of.FOLDERS)
+
+    def __enter__(self):
         with open(self.log, "wb") as log:
-            how = {"cwd": folder, "stdin": subprocess.DEVNULL, "stdout": log, "stderr": log}
+            how = {"cwd": self.folder, "stdin": subprocess.DEVNULL, "stdout": log, "stderr": log}
             self.process = subprocess.Popen(["rt", "ci"], **how)
+        return self
+
+    def __exit__(self, *_):
+        self.process.terminate()
+        self.process.wait()
 
     def text(self):
         with open(self.log, encoding="utf-8", errors="replace") as it:
@@ -65,8 +77,8 @@ class Built:
 
     process, has_ended = None, True
 
-    def __init__(self, folder):
-        self.folder = folder
+    def __init__(self, root, folder):
+        self.texts, self.folder = root, folder
 
     def proved(self):
         names = Repository(self.folder).crates
@@ -82,7 +94,7 @@ class Edits:
     def __init__(self, root, build, lanes, names=(), tries_all=False, log=None):
         self.root, self.build, self.lanes = root, build, lanes
         self.tries_all, self.log = tries_all, log
-        self.repository = Repository(root)
+        self.repository = Repository(build.texts)
         self.record, self.digests = Record(f"{root}/{RECORD}"), Digests(self.repository)
         self.names = [*dict.fromkeys(names)] or [*self.repository.crates]
         self.left = [self.repository.crates[it] for it in self.names]
@@ -103,11 +115,13 @@ class Edits:
 
     def _edits(self, crate):
         files, strange = edits_of.files_of(crate)
-        found = []
+        found, often = [], collections.Counter(map(os.path.basename, files))
         for file in files + strange:
             try:
                 if file in strange:
                     raise edits_of.BadEdit("its name is none of an edit")
+                if often[os.path.basename(file)] > 1:
+                    raise edits_of.BadEdit("another edit of its crate has its name")
                 found.append(edits_of.read(crate, file))
             except edits_of.BadEdit as why:
                 self._end(Result(edits_of.Edit(crate, file, b"", {}), Outcome.BAD, str(why)))
@@ -134,9 +148,9 @@ class Edits:
                 self._end(Result(edit, Outcome.KEPT, "it changes no word of the code"))
             elif not edit.bodies or not edit.names:
                 puts.append((ALONE, self._put_alone, edit))
-        self._put_first_alone(trial, puts)
+        self._put_one_first(trial, puts)
 
-    def _put_first_alone(self, trial, puts):
+    def _put_one_first(self, trial, puts):
         """Puts the first of a crate's checks into a lane, and once it ended the others, which begin
         over what it kept."""
 
@@ -147,28 +161,34 @@ class Edits:
         for _, put, what in puts[:1]:
             put(trial, what, sum(cost for cost, *_ in puts), then=then)
 
-    def _put_batch(self, trial, batch, cost, is_last=False, then=lambda: None):
+    def _put_batch(self, trial, batch, cost, then=lambda: None):
         def end(ended):
             results, unclear = ended
             for it in results:
                 self._end(it)
             for it in unclear:
-                if is_last or len(batch.edits) == 1:
+                if len(batch.edits) == 1:
                     self._put_alone(trial, it, ALONE)
                 else:
                     # (it may be clear without the others, as where it calls one of them)
                     (alone,) = batches_of([it], trial.controls)
-                    self._put_batch(trial, alone, 1, is_last=True)
+                    self._put_batch(trial, alone, 1)
             then()
 
-        self.lanes.put(cost, lambda: trial.try_batch(batch), end)
+        def break_off(_):
+            return [], batch.edits
+
+        self.lanes.put(cost, _guarded(lambda: trial.try_batch(batch), break_off), end)
 
     def _put_alone(self, trial, edit, cost, then=lambda: None):
         def end(result):
             self._end(result)
             then()
 
-        self.lanes.put(cost, lambda: trial.try_alone(edit), end)
+        def break_off(why):
+            return Result(edit, Outcome.UNTRIED, f"its trial broke off: {why!r}", is_alone=True)
+
+        self.lanes.put(cost, _guarded(lambda: trial.try_alone(edit), break_off), end)
 
     def _end(self, result):
         self.results.append(result)
@@ -179,11 +199,8 @@ class Edits:
     def write_record(self):
         digests = {it.edit.label: self.digests.of_edit(it.edit) for it in self.refused()}
         tried = {it.edit.label: digests.get(it.edit.label) for it in self.results}
-        of_others = {it for it in self.record.rows if it.split("/")[0] in self._not_asked()}
+        of_others = {it for it in self.record.rows if it.split("/")[0] not in self.names}
         self.record.write(tried, self.labels | of_others)
-
-    def _not_asked(self):
-        return {*self.repository.crates} - {*self.names}
 
     def refused(self):
         return [it for it in self.results if it.outcome is Outcome.REFUSED]
@@ -204,3 +221,16 @@ class Edits:
             f" alone; {len(self.known)} stand on the record as refused"
         )
         return refused + len(self.known), len(failed) + len(lost)
+
+
+def _guarded(call, otherwise):
+    """The call, or what stands for what it gives where it breaks off: that ends no other call."""
+
+    def guarded():
+        try:
+            return call()
+        except Exception as why:
+            traceback.print_exc()
+            return otherwise(why)
+
+    return guarded

@@ -12,6 +12,7 @@ import dataclasses
 import enum
 import os
 import re
+import tempfile
 import threading
 
 from .edit import Edit, name_of
@@ -81,7 +82,8 @@ def batches_of(edits, controls):
 
 
 def _meet(edit, others):
-    return any({*edit.bodies} & {*it.bodies} for it in others)
+    changed = {*edit.bodies, *edit.names}
+    return any(changed & {*it.bodies, *it.names} for it in others)
 
 
 def _control(edits, controls):
@@ -131,13 +133,15 @@ class CrateTrial:
         return [name for *_, name in sorted(found)]
 
     def check(self, room, *flags, control=None):
-        """Checks what stands in a room over what an earlier check kept. What it leaves is kept where
-        the control is proved: nothing else is begun with."""
+        """Checks what stands in a room, with a control over what an earlier check kept. What it
+        leaves is kept where the control is proved. One without, of a whole crate, begins with
+        nothing: it has nothing to show that what was kept is sound."""
         with self.lock:
             self.checks += 1
             number = self.checks
         with contextlib.ExitStack() as stack:
-            kept = stack.enter_context(self.kept.lent())
+            empty = tempfile.TemporaryDirectory
+            kept = stack.enter_context(self.kept.lent() if control else empty(prefix="edits-kept-"))
             path = self.log and f"{self.log}/{self.crate.name}-{number}"
             log = stack.enter_context(open(path, "w", encoding="utf-8")) if path else None
             said = room.check(self.command, "--incremental", kept, *flags, log=log)
@@ -241,8 +245,7 @@ class CrateTrial:
     def _told(self, name, said):
         """The first error of the function's proof that says more than that a name is gone."""
         path = f"proofs/{name.replace('::', '/')}/"
-        errors = [it.removeprefix("./") for it in said.lines if ": error" in it]
-        errors = [it for it in errors if it.startswith(path)]
+        errors = [it for it in said.errors if it.startswith(path)]
         plain = next((it for it in errors if not NAMES.search(it)), None)
         if errors and not plain:
             return f"(only because a proof file names what the edit took away) {errors[0][:160]}"
@@ -258,7 +261,7 @@ class CrateTrial:
 
     def try_alone(self, edit):
         """Tries an edit by a check of the functions that it names, and where that shows nothing by
-        one of the whole crate, as the toolchain tries it, over what an earlier check kept."""
+        one of the whole crate, as the toolchain tries it."""
         hints = tuple(HINT.findall(edit.text.decode(errors="replace")))
         if hints:
             why, seconds = self._refused_at(edit, hints)
@@ -286,7 +289,7 @@ class CrateTrial:
         if any(self._is_bad(it, edit) for it in said.lines):
             return None, said.taken
         # (what an impl or a spec states of itself is proved where it stands)
-        stated = (it.removeprefix("./") for it in said.lines if ": error: `" in it)
+        stated = (it for it in said.errors if ": error: `" in it)
         stated = next((it for it in stated if it.startswith(tuple(edit.texts))), None)
         edit = dataclasses.replace(edit, names=hints)
         why = self._refusal(edit, verdicts, said) or self._told_of_page(hints, verdicts, said)
@@ -297,14 +300,13 @@ class CrateTrial:
         lemma page: what is refused there is refused in the crate as well."""
         whys = [verdicts[law][1] for law in laws if law in verdicts]
         pages = [page for why in whys for page in refused_pages(self.crate, why)]
-        errors = (it.removeprefix("./") for it in said.lines if ": error" in it)
-        told = ((PLACE.match(it), it) for it in errors if not NAMES.search(it))
+        told = ((PLACE.match(it), it) for it in said.errors if not NAMES.search(it))
         return next((it[:160] for at, it in told if at and at[1] in pages), None)
 
     def _unproved(self, said):
         """What a check of the whole crate tells of a goal that is not proved: the first error that
         says more than that a name is gone, or what is said of a function."""
-        told = [it for it in said.lines if ": error" in it]
+        told = said.errors
         first = next((it for it in told if not NAMES.search(it)), None)
         if first:
             return first[:160]
@@ -321,7 +323,8 @@ class CrateTrial:
         it = PLACE.match(line)
         if it and it[1].startswith("specs/") and it[1] in edit.texts and ": error" in line:
             old, new = self.crate.text(it[1]).decode().splitlines(), edit.texts[it[1]].splitlines()
-            if new[int(it[2]) - 1] not in old:
+            # (an error at the end may stand on the line after the last)
+            if new[int(it[2]) - 1 : int(it[2])] not in ([line] for line in old):
                 return True
         return _is_unread(line, edit.texts)
 
@@ -329,6 +332,8 @@ class CrateTrial:
         def result(outcome, why):
             return Result(edit, outcome, why, said.taken, True)
 
+        if said.amiss:
+            return result(Outcome.UNTRIED, f"its check went amiss: {said.amiss[:160]}")
         unread = next((it for it in said.lines if self._is_bad(it, edit)), None)
         if unread and said.status == 1:
             return result(Outcome.BAD, f"the prover cannot read the edited text: {unread[:160]}")

@@ -1,5 +1,5 @@
-//! Tests of keys, prefixes, views and mappings, through their public calls alone. They show that
-//! the calls succeed where there is memory, which no contract can say.
+//! Tests of keys, prefixes, views, nodes and walks, through their public calls alone: that calls
+//! succeed where there is memory, texts, sizes, and what is dropped. No contract can say these.
 #![tactic(auto)]
 
 #[cfg(test)]

@@ -1,6 +1,6 @@
-//! Tests of the versioned tree, of merges and of tuple indexes, through public calls alone. They
-//! show that the calls succeed where there is memory, which no contract can say, and compare them
-//! with answers worked by hand.
+//! Tests of the versioned tree, of merges and of tuple indexes, through public calls alone: that
+//! calls succeed where there is memory, how often values are cloned, and texts. No contract can say
+//! these.
 #![tactic(auto)]
 
 #[cfg(test)]

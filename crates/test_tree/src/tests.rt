@@ -1,26 +1,13 @@
-// Most tests are tables of calls with the answers that are wanted of them, run by the interpreter:
-// so that what is proved is the interpreter alone.
+//! Each call that may be refused for memory is made once with memory left, in each of its forms:
+//! the calls that list, over hundreds of pairs and over thousands.
 
-mod bucket;
-mod buckets;
+mod changes;
 mod clones;
-mod dense;
-mod dropped;
-mod heap;
 mod indexes;
-mod interpreter;
-mod intersections;
-mod kept;
-mod lending;
+mod lists;
 mod merging;
-mod removal;
-mod replacing;
-mod sharing;
-mod slices;
-mod snapshots;
-mod trying;
-mod unversioned;
-mod updates;
-mod visitors;
-mod walks;
-mod wide;
+mod pairs;
+mod texts;
+mod trees;
+mod versions;
+mod visits;

@@ -1,151 +1,143 @@
-//! How often changes clone values: no node is copied for nothing.
+//! How often changes clone values, and that each is dropped: no node is copied for nothing.
+//!
 //! A change needs a clone of each value in a node on its path that another version shows. Beside
 //! these a node that is cut in its prefix is copied, and a removal that merges needs two: the value
-//! that goes stands until nothing can be refused, and the merged node has its child's.
+//! that goes stands until nothing can be refused, and the merged node has its child's. An update
+//! clones the value that it lends.
 
 mod counted;
 
-use crate::tests::clones::counted::{Clones, Counted};
-use rart_versioned::{ArrayKey, KeyTrait, Slot, SlotUpdate, VersionedAdaptiveRadixTree};
+use crate::tests::clones::counted::Counted;
+use rart_versioned::{KeyTrait, Slot, SlotUpdate, VectorKey, VersionedAdaptiveRadixTree};
 use std::alloc::{AllocError, Global};
+use std::cell::Cell;
 use std::process::Abort;
 use std::rc::Rc;
 use std::test::Fail;
 
-type Tree = VersionedAdaptiveRadixTree<ArrayKey<16>, Counted>;
+type Tree = VersionedAdaptiveRadixTree<VectorKey, Counted>;
 
-fn key(rt: &impl Abort, alloc: Global, bytes: &[u8]) -> Result<ArrayKey<16>, AllocError> {
-    assert!(rt; bytes.len() <= 16);
-    ArrayKey::new_from_slice(alloc, bytes)
+// A change of the key with these bytes.
+#[derive(Clone, Copy)]
+enum Change {
+    Set,
+    Remove,
+    Lend,
+    Update,
 }
 
-// Sets a key to a value that counts its clones.
-fn set(
+// Makes a change, which succeeds.
+fn make(
     rt: &impl Abort,
-    alloc: Global,
     tree: &mut Tree,
-    bytes: &[u8],
-    clones: &Rc<Clones>,
+    change: Change,
+    key: VectorKey,
+    value: Counted,
 ) -> Result<(), AllocError> {
-    let key = key(rt, alloc, bytes)?;
     assert!(rt; tree.version() < u64::MAX);
-    let _ = tree.insert(key, Counted::new(1, clones)?)?;
-    Ok(())
-}
-
-// Four keys, of which each begins the next, but for the last two: leaves of one node.
-fn four_keys(rt: &impl Abort, alloc: Global, clones: &Rc<Clones>) -> Result<Tree, AllocError> {
-    let mut tree = Tree::new(alloc);
-    set(rt, alloc, &mut tree, b"a", clones)?;
-    set(rt, alloc, &mut tree, b"ab", clones)?;
-    set(rt, alloc, &mut tree, b"abc", clones)?;
-    set(rt, alloc, &mut tree, b"abd", clones)?;
-    Ok(tree)
-}
-
-fn snapshot(rt: &impl Abort, tree: &Tree) -> Result<Tree, AllocError> {
-    assert!(rt; tree.version() < u64::MAX);
-    tree.snapshot()
-}
-
-fn remove(rt: &impl Abort, tree: &mut Tree, bytes: &[u8]) -> Result<(), AllocError> {
-    assert!(rt; tree.version() < u64::MAX);
-    let removed = tree.remove_slice(bytes)?;
-    assert!(rt; removed.is_some());
-    Ok(())
-}
-
-fn lend(rt: &impl Abort, alloc: Global, tree: &mut Tree, bytes: &[u8]) -> Result<(), AllocError> {
-    let key = key(rt, alloc, bytes)?;
-    assert!(rt; tree.version() < u64::MAX);
-    let lent = tree.get_mut(key)?;
-    assert!(rt; lent.is_some());
-    Ok(())
-}
-
-#[test]
-fn change_of_its_own_nodes_clones_for_a_merger_alone(rt: HostRuntime) -> Result<(), Fail> {
-    let alloc = rt.alloc();
-    let clones = Clones::new(alloc)?;
-    let mut tree = four_keys(&rt, alloc, &clones)?;
-    set(&rt, alloc, &mut tree, b"abe", &clones)?;
-    lend(&rt, alloc, &mut tree, b"abc")?;
-    remove(&rt, &mut tree, b"abd")?;
-    remove(&rt, &mut tree, b"a")?;
-    assert_eq!(rt; clones.take(), 2, "the removal of a merges");
-    remove(&rt, &mut tree, b"abc")?;
-    assert_eq!(rt; clones.take(), 0);
-    Ok(())
-}
-
-#[test]
-fn insertion_clones_the_value_of_a_node_that_it_cuts(rt: HostRuntime) -> Result<(), Fail> {
-    let alloc = rt.alloc();
-    let clones = Clones::new(alloc)?;
-    let mut tree = Tree::new(alloc);
-    set(&rt, alloc, &mut tree, b"abcd", &clones)?;
-    set(&rt, alloc, &mut tree, b"abxy", &clones)?;
-    assert_eq!(rt; clones.take(), 1, "abcd");
-    Ok(())
-}
-
-#[test]
-fn insertion_clones_the_values_above_it(rt: HostRuntime) -> Result<(), Fail> {
-    let alloc = rt.alloc();
-    let clones = Clones::new(alloc)?;
-    let tree = four_keys(&rt, alloc, &clones)?;
-    let mut other = snapshot(&rt, &tree)?;
-    assert_eq!(rt; clones.take(), 0);
-    set(&rt, alloc, &mut other, b"abe", &clones)?;
-    assert_eq!(rt; clones.take(), 2, "a and ab");
-    set(&rt, alloc, &mut other, b"abf", &clones)?;
-    assert_eq!(rt; clones.take(), 0);
-    Ok(())
-}
-
-#[test]
-fn removal_clones_the_values_above_it_and_its_own(rt: HostRuntime) -> Result<(), Fail> {
-    let alloc = rt.alloc();
-    let clones = Clones::new(alloc)?;
-    let tree = four_keys(&rt, alloc, &clones)?;
-    let mut other = snapshot(&rt, &tree)?;
-    remove(&rt, &mut other, b"abd")?;
-    assert_eq!(rt; clones.take(), 3, "a, ab and abd");
-    remove(&rt, &mut other, b"abc")?;
-    assert_eq!(rt; clones.take(), 1, "abc");
-    Ok(())
-}
-
-#[test]
-fn lending_clones_the_values_above_it_and_its_own(rt: HostRuntime) -> Result<(), Fail> {
-    let alloc = rt.alloc();
-    let clones = Clones::new(alloc)?;
-    let tree = four_keys(&rt, alloc, &clones)?;
-    let mut other = snapshot(&rt, &tree)?;
-    lend(&rt, alloc, &mut other, b"abc")?;
-    assert_eq!(rt; clones.take(), 3, "a, ab and abc");
-    lend(&rt, alloc, &mut other, b"abc")?;
-    assert_eq!(rt; clones.take(), 0);
-    Ok(())
-}
-
-fn update(rt: &impl Abort, alloc: Global, tree: &mut Tree, bytes: &[u8]) -> Result<(), AllocError> {
-    let key = key(rt, alloc, bytes)?;
-    assert!(rt; tree.version() < u64::MAX);
-    let is_there = tree.update(key, |_slot: &mut Slot<Counted>| SlotUpdate::Keep)?;
+    let is_there = match change {
+        Change::Set => !tree.insert(key, value)?,
+        Change::Remove => tree.remove(key)?.is_some(),
+        Change::Lend => tree.get_mut(key)?.is_some(),
+        Change::Update => tree.update(key, |_slot: &mut Slot<Counted>| SlotUpdate::Keep)?,
+    };
     assert!(rt; is_there);
     Ok(())
 }
 
+// A change of a key, and how many clones it makes.
+type Row<'a> = (Change, &'a [u8], u64);
+
+// Makes changes one after another.
+fn assert_clones(
+    rt: &impl Abort,
+    alloc: Global,
+    tree: &mut Tree,
+    clones: &Rc<Cell<u64>>,
+    rows: &[Row],
+) -> Result<(), AllocError> {
+    for (change, bytes, wanted) in rows {
+        let key = VectorKey::new_from_slice(alloc, bytes)?;
+        make(rt, tree, *change, key, Counted::new(1, clones)?)?;
+        assert_eq!(rt; clones.replace(0), *wanted, "at {bytes:?}");
+    }
+    Ok(())
+}
+
+// Of these keys each begins the next, but for the last two: leaves of one node.
+const FOUR_KEYS: &[Row] = &[
+    (Change::Set, b"a", 0),
+    (Change::Set, b"ab", 0),
+    (Change::Set, b"abc", 0),
+    (Change::Set, b"abd", 0),
+];
+
+// Whether a clone of the version stays, what is done before it is made, and what behind it.
+const CASES: &[(bool, &[Row], &[Row])] = &[
+    // (the removal of "a" merges)
+    (
+        false,
+        FOUR_KEYS,
+        &[
+            (Change::Set, b"abe", 0),
+            (Change::Lend, b"abc", 0),
+            (Change::Remove, b"abd", 0),
+            (Change::Remove, b"a", 2),
+            (Change::Remove, b"abc", 0),
+        ],
+    ),
+    (false, FOUR_KEYS, &[(Change::Update, b"abc", 1)]),
+    // (the node of "abcd" is cut)
+    (
+        false,
+        &[(Change::Set, b"abcd", 0)],
+        &[(Change::Set, b"abxy", 1)],
+    ),
+    // (the values above: "a" and "ab")
+    (
+        true,
+        FOUR_KEYS,
+        &[(Change::Set, b"abe", 2), (Change::Set, b"abf", 0)],
+    ),
+    // (and its own)
+    (
+        true,
+        FOUR_KEYS,
+        &[(Change::Remove, b"abd", 3), (Change::Remove, b"abc", 1)],
+    ),
+    (
+        true,
+        FOUR_KEYS,
+        &[(Change::Lend, b"abc", 3), (Change::Lend, b"abc", 0)],
+    ),
+    // (and once more, into the slot)
+    (true, FOUR_KEYS, &[(Change::Update, b"abc", 4)]),
+];
+
+fn assert_case(
+    rt: &impl Abort,
+    alloc: Global,
+    clones: &Rc<Cell<u64>>,
+    is_shared: bool,
+    before: &[Row],
+    behind: &[Row],
+) -> Result<(), AllocError> {
+    let mut tree = Tree::new(alloc);
+    assert_clones(rt, alloc, &mut tree, clones, before)?;
+    let older = tree.clone()?;
+    if !is_shared {
+        drop(older);
+        return assert_clones(rt, alloc, &mut tree, clones, behind);
+    }
+    assert_clones(rt, alloc, &mut tree, clones, behind)
+}
+
 #[test]
-fn update_clones_the_value_that_it_lends(rt: HostRuntime) -> Result<(), Fail> {
-    let alloc = rt.alloc();
-    let clones = Clones::new(alloc)?;
-    let mut tree = four_keys(&rt, alloc, &clones)?;
-    update(&rt, alloc, &mut tree, b"abc")?;
-    assert_eq!(rt; clones.take(), 1, "abc, into the slot");
-    let mut other = snapshot(&rt, &tree)?;
-    update(&rt, alloc, &mut other, b"abc")?;
-    assert_eq!(rt; clones.take(), 4, "a, ab, abc, and abc into the slot");
+fn changes_clone_as_often_as_told(rt: HostRuntime) -> Result<(), Fail> {
+    let clones = Rc::new(rt.alloc(), Cell::new(0))?;
+    for (is_shared, before, behind) in CASES {
+        assert_case(&rt, rt.alloc(), &clones, *is_shared, before, behind)?;
+        assert_eq!(rt; Rc::strong_count(&clones), 1);
+    }
     Ok(())
 }

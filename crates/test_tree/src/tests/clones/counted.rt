@@ -1,39 +1,17 @@
 //! A value whose clones are counted.
 ghost use Rattle.std.specs.Prelude.{◌≡◌, IfOk};
 
-use std::alloc::{AllocError, Global};
+use std::alloc::AllocError;
 use std::cell::Cell;
 use std::marker::Model;
 use std::rc::Rc;
 
-/// How many clones were made of the values that name it.
-#[derive(Drop)]
-pub struct Clones {
-    count: Cell<u64>,
-}
-
-impl Clones {
-    /// None yet.
-    pub fn new(alloc: Global) -> Result<Rc<Clones>, AllocError> {
-        let clones = Clones {
-            count: Cell::new(0),
-        };
-        Ok(Rc::new(alloc, clones)?)
-    }
-
-    /// How many were made since the last time that this was asked.
-    pub fn take(&self) -> u64 {
-        let count = self.count.get();
-        self.count.set(0);
-        count
-    }
-}
-
-/// A number as a value. Contracts see the number alone.
+/// A number as a value, and how many clones were made of all values that name the count. Contracts
+/// see the number alone.
 #[derive(Drop)]
 pub struct Counted {
     number: u64,
-    clones: Rc<Clones>,
+    clones: Rc<Cell<u64>>,
 }
 
 impl Model for Counted {
@@ -53,15 +31,15 @@ impl Clone for Counted {
     ghost is_clone = { λ counted copy. copy ≡ counted };
 
     fn clone(&self) -> Result<Counted, AllocError> {
-        let count = self.clones.count.get();
-        self.clones.count.set(count.saturating_add(1));
+        let count = self.clones.get();
+        self.clones.set(count.wrapping_add(1));
         Counted::new(self.number, &self.clones)
     }
 }
 
 impl Counted {
     /// This number. Refused where too many values name the count.
-    pub fn new(number: u64, clones: &Rc<Clones>) -> Result<Counted, AllocError>
+    pub fn new(number: u64, clones: &Rc<Cell<u64>>) -> Result<Counted, AllocError>
         ensures { IfOk result (λ counted. counted ≡ number) }
     {
         Ok(Counted {

@@ -1,0 +1,15 @@
+//! The texts of errors.
+use rart_versioned::InsertError;
+use std::test::Fail;
+
+#[test]
+fn refused_insertion_tells_why(rt: HostRuntime) -> Result<(), Fail> {
+    let no_room: InsertError<u64> = InsertError::NoRoom(7);
+    let no_memory: InsertError<u64> = InsertError::NoMemory;
+    let text = format!(in rt.alloc(); "{no_room}, {no_memory}")?;
+    assert_eq!(rt;
+        text.as_str(),
+        "the number of the tree can't rise, out of memory"
+    );
+    Ok(())
+}

@@ -1,3 +1,0 @@
-mod lockstep;
-mod nodes;
-mod walks;

@@ -1,43 +1,47 @@
-//! Comparisons with std's maps of what changed between versions: random diffs, patches and merges,
-//! and tracked versions that are changed at random. What differs first ends the program.
+//! Comparisons with std's maps of what changed between versions: random diffs, patches and merges.
+//! What differs first ends the program.
 #![tactic(auto)]
 
-mod changes;
-mod diffs;
-mod draft;
-mod drafts;
-mod merges;
-mod model;
-mod patches;
-mod room;
-mod shown;
-mod source;
+mod draw;
+mod trials;
 mod version;
 
 use anyhow::bail;
-use diffs::diffs_agree;
-use drafts::drafts_agree;
-use merges::merges_agree;
-use patches::patches_agree;
+use draw::below;
+use rand_pcg::Pcg32;
+use std::alloc::{AllocError, Global};
+use trials::{diff_agrees, take_over_agrees};
+use version::Version;
 
 /// How many there are of each.
 const SEEDS: u64 = 2_000;
 
 fn main(rt: HostRuntime) -> anyhow::Result<()> {
     for seed in 0..SEEDS {
-        if !diffs_agree(rt.alloc(), seed)? {
-            bail!("the diff of seed {seed} differs");
-        }
-        if !patches_agree(rt.alloc(), seed)? {
-            bail!("the patches of seed {seed} differ");
-        }
-        if !merges_agree(rt.alloc(), seed)? {
-            bail!("the merge of seed {seed} differs");
-        }
-        if !drafts_agree(rt.alloc(), seed)? {
-            bail!("the draft of seed {seed} differs");
+        if !is_met(rt.alloc(), seed)? {
+            bail!("what changed differs at seed {seed}");
         }
     }
-    println!(rt; "{SEEDS} diffs, patches, merges and drafts: what changed is as in the maps")?;
+    println!(rt; "{SEEDS} diffs, patches and merges: what changed is as in the maps")?;
     Ok(())
+}
+
+// Whether a diff, a patch and a merge of versions drawn from a seed are as those of their maps.
+fn is_met(alloc: Global, seed: u64) -> Result<bool, AllocError> {
+    let mut words = Pcg32::new(seed, 35);
+    let mut base = Version::new(alloc);
+    base.change(&mut words, 60)?;
+    let mut ours = base.copy()?;
+    ours.change(&mut words, 30)?;
+    let mut theirs = if below(&mut words, 8) == 0 {
+        Version::new(alloc)
+    } else {
+        base.copy()?
+    };
+    theirs.change(&mut words, 30)?;
+    Ok(
+        diff_agrees(&base, &theirs)?
+            && take_over_agrees(&base, &ours, &theirs, false)?
+            && take_over_agrees(&base, &ours, &theirs, true)?,
+    )
 }

@@ -1,94 +1,85 @@
-//! A tree beside its model.
-use crate::model::{Model, Tree};
-use crate::source::{Key, Source};
-use rart_versioned::KeyTrait;
+//! A tree beside what it is compared with: a map of the standard library, and the number that a
+//! tree with its pairs is to have.
+use crate::draw::{Key, below, key};
+use rand_pcg::Pcg32;
+use rart_versioned::{KeyTrait, VersionedAdaptiveRadixTree};
 use std::alloc::{AllocError, Global};
+use std::collections::BTreeMap;
 
-/// A tree, and the model of the same pairs and number.
+pub type Tree = VersionedAdaptiveRadixTree<Key, u64>;
+
+pub type Map = BTreeMap<Vec<u8>, u64>;
+
 #[derive(Drop)]
 pub struct Version {
+    alloc: Global,
     pub tree: Tree,
-    pub model: Model,
+    pub map: Map,
+    number: u64,
 }
 
 impl Version {
     /// No key, and the number 0.
     pub fn new(alloc: Global) -> Version {
         Version {
+            alloc,
             tree: Tree::new(alloc),
-            model: Model::new(alloc),
+            map: Map::new(alloc),
+            number: 0,
         }
-    }
-
-    /// One of up to `most` changes on nothing.
-    pub fn drawn(source: &mut Source, most: u32) -> Result<Version, AllocError> {
-        let mut version = Version::new(source.alloc());
-        version.change(source, most)?;
-        Ok(version)
-    }
-
-    /// One to be compared with this one: most often this one, changed. One in eight has nothing of
-    /// it, and one in eight has its keys in nodes of its own. One in four is not changed any more.
-    pub fn another(&self, source: &mut Source) -> Result<Version, AllocError> {
-        let mut other = match source.below(8) {
-            0 => Version::new(source.alloc()),
-            1 => self.rebuilt(source.alloc())?,
-            _ => self.copy()?,
-        };
-        if source.below(4) > 0 {
-            other.change(source, 30)?;
-        }
-        Ok(other)
     }
 
     /// The same once more. The trees share their nodes.
     pub fn copy(&self) -> Result<Version, AllocError> {
         Ok(Version {
+            alloc: self.alloc,
             tree: self.tree.clone()?,
-            model: self.model.copy()?,
+            map: self.map.clone()?,
+            number: self.number,
         })
     }
 
-    /// Whether the tree shows what the model has.
-    pub fn agrees(&self) -> Result<bool, AllocError> {
-        self.model.is_shown_by(&self.tree)
-    }
-
-    // The same keys with the same values, put into a tree of its own.
-    fn rebuilt(&self, alloc: Global) -> Result<Version, AllocError> {
-        let mut version = Version::new(alloc);
-        for item in self.tree.iter()? {
-            let (key, value) = item?;
-            version.put(&key, Some(*value))?;
-        }
-        Ok(version)
-    }
-
-    // Up to `most` changes, one in three of which takes a key out.
-    fn change(&mut self, source: &mut Source, most: u32) -> Result<(), AllocError> {
-        for _ in 0..source.below(most) {
-            let key = source.key()?;
-            let value = source.value();
-            let is_taken_out = source.below(3) == 0;
-            self.put(&key, if is_taken_out { None } else { Some(value) })?;
+    /// Makes up to `most` changes, one in three of which takes a key out. Values are few, so that
+    /// keys are set to what they have, and sides agree.
+    pub fn change(&mut self, words: &mut Pcg32, most: u32) -> Result<(), AllocError> {
+        for _ in 0..below(words, most) {
+            let key = key(words, self.alloc)?;
+            let value = u64::from(below(words, 3));
+            if self.tree.version() == u64::MAX {
+                continue;
+            }
+            if below(words, 3) == 0 {
+                self.tree.delete_k(&key)?;
+                self.put(key.as_ref(), None)?;
+            } else {
+                self.tree.insert_k(&key, value)?;
+                self.put(key.as_ref(), Some(value))?;
+            }
         }
         Ok(())
     }
 
-    // Sets a key, or takes it out, where the tree has room.
-    fn put(&mut self, key: &Key, value: Option<u64>) -> Result<(), AllocError> {
-        if self.tree.version() == u64::MAX {
-            return Ok(());
+    /// Sets a key of the map to a value, or takes it out where there is none. The number is one
+    /// greater where the key is set, or was there.
+    pub fn put(&mut self, key: &[u8], value: Option<u64>) -> Result<(), AllocError> {
+        let was = match value {
+            Some(value) => self.map.insert(key.to_vec(self.alloc)?, value)?,
+            None => self.map.remove(key),
+        };
+        if value.is_some() || was.is_some() {
+            self.number = self.number.saturating_add(1);
         }
-        match value {
-            Some(value) => {
-                self.tree.insert_k(key, value)?;
-            }
-            None => {
-                self.tree.delete_k(key)?;
-            }
-        }
-        self.model.put(key.as_ref(), value)?;
         Ok(())
+    }
+
+    /// Whether the tree has the number and the pairs of the map, and as many keys.
+    pub fn agrees(&self) -> bool {
+        for (key, value) in &self.map {
+            if self.tree.get_slice(key) != Some(value) {
+                return false;
+            }
+        }
+        self.tree.intersect_count(&self.tree) == self.map.len()
+            && self.tree.version() == self.number
     }
 }

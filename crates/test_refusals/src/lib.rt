@@ -1,5 +1,6 @@
-//! Tests of families and of tracked versions, whose requests for memory and clones of values are
-//! refused in turn, through public calls alone.
+//! Tests of tracked versions, merges, iterators, diffs, families and examples, through public calls
+//! alone: that they succeed where there is memory, which no contract can say, and again after a
+//! refusal.
 #![tactic(auto)]
 
 #[cfg(test)]

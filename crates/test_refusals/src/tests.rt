@@ -1,21 +1,13 @@
 // Each clone of a value is refused in turn by the tests themselves. Their requests for memory are
 // refused by whoever runs them, `checks/refusals` for one: each test passes whichever one of its
-// requests is refused.
+// requests is refused. What a call leaves, refused or not, its contract says.
 
-mod answer;
-mod changes;
-mod differences;
+mod begun;
+mod examples;
+mod families;
 mod fragile;
-mod iterators;
-mod lists;
-mod long_lists;
 mod memoryless;
-mod merging;
-mod order;
-mod places;
+mod merges;
 mod readings;
-mod requests;
-mod seen;
-mod told;
-mod tracking;
+mod tracked;
 mod trial;

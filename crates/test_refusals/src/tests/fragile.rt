@@ -1,40 +1,50 @@
-//! A value whose clone can be refused.
+//! A value whose clones are counted, and of which one can be refused.
 use std::alloc::{AllocError, Global};
 use std::cell::Cell;
 use std::marker::Model;
 use std::rc::Rc;
 
-/// Says which clone is refused, of all values that name it.
+/// Counts the clones of all values that name it, and says which one is refused.
 #[derive(Drop)]
 pub struct Fuse {
-    left: Cell<u64>,
+    clones: Cell<u64>,
+    refused: Cell<u64>,
 }
 
 impl Fuse {
     /// No clone is refused. Where one request is refused it is made once more.
     pub fn new(alloc: Global) -> Result<Rc<Fuse>, AllocError> {
-        match Rc::new(alloc, Fuse { left: Cell::new(0) }) {
+        match Fuse::at_once(alloc) {
             Ok(fuse) => Ok(fuse),
-            Err(_refused) => Ok(Rc::new(alloc, Fuse { left: Cell::new(0) })?),
+            Err(AllocError) => Fuse::at_once(alloc),
         }
+    }
+
+    fn at_once(alloc: Global) -> Result<Rc<Fuse>, AllocError> {
+        let fuse = Fuse {
+            clones: Cell::new(0),
+            refused: Cell::new(0),
+        };
+        Ok(Rc::new(alloc, fuse)?)
     }
 
     /// Of the clones from here on the one of this number is refused, counted from 1. With 0 none
     /// is.
     pub fn light(&self, number: u64) {
-        self.left.set(number);
+        self.clones.set(0);
+        self.refused.set(number);
     }
 
-    /// Whether a clone is still to be refused.
-    pub fn is_lit(&self) -> bool {
-        self.left.get() > 0
+    /// How many clones were asked for since.
+    pub fn clones(&self) -> u64 {
+        self.clones.get()
     }
 
     // Whether this clone is the one.
     fn burns_out(&self) -> bool {
-        let left = self.left.get();
-        self.left.set(left.saturating_sub(1));
-        left == 1
+        let number = self.clones.get().saturating_add(1);
+        self.clones.set(number);
+        number == self.refused.get()
     }
 }
 

@@ -1,72 +1,140 @@
-//! A command whose requests for memory and clones of values are refused.
-use super::answer::Answer;
-use super::fragile::{Fragile, Fuse};
-use super::memoryless::assert_memoryless;
-use super::order::{FragileCommand, Maker, Order};
-use super::places::{MADE, Shown, Versions, has_places, made};
-use rart_family::{Reply, VectorKey, Work};
+//! Each call, with ample memory and with each clone of a value refused that it makes. It succeeds
+//! once nothing more is refused, answers what is wanted, and makes as many clones as that takes.
+//! `checks/refusals` looks for what these tests print: that memory was refused to each call.
+use super::begun::Begun;
+use super::fragile::Fuse;
+use super::merges::{merge, patch};
+use super::readings::Reading;
+use super::tracked::{Call, Form};
 use std::alloc::{AllocError, Global};
+use std::io::Print;
 use std::process::Abort;
+use std::rc::Rc;
 use std::test::Fail;
 
-// More clones than any command makes here.
-const MOST_CLONES: u64 = 100;
-
-// A command is refused at most by one request and by one clone.
-const ATTEMPTS: usize = 3;
-
-/// A command on the versions that are made, its reply, and the places that it leaves.
-pub struct Case<'a> {
-    pub order: Order<'a>,
-    pub answer: Answer<'a>,
-    pub places: &'a [Shown<'a>],
+#[derive(Clone, Copy)]
+enum Trial {
+    Tracked(Call, Form),
+    Patch,
+    Merge,
+    Read(Reading),
 }
 
-/// Tries a command with no clone refused, and then with each one that it makes.
-///
-/// Refused, by a clone or by a request for memory, it leaves all places as they were. Once nothing
-/// more is refused it is answered so, and leaves such places.
-pub fn assert_survives(rt: &impl Abort, alloc: Global, case: &Case) -> Result<(), Fail> {
-    for clone in 0..MOST_CLONES {
-        let has_met_none = assert_answered(rt, alloc, case, clone)?;
-        if clone > 0 && has_met_none {
-            return Ok(());
+// The calls of a tracked version, the name of the last form of each, and how many clones it makes:
+// one of each value in a shared node on its path, one of what it lends, lists or takes over, and
+// where a removal merges, one of the value that goes and one of the merged child's.
+const TRACKED: &[(Call, &str, u64)] = &[
+    (Call::Insert, "insert_k_counted", 1),
+    (Call::Replace, "insert_and_replace_k_counted", 1),
+    (Call::TryInsert, "try_insert_k", 1),
+    (Call::Remove, "remove_k_counted", 2),
+    (Call::Delete, "delete_k_counted", 2),
+    (Call::Lend, "get_mut_k_counted", 1),
+    (Call::Update, "update_k_counted", 2),
+    (Call::TryUpdate, "try_update_k_counted", 2),
+    (Call::Undo, "undo", 0),
+    (Call::Commit, "commit", 0),
+    (Call::Rebase, "rebase", 2),
+    (Call::Changes, "changes", 2),
+    (Call::ChangesWith, "changes_with_counted", 0),
+    (Call::ConflictsWith, "conflicts_with_counted", 0),
+];
+
+const READINGS: &[(Reading, &str)] = &[
+    (Reading::Iter, "iter"),
+    (Reading::Values, "values_iter"),
+    (Reading::Range, "range"),
+    (Reading::Prefix, "prefix_iter"),
+    (Reading::PrefixMatches, "prefix_match_iter"),
+    (Reading::Diff, "diff_with"),
+    (Reading::DiffByViews, "diff_lending_with"),
+    (Reading::DiffUntil, "try_diff_lending_with"),
+    (Reading::DiffCount, "diff_count"),
+    (Reading::Equals, "equals"),
+];
+
+impl Trial {
+    // Whether it answers what is wanted.
+    fn make(self, alloc: Global, fuse: &Rc<Fuse>, begun: &mut Begun) -> Result<bool, AllocError> {
+        match self {
+            Trial::Tracked(call, form) => call.make(form, alloc, fuse, begun),
+            Trial::Patch => patch(begun),
+            Trial::Merge => merge(fuse, begun),
+            Trial::Read(reading) => reading.read(alloc, &begun.base, &begun.theirs),
         }
     }
-    assert!(rt; false, "{MOST_CLONES} clones");
+}
+
+// With no clone refused, and with each one that it makes.
+fn assert_survives<R: Abort + Print>(
+    rt: &R,
+    alloc: Global,
+    trial: Trial,
+    name: &str,
+    clones: u64,
+) -> Result<(), Fail> {
+    for refused in 0..=clones {
+        let fuse = Fuse::new(alloc)?;
+        let mut begun = Begun::new(alloc, &fuse)?;
+        if refused > 0 {
+            fuse.light(refused);
+            let made = trial.make(alloc, &fuse, &mut begun);
+            assert!(rt; made.is_err(), "clone {refused} of {name} is refused");
+        }
+        let made = make_unrefused(rt, alloc, trial, name, &fuse, &mut begun)?;
+        assert!(rt; made == Ok(true), "the answer of {name}");
+        assert_eq!(rt; fuse.clones(), clones, "the clones of {name}");
+    }
     Ok(())
 }
 
-// The clone of this number is refused. Answers whether there was none of that number.
-fn assert_answered(rt: &impl Abort, alloc: Global, case: &Case, clone: u64) -> Result<bool, Fail> {
-    let fuse = Fuse::new(alloc)?;
-    let mut family = made(alloc, &fuse)?;
-    let command = [Maker { alloc, fuse: &fuse }.command(&case.order)?];
-    assert!(rt; has_places(&family, MADE)?);
-    assert_memoryless(rt, alloc, &family)?;
-    fuse.light(clone);
-    for _ in 0..ATTEMPTS {
-        match replied(&mut family, &command) {
-            Ok(reply) => {
-                assert!(rt; case.answer.is_given_by(&reply));
-                assert!(rt; has_places(&family, case.places)?);
-                return Ok(fuse.is_lit());
-            }
-            Err(AllocError) => assert!(rt; has_places(&family, MADE)?),
-        }
+// No clone is refused, and the call is made once more where a request is.
+fn make_unrefused(
+    rt: &impl Print,
+    alloc: Global,
+    trial: Trial,
+    name: &str,
+    fuse: &Rc<Fuse>,
+    begun: &mut Begun,
+) -> Result<Result<bool, AllocError>, Fail> {
+    fuse.light(0);
+    let made = trial.make(alloc, fuse, begun);
+    if made.is_ok() {
+        return Ok(made);
     }
-    assert!(rt; false, "out of memory where there is some");
-    Ok(false)
+    println!(rt; "{name} was refused")?;
+    fuse.light(0);
+    Ok(trial.make(alloc, fuse, begun))
 }
 
-// The reply to the one command, unless memory was refused.
-fn replied(
-    family: &mut Versions,
-    command: &[FragileCommand],
-) -> Result<Reply<VectorKey, Fragile>, AllocError> {
-    let mut replies = family.run(command, &mut Work::new(), &mut Work::new())?;
-    match replies.pop() {
-        Some(Reply::NoMemory) | None => Err(AllocError),
-        Some(reply) => Ok(reply),
+#[test]
+fn tracked_versions_survive_refusals(rt: HostRuntime) -> Result<(), Fail> {
+    for (call, name, clones) in TRACKED {
+        for form in [Form::ByValue, Form::ByReference] {
+            assert_survives(
+                &rt,
+                rt.alloc(),
+                Trial::Tracked(*call, form),
+                "a form",
+                *clones,
+            )?;
+        }
+        let last = Trial::Tracked(*call, Form::WithWork);
+        assert_survives(&rt, rt.alloc(), last, name, *clones)?;
     }
+    Ok(())
+}
+
+#[test]
+fn merges_survive_refusals(rt: HostRuntime) -> Result<(), Fail> {
+    assert_survives(&rt, rt.alloc(), Trial::Patch, "patch", 3)?;
+    assert_survives(&rt, rt.alloc(), Trial::Merge, "merge_with", 2)
+}
+
+#[test]
+fn readings_survive_refusals(rt: HostRuntime) -> Result<(), Fail> {
+    for (reading, name) in READINGS {
+        assert_survives(&rt, rt.alloc(), Trial::Read(*reading), name, 0)?;
+    }
+    Ok(())
 }

@@ -1,4 +1,0 @@
-//! With ample memory the examples answer what their clauses say.
-mod calls;
-mod clients;
-mod snapshots;

@@ -1,6 +1,0 @@
-//! Tests of tracked versions, through their public calls alone. They show that the calls succeed
-//! where there is memory, which no contract can say, and compare them with answers worked by hand.
-#![tactic(auto)]
-
-#[cfg(test)]
-mod tests;

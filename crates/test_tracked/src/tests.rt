@@ -1,4 +1,0 @@
-mod draft;
-mod forms;
-mod inline;
-mod steps;

@@ -1,57 +1,56 @@
 // What no clause says: that calls succeed where there is memory, and what is written when.
 
-mod changes;
-mod families;
-mod intersections;
-mod lines;
+mod heap;
 mod lists;
-mod models;
-mod refusals;
-mod replies;
 mod streams;
-mod updates;
-mod visits;
-mod walks;
 
-use crate::served::Served;
+use crate::served::{ServeError, Served};
 use crate::server::serve;
-use crate::slice::serve_slice;
 use std::alloc::Global;
 use std::process::Abort;
 use std::test::Fail;
+use streams::{Sink, Source, none_answered};
 
-// Serves lines that are parted by ` / ` here, each with its line feed, and compares what is written
-// with the replies, which are parted so too; and so from a slice.
+// How a text of lines is read and its replies are written.
+#[derive(Clone, Copy)]
+struct Trial<'a> {
+    lines: &'a [u8],
+    // Whether reading fails at the end.
+    fails_to_read: bool,
+    // How many bytes a write takes.
+    at_once: usize,
+    // How often a write is interrupted before it takes any.
+    interruptions: usize,
+    // How many bytes are taken before writing fails.
+    most: usize,
+}
+
+impl<'a> Trial<'a> {
+    // Nothing fails.
+    fn of(lines: &'a [u8]) -> Trial<'a> {
+        Trial {
+            lines,
+            fails_to_read: false,
+            at_once: usize::MAX,
+            interruptions: 0,
+            most: usize::MAX,
+        }
+    }
+}
+
+// Serves lines, and compares what is written and answered.
 fn assert_served(
     rt: &impl Abort,
     alloc: Global,
-    lines: &str,
-    replies: &str,
-    served: Served,
+    trial: Trial<'_>,
+    replies: &[u8],
+    served: Result<Served, ServeError>,
 ) -> Result<(), Fail> {
-    let input = text_of(alloc, lines)?;
-    let mut output = Vec::new(alloc);
-    let answer = serve(alloc, input.as_bytes(), &mut output)?;
-    let wanted = text_of(alloc, replies)?;
-    assert_eq!(rt; str::from_utf8(&output)?, wanted.as_str());
-    assert_eq!(rt; answer, served);
-    let mut appended = Vec::new(alloc);
-    assert_eq!(rt;
-        serve_slice(alloc, input.as_bytes(), &mut appended)?,
-        served
-    );
-    assert_eq!(rt; appended, output);
+    let answered = none_answered(alloc)?;
+    let source = Source::new(trial.lines, trial.fails_to_read, answered.clone()?);
+    let mut sink = Sink::new(alloc, trial, answered);
+    let answer = serve(alloc, source, &mut sink);
+    assert!(rt; sink.taken.as_slice() == replies);
+    assert!(rt; answer == served);
     Ok(())
-}
-
-fn text_of(alloc: Global, lines: &str) -> Result<String, Fail> {
-    let mut text = String::new(alloc);
-    if lines.is_empty() {
-        return Ok(text);
-    }
-    for line in lines.split(" / ") {
-        text.push_str(line)?;
-        text.push('\n')?;
-    }
-    Ok(text)
 }

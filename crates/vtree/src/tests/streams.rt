@@ -1,43 +1,115 @@
-// A reader and a writer that fail.
+// Readers and writers that are interrupted, do a part of what they are asked, or fail.
+use super::{Trial, assert_served};
 use crate::served::{ServeError, Served};
-use crate::server::serve;
 use std::alloc::{AllocError, Global};
 use std::cell::Cell;
 use std::io::{self, Read, Write};
 use std::rc::Rc;
 use std::test::Fail;
 
-// Gives one byte a call, and fails at its end.
+// How many lines a writer was given, which its reader sees.
 #[derive(Drop)]
-struct FailingReader {
-    bytes: &'static [u8],
+pub struct Answered {
+    lines: Cell<usize>,
 }
 
-impl Read for FailingReader {
+pub fn none_answered(alloc: Global) -> Result<Rc<Answered>, AllocError> {
+    let lines = Cell::new(0);
+    Ok(Rc::new(alloc, Answered { lines })?)
+}
+
+// Gives one byte a call, each behind an interruption. Fails where a line is asked for before all
+// lines before it are answered, and at its end where it is told to.
+#[derive(Drop)]
+pub struct Source<'a> {
+    bytes: &'a [u8],
+    fails: bool,
+    was_interrupted: bool,
+    given: usize,
+    answered: Rc<Answered>,
+}
+
+impl<'a> Source<'a> {
+    pub fn new(bytes: &'a [u8], fails: bool, answered: Rc<Answered>) -> Source<'a> {
+        Source {
+            bytes,
+            fails,
+            was_interrupted: false,
+            given: 0,
+            answered,
+        }
+    }
+}
+
+impl Read for Source<'_> {
     fn read(&mut self, buffer: &mut [u8]) -> io::Result<usize> {
-        if self.bytes.is_empty() || buffer.is_empty() {
+        self.was_interrupted = !self.was_interrupted;
+        if self.was_interrupted {
+            return Err(io::Error::from(io::ErrorKind::Interrupted));
+        }
+        if self.answered.lines.get() < self.given || self.bytes.is_empty() && self.fails {
             return Err(io::Error::from(io::ErrorKind::Other));
         }
+        if self.bytes.is_empty() || buffer.is_empty() {
+            return Ok(0);
+        }
         buffer[0] = self.bytes[0];
+        if self.bytes[0] == b'\n' {
+            self.given = self.given.saturating_add(1);
+        }
         self.bytes = &self.bytes[1..];
         Ok(1)
     }
 }
 
-// Takes one byte a call, up to a number in all, and then fails.
+// Takes bytes, some at once and each time after interruptions, up to a number in all, and then
+// fails. Where it took none it takes all that comes after.
 #[derive(Drop)]
-struct FailingWriter {
-    taken: Vec<u8>,
+pub struct Sink {
+    pub taken: Vec<u8>,
     most: usize,
+    at_once: usize,
+    interruptions: usize,
+    interruptions_left: usize,
+    answered: Rc<Answered>,
 }
 
-impl Write for FailingWriter {
+impl Sink {
+    pub fn new(alloc: Global, trial: Trial<'_>, answered: Rc<Answered>) -> Sink {
+        Sink {
+            taken: Vec::new(alloc),
+            most: trial.most,
+            at_once: trial.at_once,
+            interruptions: trial.interruptions,
+            interruptions_left: trial.interruptions,
+            answered,
+        }
+    }
+}
+
+impl Write for Sink {
     fn write(&mut self, bytes: &[u8]) -> io::Result<usize> {
-        if self.taken.len() >= self.most || bytes.is_empty() {
+        if self.interruptions_left > 0 {
+            self.interruptions_left -= 1;
+            return Err(io::Error::from(io::ErrorKind::Interrupted));
+        }
+        self.interruptions_left = self.interruptions;
+        let room = self.most.saturating_sub(self.taken.len());
+        if room == 0 {
             return Err(io::Error::from(io::ErrorKind::Other));
         }
-        self.taken.push(bytes[0])?;
-        Ok(1)
+        let count = bytes.len().min(room).min(self.at_once);
+        if count == 0 {
+            self.at_once = usize::MAX;
+        }
+        for byte in &bytes[..count] {
+            self.taken.push(*byte)?;
+            if *byte == b'\n' {
+                let lines = self.answered.lines.get().saturating_add(1);
+                self.answered.lines.set(lines);
+            }
+        }
+        Ok(count)
     }
 
     fn flush(&mut self) -> io::Result<()> {
@@ -45,104 +117,98 @@ impl Write for FailingWriter {
     }
 }
 
-// Each second call is interrupted, the first one too; else it takes one byte.
-#[derive(Drop)]
-struct InterruptedWriter {
-    taken: Vec<u8>,
-    was_interrupted: bool,
+// Twenty lines, and their replies.
+const LINES: &str = "new\ninsert 0 'abc 1\ninsert 0 'abd 2\nsnapshot 0\ninsert 0 'abe 3\n\
+                     get 1 'abe\nget 0 'abe\nversion 0\nversion 1\niter 0\nvalues 1\n\
+                     replace 0 'abc 9\nintersect 0 1\nintersect-count 0 1\nprefix 0 'abd\n\
+                     delete 1 'abd\ntry-update 0 'abd 7 fail\nflatten 1\ndiscard 0\nempty 0\n";
+
+const REPLIES: &str = "at 0\nfalse\nfalse\nat 1\nfalse\nnone\nsome 3\nversion 3\nversion 3\n\
+                       entries 'abc 1 'abd 2 'abe 3\nvalues 1 2\nsome 1\n\
+                       pairs 'abc 9 1 'abd 2 2\ncount 2\nentries 'abd 2\ntrue\nfailed\n\
+                       entries 'abc 1\ndiscarded\nno version\n";
+
+// The first lines of a text, as many as the other one has whole.
+fn as_many_lines<'a>(text: &'a [u8], other: &[u8]) -> &'a [u8] {
+    let mut rest = text;
+    for byte in other {
+        if *byte == b'\n' {
+            let end = rest.iter().position(|byte| *byte == b'\n').unwrap_or(0);
+            rest = rest.get(end.saturating_add(1)..).unwrap_or(&[]);
+        }
+    }
+    let length = text.len().saturating_sub(rest.len());
+    text.get(..length).unwrap_or(&[])
 }
 
-impl Write for InterruptedWriter {
-    fn write(&mut self, bytes: &[u8]) -> io::Result<usize> {
-        if !self.was_interrupted {
-            self.was_interrupted = true;
-            return Err(io::Error::from(io::ErrorKind::Interrupted));
-        }
-        self.was_interrupted = false;
-        if bytes.is_empty() {
-            return Ok(0);
-        }
-        self.taken.push(bytes[0])?;
-        Ok(1)
-    }
-
-    fn flush(&mut self) -> io::Result<()> {
-        Ok(())
-    }
-}
-
+// An unfinished line is given up.
 #[test]
-fn interrupted_write_is_tried_again(rt: HostRuntime) -> Result<(), Fail> {
-    let mut writer = InterruptedWriter {
-        taken: Vec::new(rt.alloc()),
-        was_interrupted: false,
-    };
-    let served = serve(rt.alloc(), b"new\nold\niter 0".as_slice(), &mut writer);
-    assert_eq!(rt;
-        writer.taken.as_slice(),
-        b"at 0\nbad line\nentries\n".as_slice()
-    );
-    assert!(rt; served == Ok(Served::BadLine));
+fn read_that_fails_at_any_byte_leaves_the_replies_before_it(rt: HostRuntime) -> Result<(), Fail> {
+    for place in 0..LINES.len() {
+        let lines = &LINES.as_bytes()[..place];
+        let trial = Trial {
+            fails_to_read: true,
+            ..Trial::of(lines)
+        };
+        let replies = as_many_lines(REPLIES.as_bytes(), lines);
+        assert_served(&rt, rt.alloc(), trial, replies, Err(ServeError::Read))?;
+    }
     Ok(())
 }
 
-// Is interrupted some times before it takes what it is given.
-#[derive(Drop)]
-struct LateWriter {
-    taken: Vec<u8>,
-    interruptions: usize,
-}
-
-impl Write for LateWriter {
-    fn write(&mut self, bytes: &[u8]) -> io::Result<usize> {
-        if self.interruptions > 0 {
-            self.interruptions -= 1;
-            return Err(io::Error::from(io::ErrorKind::Interrupted));
-        }
-        self.taken.extend_from_slice(bytes)?;
-        Ok(bytes.len())
+#[test]
+fn write_that_fails_at_any_byte_leaves_the_bytes_before_it(rt: HostRuntime) -> Result<(), Fail> {
+    for most in 0..REPLIES.len() {
+        let trial = Trial {
+            at_once: 1,
+            most,
+            ..Trial::of(LINES.as_bytes())
+        };
+        let replies = &REPLIES.as_bytes()[..most];
+        assert_served(&rt, rt.alloc(), trial, replies, Err(ServeError::Write))?;
     }
-
-    fn flush(&mut self) -> io::Result<()> {
-        Ok(())
-    }
+    let replies = REPLIES.as_bytes();
+    assert_served(
+        &rt,
+        rt.alloc(),
+        Trial::of(LINES.as_bytes()),
+        replies,
+        Ok(Served::Clean),
+    )
 }
 
 #[test]
-fn write_is_tried_as_often_as_it_takes(rt: HostRuntime) -> Result<(), Fail> {
-    let mut writer = LateWriter {
-        taken: Vec::new(rt.alloc()),
+fn failed_write_of_a_bad_line_ends_the_serving(rt: HostRuntime) -> Result<(), Fail> {
+    let trial = Trial {
+        most: 3,
+        ..Trial::of(b"old\nnew\n")
+    };
+    assert_served(&rt, rt.alloc(), trial, b"bad", Err(ServeError::Write))
+}
+
+#[test]
+fn writer_that_takes_nothing_has_failed(rt: HostRuntime) -> Result<(), Fail> {
+    let trial = Trial {
+        at_once: 0,
+        ..Trial::of(b"new\n")
+    };
+    assert_served(&rt, rt.alloc(), trial, b"", Err(ServeError::Write))
+}
+
+#[test]
+fn interrupted_write_is_tried_as_often_as_it_takes(rt: HostRuntime) -> Result<(), Fail> {
+    let interrupted = Trial {
+        at_once: 1,
+        interruptions: 1,
+        ..Trial::of(b"new\nold\niter 0")
+    };
+    let replies = b"at 0\nbad line\nentries\n";
+    assert_served(&rt, rt.alloc(), interrupted, replies, Ok(Served::BadLine))?;
+    let late = Trial {
         interruptions: 10_000,
+        ..Trial::of(b"new\n")
     };
-    let served = serve(rt.alloc(), b"new\n".as_slice(), &mut writer);
-    assert_eq!(rt; writer.taken.as_slice(), b"at 0\n".as_slice());
-    assert!(rt; served == Ok(Served::Clean));
-    Ok(())
-}
-
-// Takes nothing, and does not say that it fails.
-#[derive(Drop)]
-struct FullWriter {
-    calls: usize,
-}
-
-impl Write for FullWriter {
-    fn write(&mut self, _bytes: &[u8]) -> io::Result<usize> {
-        self.calls = self.calls.saturating_add(1);
-        Ok(0)
-    }
-
-    fn flush(&mut self) -> io::Result<()> {
-        Ok(())
-    }
-}
-
-#[test]
-fn writer_that_takes_nothing_has_failed(rt: HostRuntime) {
-    let mut writer = FullWriter { calls: 0 };
-    let served = serve(rt.alloc(), b"new\n".as_slice(), &mut writer);
-    assert!(rt; served == Err(ServeError::Write));
-    assert_eq!(rt; writer.calls, 1);
+    assert_served(&rt, rt.alloc(), late, b"at 0\n", Ok(Served::Clean))
 }
 
 // Two hundred insertions and a list of all, and what they are replied. The list has 2,008 bytes,
@@ -162,217 +228,31 @@ fn long_list(alloc: Global) -> Result<(String, String), AllocError> {
     Ok((lines, replies))
 }
 
-#[test]
-fn long_list_is_written_through_interruptions(rt: HostRuntime) -> Result<(), Fail> {
-    let (lines, replies) = long_list(rt.alloc())?;
-    assert_eq!(rt; replies.len(), 3213);
-    let mut writer = InterruptedWriter {
-        taken: Vec::new(rt.alloc()),
-        was_interrupted: false,
-    };
-    let served = serve(rt.alloc(), lines.as_bytes(), &mut writer);
-    assert!(rt; writer.taken.as_slice() == replies.as_bytes());
-    assert!(rt; served == Ok(Served::Clean));
-    Ok(())
-}
-
 // The list begins behind 1,205 bytes, and its first page has 1,017 to 1,024.
 #[test]
 fn long_list_is_written_up_to_a_failure(rt: HostRuntime) -> Result<(), Fail> {
     let (lines, replies) = long_list(rt.alloc())?;
-    for most in [1205, 1206, 2221, 2222, 2223, 2228, 2229, 2230, 3212, 3213] {
-        let mut writer = FailingWriter {
-            taken: Vec::new(rt.alloc()),
+    assert_eq!(rt; replies.len(), 3213);
+    for most in [1205, 1206, 2221, 2222, 2223, 2228, 2229, 2230, 3212] {
+        let trial = Trial {
+            at_once: 1,
             most,
+            ..Trial::of(lines.as_bytes())
         };
-        let served = serve(rt.alloc(), lines.as_bytes(), &mut writer);
         let wanted = replies.as_bytes().get(..most).unwrap_or(&[]);
-        assert!(rt; writer.taken.as_slice() == wanted, "at {most}");
-        let wanted = if most < 3213 {
-            Err(ServeError::Write)
-        } else {
-            Ok(Served::Clean)
-        };
-        assert!(rt; served == wanted, "at {most}");
+        assert_served(&rt, rt.alloc(), trial, wanted, Err(ServeError::Write))?;
     }
-    Ok(())
-}
-
-// How many lines a writer was given, which its reader sees.
-#[derive(Drop)]
-struct Answered {
-    lines: Cell<usize>,
-}
-
-#[derive(Drop)]
-struct CountingWriter {
-    answered: Rc<Answered>,
-}
-
-impl Write for CountingWriter {
-    fn write(&mut self, bytes: &[u8]) -> io::Result<usize> {
-        let mut lines = self.answered.lines.get();
-        for byte in bytes {
-            if *byte == b'\n' {
-                lines = lines.saturating_add(1);
-            }
-        }
-        self.answered.lines.set(lines);
-        Ok(bytes.len())
-    }
-
-    fn flush(&mut self) -> io::Result<()> {
-        Ok(())
-    }
-}
-
-// Gives one byte a call, and fails where a line is asked for before all lines before it are
-// answered.
-#[derive(Drop)]
-struct WaitingReader {
-    bytes: &'static [u8],
-    given: usize,
-    answered: Rc<Answered>,
-}
-
-impl Read for WaitingReader {
-    fn read(&mut self, buffer: &mut [u8]) -> io::Result<usize> {
-        if self.answered.lines.get() < self.given {
-            return Err(io::Error::from(io::ErrorKind::Other));
-        }
-        if self.bytes.is_empty() || buffer.is_empty() {
-            return Ok(0);
-        }
-        buffer[0] = self.bytes[0];
-        if self.bytes[0] == b'\n' {
-            self.given = self.given.saturating_add(1);
-        }
-        self.bytes = &self.bytes[1..];
-        Ok(1)
-    }
-}
-
-#[test]
-fn each_line_is_answered_before_the_next_is_read(rt: HostRuntime) -> Result<(), Fail> {
-    let answered = Rc::new(
+    let trial = Trial {
+        at_once: 1,
+        interruptions: 1,
+        most: 3213,
+        ..Trial::of(lines.as_bytes())
+    };
+    assert_served(
+        &rt,
         rt.alloc(),
-        Answered {
-            lines: Cell::new(0),
-        },
-    )?;
-    let reader = WaitingReader {
-        bytes: LINES.as_bytes(),
-        given: 0,
-        answered: answered.clone()?,
-    };
-    let mut writer = CountingWriter {
-        answered: answered.clone()?,
-    };
-    let served = serve(rt.alloc(), reader, &mut writer);
-    assert!(rt; served == Ok(Served::Clean));
-    assert_eq!(rt; answered.lines.get(), 20);
-    Ok(())
-}
-
-#[test]
-fn reply_is_written_before_a_failed_read(rt: HostRuntime) -> Result<(), Fail> {
-    let reader = FailingReader { bytes: b"new\nver" };
-    let mut output = Vec::new(rt.alloc());
-    let served = serve(rt.alloc(), reader, &mut output);
-    assert_eq!(rt; output.as_slice(), b"at 0\n".as_slice());
-    assert!(rt; served == Err(ServeError::Read));
-    Ok(())
-}
-
-#[test]
-fn failed_write_ends_the_serving(rt: HostRuntime) -> Result<(), Fail> {
-    let mut writer = FailingWriter {
-        taken: Vec::new(rt.alloc()),
-        most: 5,
-    };
-    let served = serve(rt.alloc(), b"new\nversion 0\n".as_slice(), &mut writer);
-    assert_eq!(rt; writer.taken.as_slice(), b"at 0\n".as_slice());
-    assert!(rt; served == Err(ServeError::Write));
-    Ok(())
-}
-
-#[test]
-fn failed_write_of_a_bad_line_ends_the_serving(rt: HostRuntime) -> Result<(), Fail> {
-    let mut writer = FailingWriter {
-        taken: Vec::new(rt.alloc()),
-        most: 3,
-    };
-    let served = serve(rt.alloc(), b"old\nnew\n".as_slice(), &mut writer);
-    assert_eq!(rt; writer.taken.as_slice(), b"bad".as_slice());
-    assert!(rt; served == Err(ServeError::Write));
-    Ok(())
-}
-
-// Twenty lines, and their replies.
-const LINES: &str = "new\ninsert 0 'abc 1\ninsert 0 'abd 2\nsnapshot 0\ninsert 0 'abe 3\n\
-                     get 1 'abe\nget 0 'abe\nversion 0\nversion 1\niter 0\nvalues 1\n\
-                     replace 0 'abc 9\nintersect 0 1\nintersect-count 0 1\nprefix 0 'abd\n\
-                     delete 1 'abd\ntry-update 0 'abd 7 fail\nflatten 1\ndiscard 0\nempty 0\n";
-
-const REPLIES: &str = "at 0\nfalse\nfalse\nat 1\nfalse\nnone\nsome 3\nversion 3\nversion 3\n\
-                       entries 'abc 1 'abd 2 'abe 3\nvalues 1 2\nsome 1\n\
-                       pairs 'abc 9 1 'abd 2 2\ncount 2\nentries 'abd 2\ntrue\nfailed\n\
-                       entries 'abc 1\ndiscarded\nno version\n";
-
-// The bytes of the first lines of a text.
-fn first_lines(text: &[u8], count: usize) -> &[u8] {
-    let mut left = count;
-    for (place, byte) in text.iter().enumerate() {
-        if left == 0 {
-            return &text[..place];
-        }
-        if *byte == b'\n' {
-            left -= 1;
-        }
-    }
-    text
-}
-
-// An unfinished line is given up.
-#[test]
-fn read_that_fails_at_any_byte_leaves_the_replies_before_it(rt: HostRuntime) -> Result<(), Fail> {
-    let mut whole = 0_usize;
-    for (place, byte) in LINES.as_bytes().iter().enumerate() {
-        let reader = FailingReader {
-            bytes: &LINES.as_bytes()[..place],
-        };
-        let mut output = Vec::new(rt.alloc());
-        let served = serve(rt.alloc(), reader, &mut output);
-        assert_eq!(rt;
-            output.as_slice(),
-            first_lines(REPLIES.as_bytes(), whole),
-            "at {place}"
-        );
-        assert!(rt; served == Err(ServeError::Read), "at {place}");
-        if *byte == b'\n' {
-            whole = whole.saturating_add(1);
-        }
-    }
-    assert_eq!(rt; whole, 20);
-    Ok(())
-}
-
-#[test]
-fn write_that_fails_at_any_byte_leaves_the_bytes_before_it(rt: HostRuntime) -> Result<(), Fail> {
-    let replies = REPLIES.as_bytes();
-    for most in 0..=replies.len() {
-        let mut writer = FailingWriter {
-            taken: Vec::new(rt.alloc()),
-            most,
-        };
-        let served = serve(rt.alloc(), LINES.as_bytes(), &mut writer);
-        assert_eq!(rt; writer.taken.as_slice(), &replies[..most], "at {most}");
-        let wanted = if most < replies.len() {
-            Err(ServeError::Write)
-        } else {
-            Ok(Served::Clean)
-        };
-        assert!(rt; served == wanted, "at {most}");
-    }
-    Ok(())
+        trial,
+        replies.as_bytes(),
+        Ok(Served::Clean),
+    )
 }

@@ -1,8 +1,12 @@
-//! The keys that are measured with.
+//! The keys that are measured with, and trees of them.
 use rand_core::utils::NextWord;
 use rand_pcg::Pcg32;
-use rart_versioned::{ArrayKey, KeyTrait};
+use rart_versioned::{ArrayKey, KeyTrait, VersionedAdaptiveRadixTree};
 use std::alloc::{AllocError, Global};
+
+pub type Key = ArrayKey<16>;
+
+pub type Tree = VersionedAdaptiveRadixTree<Key, u64>;
 
 /// How keys are made.
 #[derive(Clone, Copy)]
@@ -22,49 +26,40 @@ impl Kind {
     }
 }
 
-/// `count` keys of sixteen bytes, the same for the same seed.
-pub fn keys_of(
-    alloc: Global,
-    kind: Kind,
-    count: usize,
-    seed: u64,
-) -> Result<Vec<[u8; 16]>, AllocError> {
-    let mut words = Pcg32::new(seed, 54);
+/// `count` keys of sixteen bytes, the same each time.
+pub fn keys_of(alloc: Global, kind: Kind, count: usize) -> Result<Vec<Key>, AllocError> {
+    let mut words = Pcg32::new(1, 54);
     let mut keys = Vec::new(alloc);
     for _ in 0..count {
-        keys.push(key_of(&mut words, kind))?;
+        keys.push(ArrayKey::new_from_slice(alloc, &bytes_of(&mut words, kind))?)?;
     }
     Ok(keys)
 }
 
-fn key_of(words: &mut Pcg32, kind: Kind) -> [u8; 16] {
-    let mut key = [7; 16];
+fn bytes_of(words: &mut Pcg32, kind: Kind) -> [u8; 16] {
+    let mut bytes = [7; 16];
     if let Kind::Random = kind {
-        key[0..4].copy_from_slice(&words.next_word().to_be_bytes());
-        key[4..8].copy_from_slice(&words.next_word().to_be_bytes());
-        key[8..12].copy_from_slice(&words.next_word().to_be_bytes());
+        bytes[0..4].copy_from_slice(&words.next_word().to_be_bytes());
+        bytes[4..8].copy_from_slice(&words.next_word().to_be_bytes());
+        bytes[8..12].copy_from_slice(&words.next_word().to_be_bytes());
     }
-    key[12..16].copy_from_slice(&words.next_word().to_be_bytes());
-    key
+    bytes[12..16].copy_from_slice(&words.next_word().to_be_bytes());
+    bytes
 }
 
-/// The prefixes of one byte more than all keys of this kind share, in order: together they begin
-/// all of them.
-pub fn prefixes_of(alloc: Global, kind: Kind) -> Result<Vec<ArrayKey<16>>, AllocError> {
-    let mut prefixes = Vec::new(alloc);
-    for last in 0..=u8::MAX {
-        prefixes.push(prefix_of(alloc, kind, last)?)?;
+/// Sets a key, where there is room.
+pub fn put(tree: &mut Tree, key: &Key, value: u64) -> Result<(), AllocError> {
+    if tree.version() < u64::MAX {
+        tree.insert_k(key, value)?;
     }
-    Ok(prefixes)
+    Ok(())
 }
 
-fn prefix_of(alloc: Global, kind: Kind, last: u8) -> Result<ArrayKey<16>, AllocError> {
-    match kind {
-        Kind::Random => ArrayKey::new_from_slice(alloc, &[last]),
-        Kind::Shared => {
-            let mut bytes = [7; 13];
-            bytes[12] = last;
-            ArrayKey::new_from_slice(alloc, &bytes)
-        }
+/// A tree of these keys, each with the value 1.
+pub fn tree_of(alloc: Global, keys: &[Key]) -> Result<Tree, AllocError> {
+    let mut tree = Tree::new(alloc);
+    for key in keys {
+        put(&mut tree, key, 1)?;
     }
+    Ok(tree)
 }

@@ -1,27 +1,26 @@
-"""Checks of a crate with edits by the prover, and what is read off its words."""
-import contextlib
+"""Checks of a crate with other texts by the prover, and what is read off its words."""
 import dataclasses
 import functools
 import os
 import re
 import shutil
-import signal
 import subprocess
 import tempfile
 import threading
 
 from .repository import PARTS, library
 
-# The longest that a check of edits may take, in seconds, before it counts for nothing.
-LONGEST = 3600
+# The longest that a check may take, in seconds, before it counts for nothing.
+LONGEST = 1800
+# What stands in for proofs.
+ASSUMED = "pub assumed : {A : Type 2} → A\nassumed = ?\n"
 # A function that is not proved, and why; or one that is, but for holes that stand elsewhere.
 VERDICT = re.compile(
     r"fn (\S+): (not proved|no proof|could not tell|no holes|proved|depends on a hole)(.*)"
 )
-CHECKED = re.compile(r"checked (\S+), \d+ of \d+")
 # How the prover tells of a goal of a function's own that it did not prove.
 OWN_GOAL = re.compile(r"`search` did not prove|does not cover|has an `ensures\*`")
-# How the prover, or what stands around it, tells that a check itself went amiss.
+# How it, or what stands around it, tells that a check itself went amiss.
 AMISS = re.compile(
     r"started the check over|marked it as unusable|marked only this run's"
     r"|Run the lower steps again|ran out of memory"
@@ -31,25 +30,30 @@ LIMIT = re.compile(
     r"antt ran out of (?:stack|the (?:steps|memory) that the check of one declaration may)"
     r"|(?:outgrew the memory limit|stopped at the step limit) \("
 )
-# What stands in for proofs.
-ASSUMED = "pub assumed : {A : Type 2} → A\nassumed = ?\n"
-# The pages of one function's proof.
-OF_A_FUNCTION = ("Answers", "Invariants", "Proof")
+# What is said where all that fails is that a proof file names what an edit took away.
+NAMES = re.compile(r"has no field|is not in scope|has no `|was not admitted")
+# How it tells of a text that it cannot read.
+UNREAD = re.compile(
+    r"is not in scope|has no field|is no name|operand is missing|expected the end|cannot continue"
+)
+# How it notes, at a line of a function's body, what it did not prove there.
+NOTED = re.compile(r"note: (?:\./)?src/\S+: it is not proved that ")
 # What a function's proof stands on, where that is not proved.
 STANDS_ON = re.compile(r"`Rattle\.(\w+)\.proofs\.([^`]+)`")
+# The place in a file that it speaks of.
+PLACE = re.compile(r"(?:note: )?(?:\./)?(\S+?\.(?:rt|antt)):(\d+):\d+: ")
 
 
 @functools.lru_cache(maxsize=None)
 def toolchain():
-    """The folder of the toolchain, and the line that names it."""
-    page = subprocess.run(["rt", "doc"], capture_output=True, text=True, check=True).stdout
-    line = subprocess.run(["rt", "version"], capture_output=True, text=True, check=True).stdout
-    return os.path.dirname(page.strip()), line.strip()
+    """The folder of the toolchain."""
+    ran = subprocess.run(["rt", "doc"], capture_output=True, text=True, check=True)
+    return os.path.dirname(ran.stdout.strip())
 
 
-def words(repository, built, crate):
+def words_for(repository, built, crate):
     """The words by which the prover checks a crate over the libraries below it."""
-    kit = toolchain()[0]
+    kit = toolchain()
     found = ["--crate-name", crate.name, f"src/{'main' if crate.is_program else 'lib'}.rt"]
     for it in ("std", *crate.of_toolchain):
         found += ["--extern", f"{it}={kit}/rlibs/{it}.rlib"]
@@ -64,24 +68,40 @@ def words(repository, built, crate):
     return [*found, "--logic-built", f"{kit}/logic_built", "--jobs", "1"]
 
 
+def run(words, folder):
+    """What a command says in a folder: its status, its lines, and the seconds of a processor that
+    it took. It is ended where it takes too long."""
+    with tempfile.TemporaryFile() as out:
+        how = {"stdin": subprocess.DEVNULL, "stdout": out, "stderr": subprocess.STDOUT}
+        ran = subprocess.Popen(words, cwd=folder, **how)
+        ends = threading.Timer(LONGEST, ran.kill)
+        ends.start()
+        _, status, used = os.wait4(ran.pid, 0)
+        ends.cancel()
+        ran.returncode = os.waitstatus_to_exitcode(status)
+        out.seek(0)
+        lines = out.read().decode(errors="replace").splitlines()
+        return Said(ran.returncode, lines or [""], used.ru_utime + used.ru_stime)
+
+
+def functions_of(said, name):
+    """The functions of a crate, as a check of it told of them."""
+    return re.findall(rf"(?m)^fn {name}::(\S+): proved$", said)
+
+
 @dataclasses.dataclass
 class Said:
-    """What a check said: its status and its lines; the seconds of a processor that it was at each
-    function, as far as its lines tell, and that it took."""
+    """What a check said: its status and its lines, and the seconds of a processor that it took."""
 
     status: int
     lines: list
-    seconds: dict
-    taken: float
+    seconds: float = 0.0
 
     @property
-    def came_to_its_end(self):
-        return self.lines[-1].startswith(("only=", "logic=", "holes=")) and not self.amiss
-
-    @property
-    def amiss(self):
-        """The line which tells that the check went amiss, so that it shows nothing; else None."""
-        return next((it for it in self.lines if AMISS.search(it)), None)
+    def is_sound(self):
+        """Whether the check came to its end and nothing went amiss."""
+        is_whole = self.status in (0, 1) and self.lines[-1].startswith("only=")
+        return is_whole and not any(AMISS.search(it) for it in self.lines)
 
     @property
     def errors(self):
@@ -90,148 +110,78 @@ class Said:
         return [it for it in errors if not LIMIT.search(it)]
 
     def verdicts(self, crate):
-        """For each function of the crate that was checked, whether it is proved or waits for others
-        alone, and why it is not proved."""
-        found = {}
-        for line in self.lines:
-            it = VERDICT.match(line)
-            if it and it[1].startswith(f"{crate.name}::"):
-                found[it[1].removeprefix(f"{crate.name}::")] = it[2], it[3]
-        return found
+        """What was said of each function of the crate that was checked, and why."""
+        told = (VERDICT.match(it) for it in self.lines)
+        own = ((it[1].split("::", 1), it) for it in told if it)
+        return {name[1]: (it[2], it[3]) for name, it in own if name[0] == crate.name}
 
 
-class Kept:
-    """What the prover kept of the last check of a crate in which its control was proved. A page
-    that stands as it did there, over the same pages, is not checked once more."""
-
-    def __init__(self):
-        self.lock, self.last = threading.Lock(), None
-        self.folders = tempfile.TemporaryDirectory(prefix="edits-kept-")
-
-    @contextlib.contextmanager
-    def lent(self):
-        """Lends a copy, or an empty folder, to one check, which may write into it."""
-        own = tempfile.mkdtemp(dir=self.folders.name)
-        with self.lock:
-            if self.last:
-                shutil.copytree(self.last, own, dirs_exist_ok=True, copy_function=_linked)
-        try:
-            yield own
-        finally:
-            if own != self.last:
-                shutil.rmtree(own, ignore_errors=True)
-
-    def keep(self, own):
-        """Keeps what was lent to a check, in place of what was kept."""
-        with self.lock:
-            old, self.last = self.last, own
-        if old:
-            shutil.rmtree(old, ignore_errors=True)
+def is_well(verdict):
+    return verdict is not None and verdict[0] in ("no holes", "proved", "depends on a hole")
 
 
-def _linked(file, to):
-    """Links a page that was checked, which the prover replaces and never changes, as `rt` does; it
-    copies all else."""
-    (os.link if file.endswith(".oantt") else shutil.copy2)(file, to)
+def is_unread(line, texts):
+    """Whether the prover could not read a text, where one that only makes a statement false reads
+    well."""
+    it = re.match(r"(?:\./)?(\S+?):\d+:\d+: error(?:\[[\w-]+\])?: (?:(`[^`]*`): )?(.*)", line)
+    if not it or it[1] not in texts and not it[1].startswith(("src/", "specs/")):
+        return False
+    said = re.sub(r"`[^`]*`", "", it[3])
+    # (a clause is a statement, and is proved elsewhere)
+    is_clause = it[2] and it[2].startswith(("`ensures", "`requires"))
+    return not it[2] or it[1].startswith("specs/") or bool(is_clause or UNREAD.search(said))
 
 
-class Room:
-    """A copy of a crate, in which it is checked with other texts."""
-
-    def __init__(self, crate):
-        self.crate = crate
-
-    def __enter__(self):
-        self.folder = tempfile.mkdtemp(prefix="edits-")
-        for part in PARTS:
-            if os.path.isdir(f"{self.crate.folder}/{part}"):
-                shutil.copytree(f"{self.crate.folder}/{part}", f"{self.folder}/{part}")
-        return self
-
-    def __exit__(self, *_):
-        shutil.rmtree(self.folder, ignore_errors=True)
-
-    def write(self, file, text):
-        path = f"{self.folder}/{file}"
-        os.makedirs(os.path.dirname(path), exist_ok=True)
-        with open(path, "w", encoding="utf-8") as it:
-            it.write(text)
-
-    def dig(self, functions):
-        """Leaves one hole in place of the proofs of all these functions. What calls them is then
-        checked by their contracts alone, and they are not proved once more."""
-        self.write("proofs/Assumed.antt", ASSUMED)
-        lemmas = f"{self.folder}/proofs/Lib.antt"
-        with open(lemmas, "a", encoding="utf-8") as it:
-            it.write("mod Assumed\n")
-        for name in functions:
-            path, _, short = name.rpartition("::")
-            path = "/".join([*path.split("::"), short] if path else [short])
-            for file in ("Answers.antt", "Invariants.antt"):
-                if os.path.isfile(f"{self.folder}/proofs/{path}/{file}"):
-                    os.remove(f"{self.folder}/proofs/{path}/{file}")
-            proofs = f"Rattle.{self.crate.name}.proofs"
-            text = f"use {proofs}.Assumed.{{assumed}}\n"
-            text += f"use {proofs}.{path.replace('/', '.')}.Statement.{{statement}}\n\n"
-            text += f"pub {short}_spec : {{M : Type 1}} → statement M\n{short}_spec = assumed\n"
-            self.write(f"proofs/{path}/Proof.antt", text)
-
-    def check(self, command, *flags, log=None):
-        """Checks what stands in the room. What the check says goes into a file, if one is given."""
-        last = taken = 0.0
-        seconds, lines = {}, []
-        how = {"cwd": self.folder, "stdin": subprocess.DEVNULL, "stdout": subprocess.PIPE}
-        how |= {"stderr": subprocess.STDOUT, "encoding": "utf-8", "errors": "replace"}
-        said = [f"{toolchain()[0]}/bin/rattle", "check", *command, "--progress", *flags]
-        with subprocess.Popen(said, **how) as ran:
-            ends = threading.Timer(LONGEST, ran.kill)
-            ends.daemon = True
-            ends.start()
-            for line in ran.stdout:
-                lines.append(line.rstrip("\n"))
-                now = _taken(ran.pid) or last
-                print(f"{now:.1f} {line}", end="", file=log, flush=True) if log else None
-                it = CHECKED.match(line)
-                if it:
-                    # (what comes before the first one is reading and loading)
-                    seconds[it[1].removeprefix(f"{self.crate.name}::")] = now - last if last else 0
-                    last = now
-                taken = now
-            ends.cancel()
-        return Said(ran.returncode, lines or [""], seconds, taken)
-
-
-def _taken(process):
-    """The seconds of a processor that a process took, and its children that ended."""
-    try:
-        with open(f"/proc/{process}/stat", encoding="utf-8", errors="replace") as it:
-            rest = it.read().rpartition(")")[2].split()
-    except OSError:
-        return None
-    return sum(map(int, rest[11:15])) / os.sysconf("SC_CLK_TCK")
+def own_pages(name, before=""):
+    """Where the proof of a function stands, which may be in a cycle of its own."""
+    path, _, short = f"{before}{name.replace('::', '.')}".rpartition(".")
+    return [".".join(filter(None, [path, it])) for it in (short, f"+{short}")]
 
 
 def own_reason(crate, name, why):
     """Why a function is not proved, where that is a goal of its own and not only that what it calls
     is not proved; else None. `why` is what the prover said of it."""
-    path = name.replace("::", ".")
-    parts = why.strip(" :;").split("; ")
-    for part in (it for it in parts if not it.startswith("it calls `")):
+    for part in why.strip(" :;").split("; "):
+        if part.startswith("it calls `"):
+            continue
         places = [it[2] for it in STANDS_ON.finditer(part) if it[1] == crate.name]
-        is_own = any(it.startswith(f"{path}.") for it in places)
+        own = tuple(f"{it}." for it in own_pages(name))
+        is_own = any(it.startswith(own) for it in places)
         if OWN_GOAL.search(part) or is_own and "which antt refuses" in part:
             return part
     return None
 
 
-def refused_pages(crate, why):
-    """The lemma pages on which a function stands and that are refused, by what the prover said."""
-    places = [it[2] for it in STANDS_ON.finditer(why) if it[1] == crate.name]
-    pages = {it.rpartition(".")[0] for it in places if "which antt refuses" in why}
-    pages -= {it for it in pages if it.rpartition(".")[2] in OF_A_FUNCTION}
-    return {f"proofs/{it.replace('.', '/')}.antt" for it in pages}
+class Room(tempfile.TemporaryDirectory):
+    """A copy of a crate, in which it is checked with other texts."""
 
+    def __init__(self, crate, texts):
+        super().__init__(prefix="edits-")
+        self.crate = crate
+        for part in PARTS:
+            if os.path.isdir(f"{crate.folder}/{part}"):
+                shutil.copytree(f"{crate.folder}/{part}", f"{self.name}/{part}")
+        for file, text in texts.items():
+            self._write(file, text)
 
-def was_killed(said):
-    """Whether a check was ended from outside, for memory or time."""
-    return said.status == -signal.SIGKILL
+    def _write(self, file, text):
+        os.makedirs(os.path.dirname(f"{self.name}/{file}"), exist_ok=True)
+        with open(f"{self.name}/{file}", "w", encoding="utf-8") as it:
+            it.write(text)
+
+    def dig(self, functions):
+        """Leaves one hole in place of the proofs of all these functions. What calls them is then
+        checked by their contracts alone, and they are not proved once more."""
+        self._write("proofs/Assumed.antt", ASSUMED)
+        with open(f"{self.name}/proofs/Lib.antt", "a", encoding="utf-8") as it:
+            it.write("mod Assumed\n")
+        proofs = f"Rattle.{self.crate.name}.proofs"
+        for function in functions:
+            path, short = function.replace("::", "/"), function.rpartition("::")[2]
+            for file in ("Answers.antt", "Invariants.antt"):
+                if os.path.isfile(f"{self.name}/proofs/{path}/{file}"):
+                    os.remove(f"{self.name}/proofs/{path}/{file}")
+            text = f"use {proofs}.Assumed.{{assumed}}\n"
+            text += f"use {proofs}.{path.replace('/', '.')}.Statement.{{statement}}\n\n"
+            text += f"pub {short}_spec : {{M : Type 1}} → statement M\n{short}_spec = assumed\n"
+            self._write(f"proofs/{path}/Proof.antt", text)

@@ -1,40 +1,35 @@
-"""Trials of a crate's edits: many in one check, and alone what no such check shows refused.
+"""Trials of edits: many in one check of their crate, and alone what changes more than bodies.
 
 The prover judges a function by its own body and by the contracts of what it calls. So edits of
 different functions can stand in one copy of the crate, and each function says for itself whether
-its goals are still proved. An edit is refused where a function whose body it changes has a goal of
-its own that is not. With each batch goes a function as it stands, which must be proved: else the
-batch shows nothing.
+its goals are still proved. An edit is refused where its function has a goal of its own that is not.
+With each check goes a control, a function that no edit of it touches, which must be proved: else
+the check shows nothing. An edit of a definition is refused where its function, a law, is not proved
+and an error says why; all others may rest on that definition too.
 """
 import collections
-import contextlib
-import dataclasses
 import enum
+import functools
+import glob
 import os
 import re
+import shutil
 import tempfile
 import threading
+import time
+import traceback
 
-from .edit import Edit, name_of
-from .prover import Kept, Room, own_reason, refused_pages, was_killed, words
-from .repository import functions_of, module_of
-from .source import sources_of
+from .prover import (
+    NAMES, NOTED, PLACE, Room, is_unread, is_well, own_pages, own_reason, run, toolchain, words_for,
+)  # fmt: skip
+from .tables import edits_of, function_around
 
+BEGAN = time.monotonic()
+PRINTING = threading.Lock()
 # The most edits that go into one check: with more of them one processor is at it for too long.
 MOST = 32
-# What is said where all that fails is that a proof file names what the edit took away.
-NAMES = re.compile(r"has no field|is not in scope|has no `|was not admitted")
-# How the prover tells of a text that it cannot read.
-UNREAD = re.compile(
-    r"is not in scope|has no field|is no name|operand is missing|expected the end|cannot continue"
-)
-# How it notes, at a line of a function's body, what it did not prove there.
-NOTED = re.compile(r"note: (?:\./)?src/\S+: it is not proved that ")
-# What a function calls that the prover counts as not proved, since it waits for a hole.
-CALLED = re.compile(r"it calls `([^`]+)`, which is not proved")
-# The place in a file that the prover speaks of.
-PLACE = re.compile(r"(?:note: )?(?:\./)?(\S+?\.(?:rt|antt)):(\d+):\d+: ")
-HINT = re.compile(r"(?m)^# refused at: (\S+)$")
+# The end of an edit's trial, and what shows it.
+Result = collections.namedtuple("Result", "label outcome why")
 
 
 class Outcome(enum.Enum):
@@ -46,349 +41,251 @@ class Outcome(enum.Enum):
     UNTRIED = "NOT TRIED"
 
 
-@dataclasses.dataclass
-class Result:
-    """The end of an edit's trial, with what shows it."""
-
-    edit: Edit
-    outcome: Outcome
-    why: str
-    seconds: float = 0.0
-    is_alone: bool = False
+def say(text):
+    """Prints a line, with the minutes so far."""
+    with PRINTING:
+        print(f"{(time.monotonic() - BEGAN) / 60:5.1f}  {text}", flush=True)
 
 
-@dataclasses.dataclass
-class Batch:
-    """Edits that go into one check, and a function that goes with them as it stands."""
+class Edits:
+    """The trials of the edits of crates, and what came of each."""
 
-    edits: list
-    control: str | None
+    def __init__(self):
+        self.results, self.known, self.taken = [], [], []
+
+    def trials(self, repository, built, name, functions):
+        """Calls that try the edits of a crate that was proved as it stands, over the libraries
+        below it, and that may go side by side."""
+        crate, groups = repository.crates[name], [[]]
+        edits = self._edits_of(crate)
+        functions = functions or sorted({it.function for it in edits})
+        for batch in batches_of(edits):
+            if groups[-1] and sum(map(len, groups[-1])) + len(batch) > MOST:
+                groups.append([])
+            groups[-1].append(batch)
+        made = (CrateTrial(repository, built, crate, functions) for _ in groups)
+        return [functools.partial(self._try, *it) for it in zip(made, groups)]
+
+    def _try(self, trial, batches):
+        try:
+            for batch in batches:
+                for it in trial.results(batch):
+                    self._end(it)
+        except Exception:  # (one trial that breaks off ends no other)
+            traceback.print_exc()
+        trial.forget()
+        self.taken.append((trial.crate.name, trial.seconds))
+
+    def seconds(self, name=None):
+        """The seconds of a processor that the edits took, or those of a crate."""
+        return sum(seconds for crate, seconds in self.taken if name in (None, crate))
+
+    def leave_out(self, crate):
+        """Tells of the edits of a crate that is not proved as it stands."""
+        for it in self._edits_of(crate):
+            self._end(Result(it.label, Outcome.UNTRIED, "its crate is not proved without it"))
+
+    def _edits_of(self, crate):
+        good, bad = edits_of(crate)
+        self.known += [it.label for it in good] + [label for label, _ in bad]
+        for label, why in bad:
+            self._end(Result(label, Outcome.BAD, why))
+        return good
+
+    def _end(self, result):
+        self.results.append(result)
+        say(f"{result.label}: {result.outcome.value}: {result.why[:160]}")
+
+    def counts(self):
+        """How many edits were refused, and how many not: one of which nothing came is one of them."""
+        refused = sum(it.outcome is Outcome.REFUSED for it in self.results)
+        return refused, len(self.known) - refused
 
 
-def batches_of(edits, controls):
-    """Edits in batches, in none of which two change one function. `controls` are functions that may
-    go with them as they stand, the cheapest first."""
-    found = []
-    # (what calls most has most edits, and should reach what it calls in as few batches as can be)
-    often = collections.Counter(body for edit in edits for body in edit.bodies)
-    for edit in sorted(edits, key=lambda it: -max(often[body] for body in it.bodies)):
-        fits = (it for it in found if len(it) < MOST and not _meet(edit, it))
-        room = next(fits, None)
+def batches_of(edits):
+    """Edits in batches, in none of which two change one function; those that change more than
+    bodies alone."""
+    batches = []
+    for edit in edits:
+        fits = (it for it in batches if len(it) < MOST and not any(_meet(edit, one) for one in it))
+        room = next(fits, None) if edit.bodies else None
         if room is None:
-            found.append([edit])
+            batches.append([edit])
         else:
             room.append(edit)
-    return [Batch(it, _control(it, controls)) for it in found]
+    return batches
 
 
-def _meet(edit, others):
-    changed = {*edit.bodies, *edit.names}
-    return any(changed & {*it.bodies, *it.names} for it in others)
-
-
-def _control(edits, controls):
-    changed = {name for edit in edits for name in edit.names}
-    return next((it for it in controls if it not in changed), None)
+def _meet(edit, other):
+    return not other.bodies or edit.bodies & other.bodies or edit.function == other.function
 
 
 class CrateTrial:
-    """The trials of one crate's edits, over the libraries that were built below it."""
+    """The trials of one crate's edits, over the libraries that were built below it. `functions` are
+    those that the prover told of in a check of the crate as it stands, in the order of the check."""
 
-    def __init__(self, repository, built, crate, log=None):
-        self.repository, self.built, self.crate, self.log = repository, built, crate, log
-        self.before = sources_of(crate)
-        self.known = functions_of(built, crate.name)
-        if crate.is_linked:
-            self.known = tuple(name for name, _ in self._named())
+    def __init__(self, repository, built, crate, functions):
+        self.repository, self.crate, self.functions = repository, crate, functions
+        self.command = words_for(repository, built, crate)
         self.recursive = self._recursive()
-        self.controls = self._controls()
-        self.command = words(repository, built, crate)
-        self.checks, self.lock, self.kept = 0, threading.Lock(), Kept()
-
-    def _named(self):
-        """The functions of the crate that have a name, outside of its tests."""
-        known = None if self.crate.is_linked else self.known
-        for file, source in self.before.items():
-            if source is None or "tests" in module_of(file):
-                continue
-            for place, function in source.functions.items():
-                name = name_of(file, place, function, known)
-                if name:
-                    yield name, function
+        self.seconds, self.kept = 0.0, None
 
     def _recursive(self):
-        """The functions that call themselves or stand in a cycle: the prover keeps a proof of
-        theirs elsewhere, so that none can stand in for it."""
-        named = self._named()
-        return {name for name, it in named if it.is_in_cycle or _calls_itself(it)}
+        """The last names of functions that call themselves or stand in a cycle: the prover keeps a
+        proof of theirs elsewhere, so that none can stand in for it."""
+        folders = glob.glob(f"{self.crate.folder}/proofs/**/+*", recursive=True)
+        found = {os.path.basename(it)[1:] for it in folders}
+        for file in glob.glob(f"{self.crate.folder}/src/**/*.rt", recursive=True):
+            text = self.crate.text(os.path.relpath(file, self.crate.folder))
+            found |= {*re.findall(r"#\[cycle\(\w+\)\](?:\s*(?:#\[|//).*)*\s*[^\n]*?\bfn (\w+)", text)}
+        return found
 
-    def _controls(self):
-        """The functions that may go with a batch as they stand, those with the shortest bodies
-        first, and those that do nothing, as laws, last: of those that have no proof by hand."""
-        found = []
-        for name, function in self._named():
-            if function.is_shared or name in self.recursive or self._has_proof_by_hand(name):
-                continue
-            found.append((not function.body, len(function.body), name))
-        return [name for *_, name in sorted(found)]
+    def forget(self):
+        """Has the next check begin with nothing, and not over what the one before kept."""
+        if self.kept:
+            shutil.rmtree(self.kept, ignore_errors=True)
+        self.kept = None
 
-    def check(self, room, *flags, control=None):
-        """Checks what stands in a room, with a control over what an earlier check kept. What it
-        leaves is kept where the control is proved. One without, of a whole crate, begins with
-        nothing: it has nothing to show that what was kept is sound."""
-        with self.lock:
-            self.checks += 1
-            number = self.checks
-        with contextlib.ExitStack() as stack:
-            empty = tempfile.TemporaryDirectory
-            kept = stack.enter_context(self.kept.lent() if control else empty(prefix="edits-kept-"))
-            path = self.log and f"{self.log}/{self.crate.name}-{number}"
-            log = stack.enter_context(open(path, "w", encoding="utf-8")) if path else None
-            said = room.check(self.command, "--incremental", kept, *flags, log=log)
-            if said.came_to_its_end and _is_well(said.verdicts(self.crate).get(control)):
-                self.kept.keep(kept)
-            return said
-
-    def try_batch(self, batch):
-        """Tries edits of different functions in one check. Gives the results, and the edits that
-        the check says too little of."""
-        texts, places = self._texts_with(batch.edits)
-        changed = [name for edit in batch.edits for name in edit.names]
-        asked = sorted({*changed, *filter(None, [batch.control])})
-        with Room(self.crate) as room:
-            for path, text in texts.items():
-                room.write(path, text)
-            room.dig(it for it in self.known if it not in asked and self._has_proof(it))
-            only = [word for it in asked for word in ("--only", it)]
-            said = self.check(room, *only, "--allow-holes", control=batch.control)
-        if not said.came_to_its_end:
-            return self._part(batch, said, places)
-        return self.judge(batch, said, places, texts)
-
-    def _texts_with(self, edits):
-        """The crate's files with the bodies of these edits, and the lines where each stands."""
-        bodies = {key: (body, edit) for edit in edits for key, body in edit.bodies.items()}
-        texts, places = {}, []
-        for file in {file for file, _ in bodies}:
-            old, made, at = self.crate.text(file), b"", 0
-            functions = self.before[file].functions.items()
-            for place, function in sorted(functions, key=lambda it: it[1].start):
-                if (file, place) not in bodies:
-                    continue
-                body, edit = bodies[file, place]
-                first = (made + old[at : function.first]).count(b"\n") + 1
-                made += old[at : function.start] + body
-                at = function.end
-                places.append((file, first, made.count(b"\n") + 1, edit))
-            texts[file] = (made + old[at:]).decode()
-        return texts, places
-
-    def _part(self, batch, said, places):
-        """The front end takes none of the batch for one that it refuses, or the check broke off:
-        those that it names go alone, and the others once more without them."""
-        named = [it for line in said.lines if ": error" in line for it in _edits_at(line, places)]
-        if len(batch.edits) == 1:
-            return [], batch.edits
-        left = [it for it in batch.edits if it not in named]
-        half = 0 if named else len(left) // 2
-        results, unclear = [], [it for it in batch.edits if it in named]
-        for part in (left[:half], left[half:]):
-            if part:
-                more, other = self.try_batch(Batch(part, batch.control))
-                results, unclear = results + more, unclear + other
-        return results, unclear
-
-    def judge(self, batch, said, places, texts):
+    def results(self, batch, controls=None):
+        """The results of a batch. What a check of several shows nothing of goes alone; where it
+        shows nothing of any, the others once more without those at which it tells of an error."""
+        texts, is_alone = texts_of(batch), not batch[0].bodies
+        controls = self._controls(batch) if controls is None else controls
+        said = self._check(batch, texts, controls)
         verdicts = said.verdicts(self.crate)
-        if not _is_well(verdicts.get(batch.control)):
-            return [], batch.edits
-        lines = [it for it in said.lines if _is_unread(it, texts)]
-        unread = [it for line in lines for it in _edits_at(line, places) or batch.edits]
-        results, unclear = [], []
-        for edit in batch.edits:
-            noted = [it for it in said.lines if NOTED.match(it) and edit in _edits_at(it, places)]
-            why = None if edit in unread else self._refusal(edit, verdicts, said, noted)
-            if why is None:
-                unclear.append(edit)
-            else:
-                own = _with_closures(edit.names, said.seconds)
-                seconds = sum(said.seconds[it] for it in own)
-                results.append(Result(edit, Outcome.REFUSED, why, seconds))
-        return results, unclear
+        well = {it for it in controls if self._stands(verdicts.get(it), batch)}
+        if is_alone and well < controls:
+            # (they rest on the definition, and may be to blame. Without any one begins with nothing)
+            self.forget() if not well else None
+            return self.results(batch, well)
+        is_sound = said.is_sound and bool(well or is_alone)
+        if not is_sound:
+            self.forget()
+        whys = [is_sound and self._refusal(it, batch, said, verdicts, texts) for it in batch]
+        found = [Result(it.label, Outcome.REFUSED, why) for it, why in zip(batch, whys) if why]
+        left = [it for it, why in zip(batch, whys) if not why]
+        if len(batch) == 1:
+            return found or [self._unrefused(batch[0], said, verdicts, texts, is_sound)]
+        named = [it for it in left if any(it in edits_at(line, batch) for line in said.errors)]
+        alone = left if is_sound or not named else named
+        others = [it for it in left if it not in alone]
+        for part in [*([it] for it in alone), *([others] if others else [])]:
+            found += self.results(part)
+        return found
 
-    def _refusal(self, edit, verdicts, said, noted=()):
-        """Why a function that the edit changes is not proved, by a goal of its own; else None.
-        `noted` are the prover's notes on what is not proved at the lines of the edit."""
-        for name in _with_closures(edit.names, verdicts):
-            kind, why = verdicts[name]
-            if kind not in ("not proved", "no proof"):
-                continue
-            told, reason = self._told(name, said), own_reason(self.crate, name, why)
-            if reason:
-                return told or f"{name}: {reason[:160]}"
-            if told and not told.startswith("(") and not self._blames(why, verdicts):
-                return told
-            if noted and not self._has_proof_by_hand(name):
-                return noted[0].removeprefix("note: ")[:160]
-        return None
+    def _controls(self, batch):
+        """Functions that no edit of the batch names: the first that was checked, which calls
+        nothing, and the last, which nothing calls."""
+        functions = {it.function for it in batch}
+        found = [it for it in self.functions if self._may_be_control(it, functions)]
+        return {*found[:1], *found[-1:]}
 
-    def _blames(self, why, verdicts):
-        """Whether something that a function calls may be to blame for what isn't proved of it. What
-        only waits for a hole is not: its contract stands."""
-        called = [CALLED.fullmatch(it) for it in filter(None, why.strip(" :;").split("; "))]
-        names = [it and it[1].removeprefix(f"{self.crate.name}::") for it in called]
-        return any(verdicts.get(it, ("",))[0] != "depends on a hole" for it in names)
+    def _check(self, batch, texts, controls):
+        """Checks a batch's functions, and controls, in the crate with these texts."""
+        asked = {it.function for it in batch} | controls
+        self.kept = self.kept or tempfile.mkdtemp(prefix="edits-kept-")
+        only = [word for it in sorted(asked) for word in ("--only", it)]
+        check = [f"{toolchain()}/bin/rattle", "check", *self.command, "--incremental", self.kept]
+        room = Room(self.crate, texts)
+        with room as folder:
+            room.dig(it for it in self.functions if it not in asked and self._has_proof(it))
+            said = run([*check, *only, "--allow-holes"], folder)
+        self.seconds += said.seconds
+        return said
 
-    def _has_proof_by_hand(self, name):
-        return os.path.isfile(f"{self.crate.folder}/proofs/{name.replace('::', '/')}/Proof.antt")
-
-    def _told(self, name, said):
-        """The first error of the function's proof that says more than that a name is gone."""
-        path = f"proofs/{name.replace('::', '/')}/"
-        errors = [it for it in said.errors if it.startswith(path)]
-        plain = next((it for it in errors if not NAMES.search(it)), None)
-        if errors and not plain:
-            return f"(only because a proof file names what the edit took away) {errors[0][:160]}"
-        return plain and plain[:160]
+    def _may_be_control(self, name, functions):
+        is_plain = self._has_proof(name) and "+" not in name and not self._is_by_hand(name)
+        return is_plain and name not in functions
 
     def _has_proof(self, name):
         """Whether a file can stand in for the proof of a function: not of a closure, which is
         proved with the function around it, nor of what drops a value of the repository's types."""
-        if "::fn::" in name or not name.rpartition("::")[2].islower() or name in self.recursive:
+        short, owner = name.rpartition("::")[2], name.split("++")[0]
+        if "fn" in name.split("::") or not short.islower() or short in self.recursive:
             return False
-        owner = name.split("++")[0]
         return "++" not in name or owner not in {"Destruct", *self.repository.crates}
 
-    def try_alone(self, edit):
-        """Tries an edit by a check of the functions that it names, and where that shows nothing by
-        one of the whole crate, as the toolchain tries it."""
-        hints = tuple(HINT.findall(edit.text.decode(errors="replace")))
-        if hints:
-            why, seconds = self._refused_at(edit, hints)
-            if why:
-                return Result(edit, Outcome.REFUSED, why, seconds, True)
-        with Room(self.crate) as room:
-            for path, text in edit.texts.items():
-                room.write(path, text)
-            said = self.check(room)
-        return self._alone(edit, said)
+    def _is_by_hand(self, name):
+        return self.crate.has(f"proofs/{name.replace('::', '/')}/Proof.antt")
 
-    def _refused_at(self, edit, hints):
-        """Why the edit is refused, as a check of these functions tells, if it does."""
-        control = next((it for it in self.controls if it not in hints), None)
-        asked = [*hints, *filter(None, [control])]
-        with Room(self.crate) as room:
-            for path, text in edit.texts.items():
-                room.write(path, text)
-            room.dig(it for it in self.known if it not in asked and self._has_proof(it))
-            only = [word for it in asked for word in ("--only", it)]
-            said = self.check(room, *only, "--allow-holes", control=control)
-        verdicts = said.verdicts(self.crate)
-        if not said.came_to_its_end or not _is_well(verdicts.get(control)):
-            return None, said.taken
-        if any(self._is_bad(it, edit) for it in said.lines):
-            return None, said.taken
-        # (what an impl or a spec states of itself is proved where it stands)
-        stated = (it for it in said.errors if ": error: `" in it)
-        stated = next((it for it in stated if it.startswith(tuple(edit.texts))), None)
-        edit = dataclasses.replace(edit, names=hints)
-        why = self._refusal(edit, verdicts, said) or self._told_of_page(hints, verdicts, said)
-        return why or stated and stated[:160], said.taken
-
-    def _told_of_page(self, laws, verdicts, said):
-        """The first error of a lemma page on which one of these laws stands. No hole stands in a
-        lemma page: what is refused there is refused in the crate as well."""
-        whys = [verdicts[law][1] for law in laws if law in verdicts]
-        pages = [page for why in whys for page in refused_pages(self.crate, why)]
-        told = ((PLACE.match(it), it) for it in said.errors if not NAMES.search(it))
-        return next((it[:160] for at, it in told if at and at[1] in pages), None)
-
-    def _unproved(self, said):
-        """What a check of the whole crate tells of a goal that is not proved: the first error that
-        says more than that a name is gone, or what is said of a function."""
-        told = said.errors
-        first = next((it for it in told if not NAMES.search(it)), None)
-        if first:
-            return first[:160]
-        for name, (_, why) in said.verdicts(self.crate).items():
+    def _refusal(self, edit, batch, said, verdicts, texts):
+        """Why a sound check shows an edit refused: its function, or a closure in it, is not proved
+        by a goal of its own; else None. What cannot be read shows nothing. What changes more than
+        bodies is tried alone, so all that fails does by it, as a page of lemmas."""
+        for line in (it for it in said.lines if is_unread(it, texts)):
+            if edit in (edits_at(line, batch) or [edit]):
+                return None
+        noted = [it for it in said.lines if NOTED.match(it) and edit in edits_at(it, batch)]
+        for name in (it for it in verdicts if _is_in(it, edit.function)):
+            kind, why = verdicts[name]
+            if kind not in ("not proved", "no proof"):
+                continue
+            pages = tuple(f"{it.replace('.', '/')}/" for it in own_pages(name, "proofs."))
+            errors = [it for it in said.errors if not edit.bodies or it.startswith(pages)]
+            plain = next((it for it in errors if not NAMES.search(it)), None)
             reason = own_reason(self.crate, name, why)
-            if reason:
-                return f"{name}: {reason[:160]}"
-        told += [it for it in said.lines if NOTED.match(it)]
-        return told[0][:160] if told else None
+            if reason and (plain or not errors):
+                return plain or f"{name}: {reason}"
+            if plain and not (edit.bodies and self._blames(why, verdicts)):
+                return plain
+            if noted and not self._is_by_hand(name):
+                return noted[0]
+        return None
 
-    def _is_bad(self, line, edit):
-        """Whether the prover tells that it cannot read what the edit writes, or that a definition
-        in it has no meaning."""
-        it = PLACE.match(line)
-        if it and it[1].startswith("specs/") and it[1] in edit.texts and ": error" in line:
-            old, new = self.crate.text(it[1]).decode().splitlines(), edit.texts[it[1]].splitlines()
-            # (an error at the end may stand on the line after the last)
-            if new[int(it[2]) - 1 : int(it[2])] not in ([line] for line in old):
-                return True
-        return _is_unread(line, edit.texts)
+    def _stands(self, verdict, batch):
+        """Whether a control is proved, or would be but for what it calls of the batch."""
+        called = verdict and self._called(verdict[1])
+        return is_well(verdict) or bool(called) and {*called} <= {it.function for it in batch}
 
-    def _alone(self, edit, said):
-        def result(outcome, why):
-            return Result(edit, outcome, why, said.taken, True)
+    def _blames(self, why, verdicts):
+        """Whether something that a function calls may be to blame for what isn't proved of it. What
+        only waits for a hole is not: its contract stands."""
+        waits = (verdicts.get(it, ("",))[0] == "depends on a hole" for it in self._called(why))
+        return bool(why.strip(" :;")) and not (self._called(why) and all(waits))
 
-        if said.amiss:
-            return result(Outcome.UNTRIED, f"its check went amiss: {said.amiss[:160]}")
-        unread = next((it for it in said.lines if self._is_bad(it, edit)), None)
-        if unread and said.status == 1:
-            return result(Outcome.BAD, f"the prover cannot read the edited text: {unread[:160]}")
-        if said.status == 0:
-            return result(Outcome.KEPT, "the crate is still proved with this edit")
-        if said.status == 1 and said.lines[-1].startswith("logic=not-proved"):
-            why = self._unproved(said)
-            return result(Outcome.REFUSED if why else Outcome.UNTRIED, why or "it says no reason")
-        if said.status == 1 and any("error[" in it for it in said.lines):
-            first = next(it for it in said.lines if "error[" in it)
-            return result(Outcome.BAD, f"it did not reach the prover: {first[:160]}")
-        how = "was killed" if was_killed(said) else f"ended with status {said.status}"
-        return result(Outcome.UNTRIED, f"its check {how}: {said.lines[-1][:160]}")
+    def _called(self, why):
+        """The functions for which alone another one is not proved; none where there is more."""
+        parts = [it for it in why.strip(" :;").split("; ") if it]
+        is_of_calls = all(it.startswith("it calls `") for it in parts)
+        return re.findall(rf"`{self.crate.name}::([^`]+)`", why) if is_of_calls else []
 
-
-def _calls_itself(function):
-    body = [text for kind, text in function.body if kind == "Code"]
-    before = ("self.", "Self::") if function.owner else ("",)
-    found = (at for at, it in enumerate(body[:-1]) if it == function.name and body[at + 1] == "(")
-    called = ("".join(body[max(at - 2, 0) : at]) for at in found)
-    return any(it in before if function.owner else not it.endswith((".", ":")) for it in called)
+    def _unrefused(self, edit, said, verdicts, texts, is_sound):
+        """What became of an edit that a check of it alone does not show to be refused."""
+        bad = re.compile(r"error\[|has no function `")
+        unread = [it for it in said.lines if is_unread(it, texts) or not is_sound and bad.search(it)]
+        told = verdicts.get(edit.function, ("nothing is told of it",))
+        if unread:
+            return Result(edit.label, Outcome.BAD, f"it cannot be read: {unread[0]}")
+        if is_sound and is_well(told):
+            return Result(edit.label, Outcome.KEPT, f"{edit.function} is proved with it")
+        why = "" if is_sound else f"its check shows nothing: {said.status}, {said.lines[-1][:60]}; "
+        return Result(edit.label, Outcome.UNTRIED, f"{why}{edit.function}: {' '.join(told)}")
 
 
-def _is_well(verdict):
-    return verdict is not None and verdict[0] in ("no holes", "proved", "depends on a hole")
+def _is_in(name, function):
+    """Whether a function is this one or a closure in it."""
+    plain = "::".join(it for it in name.split("::") if it != "fn")
+    return plain == function or plain != name and plain.startswith(f"{function}::")
 
 
-def _with_closures(names, told):
-    """These functions and the closures in them, of those that were told."""
-    found = []
-    for name in names:
-        path = name.split("::")
-        for at in range(len(path)):
-            inside = "::".join([*path[:at], "fn", *path[at:], ""])
-            found += [it for it in told if it.startswith(inside)]
-        found += [name] if name in told else []
-    return found
+def texts_of(batch):
+    """The files of a batch with all its edits. No line of them moves."""
+    if not batch[0].bodies:
+        return batch[0].texts
+    texts = {}
+    spots = sorted(it for edit in batch for it in edit.spots)
+    for file, start, end, new in reversed(spots):
+        text = texts.get(file) or batch[0].crate.text(file)
+        texts[file] = text[:start] + new + text[end:]
+    return texts
 
 
-def _edits_at(line, places):
-    """The edits where a line of the check is about."""
+def edits_at(line, batch):
+    """The edits of the function that a line of a check is about."""
     it = PLACE.match(line)
-    if not it:
+    if not it or not batch[0].crate.has(it[1]):
         return []
-    line = int(it[2])
-    return [edit for file, first, end, edit in places if file == it[1] and first <= line <= end]
-
-
-def _is_unread(line, texts):
-    """Whether the prover could not read a text, where one that only makes a statement false reads
-    well."""
-    it = re.match(r"(?:\./)?(\S+?):\d+:\d+: error: (?:(`[^`]*`): )?(.*)", line)
-    if not it or it[1] not in texts and not it[1].startswith(("src/", "specs/")):
-        return False
-    said = re.sub(r"`[^`]*`", "", it[3])
-    # (a clause is a statement, and is proved elsewhere)
-    is_clause = it[2] and it[2].startswith(("`ensures", "`requires"))
-    return not it[2] or bool(is_clause or UNREAD.search(said))
+    lines = batch[0].crate.text(it[1]).split("\n")
+    at = min(int(it[2]), len(lines)) - 1
+    places = {(it[1], at), (it[1], function_around(lines, at))}
+    return [edit for edit in batch if edit.bodies and places & edit.bodies]

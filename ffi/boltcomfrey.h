@@ -1,14 +1,18 @@
 // A versioned ordered map from byte strings to 64-bit numbers, or to byte strings. A snapshot is a
 // map of its own.
 //
-// Each function is proved to answer and to leave what its comment says, and none panics.
-// Written by ffi/generate.
+// Proved of each function is what it answers and leaves, as its comment says, and that it returns
+// and never panics. Of one that takes no memory it is proved that it can't be refused; that it
+// takes none, and that what is freed is given back, is tested. Written by ffi/generate.
 #ifndef BOLTCOMFREY_H
 #define BOLTCOMFREY_H
 
+#include <assert.h>
 #include <stdbool.h>
 #include <stddef.h>
 #include <stdint.h>
+
+static_assert(sizeof(size_t) == 8 && sizeof(void *) == 8, "the library is built for 64 bits");
 
 #ifdef __cplusplus
 extern "C" {
@@ -60,10 +64,17 @@ enum {
 // What a caller owes to each call:
 // - a tree is all zeros, or as a call left it, and is copied nowhere; one that is moved leaves its
 //   old place all zeros;
-// - no pointer is null, also of no bytes, and no two of one call overlap: no key that is handed in
-//   lies in the room that the call writes to;
-// - trees that come from one tree, also through others, stay on one thread;
+// - no pointer is null, also of no bytes, and no two of one call overlap: two trees of it are two,
+//   and no key that is handed in lies in the room that the call writes to;
+// - trees that come from one tree, also through others, stay on one thread, as a call that reads
+//   uses its tree as a change does; trees that have nothing to do with each other may be on two;
+// - no call is made in a signal handler, nor in a forked child;
+// - rattle_alloc, rattle_realloc and rattle_dealloc are one allocator, safe on each thread that has
+//   trees, and a block is aligned as it is asked for, which is to 16 bytes at most;
 // - a key is at most some 2,000 bytes where a thread has 2 MiB of stack.
+//
+// A page wants room for one entry at least. Without, rart_page answers RART_TOO_SMALL where there
+// is a pair, and what it writes to needed may fit already: who only lengthens bytes never ends.
 
 // Makes copy the same map, its number one greater, and frees what copy was. RART_NO_ROOM says that
 // the number can't be raised, RART_NO_MEMORY that memory was refused: copy is as before then.

@@ -50,7 +50,8 @@ impl VersionedBytes {
         Ok(VersionedBytes { tree })
     }
 
-    /// The number: each change and each snapshot has raised it by one.
+    /// The number, at first 0 or that of `with_number`. An insertion raises it by one, and so does
+    /// the removal of a key that is there. A snapshot's is one greater, and this one stays then.
     ///
     /// ```
     /// # use boltcomfrey::VersionedBytes;

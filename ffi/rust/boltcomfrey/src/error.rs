@@ -1,11 +1,12 @@
 use std::error::Error;
 use std::fmt;
 
-/// Why a call was refused. Nothing changed then.
+/// Why a call was refused. It has changed nothing then, but for `try_extend`: the pairs before the
+/// refused one are set.
 #[derive(Clone, Copy, Debug, PartialEq, Eq, Hash)]
 #[non_exhaustive]
 pub enum Refusal {
-    /// The number of the map is `u64::MAX`, and the call would raise it.
+    /// The number of the map is `u64::MAX`: neither it nor a snapshot's can be greater.
     NoRoom,
     /// Memory was refused.
     NoMemory,

@@ -15,7 +15,11 @@
 //! # Ok::<(), Refusal>(())
 //! ```
 //!
-//! Proved is what the exports do, as `boltcomfrey.h` says it. This crate round them is tested.
+//! Proved is what the exports answer and leave, as `boltcomfrey.h` says it. Tested are this crate
+//! round them, and that memory is refused only where there is none.
+//!
+//! A map and all that came from it stay on one thread, and maps that have nothing to do with each
+//! other may be on several. It runs on Linux, on 64 bits, with Rust 1.85 or later.
 #![warn(missing_docs)]
 #![deny(unsafe_code)]
 

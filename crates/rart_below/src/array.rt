@@ -1,6 +1,6 @@
 // Ported from rart 0.11.0 (Apache-2.0), and rewritten.
 //! Keys and prefixes held inline, of a greatest length.
-ghost use Rattle.std.specs.Prelude.{◌≡◌, ◌≤◌, Some, length, refl, IsOk, IfOk};
+ghost use Rattle.std.specs.Prelude.{◌≡◌, ◌+◌, ◌≤◌, ◌++◌, Some, length, take, drop, refl, IsOk, IfOk};
 ghost use Rattle.std.proofs.lemmas.Slice.Eq.{bytes_eq-Decides};
 
 use crate::key::KeyTrait;
@@ -38,7 +38,8 @@ impl<const N: usize> Partial for ArrPartial<N> {
 
     fn new_from_slice(_alloc: Global, slice: &[u8]) -> Result<ArrPartial<N>, AllocError>
         requires admitted { length slice.now ≤ N }
-        ensures { IfOk result (λ partial. partial.bytes.items ≡ slice.now) }
+        ensures made { IsOk result }
+        ensures bytes { IfOk result (λ partial. partial.bytes.items ≡ slice.now) }
     {
         let bytes = inline_bytes(slice);
         Ok(ArrPartial { bytes })
@@ -60,13 +61,22 @@ impl<const N: usize> Partial for ArrPartial<N> {
         self.bytes.as_slice()
     }
 
-    fn partial_before(&self, _alloc: Global, count: usize) -> Result<ArrPartial<N>, AllocError> {
+    fn partial_before(&self, _alloc: Global, count: usize) -> Result<ArrPartial<N>, AllocError>
+        requires within { count ≤ length self.now.bytes.items }
+        ensures made { IsOk result }
+        ensures bytes { IfOk result (λ before. before.bytes.items
+            ≡ take count self.now.bytes.items) }
+    {
         Ok(ArrPartial {
             bytes: inline_bytes(&self.bytes.as_slice()[..count]),
         })
     }
 
-    fn partial_after(&self, _alloc: Global, count: usize) -> Result<ArrPartial<N>, AllocError> {
+    fn partial_after(&self, _alloc: Global, count: usize) -> Result<ArrPartial<N>, AllocError>
+        requires within { count ≤ length self.now.bytes.items }
+        ensures made { IsOk result }
+        ensures bytes { IfOk result (λ after. after.bytes.items ≡ drop count self.now.bytes.items) }
+    {
         Ok(ArrPartial {
             bytes: inline_bytes(&self.bytes.as_slice()[count..]),
         })
@@ -76,13 +86,21 @@ impl<const N: usize> Partial for ArrPartial<N> {
         &self,
         _alloc: Global,
         other: &ArrPartial<N>,
-    ) -> Result<ArrPartial<N>, AllocError> {
+    ) -> Result<ArrPartial<N>, AllocError>
+        requires admitted { length self.now.bytes.items + length other.now.bytes.items ≤ N }
+        ensures made { IsOk result }
+        ensures bytes { IfOk result (λ joined. joined.bytes.items
+            ≡ self.now.bytes.items ++ other.now.bytes.items) }
+    {
         let mut bytes = inline_bytes(self.bytes.as_slice());
         let _ = bytes.try_extend_from_slice(other.bytes.as_slice());
         Ok(ArrPartial { bytes })
     }
 
-    fn copy(&self, _alloc: Global) -> Result<ArrPartial<N>, AllocError> {
+    fn copy(&self, _alloc: Global) -> Result<ArrPartial<N>, AllocError>
+        ensures made { IsOk result }
+        ensures bytes { IfOk result (λ copy. copy.bytes.items ≡ self.now.bytes.items) }
+    {
         Ok(ArrPartial {
             bytes: inline_bytes(self.bytes.as_slice()),
         })
@@ -121,16 +139,22 @@ impl<const N: usize> KeyTrait for ArrayKey<N> {
         })
     }
 
-    fn new_from_partial(
-        _alloc: Global,
-        partial: &ArrPartial<N>,
-    ) -> Result<ArrayKey<N>, AllocError> {
+    fn new_from_partial(_alloc: Global, partial: &ArrPartial<N>) -> Result<ArrayKey<N>, AllocError>
+        requires admitted { length partial.now.bytes.items ≤ N }
+        ensures made { IsOk result }
+        ensures bytes { IfOk result (λ key. key.bytes.items ≡ partial.now.bytes.items) }
+    {
         Ok(ArrayKey {
             bytes: inline_bytes(partial.as_ref()),
         })
     }
 
-    fn to_partial(&self, _alloc: Global, depth: usize) -> Result<ArrPartial<N>, AllocError> {
+    fn to_partial(&self, _alloc: Global, depth: usize) -> Result<ArrPartial<N>, AllocError>
+        requires within { depth ≤ length self.now.bytes.items }
+        ensures made { IsOk result }
+        ensures bytes { IfOk result (λ partial. partial.bytes.items
+            ≡ drop depth self.now.bytes.items) }
+    {
         Ok(ArrPartial {
             bytes: inline_bytes(&self.bytes.as_slice()[depth..]),
         })

@@ -1,5 +1,4 @@
-//! Keys and prefixes held inline, which take no memory: `checks/inline_keys_take_no_memory` looks
-//! for a request of these tests.
+//! Keys and prefixes held inline.
 use crate::tests::keys::{assert_keys, assert_prefixes};
 use rart_below::{ArrPartial, ArrayKey, KeyTrait, LendingKeyView};
 use std::test::Fail;

@@ -41,6 +41,19 @@ pub(crate) type Content<P, V> = Layout<
     WideBox<DirectMapping<NodeRef<P, V>>, NodeRef<P, V>>,
 >;
 
+/// Calls the mapping, whichever the width: what it gives, or what stands for it in a leaf.
+macro_rules! call_mapping {
+    ($content:expr, $in_leaf:expr, $method:ident($($argument:expr),*)) => {
+        match $content {
+            Layout::Leaf(_) => $in_leaf,
+            Layout::Node4(_, mapping) => mapping.$method($($argument),*),
+            Layout::Node16(_, mapping) => mapping.boxed.$method($($argument),*),
+            Layout::Node48(_, mapping) => mapping.boxed.$method($($argument),*),
+            Layout::Node256(_, mapping) => mapping.boxed.$method($($argument),*),
+        }
+    };
+}
+
 impl<P: Partial, V: Drop> Content<P, V> {
     ghost use Rattle.rart_node.specs.Lent.{LendsContentChild};
 
@@ -70,26 +83,14 @@ impl<P: Partial, V: Drop> Content<P, V> {
         requires { IsTrue (content_shape self.now).in_order }
         ensures { result ≡ length (content_shape self.now).children }
     {
-        match self {
-            Layout::Leaf(_) => 0,
-            Layout::Node4(_, mapping) => mapping.num_children(),
-            Layout::Node16(_, mapping) => mapping.boxed.num_children(),
-            Layout::Node48(_, mapping) => mapping.boxed.num_children(),
-            Layout::Node256(_, mapping) => mapping.boxed.num_children(),
-        }
+        call_mapping!(self, 0, num_children())
     }
 
     pub(crate) fn seek_child(&self, byte: u8) -> Option<&NodeRef<P, V>>
         requires { IsTrue (content_shape self.now).in_order }
         ensures { option_copied result ≡ child_at byte (content_shape self.now).children }
     {
-        match self {
-            Layout::Leaf(_) => None,
-            Layout::Node4(_, mapping) => mapping.seek_child(byte),
-            Layout::Node16(_, mapping) => mapping.boxed.seek_child(byte),
-            Layout::Node48(_, mapping) => mapping.boxed.seek_child(byte),
-            Layout::Node256(_, mapping) => mapping.boxed.seek_child(byte),
-        }
+        call_mapping!(self, None, seek_child(byte))
     }
 
     /// The child under the byte, for writing.
@@ -99,13 +100,7 @@ impl<P: Partial, V: Drop> Content<P, V> {
             result) }
         ensures value { option_copied_mut result ≡ child_at byte (content_shape self.old).children }
     {
-        match self {
-            Layout::Leaf(_) => None,
-            Layout::Node4(_, mapping) => mapping.seek_child_mut(byte),
-            Layout::Node16(_, mapping) => mapping.boxed.seek_child_mut(byte),
-            Layout::Node48(_, mapping) => mapping.boxed.seek_child_mut(byte),
-            Layout::Node256(_, mapping) => mapping.boxed.seek_child_mut(byte),
-        }
+        call_mapping!(self, None, seek_child_mut(byte))
     }
 
     /// The child of the least byte that is not below the number, with that byte.
@@ -114,13 +109,7 @@ impl<P: Partial, V: Drop> Content<P, V> {
         ensures { entry_copied result ≡ first_of
             (children_from from (content_shape self.now).children) }
     {
-        match self {
-            Layout::Leaf(_) => None,
-            Layout::Node4(_, mapping) => mapping.next_from(from),
-            Layout::Node16(_, mapping) => mapping.boxed.next_from(from),
-            Layout::Node48(_, mapping) => mapping.boxed.next_from(from),
-            Layout::Node256(_, mapping) => mapping.boxed.next_from(from),
-        }
+        call_mapping!(self, None, next_from(from))
     }
 
     /// Takes the child of the least byte that is not below the number, which is then one more than
@@ -130,13 +119,7 @@ impl<P: Partial, V: Drop> Content<P, V> {
         ensures { TakesFirst (children_from from.old (content_shape self.now).children)
             (option_copied result) (children_from from.new (content_shape self.now).children) }
     {
-        match self {
-            Layout::Leaf(_) => None,
-            Layout::Node4(_, mapping) => mapping.next_child(from),
-            Layout::Node16(_, mapping) => mapping.boxed.next_child(from),
-            Layout::Node48(_, mapping) => mapping.boxed.next_child(from),
-            Layout::Node256(_, mapping) => mapping.boxed.next_child(from),
-        }
+        call_mapping!(self, None, next_child(from))
     }
 
     /// The bytes that have a child.
@@ -145,13 +128,7 @@ impl<P: Partial, V: Drop> Content<P, V> {
         requires { IsTrue (content_shape self.now).in_order }
         ensures { AreBytesOf result (content_shape self.now).children }
     {
-        match self {
-            Layout::Leaf(_) => ByteSet::new(),
-            Layout::Node4(_, mapping) => mapping.bytes(),
-            Layout::Node16(_, mapping) => mapping.boxed.bytes(),
-            Layout::Node48(_, mapping) => mapping.boxed.bytes(),
-            Layout::Node256(_, mapping) => mapping.boxed.bytes(),
-        }
+        call_mapping!(self, ByteSet::new(), bytes())
     }
 
     /// Puts a child under a byte that has none.
@@ -162,13 +139,7 @@ impl<P: Partial, V: Drop> Content<P, V> {
         ensures { Holds self.new (content_shape self.old).width
             (with_child byte child (content_shape self.old).children) }
     {
-        match self {
-            Layout::Leaf(_) => unreachable!(),
-            Layout::Node4(_, mapping) => mapping.add_child(byte, child),
-            Layout::Node16(_, mapping) => mapping.boxed.add_child(byte, child),
-            Layout::Node48(_, mapping) => mapping.boxed.add_child(byte, child),
-            Layout::Node256(_, mapping) => mapping.boxed.add_child(byte, child),
-        }
+        call_mapping!(self, unreachable!(), add_child(byte, child))
     }
 
     /// Puts a child in place of the one under the byte, and gives that one.
@@ -179,13 +150,7 @@ impl<P: Partial, V: Drop> Content<P, V> {
             (with_child byte child (content_shape self.old).children) }
         ensures replaced { Some result ≡ child_at byte (content_shape self.old).children }
     {
-        match self {
-            Layout::Leaf(_) => unreachable!(),
-            Layout::Node4(_, mapping) => mapping.replace_child(byte, child),
-            Layout::Node16(_, mapping) => mapping.boxed.replace_child(byte, child),
-            Layout::Node48(_, mapping) => mapping.boxed.replace_child(byte, child),
-            Layout::Node256(_, mapping) => mapping.boxed.replace_child(byte, child),
-        }
+        call_mapping!(self, unreachable!(), replace_child(byte, child))
     }
 
     /// Takes out the child under the byte. The width stays.
@@ -195,13 +160,7 @@ impl<P: Partial, V: Drop> Content<P, V> {
             (without_child byte (content_shape self.old).children) }
         ensures deleted { result ≡ child_at byte (content_shape self.old).children }
     {
-        match self {
-            Layout::Leaf(_) => None,
-            Layout::Node4(_, mapping) => mapping.delete_child(byte),
-            Layout::Node16(_, mapping) => mapping.boxed.delete_child(byte),
-            Layout::Node48(_, mapping) => mapping.boxed.delete_child(byte),
-            Layout::Node256(_, mapping) => mapping.boxed.delete_child(byte),
-        }
+        call_mapping!(self, None, delete_child(byte))
     }
 
     /// Whether there are as many children as the width has room for. No leaf is full, nor is the

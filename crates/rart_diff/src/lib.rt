@@ -8,12 +8,10 @@
 mod changes;
 mod count;
 mod keys;
-mod known;
 mod order;
 mod side;
 mod views;
 
 pub use count::{are_equal, count_changes};
 pub use keys::visit_changed_keys;
-pub use known::is_known_equal;
 pub use views::{visit_changed_views, visit_changed_views_until};

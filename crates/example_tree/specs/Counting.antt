@@ -4,7 +4,7 @@ use Rattle.rart_versioned.specs.declared.Slot.TheVariants.{Vacant, Occupied}
 use Rattle.rart_versioned.specs.SlotUpdate.TheVariants.{Keep, Insert, Remove}
 use Rattle.rart_versioned.specs.UpdateCounts.{update_enters, update_makes}
 use Rattle.rart_versioned.specs.VisitCounts.{end_bound}
-use Rattle.rart_versioned.specs.Hints.{members_left}
+use Rattle.rart_versioned.specs.Iterators.{members_left}
 
 -- Nodes that an update enters at most: a key that is absent, and one that is there.
 abbrev pub UpdatesEnter : Type 0

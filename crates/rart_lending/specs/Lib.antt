@@ -1,2 +1,1 @@
 pub mod Grafts
-pub mod Loans

@@ -4,10 +4,11 @@
 
 ghost use Rattle.std.specs.Prelude.{◌≡◌, ◌+◌, Some, IfOk};
 ghost use Rattle.std.specs.Borrow.{sem};
+ghost use Rattle.rart_below.specs.Clones.{ClonesEqual};
 ghost use Rattle.rart_lending.specs.Grafts.{LendsAlong};
-ghost use Rattle.rart_lending.specs.Loans.{CanLend};
 ghost use Rattle.rart_node.specs.Counts.{CountsUpTo};
-ghost use Rattle.rart_shape.specs.Trees.{found};
+ghost use Rattle.rart_search.specs.Paths.{Arrives};
+ghost use Rattle.rart_shape.specs.Trees.{IsTree, found};
 
 mod path;
 
@@ -26,7 +27,9 @@ pub fn lend_below<'a, P: Partial, V: Clone + Drop>(
     steps: usize,
     work: &mut Work,
 ) -> Result<&'a mut V, AllocError>
-    requires { CanLend V.is_clone steps key.now at.old.shape }
+    requires clones { ClonesEqual V.is_clone }
+    requires tree { IsTree at.old.shape }
+    requires arrives { Arrives steps key.now at.old.shape }
     ensures* writes_back { sem 𝓛 (LendsAlong P.row V.row P.Partial at.entry key.now result) }
     ensures value { IfOk result (λ value. found at.old.shape key.now ≡ Some value.now) }
     ensures counted { CountsUpTo (steps + 1) (steps + 1) work.old work.new }

@@ -1,9 +1,15 @@
 // Ported from rart 0.11.0 (Apache-2.0), and rewritten.
 //! The way down a tree to the node that is to be lent.
-ghost use Rattle.std.specs.Prelude.{ℕ, ◌+◌, ◌*◌, drop};
+ghost use Rattle.std.specs.Prelude.{◌≡◌, ℕ, ◌+◌, ◌*◌, ◌≤◌, Some, IfOk, IsSome, drop, length};
 ghost use Rattle.std.specs.Borrow.{sem};
+ghost use Rattle.std.specs.Option.{option_map};
+ghost use Rattle.rart_below.specs.Children.{child_at};
+ghost use Rattle.rart_below.specs.Clones.{ClonesEqual};
 ghost use Rattle.rart_lending.specs.Grafts.{LendsPathEnd};
-ghost use Rattle.rart_lending.specs.Loans.{CanGoDown, GoesDeeper, GoesUnder, ReachesEnd};
+ghost use Rattle.rart_node.specs.Counts.{CountsUpTo};
+ghost use Rattle.rart_node.specs.Shape.{children_of};
+ghost use Rattle.rart_search.specs.Paths.{first_byte, path_end, step};
+ghost use Rattle.rart_shape.specs.Trees.{IsTree};
 
 use rart_below::Partial;
 use rart_node::{NodeRef, VersionedNode, Work};
@@ -27,11 +33,17 @@ pub(crate) trait Path {
         steps: usize,
         work: &mut Work,
     ) -> Result<&'a mut VersionedNode<P, V>, AllocError>
-        requires { CanGoDown V.is_clone most steps key.now depth.old at.old.shape }
+        requires clones { ClonesEqual V.is_clone }
+        requires depth { depth.old ≤ length key.now }
+        requires tree { IsTree at.old.shape }
+        requires few { steps ≤ most }
+        requires there { IsSome (path_end steps (drop depth.old key.now) at.old.shape) }
         ensures* writes_back { sem 𝓛 (LendsPathEnd P.row V.row P.Partial at.entry steps
             (drop depth.entry.now key.now) result) }
-        ensures reaches { ReachesEnd result steps key.now depth.old
-            at.old.shape depth.new work.old work.new };
+        ensures reached { IfOk result (λ end. path_end steps (drop depth.old key.now) at.old.shape
+            ≡ Some (end.now.shape, drop depth.new key.now)) }
+        ensures within { depth.new ≤ length key.now }
+        ensures counted { CountsUpTo (steps + 1) (steps + 1) work.old work.new };
 }
 
 /// The node of the pointer itself.
@@ -82,8 +94,13 @@ impl<L: Path> Path for Twice<L> {
 /// The byte under which a key goes on below a node. `depth` bytes of the key stand above the node,
 /// and then above the child.
 fn next_byte<P: Partial, V: Drop>(node: &VersionedNode<P, V>, key: &[u8], depth: &mut usize) -> u8
-    requires { GoesDeeper key.now depth.old node.now.shape }
-    ensures { GoesUnder result key.now depth.old node.now.shape depth.new }
+    requires depth { depth.old ≤ length key.now }
+    requires there { IsSome (step (drop depth.old key.now) node.now.shape) }
+    ensures next { step (drop depth.old key.now) node.now.shape
+        ≡ option_map (λ child. (child, drop depth.new key.now))
+        (child_at result (children_of node.now.shape)) }
+    ensures first { first_byte (drop depth.new key.now) ≡ result }
+    ensures within { depth.new ≤ length key.now }
 {
     *depth += node.prefix().len();
     key[*depth]

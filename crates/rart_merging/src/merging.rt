@@ -1,10 +1,10 @@
 //! The calls, as methods of a version.
 ghost use Rattle.std.specs.Prelude.{length};
+ghost use Rattle.rart_below.specs.Clones.{ClonesEqual};
 ghost use Rattle.rart_changes.specs.ChangeLists.{changes};
-ghost use Rattle.rart_maps.specs.Versions.{Version};
+ghost use Rattle.rart_maps.specs.Versions.{Version, HasRoom};
 ghost use Rattle.rart_merging.specs.Merging.{ByConflict, CanMerge, Merges};
 ghost use Rattle.rart_merging.specs.Patching.{Patches};
-ghost use Rattle.rart_versioned.specs.Asks.{CanChange};
 
 use crate::merges::merged_copy;
 use crate::patches::patched_copy;
@@ -30,7 +30,8 @@ pub trait Merging<K: KeyTrait, V: Clone + Drop + Eq> {
     /// mine.patch(before, after)?;
     /// ```
     fn patch(&mut self, old: &Self, new: &Self) -> Result<(), AllocError>
-        requires { CanChange V.is_clone (version self.old)
+        requires clones { ClonesEqual V.is_clone }
+        requires room { HasRoom (version self.old)
             (length (changes V.eq (version old.now).content (version new.now).content)) }
         ensures { Patches version V.eq result self.old old.now new.now self.new };
 

@@ -5,7 +5,6 @@ ghost use Rattle.rart_changes.specs.ChangeLists.{changes};
 ghost use Rattle.rart_maps.specs.Versions.{HasRoom, value_at};
 ghost use Rattle.rart_merging.specs.Patching.{IsPatched};
 ghost use Rattle.rart_merging.specs.Setting.{IsSetTo};
-ghost use Rattle.rart_versioned.specs.Asks.{CanChange};
 
 use crate::drafts::Draft;
 use rart_below::KeyTrait;
@@ -18,7 +17,8 @@ pub(crate) fn patched_copy<K: KeyTrait, V: Clone + Drop + Eq>(
     old: &VersionedAdaptiveRadixTree<K, V>,
     new: &VersionedAdaptiveRadixTree<K, V>,
 ) -> Result<VersionedAdaptiveRadixTree<K, V>, AllocError>
-    requires { CanChange V.is_clone tree.now
+    requires clones { ClonesEqual V.is_clone }
+    requires room { HasRoom tree.now
         (length (changes V.eq old.now.content new.now.content)) }
     ensures { IfOk result (λ after. IsPatched tree.now
         (changes V.eq old.now.content new.now.content) after) }

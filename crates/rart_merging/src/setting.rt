@@ -1,8 +1,9 @@
 //! One key of a version set to a value, or taken out.
 ghost use Rattle.std.specs.Prelude.{OnOk};
 ghost use Rattle.std.specs.Option.{option_copied};
+ghost use Rattle.rart_below.specs.Clones.{ClonesEqual};
+ghost use Rattle.rart_maps.specs.Versions.{HasRoom};
 ghost use Rattle.rart_merging.specs.Setting.{IsSetTo};
-ghost use Rattle.rart_versioned.specs.Asks.{CanChange};
 
 use rart_below::KeyTrait;
 use rart_versioned::VersionedAdaptiveRadixTree;
@@ -14,7 +15,8 @@ pub(crate) fn put<K: KeyTrait, V: Clone + Drop>(
     key: K,
     value: Option<V>,
 ) -> Result<(), AllocError>
-    requires { CanChange V.is_clone tree.old 1 }
+    requires clones { ClonesEqual V.is_clone }
+    requires room { HasRoom tree.old 1 }
     ensures { OnOk result (IsSetTo tree.old (K.bytes key) value tree.new) }
 {
     match value {
@@ -34,7 +36,8 @@ pub(crate) fn put_copy<K: KeyTrait, V: Clone + Drop>(
     key: K,
     value: Option<&V>,
 ) -> Result<(), AllocError>
-    requires { CanChange V.is_clone tree.old 1 }
+    requires clones { ClonesEqual V.is_clone }
+    requires room { HasRoom tree.old 1 }
     ensures { OnOk result (IsSetTo tree.old (K.bytes key) (option_copied value.entry) tree.new) }
 {
     match value {

@@ -53,10 +53,10 @@ module _ {V : Type 0} {base now after : Version V} {touched marked : Version (Un
   module _ (keys : marked.content ≡ with_string touched.content w)
       (more : marked.number ≤ touched.number + 1)
       (counted : marked.number ≡ finite.len marked.content) where
-    pub keeps-update : {F : Type 0} (E : Type 0) (callback : Once F (MutBor (Slot V) × Unit {0})
+    pub keeps-update : {F : Type 0} (callback : Once F (MutBor (Slot V) × Unit {0})
         (SlotUpdate V × (MutBor (Slot V) × Unit {0}))) (f : F) (answer : Bool) → answer ≡ true
-        → Updates callback {E = E} f now w (Ok answer) after → Keeps base after marked
-    keeps-update E callback f answer is updates =
+        → Updates callback f now w answer after → Keeps base after marked
+    keeps-update callback f answer is updates =
         keeps-raised w _ keeps (updated-sets now after w updates.0 updates.1 answer updates.3)
         keys more counted
         (update-raises-from now after w (value_at now w) updates.0 updates.1
@@ -72,14 +72,13 @@ module _ {V : Type 0} {base now after : Version V} {touched marked : Version (Un
         ((λ i. (Ok (sym is i), after)) ∙ answers.3))
 
 -- The same update of the same version, and the same answer.
-pub same-update : {F V : Type 0} (E : Type 0) (callback : Once F (MutBor (Slot V) × Unit {0})
+pub same-update : {F V : Type 0} (callback : Once F (MutBor (Slot V) × Unit {0})
     (SlotUpdate V × (MutBor (Slot V) × Unit {0}))) (f : F) (before v after : Version V) (w : List ℕ)
     (answer b : Bool) → before ≡ v → answer ≡ b
-    → Updates callback {E = E} f before w (Ok answer) after
-    → Updates callback {E = E} f v w (Ok b) after
-same-update E callback f before v after w answer b is same updates =
-    subst (λ a. Updates callback {E = E} f v w (Ok a) after) same
-    (subst (λ u. Updates callback {E = E} f u w (Ok answer) after) is updates)
+    → Updates callback f before w answer after → Updates callback f v w b after
+same-update callback f before v after w answer b is same updates =
+    subst (λ a. Updates callback f v w a after) same
+    (subst (λ u. Updates callback f u w answer after) is updates)
 
 pub same-attempt : {F V E : Type 0} (callback : Once F (MutBor (Slot V) × Unit {0})
     (Result (SlotUpdate V) E × (MutBor (Slot V) × Unit {0}))) (f : F) (before v after : Version V)

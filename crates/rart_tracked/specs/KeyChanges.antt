@@ -4,8 +4,8 @@ use Rattle.rart_maps.specs.Bounds.{change_bound, lookup_bound}
 use Rattle.rart_maps.specs.Versions.{HasRoom, has_key}
 use Rattle.rart_tracked.specs.Tracking.{Leaves, Tracking}
 use Rattle.rart_versioned.specs.Counts.{Counts, CountsUpTo}
-use Rattle.rart_versioned.specs.declared.uncounted.try_insert.InsertError.{InsertError}
-use Rattle.rart_versioned.specs.declared.uncounted.try_insert.InsertError.TheVariants.{NoMemory, NoRoom}
+use Rattle.rart_versioned.specs.declared.plain.try_insert.InsertError.{InsertError}
+use Rattle.rart_versioned.specs.declared.plain.try_insert.InsertError.TheVariants.{NoMemory, NoRoom}
 
 module _ {V A E : Type 0} (result : Result A E) (before after : Tracking V)
     (outcome : A × Tracking V) (w : List ℕ) where

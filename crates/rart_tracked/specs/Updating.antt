@@ -16,8 +16,8 @@ module _ {F V : Type 0} (callback : Once F (MutBor (Slot V) × Unit {0})
   -- key is touched where the answer is that it was there or is now. Refused, all is as before.
   abbrev pub TracksUpdate : {E : Type 0} → F → Tracking V → List ℕ → Result Bool E → Tracking V
       → Type 0
-  TracksUpdate {E} f before w (Ok answer) after =
-      Updates callback {E = E} f before.current w (Ok answer) after.current
+  TracksUpdate f before w (Ok answer) after =
+      Updates callback f before.current w answer after.current
       × (after ≡ updated before w answer after.current)
   TracksUpdate f before w (Err refusal) after = after ≡ before
 

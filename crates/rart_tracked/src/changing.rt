@@ -1,7 +1,8 @@
 //! Changes of one key: the current version is changed as a tree is, and the key is touched.
+ghost use Rattle.rart_below.specs.Clones.{ClonesEqual};
+ghost use Rattle.rart_maps.specs.Versions.{HasRoom};
 ghost use Rattle.rart_tracked.specs.KeyChanges.{RemovesKey};
 ghost use Rattle.rart_tracked.specs.Tracking.{Leaves, insertion, replacement, removal, deletion, tracking_from};
-ghost use Rattle.rart_versioned.specs.Asks.{CanChange};
 
 use crate::tracked::{TrackedTree, no_keys};
 use rart_below::KeyTrait;
@@ -12,7 +13,8 @@ impl<K: KeyTrait, V: Clone + Drop> TrackedTree<K, V> {
     /// Sets a key to a value, and touches it. The number is one greater then, and the answer is
     /// whether a value was replaced. Refused for memory, all is as before.
     pub fn insert_k(&mut self, key: &K, value: V) -> Result<bool, AllocError>
-        requires { CanChange V.is_clone self.old.current 1 }
+        requires clones { ClonesEqual V.is_clone }
+        requires room { HasRoom self.old.current 1 }
         ensures { Leaves result self.old self.new (insertion self.old (K.bytes key.now) value) }
     {
         Ok(self.insert_and_replace_k(key, value)?.is_some())
@@ -20,7 +22,8 @@ impl<K: KeyTrait, V: Clone + Drop> TrackedTree<K, V> {
 
     /// As `insert_k`, the key by value.
     pub fn insert(&mut self, key: K, value: V) -> Result<bool, AllocError>
-        requires { CanChange V.is_clone self.old.current 1 }
+        requires clones { ClonesEqual V.is_clone }
+        requires room { HasRoom self.old.current 1 }
         ensures { Leaves result self.old self.new (insertion self.old (K.bytes key) value) }
     {
         self.insert_k(&key, value)
@@ -28,7 +31,8 @@ impl<K: KeyTrait, V: Clone + Drop> TrackedTree<K, V> {
 
     /// As `insert_k`, and answers the value that was replaced, if one was.
     pub fn insert_and_replace_k(&mut self, key: &K, value: V) -> Result<Option<V>, AllocError>
-        requires { CanChange V.is_clone self.old.current 1 }
+        requires clones { ClonesEqual V.is_clone }
+        requires room { HasRoom self.old.current 1 }
         ensures { Leaves result self.old self.new (replacement self.old (K.bytes key.now) value) }
     {
         self.insert_and_replace_k_counted(key, value, &mut Work::new())
@@ -36,7 +40,8 @@ impl<K: KeyTrait, V: Clone + Drop> TrackedTree<K, V> {
 
     /// As `insert_and_replace_k`, the key by value.
     pub fn insert_and_replace(&mut self, key: K, value: V) -> Result<Option<V>, AllocError>
-        requires { CanChange V.is_clone self.old.current 1 }
+        requires clones { ClonesEqual V.is_clone }
+        requires room { HasRoom self.old.current 1 }
         ensures { Leaves result self.old self.new (replacement self.old (K.bytes key) value) }
     {
         self.insert_and_replace_k(&key, value)
@@ -46,7 +51,8 @@ impl<K: KeyTrait, V: Clone + Drop> TrackedTree<K, V> {
     /// key is absent the answer is `None`, all is as before, and no memory is taken. Refused for
     /// memory, all is as before.
     pub fn remove_k(&mut self, key: &K) -> Result<Option<V>, AllocError>
-        requires { CanChange V.is_clone self.old.current 1 }
+        requires clones { ClonesEqual V.is_clone }
+        requires room { HasRoom self.old.current 1 }
         ensures { RemovesKey result self.old self.new (removal self.old (K.bytes key.now))
             (K.bytes key.now) }
     {
@@ -55,7 +61,8 @@ impl<K: KeyTrait, V: Clone + Drop> TrackedTree<K, V> {
 
     /// As `remove_k`, the key by value.
     pub fn remove(&mut self, key: K) -> Result<Option<V>, AllocError>
-        requires { CanChange V.is_clone self.old.current 1 }
+        requires clones { ClonesEqual V.is_clone }
+        requires room { HasRoom self.old.current 1 }
         ensures { RemovesKey result self.old self.new (removal self.old (K.bytes key))
             (K.bytes key) }
     {
@@ -64,7 +71,8 @@ impl<K: KeyTrait, V: Clone + Drop> TrackedTree<K, V> {
 
     /// Takes a key out and says whether it was there, otherwise as `remove_k`.
     pub fn delete_k(&mut self, key: &K) -> Result<bool, AllocError>
-        requires { CanChange V.is_clone self.old.current 1 }
+        requires clones { ClonesEqual V.is_clone }
+        requires room { HasRoom self.old.current 1 }
         ensures { RemovesKey result self.old self.new (deletion self.old (K.bytes key.now))
             (K.bytes key.now) }
     {
@@ -73,7 +81,8 @@ impl<K: KeyTrait, V: Clone + Drop> TrackedTree<K, V> {
 
     /// As `delete_k`, the key by value.
     pub fn delete(&mut self, key: K) -> Result<bool, AllocError>
-        requires { CanChange V.is_clone self.old.current 1 }
+        requires clones { ClonesEqual V.is_clone }
+        requires room { HasRoom self.old.current 1 }
         ensures { RemovesKey result self.old self.new (deletion self.old (K.bytes key))
             (K.bytes key) }
     {

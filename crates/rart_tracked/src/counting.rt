@@ -1,7 +1,8 @@
 //! Changes of one key, with the nodes entered and made counted.
+ghost use Rattle.rart_below.specs.Clones.{ClonesEqual};
+ghost use Rattle.rart_maps.specs.Versions.{HasRoom};
 ghost use Rattle.rart_tracked.specs.KeyChanges.{PutsCounting, TakesCounting};
 ghost use Rattle.rart_tracked.specs.Tracking.{insertion, replacement, removal, deletion};
-ghost use Rattle.rart_versioned.specs.Asks.{CanChange};
 
 use crate::tracked::{TrackedTree, marked};
 use rart_below::KeyTrait;
@@ -17,7 +18,8 @@ impl<K: KeyTrait, V: Clone + Drop> TrackedTree<K, V> {
         value: V,
         work: &mut Work,
     ) -> Result<bool, AllocError>
-        requires { CanChange V.is_clone self.old.current 1 }
+        requires clones { ClonesEqual V.is_clone }
+        requires room { HasRoom self.old.current 1 }
         ensures { PutsCounting result self.old self.new
             (insertion self.old (K.bytes key.now) value) (K.bytes key.now) work.old work.new }
     {
@@ -34,7 +36,8 @@ impl<K: KeyTrait, V: Clone + Drop> TrackedTree<K, V> {
         value: V,
         work: &mut Work,
     ) -> Result<Option<V>, AllocError>
-        requires { CanChange V.is_clone self.old.current 1 }
+        requires clones { ClonesEqual V.is_clone }
+        requires room { HasRoom self.old.current 1 }
         ensures { PutsCounting result self.old self.new
             (replacement self.old (K.bytes key.now) value) (K.bytes key.now) work.old work.new }
     {
@@ -48,7 +51,8 @@ impl<K: KeyTrait, V: Clone + Drop> TrackedTree<K, V> {
     /// entered than five times the bytes of the key, and at most four more made than twice these.
     /// Where the key is absent it is looked up alone, and none is made.
     pub fn remove_k_counted(&mut self, key: &K, work: &mut Work) -> Result<Option<V>, AllocError>
-        requires { CanChange V.is_clone self.old.current 1 }
+        requires clones { ClonesEqual V.is_clone }
+        requires room { HasRoom self.old.current 1 }
         ensures { TakesCounting result self.old self.new (removal self.old (K.bytes key.now))
             (K.bytes key.now) work.old work.new }
     {
@@ -63,7 +67,8 @@ impl<K: KeyTrait, V: Clone + Drop> TrackedTree<K, V> {
 
     /// As `delete_k`, counted as by `remove_k_counted`.
     pub fn delete_k_counted(&mut self, key: &K, work: &mut Work) -> Result<bool, AllocError>
-        requires { CanChange V.is_clone self.old.current 1 }
+        requires clones { ClonesEqual V.is_clone }
+        requires room { HasRoom self.old.current 1 }
         ensures { TakesCounting result self.old self.new (deletion self.old (K.bytes key.now))
             (K.bytes key.now) work.old work.new }
     {

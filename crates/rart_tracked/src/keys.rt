@@ -20,8 +20,8 @@ pub(crate) fn keys_of<K: KeyTrait>(
     ensures keys { IfOk result (λ keys. map K.bytes keys.items ≡ listed set.now.content) }
     ensures counted { CountsUpTo (2 * finite.len set.now.content) 0 work.old work.new }
 {
-    // (its contract says that each key has a length that keys may have)
-    let _number = set.version();
+    // (each key has a length that keys may have)
+    set.know_keys_for_proof();
     let mut kept: KeptKeys<K> = KeptKeys::new(alloc);
     set.for_each_view_counted(
         &mut |key: LendingKeyView<'_, '_>, _unit: &()| {

@@ -9,7 +9,6 @@ ghost use Rattle.rart_tracked.specs.Asks.{CanMark, CanTouch};
 ghost use Rattle.rart_tracked.specs.Lending.{LendsFound, LendsOrStays, LendsTouched};
 ghost use Rattle.rart_tracked.specs.Missing.{Explains, found_value, value_or_why};
 ghost use Rattle.rart_tracked.specs.Touching.{MarksThere, Touches};
-ghost use Rattle.rart_versioned.specs.Asks.{CanChange};
 ghost use Rattle.rart_versioned.specs.ChangeCounts.{CountsChange};
 ghost use Rattle.rart_versioned.specs.Counts.{CountsUpTo};
 ghost use Rattle.rart_versioned.specs.Lent.{LendsValue};
@@ -34,7 +33,8 @@ impl<K: KeyTrait, V: Clone + Drop> TrackedTree<K, V> {
     /// Where the key is absent the answer is `None`, all is as before, and no memory is taken.
     /// Refused for memory, all is as before.
     pub fn get_mut_k(&mut self, key: &K) -> Result<Option<&mut V>, AllocError>
-        requires { CanChange V.is_clone self.old.current 1 }
+        requires clones { ClonesEqual V.is_clone }
+        requires room { HasRoom self.old.current 1 }
         ensures* writes_back { sem 𝓛 (LendsFound K.row V.row K.PartialType.row K.MAXIMUM_SIZE
             K.bytes K.eq K.cmp K.partial_cmp K.PartialType.Partial V.Clone self.entry
             (K.bytes key.now) result) }
@@ -47,7 +47,8 @@ impl<K: KeyTrait, V: Clone + Drop> TrackedTree<K, V> {
 
     /// As `get_mut_k`, the key by value.
     pub fn get_mut(&mut self, key: K) -> Result<Option<&mut V>, AllocError>
-        requires { CanChange V.is_clone self.old.current 1 }
+        requires clones { ClonesEqual V.is_clone }
+        requires room { HasRoom self.old.current 1 }
         ensures* writes_back { sem 𝓛 (LendsFound K.row V.row K.PartialType.row K.MAXIMUM_SIZE
             K.bytes K.eq K.cmp K.partial_cmp K.PartialType.Partial V.Clone self.entry
             (K.bytes key) result) }
@@ -66,7 +67,8 @@ impl<K: KeyTrait, V: Clone + Drop> TrackedTree<K, V> {
         key: &K,
         work: &mut Work,
     ) -> Result<Option<&mut V>, AllocError>
-        requires { CanChange V.is_clone self.old.current 1 }
+        requires clones { ClonesEqual V.is_clone }
+        requires room { HasRoom self.old.current 1 }
         ensures* writes_back { sem 𝓛 (LendsFound K.row V.row K.PartialType.row K.MAXIMUM_SIZE
             K.bytes K.eq K.cmp K.partial_cmp K.PartialType.Partial V.Clone self.entry
             (K.bytes key.now) result) }
@@ -83,7 +85,8 @@ impl<K: KeyTrait, V: Clone + Drop> TrackedTree<K, V> {
 
     /// As `lent_k`, the key by value.
     fn lent(&mut self, key: K) -> Result<&mut V, Missing>
-        requires { CanChange V.is_clone self.old.current 1 }
+        requires clones { ClonesEqual V.is_clone }
+        requires room { HasRoom self.old.current 1 }
         ensures* writes_back { sem 𝓛 (LendsTouched K.row V.row K.PartialType.row K.MAXIMUM_SIZE
             K.bytes K.eq K.cmp K.partial_cmp K.PartialType.Partial V.Clone self.entry
             (K.bytes key) result) }
@@ -97,7 +100,8 @@ impl<K: KeyTrait, V: Clone + Drop> TrackedTree<K, V> {
 
     /// As `get_mut_k`, and tells an absent key from a refusal in one answer.
     fn lent_k(&mut self, key: &K) -> Result<&mut V, Missing>
-        requires { CanChange V.is_clone self.old.current 1 }
+        requires clones { ClonesEqual V.is_clone }
+        requires room { HasRoom self.old.current 1 }
         ensures* writes_back { sem 𝓛 (LendsTouched K.row V.row K.PartialType.row K.MAXIMUM_SIZE
             K.bytes K.eq K.cmp K.partial_cmp K.PartialType.Partial V.Clone self.entry
             (K.bytes key.now) result) }
@@ -111,7 +115,8 @@ impl<K: KeyTrait, V: Clone + Drop> TrackedTree<K, V> {
 
     /// As `lent_k`, with the nodes entered and made counted into `work`.
     fn lent_k_counted(&mut self, key: &K, work: &mut Work) -> Result<&mut V, Missing>
-        requires { CanChange V.is_clone self.old.current 1 }
+        requires clones { ClonesEqual V.is_clone }
+        requires room { HasRoom self.old.current 1 }
         ensures* writes_back { sem 𝓛 (LendsTouched K.row V.row K.PartialType.row K.MAXIMUM_SIZE
             K.bytes K.eq K.cmp K.partial_cmp K.PartialType.Partial V.Clone self.entry
             (K.bytes key.now) result) }

@@ -2,10 +2,11 @@
 ghost use Rattle.std.specs.Prelude.{◌≡◌, [], ◌∷◌, map, Contains, OnOk};
 ghost use Rattle.std.specs.Option.{option_copied};
 ghost use Rattle.std.specs.FinMap as finite;
+ghost use Rattle.rart_below.specs.Clones.{ClonesEqual};
+ghost use Rattle.rart_maps.specs.Versions.{HasRoom};
 ghost use Rattle.rart_tracked.specs.Asks.{CanReplay};
 ghost use Rattle.rart_tracked.specs.ChangeVisits.{changes_at};
 ghost use Rattle.rart_tracked.specs.Rebasing.{IsSetTo, Rebases, Replays};
-ghost use Rattle.rart_versioned.specs.Asks.{CanChange};
 
 use crate::keys::keys_of;
 use crate::showing::do_differ;
@@ -24,7 +25,8 @@ impl<K: KeyTrait, V: Clone + Drop + Eq> TrackedTree<K, V> {
     /// It asks for room for as many changes as keys are touched. Refused for memory, all is as
     /// before.
     pub fn rebase(&mut self, onto: &VersionedAdaptiveRadixTree<K, V>) -> Result<(), AllocError>
-        requires { CanChange V.is_clone onto.now (finite.len self.old.touched) }
+        requires clones { ClonesEqual V.is_clone }
+        requires room { HasRoom onto.now (finite.len self.old.touched) }
         ensures { Rebases V.eq result self.old onto.now self.new }
     {
         let keys = keys_of(self.alloc, &self.touched, &mut Work::new())?;
@@ -59,7 +61,8 @@ impl<K: KeyTrait, V: Clone + Drop + Eq> TrackedTree<K, V> {
         new: &VersionedAdaptiveRadixTree<K, V>,
         key: K,
     ) -> Result<(), AllocError>
-        requires { CanChange V.is_clone self.old.current 1 }
+        requires clones { ClonesEqual V.is_clone }
+        requires room { HasRoom self.old.current 1 }
         ensures { OnOk result (Replays self.old self.new
             (changes_at V.eq old.now.content new.now.content (K.bytes key ∷ []))
             (λ q. q ≡ K.bytes key)) }
@@ -73,7 +76,8 @@ impl<K: KeyTrait, V: Clone + Drop + Eq> TrackedTree<K, V> {
 
     // Sets a key to a copy of the value, or takes it out where there is none.
     fn set_to(&mut self, key: K, value: Option<&V>) -> Result<(), AllocError>
-        requires { CanChange V.is_clone self.old.current 1 }
+        requires clones { ClonesEqual V.is_clone }
+        requires room { HasRoom self.old.current 1 }
         ensures { OnOk result (IsSetTo self.old (K.bytes key) (option_copied value.entry)
             self.new) }
     {

@@ -1,7 +1,10 @@
 //! Updates of a key's slot by a callback: the current version is updated as a tree is, and the key
 //! is touched where it was there or is now.
+ghost use Rattle.std.specs.Fn.{FnOnceTakesAtMut};
+ghost use Rattle.rart_below.specs.Clones.{ClonesEqual};
+ghost use Rattle.rart_maps.specs.Changes.{slot_of};
+ghost use Rattle.rart_maps.specs.Versions.{HasRoom, value_at};
 ghost use Rattle.rart_tracked.specs.KeyUpdates.{TriesCounting, TriesKey, UpdatesCounting, UpdatesKey};
-ghost use Rattle.rart_versioned.specs.Asks.{CanUpdate};
 
 use crate::tracked::{TrackedTree, marked};
 use rart_below::{KeyTrait, Refusal, Slot, SlotUpdate};
@@ -18,7 +21,10 @@ impl<K: KeyTrait, V: Clone + Drop> TrackedTree<K, V> {
         key: &K,
         f: F,
     ) -> Result<bool, AllocError>
-        requires { CanUpdate V.is_clone F.FnOnce f self.old.current (K.bytes key.now) 1 }
+        requires clones { ClonesEqual V.is_clone }
+        requires room { HasRoom self.old.current 1 }
+        requires callable { FnOnceTakesAtMut F.FnOnce f
+            (slot_of (value_at self.old.current (K.bytes key.now))) }
         ensures { UpdatesKey F.FnOnce f self.old (K.bytes key.now) result self.new }
     {
         self.update_k_counted(key, f, &mut Work::new())
@@ -30,7 +36,10 @@ impl<K: KeyTrait, V: Clone + Drop> TrackedTree<K, V> {
         key: K,
         f: F,
     ) -> Result<bool, AllocError>
-        requires { CanUpdate V.is_clone F.FnOnce f self.old.current (K.bytes key) 1 }
+        requires clones { ClonesEqual V.is_clone }
+        requires room { HasRoom self.old.current 1 }
+        requires callable { FnOnceTakesAtMut F.FnOnce f
+            (slot_of (value_at self.old.current (K.bytes key))) }
         ensures { UpdatesKey F.FnOnce f self.old (K.bytes key) result self.new }
     {
         self.update_k(&key, f)
@@ -44,7 +53,10 @@ impl<K: KeyTrait, V: Clone + Drop> TrackedTree<K, V> {
         f: F,
         work: &mut Work,
     ) -> Result<bool, AllocError>
-        requires { CanUpdate V.is_clone F.FnOnce f self.old.current (K.bytes key.now) 1 }
+        requires clones { ClonesEqual V.is_clone }
+        requires room { HasRoom self.old.current 1 }
+        requires callable { FnOnceTakesAtMut F.FnOnce f
+            (slot_of (value_at self.old.current (K.bytes key.now))) }
         ensures { UpdatesCounting F.FnOnce f self.old (K.bytes key.now) result self.new
             work.old work.new }
     {
@@ -66,7 +78,10 @@ impl<K: KeyTrait, V: Clone + Drop> TrackedTree<K, V> {
         key: &K,
         f: F,
     ) -> Result<bool, Refusal<E>>
-        requires { CanUpdate V.is_clone F.FnOnce f self.old.current (K.bytes key.now) 2 }
+        requires clones { ClonesEqual V.is_clone }
+        requires room { HasRoom self.old.current 2 }
+        requires callable { FnOnceTakesAtMut F.FnOnce f
+            (slot_of (value_at self.old.current (K.bytes key.now))) }
         ensures { TriesKey F.FnOnce f self.old (K.bytes key.now) result self.new }
     {
         self.try_update_k_counted(key, f, &mut Work::new())
@@ -78,7 +93,10 @@ impl<K: KeyTrait, V: Clone + Drop> TrackedTree<K, V> {
         key: K,
         f: F,
     ) -> Result<bool, Refusal<E>>
-        requires { CanUpdate V.is_clone F.FnOnce f self.old.current (K.bytes key) 2 }
+        requires clones { ClonesEqual V.is_clone }
+        requires room { HasRoom self.old.current 2 }
+        requires callable { FnOnceTakesAtMut F.FnOnce f
+            (slot_of (value_at self.old.current (K.bytes key))) }
         ensures { TriesKey F.FnOnce f self.old (K.bytes key) result self.new }
     {
         self.try_update_k(&key, f)
@@ -91,7 +109,10 @@ impl<K: KeyTrait, V: Clone + Drop> TrackedTree<K, V> {
         f: F,
         work: &mut Work,
     ) -> Result<bool, Refusal<E>>
-        requires { CanUpdate V.is_clone F.FnOnce f self.old.current (K.bytes key.now) 2 }
+        requires clones { ClonesEqual V.is_clone }
+        requires room { HasRoom self.old.current 2 }
+        requires callable { FnOnceTakesAtMut F.FnOnce f
+            (slot_of (value_at self.old.current (K.bytes key.now))) }
         ensures { TriesCounting F.FnOnce f self.old (K.bytes key.now) result self.new
             work.old work.new }
     {

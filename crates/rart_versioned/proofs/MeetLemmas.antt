@@ -10,7 +10,7 @@ use Rattle.rart_maps.proofs.WorkedPairLemmas.{common_of_empty}
 use Rattle.rart_node.specs.Shape.{Shape}
 use Rattle.rart_shape.specs.Trees.{found, pairs_of}
 use Rattle.rart_walks.specs.Walks.{AreShort}
-use Rattle.rart_versioned.specs.IteratorFields.{AreAdmitted}
+use Rattle.rart_versioned.specs.TreeWalks.{AreAdmitted}
 use Rattle.rart_versioned.specs.Meets.{AreRoots, HaveNoCommon}
 use Rattle.rart_versioned.specs.Roots.{map_of, IsSound}
 use Rattle.rart_versioned.proofs.VersionCommonLemmas.{common-roots, shared-roots}

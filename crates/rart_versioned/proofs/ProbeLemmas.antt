@@ -12,7 +12,7 @@ use Rattle.rart_search.proofs.StepLemmas.{take-front, own-first, under}
 use Rattle.rart_walks.specs.Frames.{behind_path, pending_pair}
 use Rattle.rart_walks.proofs.PrefixMatchLemmas.{matches_of, matches_at, matches_of-left}
 use Rattle.rart_walks.proofs.WalkLemmas.{behind-none}
-use Rattle.rart_versioned.specs.IteratorFields.{height_in, matches_below}
+use Rattle.rart_versioned.specs.Iterators.{height_in, matches_below}
 use Rattle.rart_versioned.specs.Roots.{IsTreeIn, pairs_in}
 
 drop-front : (front rest : List ℕ) → drop (length front) (front ++ rest) ≡ rest

@@ -1,8 +1,8 @@
 -- What a callback's answer makes of a version, arm by arm.
-use Rattle.std.proofs.Common.{◌≡◌, ℕ, List, Option, Some, None, Result, Ok, Err, OnErr, inl, inr, is_some, cond, Bool, true, false, refl, sym, ap, subst, ◌∙◌}
+use Rattle.std.proofs.Common.{◌≡◌, ℕ, List, Option, Some, None, Result, Ok, Err, IfOk, OnErr, inl, inr, is_some, cond, Bool, true, false, refl, sym, ap, subst, ◌∙◌}
 use Rattle.std.specs.Prelude.{◌+◌}
 use Rattle.std.specs.Borrow.{MutBor}
-use Rattle.std.specs.Result.{IsErr}
+use Rattle.std.proofs.lemmas.Result.{IfOk-weaker, on_err_weaker}
 use Rattle.std.specs.Fn.{Once}
 use Rattle.std.specs.Ordering.{is_eq, eq_by_cmp}
 use Rattle.std.specs.declared.cmp.Ordering.{Ordering}
@@ -17,7 +17,7 @@ use Rattle.rart_below.specs.declared.slot.SlotUpdate.{SlotUpdate}
 use Rattle.rart_below.specs.declared.slot.SlotUpdate.TheVariants.{Keep, Insert, Remove}
 use Rattle.rart_below.specs.declared.slot.Refusal.{Refusal}
 use Rattle.rart_below.specs.declared.slot.Refusal.TheVariants.{Callback, Memory}
-use Rattle.rart_maps.specs.Changes.{Changes, slot_of, slot_update}
+use Rattle.rart_maps.specs.Changes.{slot_of, slot_update}
 use Rattle.rart_versioned.specs.SlotChanges.{change_of, version_after, outcome_of_absent, is_occupied, rise_of, AsksMemory, IsTried, Tries, TriesAbsent}
 use Rattle.rart_versioned.specs.Updates.{Tells, Updates, TellsOrFails, TriesUpdate, UpdateTakesMemory}
 use Rattle.rart_maps.specs.Versions.{Map, Version, value_at, has_key, with_rise}
@@ -129,33 +129,27 @@ module _ {F V : Type 0} (callback : Once F (MutBor (Slot V) × Unit {0})
   tells lent left told is met =
       record { shown = lent; shows = is; left = left; met = met; leaves = refl }
 
-  pub updates-there : (E : Type 0) (left : Slot V) (told : SlotUpdate V) (after : Version V)
+  pub updates-there : (left : Slot V) (told : SlotUpdate V) (after : Version V)
       → Tells callback f v w left told → has_key v w ≡ true
-      → after ≡ version_after v w (change_of left told) 1
-      → Updates callback {E = E} f v w (Ok true) after
-  updates-there E left told after tell there is =
+      → after ≡ version_after v w (change_of left told) 1 → Updates callback f v w true after
+  updates-there left told after tell there is =
       (left, told, tell, ap (λ z. (true, z)) is ∙ there-updated v w left told there)
 
-  -- Refused for memory, it leaves the version.
-  pub update-stopped : {E : Type 0} (answer : Result Bool E) (after : Version V) → IsErr answer
-      → after ≡ v → UpdateTakesMemory callback f v w → Updates callback f v w answer after
-  update-stopped (Ok answer) after is same takes = absurd (false≢true is)
-  update-stopped (Err refusal) after is same takes = (same, takes)
+  module _ {E : Type 0} (left : Slot V) (told : SlotUpdate V) (result : Result Bool E)
+      (tell : Tells callback f v w left told) where
+    pub updates-absent : (after : Version V) → has_key v w ≡ false
+        → IfOk result (λ answer. (answer, after) ≡ outcome_of_absent v w told)
+        → IfOk result (λ answer. Updates callback f v w answer after)
+    updates-absent after absent done =
+        IfOk-weaker result _ _
+        (λ answer is. (left, told, tell, is ∙ absent-updated v w left told absent)) done
 
-  pub updates-absent : {E : Type 0} (left : Slot V) (told : SlotUpdate V) (answer : Result Bool E)
-      (after : Version V) → Tells callback f v w left told → has_key v w ≡ false
-      → Changes answer v after (outcome_of_absent v w told) → OnErr answer (AsksMemory told)
-      → Updates callback f v w answer after
-  updates-absent left told (Ok answer) after tell absent is asks = (
-    left,
-    told,
-    tell,
-    ap (λ z. (z, after)) is.0
-        ∙ ap (λ z. ((outcome_of_absent v w told).0, z)) is.1
-        ∙ absent-updated v w left told absent,
-  )
-  updates-absent left told (Err refusal) after tell absent is asks =
-      (is, inr (left, asks.0, subst (λ t. Tells callback f v w left t) asks.1 tell))
+    -- Refused, it is for a value that is to be stored.
+    pub asked-memory : OnErr result (AsksMemory told)
+        → OnErr result (UpdateTakesMemory callback f v w)
+    asked-memory asks =
+        on_err_weaker result
+        (λ asks. inr (left, asks.0, subst (λ t. Tells callback f v w left t) asks.1 tell)) asks
 
 module _ {F V E : Type 0} (callback : Once F (MutBor (Slot V) × Unit {0})
     (Result (SlotUpdate V) E × (MutBor (Slot V) × Unit {0}))) (f : F) (v : Version V)

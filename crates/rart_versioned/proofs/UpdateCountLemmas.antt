@@ -1,5 +1,5 @@
 -- How the counts rise by an update: by the look-up, and by what the answer asks for then.
-use Rattle.std.proofs.Common.{◌≡◌, ◌+◌, ◌*◌, ◌<◌, ◌≤◌, ℕ, List, Option, Some, None, Result, Ok, Err, Bool, true, false, inl, inr, arith, refl, sym, ap, subst, ◌∙◌}
+use Rattle.std.proofs.Common.{◌≡◌, ◌+◌, ◌*◌, ◌≤◌, ℕ, List, Option, Some, None, Result, Ok, Err, IfOk, Bool, true, false, inl, inr, arith, refl, sym, ap, subst, ◌∙◌}
 use Rattle.std.specs.Borrow.{MutBor}
 use Rattle.std.specs.Fn.{Once}
 use Rattle.std.specs.Result.{IsErr}
@@ -11,11 +11,11 @@ use Rattle.rart_below.specs.declared.slot.Slot.TheVariants.{Vacant, Occupied}
 use Rattle.rart_below.specs.declared.slot.SlotUpdate.{SlotUpdate}
 use Rattle.rart_below.specs.declared.slot.SlotUpdate.TheVariants.{Keep, Insert, Remove}
 use Rattle.rart_maps.specs.Bounds.{lookup_bound, enter_bound, change_bound}
-use Rattle.rart_maps.specs.Changes.{Changes, slot_attempt_from}
-use Rattle.rart_maps.specs.Versions.{Version, value_at, has_key, has_no_key}
+use Rattle.rart_maps.specs.Changes.{slot_attempt_from}
+use Rattle.rart_maps.specs.Versions.{Version, value_at, has_key}
 use Rattle.rart_node.specs.Counts.{Counts, CountsUpTo}
-use Rattle.rart_shape.proofs.CountingLemmas.{counts-then, counts-most, entered-then}
-use Rattle.rart_versioned.specs.ChangeCounts.{CountsChange, MakesToInsert, MakesToTryInsert}
+use Rattle.rart_shape.proofs.CountingLemmas.{counts-then}
+use Rattle.rart_versioned.specs.ChangeCounts.{MakesToTryInsert}
 use Rattle.rart_versioned.specs.declared.counted.change.Change.{Change}
 use Rattle.rart_versioned.specs.SlotChanges.{change_enters, change_makes, change_of, change_of_absent, attempt_of, attempt_of_absent, outcome_of_absent, version_after, Tries, TriesAbsent}
 use Rattle.rart_versioned.specs.UpdateCounts.{update_enters, update_makes, CountsAnswer, CountsAttempt, CountsUpdate, CountsTry}
@@ -43,25 +43,17 @@ rises a b m k n x y z first second all made =
 
 -- ---- the look-up, and what comes after it
 
-module _ {V : Type 0} (v : Version V) (w : List ℕ) {x y : Counts}
-    (looked : CountsUpTo (lookup_bound w) 0 x y)
-    (least : has_no_key v ≡ false → x.entered < y.entered) where
-  pub looked-alone : CountsChange (enter_bound w) v w x y
-  looked-alone = record {
-    at_most = counts-most looked (omega arith) (omega arith);
-    at_least = least;
-  }
-
+module _ (w : List ℕ) {x y : Counts} (looked : CountsUpTo (lookup_bound w) 0 x y) where
   pub looked-then : {entered made : ℕ} {z : Counts} → CountsUpTo entered made y z
-      → entered ≤ 2 * lookup_bound w → made ≤ change_bound w → CountsChange (enter_bound w) v w x z
-  looked-then done few makes = record {
-    at_most = counts-then looked done (omega (arith, few)) (omega (arith, makes));
-    at_least = λ keyed. entered-then x (least keyed) done;
-  }
+      → entered ≤ 2 * lookup_bound w → made ≤ change_bound w
+      → CountsUpTo (enter_bound w) (change_bound w) x z
+  looked-then done few makes =
+      counts-then looked done (omega (arith, few)) (omega (arith, makes))
 
 -- A look-up makes no node, so what is made behind it is all that is made.
 pub makes-then : {E : Type 0} {entered : ℕ} {x y : Counts} (z : Counts) (answer : Result Bool E)
-    → CountsUpTo entered 0 x y → MakesToInsert answer y z → MakesToInsert answer x z
+    → CountsUpTo entered 0 x y → IfOk answer (λ is_there. is_there ≡ false → z.made ≡ y.made)
+    → IfOk answer (λ is_there. is_there ≡ false → z.made ≡ x.made)
 makes-then z (Ok is_there) looked makes =
     let kept = looked.made_grows in
     let none = looked.made_at_most in
@@ -182,17 +174,10 @@ module _ {F V : Type 0} (callback : Once F (MutBor (Slot V) × Unit {0})
 
   pub update-absent : {E : Type 0} (left : Slot V) (told : SlotUpdate V) (answer : Result Bool E)
       (after : Version V) → Tells callback f v w left told → has_key v w ≡ false
-      → Changes answer v after (outcome_of_absent v w told) → CountsAnswer v w left told x z
-      → CountsUpdate callback f v w answer after x z
-  update-absent left told (Ok answer) after tell absent is counts = (
-    left,
-    told,
-    tell,
-    ap (λ z. (z, after)) is.0
-        ∙ ap (λ z. ((outcome_of_absent v w told).0, z)) is.1
-        ∙ absent-updated v w left told absent,
-    counts,
-  )
+      → IfOk answer (λ answer. (answer, after) ≡ outcome_of_absent v w told)
+      → CountsAnswer v w left told x z → CountsUpdate callback f v w answer after x z
+  update-absent left told (Ok answer) after tell absent is counts =
+      (left, told, tell, is ∙ absent-updated v w left told absent, counts)
   update-absent left told (Err refusal) after tell absent is counts =
       inr (left, told, tell, counts)
 

@@ -1,5 +1,5 @@
 -- What look-ups answer after an update.
-use Rattle.std.proofs.Common.{◌≡◌, ℕ, List, Bool, Result, Ok, Err, OnOk, OnErr, ap, subst}
+use Rattle.std.proofs.Common.{◌≡◌, ℕ, List, Bool, Result, Ok, Err, IfOk, OnOk, OnErr, ap, subst}
 use Rattle.std.specs.Borrow.{MutBor}
 use Rattle.std.specs.Fn.{Once}
 use Rattle.rart_below.specs.declared.slot.Refusal.{Refusal}
@@ -15,7 +15,7 @@ use Rattle.rart_versioned.specs.Updates.{Updates, TellsOrFails, TriesUpdate}
 module _ {F V : Type 0} (callback : Once F (MutBor (Slot V) × Unit {0})
     (SlotUpdate V × (MutBor (Slot V) × Unit {0}))) (f : F) where
   pub update-sets : {E : Type 0} (before after : Version V) (w : List ℕ) (result : Result Bool E)
-      → Updates callback f before w result after
+      → IfOk result (λ answer. Updates callback f before w answer after)
       → OnOk result (UpdateSets callback f before w after)
   update-sets before after w (Ok answer) updates = record {
     lent = slot_of (value_at before w);

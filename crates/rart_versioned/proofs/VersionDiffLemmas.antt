@@ -15,8 +15,8 @@ use Rattle.rart_maps.proofs.OrderLemmas.{byte_order-IsAntisymmetric}
 use Rattle.rart_walks.specs.KeyPaths.{HoldsBytes}
 use Rattle.rart_walks.specs.WalkFields.{IsWalk, cursor}
 use Rattle.rart_walks.specs.declared.walk.Walk.{Walk}
-use Rattle.rart_versioned.specs.Diffs.{AreWalks}
-use Rattle.rart_versioned.specs.IteratorFields.{AreAdmitted}
+use Rattle.rart_versioned.specs.TreeWalks.{AreWalks}
+use Rattle.rart_versioned.specs.TreeWalks.{AreAdmitted}
 use Rattle.rart_versioned.proofs.MeetLemmas.{filtered-few}
 
 -- A map is that of its pairs.

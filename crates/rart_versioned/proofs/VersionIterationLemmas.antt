@@ -4,17 +4,17 @@ use Rattle.std.specs.Option.{option_map}
 use Rattle.std.proofs.lemmas.List.Elements.{All-nil, All-head, All-tail}
 use Rattle.rart_below.specs.Bytes.{IsAdmitted}
 use Rattle.rart_node.specs.Shape.{Shape, prefix_of, value_of, children_of}
-use Rattle.rart_shape.specs.Trees.{pairs_of}
+use Rattle.rart_shape.specs.Trees.{found, pairs_of}
 use Rattle.rart_walks.specs.Walks.{AreShort}
 use Rattle.rart_walks.specs.Frames.{behind_path, pairs_of_all, pending_pair}
 use Rattle.rart_walks.proofs.WalkLemmas.{behind-none, pairs-entered}
 use Rattle.rart_maps.specs.Pairs.{pairs}
-use Rattle.rart_maps.specs.Versions.{Version}
+use Rattle.rart_maps.specs.Versions.{Version, value_at}
 use Rattle.rart_maps.proofs.ElementLemmas.{All-from_contains}
-use Rattle.rart_versioned.specs.IteratorFields.{AreAdmitted, KeepsKeys}
-use Rattle.rart_versioned.specs.Roots.{map_of, pairs_in, IsSound}
+use Rattle.rart_versioned.specs.TreeWalks.{AreAdmitted, KeepsKeys}
+use Rattle.rart_versioned.specs.Roots.{found_in, map_of, pairs_in, IsSound}
 use Rattle.rart_versioned.proofs.KeyLengthLemmas.{pair-length, admitted-pairs}
-use Rattle.rart_versioned.proofs.VersionMapLemmas.{pairs-map}
+use Rattle.rart_versioned.proofs.VersionMapLemmas.{get-found, pairs-map}
 use Rattle.rart_versioned.proofs.SoundLemmas.{tree-in}
 
 module _ {V : Type 0} where
@@ -79,7 +79,16 @@ module _ {A V : Type 0} (shape : A → Shape V) (most : Option ℕ) (count : ℕ
   pub no-pairs : inside ≡ None → pairs v.content ≡ []
   no-pairs is = content-pairs ∙ ap (λ root. pairs_in (option_map shape root)) is
 
+  pub value-found : (w : List ℕ) → value_at v w ≡ found_in (option_map shape inside) w
+  value-found w =
+      ap (λ (z : Version V). value_at z w) (sym shows)
+      ∙ get-found (option_map shape inside) w
+      (tree-in most count (option_map shape inside) sound)
+
   module _ (root : A) (is : inside ≡ Some root) where
+    pub root-value : (w : List ℕ) → found (shape root) w ≡ value_at v w
+    root-value w = sym (value-found w ∙ ap (λ root. found_in (option_map shape root) w) is)
+
     pub root-sound : IsSound most count (Some (shape root))
     root-sound = subst (λ root. IsSound most count (option_map shape root)) is sound
 

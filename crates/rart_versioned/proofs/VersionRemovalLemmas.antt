@@ -45,11 +45,10 @@ module _ {V : Type 0} where
   sound-admitted most of_prefix count root sound same key there =
       subst (λ m. IsAdmitted m (length key)) (sym same) (sound.1 key there).0.0
 
-  -- an absent key: nothing is answered and nothing changes
-  pub absent-changes : (v : Version V) (w : List ℕ) (more : ℕ) → value_at v w ≡ None
-      → (None ≡ value_at v w) × (v ≡ without_if_there v w more)
-  absent-changes v w more none =
-      (sym none, sym (ap (λ o. cond (is_some o) (without_key v w more) v) none))
+  -- an absent key: nothing changes
+  pub absent-stays : (v : Version V) (w : List ℕ) (more : ℕ) → value_at v w ≡ None
+      → v ≡ without_if_there v w more
+  absent-stays v w more none = sym (ap (λ o. cond (is_some o) (without_key v w more) v) none)
 
   pub present-outcome : (v : Version V) (w : List ℕ) (more : ℕ) → is_some (value_at v w) ≡ true
       → without_key v w more ≡ without_if_there v w more

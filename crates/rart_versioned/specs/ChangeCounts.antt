@@ -14,12 +14,8 @@ module _ {V : Type 0} where
     pub at_most : CountsUpTo entered (change_bound w) before after
     pub at_least : has_no_key v ≡ false → before.entered < after.entered
 
--- No node is made, unless the answer is that the key is there now.
-abbrev pub MakesToInsert : {E : Type 0} → Result Bool E → Counts → Counts → Type 0
-MakesToInsert (Ok is_there) before after = is_there ≡ false → after.made ≡ before.made
-MakesToInsert (Err refusal) before after = ⊤
-
--- The same of a callback that may fail: for its error no node is made either.
+-- An update by a callback that may fail makes no node, unless the answer is that the key is there
+-- now: not for the callback's error either. Where memory was refused nothing is said.
 abbrev pub MakesToTryInsert : {E : Type 0} → Result Bool (Refusal E) → Counts → Counts → Type 0
 MakesToTryInsert (Ok is_there) before after = is_there ≡ false → after.made ≡ before.made
 MakesToTryInsert (Err (Callback e)) before after = after.made ≡ before.made

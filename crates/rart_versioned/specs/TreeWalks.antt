@@ -1,17 +1,28 @@
 -- What a call that makes a walk over a tree tells: what the walk has left, and the nodes entered.
-use Rattle.std.specs.Prelude.{◌≡◌, ◌+◌, ◌*◌, ◌<◌, ◌≤◌, ℕ, false, List, Option, Result, IfOk, count_by, filter, length}
+use Rattle.std.specs.Prelude.{◌≡◌, ◌+◌, ◌*◌, ◌<◌, ◌≤◌, ◌^◌, ℕ, Bool, false, All, List, Option, None, Result, IfOk, count_by, filter, length}
 use Rattle.std.specs.Ordering.{as_partial_cmp}
 use Rattle.std.specs.Range.Bound.{is_from_start, is_up_to_end}
 use Rattle.std.specs.declared.ops.Bound.{Bound}
 use Rattle.std.specs.declared.ops.Bound.TheVariants.{Included}
-use Rattle.rart_below.specs.Bytes.{byte_order}
+use Rattle.rart_below.specs.Bytes.{IsAdmitted, byte_order}
+use Rattle.rart_changes.specs.ChangeLists.{changes}
+use Rattle.rart_diff.specs.Diffs.{changes_between}
 use Rattle.rart_maps.specs.Bounds.{bound_length, reach_bound, reach_by_pairs, node_count}
+use Rattle.rart_maps.specs.FoundLaws.{KeysAscend}
 use Rattle.rart_maps.specs.Pairs.{pairs, under, within}
 use Rattle.rart_maps.specs.Versions.{Version, has_no_key}
 use Rattle.rart_node.specs.Counts.{Counts, CountsUpTo}
-use Rattle.rart_versioned.specs.IteratorFields.{AreAdmitted}
+use Rattle.rart_walks.specs.KeyPaths.{HoldsBytes}
 use Rattle.rart_walks.specs.WalkFields.{IsWalk, cursor, at_hand}
 use Rattle.rart_walks.specs.declared.walk.Walk.{Walk}
+
+-- A key path of this greatest length keeps the way to any key.
+abbrev pub KeepsKeys : Option ℕ → Type 0
+KeepsKeys greatest = (count : ℕ) → count < 2 ^ 64 → IsAdmitted greatest count
+
+-- A key can be made of each.
+abbrev pub AreAdmitted : {V : Type 0} → Option ℕ → List (List ℕ × V) → Type 0
+AreAdmitted most pairs = All (λ pair. IsAdmitted most (length pair.0)) pairs
 
 -- `most` is how long a key may be, and `partial` what is known of prefixes, which the type takes
 -- for a ghost field. One node at least is entered where the version has a key, and none is made.
@@ -59,3 +70,16 @@ module _ {P V T E : Type 0} {partial : _} (holds : T → List (List ℕ) → Typ
     pub counted : CountsUpTo (bound_length low + 1) 0 start now
     pub entered : has_no_key v ≡ false → start.entered < now.entered
     pub at_hand : IfOk result (λ walk. start.entered + at_hand walk ≤ now.entered)
+
+-- Walks over two versions, whose changes are those from the one to the other. `partial` is what is
+-- known of prefixes, which the type takes for a ghost field.
+pub record AreWalks {P V : Type 0} {partial : _} (same : V → V → Bool)
+    (most : Option ℕ) (v w : Version V) (old new : Walk P V (List ℕ) partial) : Type 0 where
+  pub old_walk : IsWalk HoldsBytes None old
+  pub new_walk : IsWalk HoldsBytes None new
+  pub old_ascends : KeysAscend (λ pair. pair.0) (cursor old).pairs
+  pub new_ascends : KeysAscend (λ pair. pair.0) (cursor new).pairs
+  pub old_admitted : AreAdmitted most (cursor old).pairs
+  pub new_admitted : AreAdmitted most (cursor new).pairs
+  pub changes_are : changes_between same (cursor old).pairs (cursor new).pairs
+      ≡ changes same v.content w.content

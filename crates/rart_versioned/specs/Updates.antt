@@ -16,19 +16,18 @@ module _ {F V : Type 0} (callback : Once F (MutBor (Slot V) × Unit {0})
   abbrev pub Tells : F → Version V → List ℕ → Slot V → SlotUpdate V → Type 0
   Tells f v w left told = FnOnceReturnsAtMut callback f (slot_of (value_at v w)) told left
 
+  -- Some outcome that the callback allows leads from the version before to this answer and the
+  -- version after.
+  abbrev pub Updates : F → Version V → List ℕ → Bool → Version V → Type 0
+  Updates f before w answer after =
+      (left : Slot V) × (told : SlotUpdate V) × Tells f before w left told
+      × ((answer, after) ≡ slot_update before w left told)
+
   -- The key is there, or the callback may answer that it is to be inserted: else an update takes no
   -- memory.
   abbrev pub UpdateTakesMemory : F → Version V → List ℕ → Type 0
   UpdateTakesMemory f v w =
       IsSome (value_at v w) ⊎ ((left : Slot V) × (x : V) × Tells f v w left (Insert x))
-
-  -- Some outcome that the callback allows leads from the version before to the answer and the
-  -- version after. Refused for memory, which was taken then, the version is as before.
-  abbrev pub Updates : {E : Type 0} → F → Version V → List ℕ → Result Bool E → Version V → Type 0
-  Updates f before w (Ok answer) after =
-      (left : Slot V) × (told : SlotUpdate V) × Tells f before w left told
-      × ((answer, after) ≡ slot_update before w left told)
-  Updates f before w (Err refusal) after = (after ≡ before) × UpdateTakesMemory f before w
 
 module _ {F V E : Type 0} (callback : Once F (MutBor (Slot V) × Unit {0})
     (Result (SlotUpdate V) E × (MutBor (Slot V) × Unit {0}))) where

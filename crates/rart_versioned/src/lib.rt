@@ -6,15 +6,15 @@
 #![tactic(auto)]
 
 mod counted;
-mod iterators;
-mod uncounted;
+mod plain;
 
-pub use counted::VersionedAdaptiveRadixTree;
-pub use iterators::{VersionedIter, VersionedPrefixMatchIter, VersionedRange, VersionedValuesIter};
+pub use counted::{Missing, VersionedAdaptiveRadixTree};
+pub use plain::{
+    InsertError, VersionedIter, VersionedPrefixMatchIter, VersionedRange, VersionedValuesIter,
+};
 pub use rart_below::{
     AdaptiveRadixTree, ArrPartial, ArrayKey, DirectMapping, IndexedMapping, KeyTrait,
     LendingKeyView, NodeMapping, Partial, PlainIter, Refusal, Slot, SlotUpdate, SortedKeyedMapping,
     VectorKey, VectorPartial, VisitControl,
 };
 pub use rart_node::{GrowError, NodeRef, VersionedNode, VersionedNodeIter, Work};
-pub use uncounted::InsertError;

@@ -1,6 +1,6 @@
 -- The set of tuples that a version stands for: what is done to the version is done to the set.
 use Rattle.std.proofs.Common.{◌≡◌, ◌*◌, ◌<◌, ◌≤◌, ◌^◌, ℕ, zero, suc, length, take, arith, Bool, true, false, cond, not, ◌&&◌, List, [], ◌∷◌, Option, Some, None, is_some, filter, map, get_or, refl, sym, ap, subst, ◌∙◌}
-use Rattle.std.specs.Prelude.{All, IfOk, OnOk, Result, Ok, Err, T}
+use Rattle.std.specs.Prelude.{All, IfOk, OnOk, OnErr, Result, Ok, Err, T}
 use Rattle.std.specs.Global.{Vec}
 use Rattle.std.specs.declared.alloc.AllocError.{AllocError}
 use Rattle.std.proofs.lemmas.List.Elements.{All-take}
@@ -18,9 +18,9 @@ use Rattle.std.specs.declared.cmp.Ordering.TheVariants.{Less, Equal, Greater}
 use Rattle.rart_versioned.specs.Bytes.{begins, byte_order}
 use Rattle.rart_maps.proofs.OrderLemmas.{byte_order-IsAntisymmetric}
 use Rattle.rart_maps.proofs.PairLawLemmas.{pairs-empty}
-use Rattle.rart_maps.specs.Changes.{Changes, insertion, deletion}
+use Rattle.rart_maps.specs.Changes.{after_removal}
 use Rattle.rart_maps.specs.Pairs.{pairs, under, common}
-use Rattle.rart_maps.specs.Versions.{Map, Version, has_key, without_key}
+use Rattle.rart_maps.specs.Versions.{Map, Version, has_key, with_key, without_key}
 use Rattle.tuple_index.specs.declared.tuple.Tuple.{Tuple}
 use Rattle.tuple_index.specs.Decoding.{tuple_at}
 use Rattle.tuple_index.specs.Indexes.{AreTupleKeys, IsNarrow, IsTupleKey, Pair, entry_of, index_of, tuples_in}
@@ -320,28 +320,26 @@ module _ (before : Version (Unit {0})) (keys : AreTupleKeys (pairs before.conten
       tuples-removed before.content keys w is-key
       ∙ (λ i. without_tuple (shown-tuples i) (same-tuple i))
 
+  pub answer-shown : (r : Result Bool AllocError) → IfOk r (λ there. there ≡ has_key before w)
+      → IfOk r (λ there. there ≡ has_tuple shown.tuples t)
+  answer-shown (Ok there) is = is ∙ there-shown
+  answer-shown (Err error) is = tt
+
   module _ (after : Version (Unit {0})) where
     -- Its key was set.
-    pub put-keys : (r : Result Bool AllocError) → Changes r before after (insertion before w tt) →
-        AreTupleKeys (pairs after.content)
-    put-keys (Ok there) changes =
-        subst (λ (v : Version (Unit {0})). AreTupleKeys (pairs v.content)) (sym changes.1)
+    pub put-keys : (r : Result Bool AllocError) → OnOk r (after ≡ with_key before w tt 1)
+        → OnErr r (after ≡ before) → AreTupleKeys (pairs after.content)
+    put-keys (Ok there) set refused =
+        subst (λ (v : Version (Unit {0})). AreTupleKeys (pairs v.content)) (sym set)
         (keys-inserted before.content keys w is-key)
-    put-keys (Err refused) changes =
-        subst (λ (v : Version (Unit {0})). AreTupleKeys (pairs v.content)) (sym changes) keys
+    put-keys (Err error) set refused =
+        subst (λ (v : Version (Unit {0})). AreTupleKeys (pairs v.content)) (sym refused) keys
 
-    pub put-answer : (r : Result Bool AllocError) →
-        Changes r before after (insertion before w tt) →
-        IfOk r (λ there. there ≡ has_tuple shown.tuples t)
-    put-answer (Ok there) changes = changes.0 ∙ there-shown
-    put-answer (Err refused) changes = tt
-
-    pub put-tuples : (r : Result Bool AllocError) →
-        Changes r before after (insertion before w tt) →
-        OnOk r (tuples_in (pairs after.content) ≡ with_tuple shown.tuples t)
-    put-tuples (Ok there) changes =
-        ap (λ (v : Version (Unit {0})). tuples_in (pairs v.content)) changes.1 ∙ inserted
-    put-tuples (Err refused) changes = tt
+    pub put-tuples : (r : Result Bool AllocError) → OnOk r (after ≡ with_key before w tt 1)
+        → OnOk r (tuples_in (pairs after.content) ≡ with_tuple shown.tuples t)
+    put-tuples (Ok there) set =
+        ap (λ (v : Version (Unit {0})). tuples_in (pairs v.content)) set ∙ inserted
+    put-tuples (Err error) set = tt
 
     -- Its key was taken out.
     without : (b : Bool) → has_key before w ≡ b →
@@ -354,25 +352,20 @@ module _ (before : Version (Unit {0})) (keys : AreTupleKeys (pairs before.conten
         there in
         (keys, ap (λ m. tuples_in (pairs m)) (sym stays) ∙ removed)
 
-    pub taken-keys : (r : Result Bool AllocError) → Changes r before after (deletion before w) →
-        AreTupleKeys (pairs after.content)
-    taken-keys (Ok there) changes =
-        subst (λ (v : Version (Unit {0})). AreTupleKeys (pairs v.content)) (sym changes.1)
+    pub taken-keys : (r : Result Bool AllocError) → OnOk r (after ≡ after_removal before w)
+        → OnErr r (after ≡ before) → AreTupleKeys (pairs after.content)
+    taken-keys (Ok there) removed refused =
+        subst (λ (v : Version (Unit {0})). AreTupleKeys (pairs v.content)) (sym removed)
         (without (has_key before w) refl).0
-    taken-keys (Err refused) changes =
-        subst (λ (v : Version (Unit {0})). AreTupleKeys (pairs v.content)) (sym changes) keys
+    taken-keys (Err error) removed refused =
+        subst (λ (v : Version (Unit {0})). AreTupleKeys (pairs v.content)) (sym refused) keys
 
-    pub taken-answer : (r : Result Bool AllocError) → Changes r before after (deletion before w) →
-        IfOk r (λ there. there ≡ has_tuple shown.tuples t)
-    taken-answer (Ok there) changes = changes.0 ∙ there-shown
-    taken-answer (Err refused) changes = tt
-
-    pub taken-tuples : (r : Result Bool AllocError) → Changes r before after (deletion before w) →
-        OnOk r (tuples_in (pairs after.content) ≡ without_tuple shown.tuples t)
-    taken-tuples (Ok there) changes =
-        ap (λ (v : Version (Unit {0})). tuples_in (pairs v.content)) changes.1
+    pub taken-tuples : (r : Result Bool AllocError) → OnOk r (after ≡ after_removal before w)
+        → OnOk r (tuples_in (pairs after.content) ≡ without_tuple shown.tuples t)
+    taken-tuples (Ok there) removed =
+        ap (λ (v : Version (Unit {0})). tuples_in (pairs v.content)) removed
         ∙ (without (has_key before w) refl).1
-    taken-tuples (Err refused) changes = tt
+    taken-tuples (Err error) removed = tt
 
 -- of the empty map
 pub keys-empty : AreTupleKeys (pairs (finite.empty {X = Unit {0}} {R = byte_order}))

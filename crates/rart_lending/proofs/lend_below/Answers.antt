@@ -17,7 +17,7 @@ returns g c =
     let steps = c.args.steps in
     let node = c.in_ok-node.node.now.shape in
     let left = drop c.down.new.depth w in
-    let reached : path_end steps w s ≡ Some (node, left) = c.in_ok-node.ensures.reaches.reached in
+    let reached : path_end steps w s ≡ Some (node, left) = c.in_ok-node.ensures.reached in
     let same : c.requires.arrives.0 ≡ (node, left) =
     same_Some c.requires.arrives.0 (node, left) (sym c.requires.arrives.1 ∙ reached) in
     let ended : strip_prefix (prefix_of node) left ≡ Some [] =
@@ -45,6 +45,6 @@ returns g c =
         writes_back = tt;
         value = found-along steps w s (node, left) reached ∙ found-ended node left ended
             ∙ sym c.in-Some.ensures.value;
-        counted = c.in_ok-node.ensures.reaches.counted;
+        counted = c.in_ok-node.ensures.counted;
       },
     )

@@ -1,10 +1,11 @@
 // Ported from rart 0.11.0 (Apache-2.0), and rewritten.
 //! What becomes of a key that is there, once a callback has answered.
-ghost use Rattle.std.specs.Prelude.{◌≡◌};
-ghost use Rattle.rart_maps.specs.Versions.{HasRoom, with_rise};
-ghost use Rattle.rart_versioned.specs.Asks.{CanSettle};
-ghost use Rattle.rart_versioned.specs.KeyChanges.{Settles};
-ghost use Rattle.rart_versioned.specs.SlotChanges.{change_of};
+ghost use Rattle.std.specs.Prelude.{◌≡◌, ◌≤◌, ◌*◌, IsTrue, OnErr, OnOk};
+ghost use Rattle.rart_below.specs.Clones.{ClonesEqual};
+ghost use Rattle.rart_maps.specs.Bounds.{change_bound, lookup_bound};
+ghost use Rattle.rart_maps.specs.Versions.{HasRoom, has_key, with_rise};
+ghost use Rattle.rart_node.specs.Counts.{CountsUpTo};
+ghost use Rattle.rart_versioned.specs.SlotChanges.{change_enters, change_makes, change_of, version_after};
 
 use crate::counted::tree::VersionedAdaptiveRadixTree;
 use rart_below::{KeyTrait, Slot, SlotUpdate};
@@ -48,8 +49,17 @@ impl<K: KeyTrait, V: Clone + Drop> VersionedAdaptiveRadixTree<K, V> {
         more: u64,
         work: &mut Work,
     ) -> Result<(), AllocError>
-        requires { CanSettle V.is_clone self.old (K.bytes key.now) more }
-        ensures { Settles result self.old self.new (K.bytes key.now) change more work.old work.new }
+        requires clones { ClonesEqual V.is_clone }
+        requires room { HasRoom self.old more }
+        requires raised { 1 ≤ more }
+        requires present { IsTrue (has_key self.old (K.bytes key.now)) }
+        ensures done { OnOk result
+            (self.new ≡ version_after self.old (K.bytes key.now) change more) }
+        ensures refused { OnErr result (self.new ≡ self.old) }
+        ensures counted { CountsUpTo (2 * lookup_bound (K.bytes key.now))
+            (change_bound (K.bytes key.now)) work.old work.new }
+        ensures counted_by_change { CountsUpTo (change_enters (K.bytes key.now) change)
+            (change_makes (K.bytes key.now) change) work.old work.new }
     {
         match change {
             Change::Stay => {

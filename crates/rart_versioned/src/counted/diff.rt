@@ -1,9 +1,14 @@
 // Ported from rart 0.11.0 (Apache-2.0), and rewritten.
 //! What changed from one tree to another, and its counts.
+ghost use Rattle.std.specs.Prelude.{◌≡◌, ◌↔◌, ◌+◌, ◌<◌, [], false, length, IfOk, IsTrue};
 ghost use Rattle.rart_changes.specs.ChangeLists.{changes};
 ghost use Rattle.rart_changes.specs.ChangeVisits.{ByKeyChange, ByViewChange};
+ghost use Rattle.rart_maps.specs.Bounds.{node_count};
+ghost use Rattle.rart_maps.specs.Versions.{has_no_key};
 ghost use Rattle.rart_maps.specs.Visits.{Visits, Visitable, VisitsUntil, VisitableUntil};
-ghost use Rattle.rart_versioned.specs.DiffCounts.{MakesWalks, TellsChanges, TellsEqual, VisitsChanges};
+ghost use Rattle.rart_node.specs.Counts.{CountsUpTo};
+ghost use Rattle.rart_versioned.specs.TreeWalks.{AreWalks};
+ghost use Rattle.rart_walks.specs.WalkFields.{cursor};
 
 use crate::counted::tree::VersionedAdaptiveRadixTree;
 use rart_below::{KeyTrait, LendingKeyView, Partial, Refusal, VisitControl};
@@ -26,9 +31,11 @@ impl<K: KeyTrait, V: Clone + Drop + Eq> VersionedAdaptiveRadixTree<K, V> {
     ) -> Result<(), AllocError>
         requires visitable { Visitable F.FnMut (ByKeyChange K.bytes) f.old
             (changes V.eq self.now.content other.now.content) }
-        ensures { VisitsChanges self.now other.now (Visits F.FnMut (ByKeyChange K.bytes) result
-            f.old
-            (changes V.eq self.now.content other.now.content) f.new) work.old work.new }
+        ensures visits { Visits F.FnMut (ByKeyChange K.bytes) result f.old
+            (changes V.eq self.now.content other.now.content) f.new }
+        ensures counted { CountsUpTo (node_count self.now.content + node_count other.now.content) 0
+            work.old work.new }
+        ensures entered { has_no_key self.now ≡ false → work.old.entered < work.new.entered }
     {
         let (old, new) = self.both_walks(other, work)?;
         visit_changed_keys(self.alloc, old, new, f, work)
@@ -44,8 +51,11 @@ impl<K: KeyTrait, V: Clone + Drop + Eq> VersionedAdaptiveRadixTree<K, V> {
     ) -> Result<(), AllocError>
         requires visitable { Visitable F.FnMut ByViewChange f.old
             (changes V.eq self.now.content other.now.content) }
-        ensures { VisitsChanges self.now other.now (Visits F.FnMut ByViewChange result f.old
-            (changes V.eq self.now.content other.now.content) f.new) work.old work.new }
+        ensures visits { Visits F.FnMut ByViewChange result f.old
+            (changes V.eq self.now.content other.now.content) f.new }
+        ensures counted { CountsUpTo (node_count self.now.content + node_count other.now.content) 0
+            work.old work.new }
+        ensures entered { has_no_key self.now ≡ false → work.old.entered < work.new.entered }
     {
         let (old, new) = self.both_walks(other, work)?;
         visit_changed_views(old, new, f, work)
@@ -64,8 +74,11 @@ impl<K: KeyTrait, V: Clone + Drop + Eq> VersionedAdaptiveRadixTree<K, V> {
     ) -> Result<(), Refusal<E>>
         requires visitable { VisitableUntil F.FnMut ByViewChange f.old
             (changes V.eq self.now.content other.now.content) }
-        ensures { VisitsChanges self.now other.now (VisitsUntil F.FnMut ByViewChange result f.old
-            (changes V.eq self.now.content other.now.content) f.new) work.old work.new }
+        ensures visits { VisitsUntil F.FnMut ByViewChange result f.old
+            (changes V.eq self.now.content other.now.content) f.new }
+        ensures counted { CountsUpTo (node_count self.now.content + node_count other.now.content) 0
+            work.old work.new }
+        ensures entered { has_no_key self.now ≡ false → work.old.entered < work.new.entered }
     {
         match self.both_walks(other, work) {
             Ok((old, new)) => visit_changed_views_until(old, new, f, work),
@@ -80,11 +93,15 @@ impl<K: KeyTrait, V: Clone + Drop + Eq> VersionedAdaptiveRadixTree<K, V> {
         other: &VersionedAdaptiveRadixTree<K, V>,
         work: &mut Work,
     ) -> Result<u128, AllocError>
-        ensures { TellsChanges self.now other.now V.eq result work.old work.new }
+        ensures count { IfOk result (λ count. count
+            ≡ length (changes V.eq self.now.content other.now.content)) }
+        ensures counted { CountsUpTo (node_count self.now.content + node_count other.now.content) 0
+            work.old work.new }
+        ensures entered { has_no_key self.now ≡ false → work.old.entered < work.new.entered }
     {
         // (either map has at most as many keys as its number says, so the count fits)
-        let _number = self.version();
-        let _number = other.version();
+        self.know_keys_for_proof();
+        other.know_keys_for_proof();
         let (old, new) = self.both_walks(other, work)?;
         count_changes(old, new, work)
     }
@@ -96,13 +113,18 @@ impl<K: KeyTrait, V: Clone + Drop + Eq> VersionedAdaptiveRadixTree<K, V> {
         other: &VersionedAdaptiveRadixTree<K, V>,
         work: &mut Work,
     ) -> Result<bool, AllocError>
-        ensures { TellsEqual self.now other.now V.eq result work.old work.new }
+        ensures equal { IfOk result (λ equal. IsTrue equal
+            ↔ (changes V.eq self.now.content other.now.content ≡ [])) }
+        ensures counted { CountsUpTo (node_count self.now.content + node_count other.now.content) 0
+            work.old work.new }
+        ensures entered { has_no_key self.now ≡ false → work.old.entered < work.new.entered }
     {
         let (old, new) = self.both_walks(other, work)?;
         are_equal(old, new, work)
     }
 
-    /// Walks over all pairs of both. They enter the roots, where there are any.
+    /// Walks over all pairs of both. They enter the roots, where there are any. What was entered,
+    /// and what the walks have left to enter, are all nodes of both.
     fn both_walks<'a>(
         &'a self,
         other: &'a VersionedAdaptiveRadixTree<K, V>,
@@ -114,7 +136,14 @@ impl<K: KeyTrait, V: Clone + Drop + Eq> VersionedAdaptiveRadixTree<K, V> {
         ),
         AllocError,
     >
-        ensures { MakesWalks self.now other.now V.eq K.MAXIMUM_SIZE result work.old work.new }
+        ensures walks { IfOk result (λ walks. AreWalks V.eq K.MAXIMUM_SIZE self.now other.now
+            walks.0 walks.1) }
+        ensures nodes { IfOk result (λ walks. work.new.entered
+            + (length (cursor walks.0).paths + length (cursor walks.1).paths)
+            ≡ work.old.entered + (node_count self.now.content + node_count other.now.content)) }
+        ensures counted { CountsUpTo (node_count self.now.content + node_count other.now.content) 0
+            work.old work.new }
+        ensures entered { has_no_key self.now ≡ false → work.old.entered < work.new.entered }
     {
         let old = self.whole_walk(work)?;
         let new = other.whole_walk(work)?;

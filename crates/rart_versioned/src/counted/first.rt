@@ -1,7 +1,13 @@
 // Ported from rart 0.11.0 (Apache-2.0), and rewritten.
 //! The first of the pairs from a lower bound on.
+ghost use Rattle.std.specs.Prelude.{◌≡◌, ◌+◌, ◌<◌, false};
 ghost use Rattle.std.specs.Range.Bound.{bound_map};
-ghost use Rattle.rart_versioned.specs.Reads.{FindsFirstFrom};
+ghost use Rattle.std.specs.declared.ops.Bound.TheVariants.{Unbounded};
+ghost use Rattle.rart_maps.specs.Bounds.{bound_length};
+ghost use Rattle.rart_maps.specs.Pairs.{within};
+ghost use Rattle.rart_maps.specs.Versions.{has_no_key};
+ghost use Rattle.rart_node.specs.Counts.{CountsUpTo};
+ghost use Rattle.rart_seeking.specs.Firsts.{Finds, found_length};
 
 use crate::counted::tree::VersionedAdaptiveRadixTree;
 use rart_below::{KeyTrait, Partial};
@@ -18,8 +24,11 @@ impl<K: KeyTrait, V: Clone + Drop> VersionedAdaptiveRadixTree<K, V> {
         room: &mut [u8],
         work: &mut Work,
     ) -> Option<(usize, &V)>
-        ensures { FindsFirstFrom self.now (bound_map (λ low. low.now) low.entry) result
-            room.old room.new work.old work.new }
+        ensures first { Finds (within self.now.content (bound_map (λ low. low.now) low.entry)
+            Unbounded) result room.old room.new }
+        ensures counted { CountsUpTo (bound_length (bound_map (λ low. low.now) low.entry) + 1
+            + found_length result) 0 work.old work.new }
+        ensures entered { has_no_key self.now ≡ false → work.old.entered < work.new.entered }
     {
         match &self.root {
             None => None,

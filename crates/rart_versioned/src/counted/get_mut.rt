@@ -58,9 +58,28 @@ fn lend_in<'a, P: Partial, V: Clone + Drop>(
 }
 
 impl<K: KeyTrait, V: Clone + Drop> VersionedAdaptiveRadixTree<K, V> {
-    /// As `get_mut_k`, with the nodes entered and made counted into `work`: at most two more
+    /// As `value_mut_k`, with the nodes entered and made counted into `work`: at most two more
     /// entered than twice the bytes of the key, and at most two more made than it has. None is made
     /// where the key is absent.
+    pub fn value_mut_k_counted(&mut self, key: &K, work: &mut Work) -> Result<&mut V, Missing>
+        requires clones { ClonesEqual V.is_clone }
+        requires room { HasRoom self.old 1 }
+        ensures* writes_back { sem 𝓛 (LendsValue K.row V.row K.PartialType.row K.MAXIMUM_SIZE
+            K.bytes K.eq K.cmp K.partial_cmp K.PartialType.Partial V.Clone self.entry
+            (K.bytes key.now) result) }
+        ensures value { IfOk result (λ value. value_at self.old (K.bytes key.now)
+            ≡ Some value.now) }
+        ensures missing { IfErr result
+            (λ missing. Explains missing (value_at self.old (K.bytes key.now))) }
+        ensures counted { CountsChange (2 * lookup_bound (K.bytes key.now)) self.old
+            (K.bytes key.now) work.old work.new }
+        ensures absent_makes_none { value_at self.old (K.bytes key.now) ≡ None
+            → work.new.made ≡ work.old.made }
+    {
+        lend_in(&mut self.root, &mut self.version, key.as_ref(), work)
+    }
+
+    /// As `get_mut_k`, counted as by `value_mut_k_counted`.
     pub fn get_mut_k_counted(
         &mut self,
         key: &K,
@@ -79,25 +98,6 @@ impl<K: KeyTrait, V: Clone + Drop> VersionedAdaptiveRadixTree<K, V> {
         ensures absent_makes_none { value_at self.old (K.bytes key.now) ≡ None
             → work.new.made ≡ work.old.made }
     {
-        found_of(self.lent_k_counted(key, work))
-    }
-
-    /// As `get_mut_k_counted`, and tells an absent key from a refused copy in one answer.
-    pub(crate) fn lent_k_counted(&mut self, key: &K, work: &mut Work) -> Result<&mut V, Missing>
-        requires clones { ClonesEqual V.is_clone }
-        requires room { HasRoom self.old 1 }
-        ensures* writes_back { sem 𝓛 (LendsValue K.row V.row K.PartialType.row K.MAXIMUM_SIZE
-            K.bytes K.eq K.cmp K.partial_cmp K.PartialType.Partial V.Clone self.entry
-            (K.bytes key.now) result) }
-        ensures value { IfOk result (λ value. value_at self.old (K.bytes key.now)
-            ≡ Some value.now) }
-        ensures missing { IfErr result
-            (λ missing. Explains missing (value_at self.old (K.bytes key.now))) }
-        ensures counted { CountsChange (2 * lookup_bound (K.bytes key.now)) self.old
-            (K.bytes key.now) work.old work.new }
-        ensures absent_makes_none { value_at self.old (K.bytes key.now) ≡ None
-            → work.new.made ≡ work.old.made }
-    {
-        lend_in(&mut self.root, &mut self.version, key.as_ref(), work)
+        found_of(self.value_mut_k_counted(key, work))
     }
 }

@@ -1,8 +1,11 @@
 // Ported from rart 0.11.0 (Apache-2.0), and rewritten.
 //! Insertion of a value at a key.
-ghost use Rattle.rart_maps.specs.Changes.{insertion, replacement, replacement_by};
-ghost use Rattle.rart_versioned.specs.Asks.{CanChange, CanPut, CanSet};
-ghost use Rattle.rart_versioned.specs.KeyChanges.{PutsCounting};
+ghost use Rattle.std.specs.Prelude.{◌≡◌, ◌<◌, ◌≤◌, false, length, IfOk, OnErr, OnOk};
+ghost use Rattle.rart_below.specs.Bytes.{IsAdmitted};
+ghost use Rattle.rart_below.specs.Clones.{ClonesEqual};
+ghost use Rattle.rart_maps.specs.Bounds.{change_bound, lookup_bound};
+ghost use Rattle.rart_maps.specs.Versions.{HasRoom, has_key, has_no_key, value_at, with_key};
+ghost use Rattle.rart_node.specs.Counts.{CountsUpTo};
 
 use crate::counted::tree::VersionedAdaptiveRadixTree;
 use rart_below::{KeyTrait, Partial};
@@ -19,9 +22,15 @@ impl<K: KeyTrait, V: Clone + Drop> VersionedAdaptiveRadixTree<K, V> {
         value: V,
         work: &mut Work,
     ) -> Result<bool, AllocError>
-        requires { CanChange V.is_clone self.old 1 }
-        ensures { PutsCounting result self.old self.new
-            (insertion self.old (K.bytes key.now) value) (K.bytes key.now) work.old work.new }
+        requires clones { ClonesEqual V.is_clone }
+        requires room { HasRoom self.old 1 }
+        ensures answer { IfOk result (λ replaced. replaced ≡ has_key self.old (K.bytes key.now)) }
+        ensures set { OnOk result (self.new ≡ with_key self.old (K.bytes key.now) value 1) }
+        ensures refused { OnErr result (self.new ≡ self.old) }
+        ensures counted { CountsUpTo (lookup_bound (K.bytes key.now))
+            (change_bound (K.bytes key.now)) work.old work.new }
+        ensures entered { has_no_key self.old ≡ false → work.old.entered < work.new.entered }
+        ensures made { OnOk result (work.old.made < work.new.made) }
     {
         let replaced = self.put_in(key.as_ref(), value, 1, work)?;
         Ok(replaced.is_some())
@@ -34,9 +43,15 @@ impl<K: KeyTrait, V: Clone + Drop> VersionedAdaptiveRadixTree<K, V> {
         value: V,
         work: &mut Work,
     ) -> Result<Option<V>, AllocError>
-        requires { CanChange V.is_clone self.old 1 }
-        ensures { PutsCounting result self.old self.new
-            (replacement self.old (K.bytes key.now) value) (K.bytes key.now) work.old work.new }
+        requires clones { ClonesEqual V.is_clone }
+        requires room { HasRoom self.old 1 }
+        ensures answer { IfOk result (λ replaced. replaced ≡ value_at self.old (K.bytes key.now)) }
+        ensures set { OnOk result (self.new ≡ with_key self.old (K.bytes key.now) value 1) }
+        ensures refused { OnErr result (self.new ≡ self.old) }
+        ensures counted { CountsUpTo (lookup_bound (K.bytes key.now))
+            (change_bound (K.bytes key.now)) work.old work.new }
+        ensures entered { has_no_key self.old ≡ false → work.old.entered < work.new.entered }
+        ensures made { OnOk result (work.old.made < work.new.made) }
     {
         self.insert_and_replace_slice_counted(key.as_ref(), value, work)
     }
@@ -48,9 +63,16 @@ impl<K: KeyTrait, V: Clone + Drop> VersionedAdaptiveRadixTree<K, V> {
         value: V,
         work: &mut Work,
     ) -> Result<Option<V>, AllocError>
-        requires { CanSet V.is_clone K.MAXIMUM_SIZE self.old key.now }
-        ensures { PutsCounting result self.old self.new
-            (replacement self.old key.now value) key.now work.old work.new }
+        requires clones { ClonesEqual V.is_clone }
+        requires room { HasRoom self.old 1 }
+        requires admitted { IsAdmitted K.MAXIMUM_SIZE (length key.now) }
+        ensures answer { IfOk result (λ replaced. replaced ≡ value_at self.old key.now) }
+        ensures set { OnOk result (self.new ≡ with_key self.old key.now value 1) }
+        ensures refused { OnErr result (self.new ≡ self.old) }
+        ensures counted { CountsUpTo (lookup_bound key.now) (change_bound key.now)
+            work.old work.new }
+        ensures entered { has_no_key self.old ≡ false → work.old.entered < work.new.entered }
+        ensures made { OnOk result (work.old.made < work.new.made) }
     {
         self.put_in(key, value, 1, work)
     }
@@ -64,9 +86,17 @@ impl<K: KeyTrait, V: Clone + Drop> VersionedAdaptiveRadixTree<K, V> {
         more: u64,
         work: &mut Work,
     ) -> Result<Option<V>, AllocError>
-        requires { CanPut V.is_clone K.MAXIMUM_SIZE self.old key.now more }
-        ensures { PutsCounting result self.old self.new
-            (replacement_by more self.old key.now value) key.now work.old work.new }
+        requires clones { ClonesEqual V.is_clone }
+        requires room { HasRoom self.old more }
+        requires raised { 1 ≤ more }
+        requires admitted { IsAdmitted K.MAXIMUM_SIZE (length key.now) }
+        ensures answer { IfOk result (λ replaced. replaced ≡ value_at self.old key.now) }
+        ensures set { OnOk result (self.new ≡ with_key self.old key.now value more) }
+        ensures refused { OnErr result (self.new ≡ self.old) }
+        ensures counted { CountsUpTo (lookup_bound key.now) (change_bound key.now)
+            work.old work.new }
+        ensures entered { has_no_key self.old ≡ false → work.old.entered < work.new.entered }
+        ensures made { OnOk result (work.old.made < work.new.made) }
     {
         let version = self.version + more;
         match &mut self.root {

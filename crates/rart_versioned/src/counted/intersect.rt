@@ -108,7 +108,7 @@ impl<K: KeyTrait, V: Clone + Drop> VersionedAdaptiveRadixTree<K, V> {
             None => 0,
             Some((left, right)) => {
                 // (there are at most as many keys as the number says, so a number holds them)
-                let _number = self.version();
+                self.know_keys_for_proof();
                 count_common(left, right, work)
             }
         }

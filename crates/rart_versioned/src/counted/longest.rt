@@ -1,12 +1,11 @@
 // Ported from rart 0.11.0 (Apache-2.0), and rewritten.
 //! The longest of the keys that begin a probe.
-ghost use Rattle.std.specs.Prelude.{◌≡◌, ◌<◌, false, IfOk, IsSome, OnErr};
+ghost use Rattle.std.specs.Prelude.{◌≡◌, ◌<◌, ◌≤◌, false, length, IfOk, IfSome, IsSome, OnErr};
 ghost use Rattle.rart_maps.specs.Bounds.{lookup_bound};
 ghost use Rattle.rart_maps.specs.Pairs.{longest_prefix_match};
 ghost use Rattle.rart_maps.specs.Versions.{has_no_key};
 ghost use Rattle.rart_node.specs.Counts.{CountsUpTo};
-ghost use Rattle.rart_versioned.specs.Longest.{entry_found};
-ghost use Rattle.rart_versioned.specs.Reads.{FindsLongest};
+ghost use Rattle.rart_versioned.specs.Longest.{entry_found, prefix_found};
 
 use crate::counted::tree::VersionedAdaptiveRadixTree;
 use rart_below::{KeyTrait, Partial};
@@ -39,7 +38,11 @@ impl<K: KeyTrait, V: Clone + Drop> VersionedAdaptiveRadixTree<K, V> {
 
     /// As `longest_slice`, counted as by `longest_prefix_match_k_counted`.
     pub fn longest_slice_counted(&self, probe: &[u8], work: &mut Work) -> Option<(usize, &V)>
-        ensures { FindsLongest self.now probe.now result work.old work.new }
+        ensures found { prefix_found probe.now result
+            ≡ longest_prefix_match self.now.content probe.now }
+        ensures within { IfSome result (λ found. found.0 ≤ length probe.now) }
+        ensures counted { CountsUpTo (lookup_bound probe.now) 0 work.old work.new }
+        ensures entered { has_no_key self.now ≡ false → work.old.entered < work.new.entered }
     {
         match &self.root {
             None => None,

@@ -1,6 +1,10 @@
 // Ported from rart 0.11.0 (Apache-2.0), and rewritten.
 //! Lookup of a key.
-ghost use Rattle.rart_versioned.specs.Reads.{LooksUp};
+ghost use Rattle.std.specs.Prelude.{◌≡◌, ◌<◌, false};
+ghost use Rattle.std.specs.Option.{option_copied};
+ghost use Rattle.rart_maps.specs.Bounds.{lookup_bound};
+ghost use Rattle.rart_maps.specs.Versions.{has_no_key, value_at};
+ghost use Rattle.rart_node.specs.Counts.{CountsUpTo};
 
 use crate::counted::tree::VersionedAdaptiveRadixTree;
 use rart_below::{KeyTrait, Partial};
@@ -11,14 +15,18 @@ impl<K: KeyTrait, V: Clone + Drop> VersionedAdaptiveRadixTree<K, V> {
     /// As `get_k`, with the nodes entered counted into `work`: at most one more than the key has
     /// bytes, and at least one where there is a key in the map.
     pub fn get_k_counted(&self, key: &K, work: &mut Work) -> Option<&V>
-        ensures { LooksUp self.now (K.bytes key.now) result work.old work.new }
+        ensures value { option_copied result ≡ value_at self.now (K.bytes key.now) }
+        ensures counted { CountsUpTo (lookup_bound (K.bytes key.now)) 0 work.old work.new }
+        ensures entered { has_no_key self.now ≡ false → work.old.entered < work.new.entered }
     {
         self.get_slice_counted(key.as_ref(), work)
     }
 
     /// As `get_slice`, counted as by `get_k_counted`.
     pub fn get_slice_counted(&self, key: &[u8], work: &mut Work) -> Option<&V>
-        ensures { LooksUp self.now key.now result work.old work.new }
+        ensures value { option_copied result ≡ value_at self.now key.now }
+        ensures counted { CountsUpTo (lookup_bound key.now) 0 work.old work.new }
+        ensures entered { has_no_key self.now ≡ false → work.old.entered < work.new.entered }
     {
         match &self.root {
             None => None,

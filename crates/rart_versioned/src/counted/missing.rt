@@ -1,16 +1,19 @@
 // Ported from rart 0.11.0 (Apache-2.0), and rewritten.
-//! Why a value is not lent.
+//! Why a value isn't lent.
 ghost use Rattle.std.specs.Prelude.{◌≡◌};
 ghost use Rattle.rart_versioned.specs.Missing.{found_value};
 
 use std::alloc::AllocError;
+use thiserror::Error;
 
-/// Why a value isn't lent.
-#[derive(Drop)]
-pub(crate) enum Missing {
+/// Why a value isn't lent. All is then as before.
+#[derive(Debug, Drop, Error)]
+pub enum Missing {
     /// Nothing is at the key.
+    #[error("nothing is at the key")]
     Absent,
-    /// A copy on the way to it was refused.
+    /// Memory was refused, as for a copy of a node on the way to the key.
+    #[error(transparent)]
     Memory(AllocError),
 }
 

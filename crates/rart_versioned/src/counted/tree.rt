@@ -1,6 +1,6 @@
 // Ported from rart 0.11.0 (Apache-2.0), and rewritten.
 //! The tree itself, what contracts see of it, and the calls that make one or read its number.
-ghost use Rattle.std.specs.Prelude.{◌≡◌, ◌≤◌, IfOk};
+ghost use Rattle.std.specs.Prelude.{◌≡◌, ◌≤◌, ◌<◌, ◌^◌, ℕ, IfOk, IsTrue, List, length};
 
 use rart_below::{KeyTrait, Partial};
 use rart_node::NodeRef;
@@ -45,19 +45,24 @@ impl<K: KeyTrait, V: Clone> Model for VersionedAdaptiveRadixTree<K, V> {
 }
 
 impl<K: KeyTrait, V: Clone + Drop> VersionedAdaptiveRadixTree<K, V> {
-    ghost use Rattle.rart_maps.specs.Versions.{with_rise, has_no_key, HasRoom};
-    ghost use Rattle.rart_versioned.specs.Numbers.{StartsEmpty, TellsNumber};
+    ghost use Rattle.std.specs.FinMap as finite;
+    ghost use Rattle.rart_maps.specs.Lookups.{LacksAll};
+    ghost use Rattle.rart_maps.specs.StartLaws.{HasByteKeys};
+    ghost use Rattle.rart_maps.specs.Versions.{empty_at, has_key, has_no_key, with_rise, HasRoom};
+    ghost use Rattle.rart_versioned.specs.Keys.{IsKeyLength};
 
     /// A map without a key, its number 0.
     pub fn new(alloc: Global) -> VersionedAdaptiveRadixTree<K, V>
-        ensures { StartsEmpty 0 result }
+        ensures empty { result ≡ empty_at 0 }
+        ensures lookups { LacksAll result }
     {
         VersionedAdaptiveRadixTree::new_at(alloc, 0)
     }
 
     /// As `new`. In Rust this is the trait `Default`.
     pub fn default(alloc: Global) -> VersionedAdaptiveRadixTree<K, V>
-        ensures { StartsEmpty 0 result }
+        ensures empty { result ≡ empty_at 0 }
+        ensures lookups { LacksAll result }
     {
         VersionedAdaptiveRadixTree::new(alloc)
     }
@@ -65,7 +70,8 @@ impl<K: KeyTrait, V: Clone + Drop> VersionedAdaptiveRadixTree<K, V> {
     /// A map without a key, with this number. The Rust has no such call: there a new tree has
     /// number 0.
     pub fn new_at(alloc: Global, number: u64) -> VersionedAdaptiveRadixTree<K, V>
-        ensures { StartsEmpty number result }
+        ensures empty { result ≡ empty_at number }
+        ensures lookups { LacksAll result }
     {
         VersionedAdaptiveRadixTree {
             alloc,
@@ -87,9 +93,25 @@ impl<K: KeyTrait, V: Clone + Drop> VersionedAdaptiveRadixTree<K, V> {
     /// The number. The map has at most as many keys, and each is a string of bytes, as long as the
     /// key type admits and shorter than 2^64.
     pub fn version(&self) -> u64
-        ensures { TellsNumber K.MAXIMUM_SIZE result self.now }
+        ensures number { result ≡ self.now.number }
+        ensures few { finite.len self.now.content ≤ result }
+        ensures lengths { (key : List ℕ) → IsTrue (has_key self.now key)
+            → IsKeyLength K.MAXIMUM_SIZE (length key) }
+        ensures bytes { HasByteKeys self.now.content }
     {
         self.version
+    }
+
+    /// Does nothing, and is called for the proof alone: what every tree's keys are, by its
+    /// contract, is known then. In Rust it is not there.
+    pub fn know_keys_for_proof(&self)
+        ensures few { finite.len self.now.content ≤ self.now.number }
+        ensures fits { self.now.number < 2 ^ 64 }
+        ensures lengths { (key : List ℕ) → IsTrue (has_key self.now key)
+            → IsKeyLength K.MAXIMUM_SIZE (length key) }
+        ensures bytes { HasByteKeys self.now.content }
+    {
+        let _number = self.version();
     }
 
     /// The same map once more, its number one greater. This one stays as it is, its number too,

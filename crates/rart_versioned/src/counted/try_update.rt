@@ -1,10 +1,16 @@
 // Ported from rart 0.11.0 (Apache-2.0), and rewritten.
 //! Updates of a key's slot by a callback that may fail.
-ghost use Rattle.std.specs.Prelude.{◌≡◌};
-ghost use Rattle.rart_versioned.specs.Asks.{CanSettle, CanSettleAbsent, CanUpdate};
-ghost use Rattle.rart_versioned.specs.KeyChanges.{SettlesTried, SettlesTriedAbsent};
-ghost use Rattle.rart_versioned.specs.KeyUpdates.{TriesCounting};
-ghost use Rattle.rart_versioned.specs.SlotChanges.{rise_of};
+ghost use Rattle.std.specs.Prelude.{◌≡◌, ◌<◌, ◌*◌, false, IsTrue};
+ghost use Rattle.std.specs.Fn.{FnOnceTakesAtMut};
+ghost use Rattle.rart_below.specs.Clones.{ClonesEqual};
+ghost use Rattle.rart_maps.specs.Bounds.{change_bound, enter_bound, lookup_bound};
+ghost use Rattle.rart_maps.specs.Changes.{slot_of};
+ghost use Rattle.rart_maps.specs.Versions.{HasRoom, has_key, has_no_key, value_at};
+ghost use Rattle.rart_node.specs.Counts.{CountsUpTo};
+ghost use Rattle.rart_versioned.specs.ChangeCounts.{MakesToTryInsert};
+ghost use Rattle.rart_versioned.specs.SlotChanges.{attempt_of, attempt_of_absent, change_enters, change_makes, rise_of, Tries, TriesAbsent};
+ghost use Rattle.rart_versioned.specs.UpdateCounts.{CountsTry};
+ghost use Rattle.rart_versioned.specs.Updates.{TriesUpdate};
 
 use crate::counted::change::Change;
 use crate::counted::tree::VersionedAdaptiveRadixTree;
@@ -21,8 +27,17 @@ impl<K: KeyTrait, V: Clone + Drop> VersionedAdaptiveRadixTree<K, V> {
         f: F,
         work: &mut Work,
     ) -> Result<bool, Refusal<E>>
-        requires { CanUpdate V.is_clone F.FnOnce f self.old (K.bytes key.now) 2 }
-        ensures { TriesCounting F.FnOnce f self.old (K.bytes key.now) result self.new
+        requires clones { ClonesEqual V.is_clone }
+        requires room { HasRoom self.old 2 }
+        requires callable { FnOnceTakesAtMut F.FnOnce f
+            (slot_of (value_at self.old (K.bytes key.now))) }
+        ensures updates { TriesUpdate F.FnOnce f self.old (K.bytes key.now) result self.new }
+        ensures counted { CountsUpTo (enter_bound (K.bytes key.now))
+            (change_bound (K.bytes key.now)) work.old work.new }
+        ensures entered { has_no_key self.old ≡ false → work.old.entered < work.new.entered }
+        ensures absent_makes_none { has_key self.old (K.bytes key.now) ≡ false
+            → MakesToTryInsert result work.old work.new }
+        ensures counted_by_answer { CountsTry F.FnOnce f self.old (K.bytes key.now) result self.new
             work.old work.new }
     {
         let mut slot = match self.slot_at(key, work) {
@@ -45,9 +60,15 @@ impl<K: KeyTrait, V: Clone + Drop> VersionedAdaptiveRadixTree<K, V> {
         told: Result<SlotUpdate<V>, E>,
         work: &mut Work,
     ) -> Result<bool, Refusal<E>>
-        requires { CanSettle V.is_clone self.old (K.bytes key.now) 2 }
-        ensures { SettlesTried result self.old self.new (K.bytes key.now) left told
-            work.old work.new }
+        requires clones { ClonesEqual V.is_clone }
+        requires room { HasRoom self.old 2 }
+        requires present { IsTrue (has_key self.old (K.bytes key.now)) }
+        ensures tries { Tries self.old (K.bytes key.now) left told result self.new }
+        ensures counted { CountsUpTo (2 * lookup_bound (K.bytes key.now))
+            (change_bound (K.bytes key.now)) work.old work.new }
+        ensures counted_by_answer { CountsUpTo
+            (change_enters (K.bytes key.now) (attempt_of left told))
+            (change_makes (K.bytes key.now) (attempt_of left told)) work.old work.new }
     {
         match told {
             Err(error) => {
@@ -71,9 +92,16 @@ impl<K: KeyTrait, V: Clone + Drop> VersionedAdaptiveRadixTree<K, V> {
         told: Result<SlotUpdate<V>, E>,
         work: &mut Work,
     ) -> Result<bool, Refusal<E>>
-        requires { CanSettleAbsent V.is_clone self.old (K.bytes key.now) }
-        ensures { SettlesTriedAbsent result self.old self.new (K.bytes key.now) told
-            work.old work.new }
+        requires clones { ClonesEqual V.is_clone }
+        requires room { HasRoom self.old 1 }
+        requires absent { has_key self.old (K.bytes key.now) ≡ false }
+        ensures tries { TriesAbsent self.old (K.bytes key.now) told result self.new }
+        ensures counted { CountsUpTo (lookup_bound (K.bytes key.now))
+            (change_bound (K.bytes key.now)) work.old work.new }
+        ensures absent_makes_none { MakesToTryInsert result work.old work.new }
+        ensures counted_by_answer { CountsUpTo
+            (change_enters (K.bytes key.now) (attempt_of_absent told))
+            (change_makes (K.bytes key.now) (attempt_of_absent told)) work.old work.new }
     {
         match told {
             Err(error) => Err(Refusal::Callback(error)),

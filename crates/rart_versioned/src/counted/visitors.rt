@@ -1,17 +1,20 @@
 // Ported from rart 0.11.0 (Apache-2.0), and rewritten.
 //! Visitors over a tree, and their counts.
-ghost use Rattle.std.specs.Prelude.{◌+◌, ◌≤◌, length, map};
+ghost use Rattle.std.specs.Prelude.{◌≡◌, ◌+◌, ◌<◌, ◌≤◌, false, length, map, OnOk};
 ghost use Rattle.std.specs.Range.Bound.{bound_map};
-ghost use Rattle.rart_maps.specs.Pairs.{pairs, under, within};
-ghost use Rattle.rart_maps.specs.Visits.{ByValue, ByView, Visits, Visitable, VisitsUntil, VisitableUntil};
+ghost use Rattle.rart_maps.specs.Bounds.{lookup_bound, node_count, range_bound, reach_bound, reach_by_pairs};
+ghost use Rattle.rart_maps.specs.Pairs.{pairs, prefix_matches, under, within};
+ghost use Rattle.rart_maps.specs.Versions.{has_no_key};
+ghost use Rattle.rart_maps.specs.Visits.{BySlice, ByValue, ByView, Visit, Visits, Visitable, VisitsUntil, VisitableUntil};
+ghost use Rattle.rart_node.specs.Counts.{CountsUpTo};
 ghost use Rattle.rart_visits.specs.Ends.{Ends};
-ghost use Rattle.rart_versioned.specs.TreeVisits.{VisitsAll, VisitsUnder, VisitsUnderUntil, VisitsWithin};
 ghost use Rattle.rart_versioned.specs.VisitCounts.{EndsSoon};
 
 use crate::counted::tree::VersionedAdaptiveRadixTree;
 use crate::counted::walks::bytes_of;
 use rart_below::{KeyTrait, LendingKeyView, Partial, Refusal, VisitControl};
-use rart_node::Work;
+use rart_node::{NodeRef, Work};
+use rart_search::visit_prefix_matches;
 use rart_visits::{visit_values, visit_values_until, visit_views, visit_views_up_to};
 use rart_walks::{NoPath, SegmentsPath, Walk};
 use std::alloc::AllocError;
@@ -31,9 +34,15 @@ impl<K: KeyTrait, V: Clone + Drop> VersionedAdaptiveRadixTree<K, V> {
     ) -> Result<(), AllocError>
         requires visitable { Visitable F.FnMut ByView f.old
             (under self.now.content (K.bytes prefix.now)) }
-        ensures { VisitsUnder (Visits F.FnMut ByView result f.old
-            (under self.now.content (K.bytes prefix.now)) f.new)
-            result (K.bytes prefix.now) self.now work.old work.new }
+        ensures visits { Visits F.FnMut ByView result f.old
+            (under self.now.content (K.bytes prefix.now)) f.new }
+        ensures counted { CountsUpTo (reach_bound self.now.content (K.bytes prefix.now)) 0
+            work.old work.new }
+        ensures counted_by_pairs { CountsUpTo (reach_by_pairs self.now.content
+            (K.bytes prefix.now)) 0 work.old work.new }
+        ensures entered { has_no_key self.now ≡ false → work.old.entered < work.new.entered }
+        ensures each { OnOk result (work.old.entered
+            + length (under self.now.content (K.bytes prefix.now)) ≤ work.new.entered) }
     {
         let walk = self.walk_under(prefix.as_ref(), work)?;
         visit_views(walk, f, work)
@@ -49,9 +58,15 @@ impl<K: KeyTrait, V: Clone + Drop> VersionedAdaptiveRadixTree<K, V> {
     ) -> Result<(), AllocError>
         requires visitable { Visitable F.FnMut ByValue f.old
             (map (λ pair. pair.1) (under self.now.content (K.bytes prefix.now))) }
-        ensures { VisitsUnder (Visits F.FnMut ByValue result f.old
-            (map (λ pair. pair.1) (under self.now.content (K.bytes prefix.now))) f.new)
-            result (K.bytes prefix.now) self.now work.old work.new }
+        ensures visits { Visits F.FnMut ByValue result f.old
+            (map (λ pair. pair.1) (under self.now.content (K.bytes prefix.now))) f.new }
+        ensures counted { CountsUpTo (reach_bound self.now.content (K.bytes prefix.now)) 0
+            work.old work.new }
+        ensures counted_by_pairs { CountsUpTo (reach_by_pairs self.now.content
+            (K.bytes prefix.now)) 0 work.old work.new }
+        ensures entered { has_no_key self.now ≡ false → work.old.entered < work.new.entered }
+        ensures each { OnOk result (work.old.entered
+            + length (under self.now.content (K.bytes prefix.now)) ≤ work.new.entered) }
     {
         let walk: Walk<'_, K::PartialType, V, NoPath> = self.walk_under(prefix.as_ref(), work)?;
         visit_values(walk, f, work)
@@ -70,14 +85,17 @@ impl<K: KeyTrait, V: Clone + Drop> VersionedAdaptiveRadixTree<K, V> {
     ) -> Result<(), Refusal<E>>
         requires visitable { VisitableUntil F.FnMut ByValue f.old
             (map (λ pair. pair.1) (under self.now.content (K.bytes prefix.now))) }
-        ensures { VisitsUnderUntil (VisitsUntil F.FnMut ByValue result f.old
-            (map (λ pair. pair.1) (under self.now.content (K.bytes prefix.now))) f.new)
-            (Ends F.FnMut ByValue
-            (work.old.entered + length (under self.now.content (K.bytes prefix.now))
-            ≤ work.new.entered)
+        ensures visits { VisitsUntil F.FnMut ByValue result f.old
+            (map (λ pair. pair.1) (under self.now.content (K.bytes prefix.now))) f.new }
+        ensures counted { CountsUpTo (reach_bound self.now.content (K.bytes prefix.now)) 0
+            work.old work.new }
+        ensures counted_by_pairs { CountsUpTo (reach_by_pairs self.now.content
+            (K.bytes prefix.now)) 0 work.old work.new }
+        ensures entered { has_no_key self.now ≡ false → work.old.entered < work.new.entered }
+        ensures ends { Ends F.FnMut ByValue (work.old.entered
+            + length (under self.now.content (K.bytes prefix.now)) ≤ work.new.entered)
             (EndsSoon (K.bytes prefix.now) work.old work.new)
-            result f.old (under self.now.content (K.bytes prefix.now)) f.new)
-            (K.bytes prefix.now) self.now work.old work.new }
+            result f.old (under self.now.content (K.bytes prefix.now)) f.new }
     {
         let walk: Result<Walk<'_, K::PartialType, V, NoPath>, AllocError> = self.walk_under(
             prefix.as_ref(),
@@ -99,8 +117,11 @@ impl<K: KeyTrait, V: Clone + Drop> VersionedAdaptiveRadixTree<K, V> {
         work: &mut Work,
     ) -> Result<(), AllocError>
         requires visitable { Visitable F.FnMut ByView f.old (pairs self.now.content) }
-        ensures { VisitsAll (Visits F.FnMut ByView result f.old (pairs self.now.content) f.new)
-            result self.now work.old work.new }
+        ensures visits { Visits F.FnMut ByView result f.old (pairs self.now.content) f.new }
+        ensures counted { CountsUpTo (node_count self.now.content) 0 work.old work.new }
+        ensures exact { OnOk result
+            (work.new.entered ≡ work.old.entered + node_count self.now.content) }
+        ensures entered { has_no_key self.now ≡ false → work.old.entered < work.new.entered }
     {
         let walk = self.whole_walk(work)?;
         visit_views(walk, f, work)
@@ -118,10 +139,14 @@ impl<K: KeyTrait, V: Clone + Drop> VersionedAdaptiveRadixTree<K, V> {
     ) -> Result<(), AllocError>
         requires visitable { Visitable F.FnMut ByView f.old (within self.now.content
             (bound_map K.bytes range.0) (bound_map K.bytes range.1)) }
-        ensures { VisitsWithin (Visits F.FnMut ByView result f.old (within self.now.content
-            (bound_map K.bytes range.0) (bound_map K.bytes range.1)) f.new)
-            result (bound_map K.bytes range.0) (bound_map K.bytes range.1) self.now
+        ensures visits { Visits F.FnMut ByView result f.old (within self.now.content
+            (bound_map K.bytes range.0) (bound_map K.bytes range.1)) f.new }
+        ensures counted { CountsUpTo (range_bound self.now.content
+            (bound_map K.bytes range.0) (bound_map K.bytes range.1)) 0
             work.old work.new }
+        ensures entered { has_no_key self.now ≡ false → work.old.entered < work.new.entered }
+        ensures each { OnOk result (work.old.entered + length (within self.now.content
+            (bound_map K.bytes range.0) (bound_map K.bytes range.1)) ≤ work.new.entered) }
     {
         let (low, high) = range;
         self.visit_range(bytes_of(&low), bytes_of(&high), f, work)
@@ -137,13 +162,39 @@ impl<K: KeyTrait, V: Clone + Drop> VersionedAdaptiveRadixTree<K, V> {
     ) -> Result<(), AllocError>
         requires visitable { Visitable F.FnMut ByView f.old (within self.now.content
             (bound_map (λ low. low.now) low) (bound_map (λ high. high.now) high)) }
-        ensures { VisitsWithin (Visits F.FnMut ByView result f.old (within self.now.content
+        ensures visits { Visits F.FnMut ByView result f.old (within self.now.content
             (bound_map (λ low. low.now) low.entry) (bound_map (λ high. high.now) high.entry))
-            f.new) result
-            (bound_map (λ low. low.now) low.entry) (bound_map (λ high. high.now) high.entry)
-            self.now work.old work.new }
+            f.new }
+        ensures counted { CountsUpTo (range_bound self.now.content
+            (bound_map (λ low. low.now) low.entry) (bound_map (λ high. high.now) high.entry)) 0
+            work.old work.new }
+        ensures entered { has_no_key self.now ≡ false → work.old.entered < work.new.entered }
+        ensures each { OnOk result (work.old.entered + length (within self.now.content
+            (bound_map (λ low. low.now) low.entry) (bound_map (λ high. high.now) high.entry))
+            ≤ work.new.entered) }
     {
         let walk = self.walk_from(low, work)?;
         visit_views_up_to(walk, high, f, work)
+    }
+
+    /// As `prefix_match_for_each_k`, with the nodes entered counted into `work`: at most one more
+    /// than the probe has bytes, and at least one where there is a key in the map.
+    pub fn prefix_match_for_each_k_counted<F: FnMut(&[u8], &V)>(
+        &self,
+        probe: &K,
+        f: &mut F,
+        work: &mut Work,
+    )
+        requires visitable { Visitable F.FnMut BySlice f.old
+            (prefix_matches self.now.content (K.bytes probe.now)) }
+        ensures visits { Visit F.FnMut BySlice f.old
+            (prefix_matches self.now.content (K.bytes probe.now)) f.new }
+        ensures counted { CountsUpTo (lookup_bound (K.bytes probe.now)) 0 work.old work.new }
+        ensures entered { has_no_key self.now ≡ false → work.old.entered < work.new.entered }
+    {
+        match &self.root {
+            None => {}
+            Some(root) => visit_prefix_matches(root, probe.as_ref(), f, work),
+        }
     }
 }

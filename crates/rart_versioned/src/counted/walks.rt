@@ -2,7 +2,7 @@
 //! Walks over a tree, for its iterators and visitors.
 ghost use Rattle.std.specs.Prelude.{◌≡◌};
 ghost use Rattle.std.specs.Range.Bound.{bound_map};
-ghost use Rattle.rart_versioned.specs.IteratorFields.{KeepsKeys};
+ghost use Rattle.rart_versioned.specs.TreeWalks.{KeepsKeys};
 ghost use Rattle.rart_versioned.specs.TreeWalks.{WalksAll, WalksFrom, WalksUnder};
 
 use crate::counted::tree::VersionedAdaptiveRadixTree;

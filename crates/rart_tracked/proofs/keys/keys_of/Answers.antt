@@ -12,7 +12,7 @@ for_each_view_counted-requires g c =
       visitable = callable-each _ _ _ _ _ (λ pair there f shown shows.
           let admitted : IsAdmitted most (length shown.0) =
           subst (λ key. IsAdmitted most (length key)) (sym shows.0)
-          (key-admitted c.args.set.now most c.version-number.ensures.lengths pair there) in
+          (key-admitted c.args.set.now most c.know_keys_for_proof.ensures.lengths pair there) in
           search rules);
     }
 

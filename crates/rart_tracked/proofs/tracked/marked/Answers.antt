@@ -25,7 +25,7 @@ returns-clause-marks g c =
       number = elim c.if-is_none.branch [
         | then-is_none+in_ok-insert_k_counted branch ↦
             let more = ap (λ (v : Version (Unit {0})). v.number)
-            (branch.marked-is ∙ branch.in_ok-insert_k_counted.ensures.changes.1) in
+            (branch.marked-is ∙ branch.in_ok-insert_k_counted.ensures.set) in
             let was = ap (λ (v : Version (Unit {0})). v.number) c.in_ok-marked.ensures in
             omega (arith, more, was)
         | else-is_none branch ↦
@@ -39,7 +39,7 @@ returns-clause-marks g c =
             (sym (ap is_some c.get_k_counted.ensures.value)
             ∙ sym (copied-some c.get_k_counted.result)
             ∙ branch.if-is_none.ensures)
-            (branch.marked-is ∙ branch.in_ok-insert_k_counted.ensures.changes.1)
+            (branch.marked-is ∙ branch.in_ok-insert_k_counted.ensures.set)
         | else-is_none branch ↦
             ap (λ (v : Version (Unit {0})). v.number) branch.marked-is ∙ counted
             ∙ ap (λ (v : Version (Unit {0})). finite.len v.content) (sym branch.marked-is)

@@ -5,11 +5,11 @@ use Rattle.rart_c.proofs.table.Table.remove.Goals as goal
 pub overflow_sub-self : goal.overflow_sub-self
 overflow_sub-self g c =
     subst (λ n. 1 ≤ n) (sym c.self.invariant)
-    (a-key c.self.inside.tree c.args.key.now c.in-Ok.removed c.in-Ok.ensures.changes.0
+    (a-key c.self.inside.tree c.args.key.now c.in-Ok.removed c.in-Ok.ensures.answer
     (sym c.if-is_some.ensures))
 
 pub invariant_of-self-then-is_some : goal.invariant_of-self-then-is_some
 invariant_of-self-then-is_some g c =
     ap (λ n. n - 1) c.self.invariant
     ∙ one-less c.self.inside.tree c.remove_slice.new.self c.args.key.now c.in-Ok.removed
-    c.in-Ok.ensures.changes (sym c.if-is_some.ensures)
+    (c.in-Ok.ensures.answer, c.in-Ok.ensures.removed) (sym c.if-is_some.ensures)

@@ -46,12 +46,12 @@ next_byte-byte-requires g c =
     let middle = c.in_ok-middle.middle.now.shape in
     let left = drop c.down.new.depth w in
     let reached : path_end half key s ≡ Some (middle, left) =
-    c.in_ok-middle.ensures.reaches.reached in
+    c.in_ok-middle.ensures.reached in
     let further : IsSome (path_end (suc rest) left middle) =
     subst IsSome (back-is half (suc rest) steps key s (middle, left) parts reached)
     c.requires.there in
     record {
-      depth = c.in_ok-middle.ensures.reaches.within;
+      depth = c.in_ok-middle.ensures.within;
       there = step-there rest left middle further;
     }
 
@@ -67,7 +67,7 @@ seek_child_mut-requires g c =
     let middle = c.in_ok-middle.middle.now.shape in
     let left = drop c.down.new.depth w in
     let reached : path_end half key s ≡ Some (middle, left) =
-    c.in_ok-middle.ensures.reaches.reached in
+    c.in_ok-middle.ensures.reached in
     let tree : IsTree middle = tree-along half key s (middle, left) c.requires.tree reached in
     ascending middle (ordered middle tree)
 
@@ -83,7 +83,7 @@ down-requires-in-Some g c =
     let middle = c.in_ok-middle.middle.now.shape in
     let left = drop c.down.new.depth w in
     let reached : path_end half key s ≡ Some (middle, left) =
-    c.in_ok-middle.ensures.reaches.reached in
+    c.in_ok-middle.ensures.reached in
     let further : IsSome (path_end (suc rest) left middle) =
     subst IsSome (back-is half (suc rest) steps key s (middle, left) parts reached)
     c.requires.there in
@@ -115,7 +115,7 @@ unreachable-requires g c =
     let middle = c.in_ok-middle.middle.now.shape in
     let left = drop c.down.new.depth w in
     let reached : path_end half key s ≡ Some (middle, left) =
-    c.in_ok-middle.ensures.reaches.reached in
+    c.in_ok-middle.ensures.reached in
     let further : IsSome (path_end (suc rest) left middle) =
     subst IsSome (back-is half (suc rest) steps key s (middle, left) parts reached)
     c.requires.there in
@@ -136,7 +136,7 @@ returns g c =
     let middle = c.in_ok-middle.middle.now.shape in
     let left = drop c.down.new.depth w in
     let reached : path_end half key s ≡ Some (middle, left) =
-    c.in_ok-middle.ensures.reaches.reached in
+    c.in_ok-middle.ensures.reached in
     let further : IsSome (path_end (suc rest) left middle) =
     subst IsSome (back-is half (suc rest) steps key s (middle, left) parts reached)
     c.requires.there in
@@ -186,14 +186,12 @@ returns g c =
       ),
       record {
         writes_back = tt;
-        reaches = record {
-          reached = IfOk-weaker c.down-in-Some.result _ _
-              (λ end there. back-is half (suc rest) steps key s (middle, left) parts reached
-              ∙ below-is rest left middle (child, below) goes ∙ there)
-              c.down-in-Some.ensures.reaches.reached;
-          within = c.down-in-Some.ensures.reaches.within;
-          counted = counts-then c.in_ok-middle.ensures.reaches.counted
-              c.down-in-Some.ensures.reaches.counted (omega (arith, parts)) (omega (arith, parts));
-        };
+        reached = IfOk-weaker c.down-in-Some.result _ _
+            (λ end there. back-is half (suc rest) steps key s (middle, left) parts reached
+            ∙ below-is rest left middle (child, below) goes ∙ there)
+            c.down-in-Some.ensures.reached;
+        within = c.down-in-Some.ensures.within;
+        counted = counts-then c.in_ok-middle.ensures.counted
+            c.down-in-Some.ensures.counted (omega (arith, parts)) (omega (arith, parts));
       },
     )

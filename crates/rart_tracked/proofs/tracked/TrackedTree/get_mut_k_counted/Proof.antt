@@ -3,14 +3,14 @@
 -- Rows, laws, bounds with their dictionaries and their proofs come in the order of the statement:
 -- keys K, values V, prefixes P; then KeyTrait, Eq, PartialEq, Ord, PartialOrd, Partial, Clone, and
 -- the drops of K, V and P.
-use Rattle.rart_versioned.proofs.ProofSteps.{◌≡◌, Some, [], ◌∷◌, refl, sym, ap, subst, ◌∙◌, proved, GName, ftrue, flft, id⊢, sep, emp, via, fst∗, snd∗, ◌⊑◌, fact, fact_use, fact_i, tables, inst_fn, Args, named, a_type, dcons, dnil, ‵, raw, ◌⊛◌, some, later, ◌$◌, ◌∵◌, !, qed, done, move, drop, use0, use1, split, split3, join, fjoin, suffices, pick, await, rewrite, frame, enter, addr, stop, no_more, and_then, returns, alloc_all, pass_all, free_all, look_at, get, through, sets, lands_as, RefOf, yes, no, follows_if, Is, shows, param, bounded, param_laws, RattleType, mut_vals, mut_Tells, shr_vals, shr_Tells, plain, mut_ref_to, named_lft, type_at, nothing, heard, peeks, calls_at, lasts, Lasts, on_entry, triple_of, framed, Stays, stay_dropped, Goes-dropped, Goes-spent_ref, gave_ref, Goes-gave_ref, ends_at}
+use Rattle.rart_versioned.proofs.ProofSteps.{◌≡◌, ◌+◌, ◌<◌, ◌^◌, Some, [], ◌∷◌, refl, sym, ap, subst, ◌∙◌, proved, GName, ftrue, flft, id⊢, sep, emp, via, fst∗, snd∗, ◌⊑◌, fact, fact_use, fact_i, tables, inst_fn, Args, named, a_type, dcons, dnil, ‵, raw, ◌⊛◌, some, later, ◌$◌, ◌∵◌, !, qed, done, move, drop, use0, use1, split, split3, join, fjoin, suffices, pick, await, rewrite, frame, enter, addr, stop, no_more, and_then, returns, alloc_all, pass_all, free_all, look_at, get, through, sets, lands_as, RefOf, yes, no, follows_if, Is, shows, param, bounded, param_laws, RattleType, mut_vals, mut_Tells, shr_vals, shr_Tells, plain, mut_ref_to, named_lft, type_at, nothing, heard, peeks, calls_at, lasts, Lasts, on_entry, triple_of, framed, Stays, stay_dropped, Goes-dropped, Goes-spent_ref, gave_ref, Goes-gave_ref, ends_at}
 use mathlib.Core.Option as maybe
 use Rattle.std.specs.Prelude.{◌*◌, false, OnErr, IfErr, IfOk, IsSome}
 use Rattle.std.specs.Option.{option_map}
 use Rattle.std.proofs.result.Result.TheLaws as Result-laws
 use Rattle.std.proofs.option.Option.TheLaws as Option-laws
 use Rattle.std.proofs.alloc.AllocError.TheLaws as Err-laws
-use Rattle.rart_versioned.specs.Asks.{CanChange}
+use Rattle.rart_below.specs.Clones.{ClonesEqual}
 use Rattle.rart_versioned.specs.Work.{the_row as work_row}
 use Rattle.rart_maps.specs.Bounds.{change_bound, lookup_bound}
 use Rattle.rart_versioned.specs.Counts.{CountsUpTo}
@@ -86,7 +86,8 @@ get_mut_k_counted_spec 𝓤 𝓛 𝓜 𝓡 wired K V P LK LV LP k k-d e e-d q q-
     let in-K = fact 𝓤 (κs.1.1.1.0 ⊑ K.lives) in
     let in-V = fact 𝓤 (κ-V ⊑ V.lives) in
     let in-P = fact 𝓤 (κs.1.1.1.1.1.0 ⊑ P.lives) in
-    let asked = fact 𝓤 (CanChange v.is_clone a.0.now.current 1) in
+    let asked = sep 𝓤 (fact 𝓤 (ClonesEqual v.is_clone))
+    (fact 𝓤 (a.0.now.current.number + 1 < 2 ^ 64)) in
     let Counted : Lasts g-end κs a → Type 0 =
     λ ws. CountsUpTo (5 * lookup_bound w) (2 * change_bound w) a.1.1.0.now ws.1.1.0 in
     let Absent : Lasts g-end κs a → Type 0 =

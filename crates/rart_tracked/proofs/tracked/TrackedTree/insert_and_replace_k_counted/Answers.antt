@@ -7,9 +7,8 @@ use Rattle.rart_tracked.proofs.tracked.TrackedTree.insert_and_replace_k_counted.
 pub invariant_of-self-2 : goal.invariant_of-self-2
 invariant_of-self-2 g c =
     let w = g.K.KeyTrait.bytes c.args.key.now in
-    let changes = c.in_ok-replaced.ensures.changes in
+    let replaced = c.in_ok-replaced.ensures in
     let marked = c.in_ok-touched.ensures.marks in
     keeps-touched w _ c.self.invariant
-    (replacement-sets _ _ w {E = AllocError} _ (Ok _) changes) marked.keys marked.number
-    marked.counted
-    (ap (λ v. v.number) changes.1)
+    (replacement-sets _ _ w {E = AllocError} _ (Ok _) (replaced.answer, replaced.set))
+    marked.keys marked.number marked.counted (ap (λ v. v.number) replaced.set)

@@ -25,7 +25,7 @@ returns-in-Ok-true g c =
       sets = tried-update-sets g.F.FnOnce c.args.f c.args.self.now.current
           c.try_update_k_counted.new.self w (Ok true) answers;
       refused = tt;
-      counted = counts-both c.marked.ensures.work c.try_update_k_counted.ensures.counted.at_most
+      counted = counts-both c.marked.ensures.work c.try_update_k_counted.ensures.counted
           (omega arith) (omega arith);
     }
 
@@ -44,6 +44,6 @@ returns-in-Ok-false g c =
       sets = tried-update-sets g.F.FnOnce c.args.f c.args.self.now.current
           c.try_update_k_counted.new.self w (Ok false) answers;
       refused = tt;
-      counted = counts-both c.marked.ensures.work c.try_update_k_counted.ensures.counted.at_most
+      counted = counts-both c.marked.ensures.work c.try_update_k_counted.ensures.counted
           (omega arith) (omega arith);
     }

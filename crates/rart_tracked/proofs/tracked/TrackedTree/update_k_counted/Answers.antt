@@ -8,7 +8,7 @@ use Rattle.rart_tracked.proofs.tracked.TrackedTree.update_k_counted.Goals as goa
 pub returns-then-not-branch : goal.returns-then-not-branch
 returns-then-not-branch g c =
     let w = g.K.KeyTrait.bytes c.args.key.now in
-    let updates = same-update AllocError g.F.FnOnce c.args.f c.self.inside.current
+    let updates = same-update g.F.FnOnce c.args.f c.self.inside.current
     c.args.self.now.current c.update_k_counted.new.self w _ false
     (ap (λ t. t.current) c.self.view_is) c.if-not-branch.true
     c.in_ok-update_k_counted.ensures.updates in
@@ -20,7 +20,7 @@ returns-then-not-branch g c =
       sets = update-sets g.F.FnOnce c.args.f {E = AllocError} c.args.self.now.current
           c.update_k_counted.new.self w (Ok false) updates;
       refused = tt;
-      counted = counts-both c.marked.ensures.work c.update_k_counted.ensures.counted.at_most
+      counted = counts-both c.marked.ensures.work c.update_k_counted.ensures.counted
           (omega arith) (omega arith);
     }
 
@@ -28,13 +28,13 @@ pub invariant_of-self-2 : goal.invariant_of-self-2
 invariant_of-self-2 g c =
     let marked = c.in_ok-touched.ensures.marks in
     keeps-update (g.K.KeyTrait.bytes c.args.key.now) c.self.invariant marked.keys marked.number
-    marked.counted AllocError g.F.FnOnce c.args.f _ c.if-not-branch.false
+    marked.counted g.F.FnOnce c.args.f _ c.if-not-branch.false
     c.in_ok-update_k_counted.ensures.updates
 
 pub returns : goal.returns
 returns g c =
     let w = g.K.KeyTrait.bytes c.args.key.now in
-    let updates = same-update AllocError g.F.FnOnce c.args.f c.self.inside.current
+    let updates = same-update g.F.FnOnce c.args.f c.self.inside.current
     c.args.self.now.current c.update_k_counted.new.self w _ true
     (ap (λ t. t.current) c.self.view_is) c.if-not-branch.false
     c.in_ok-update_k_counted.ensures.updates in
@@ -47,6 +47,6 @@ returns g c =
       sets = update-sets g.F.FnOnce c.args.f {E = AllocError} c.args.self.now.current
           c.update_k_counted.new.self w (Ok true) updates;
       refused = tt;
-      counted = counts-both c.marked.ensures.work c.update_k_counted.ensures.counted.at_most
+      counted = counts-both c.marked.ensures.work c.update_k_counted.ensures.counted
           (omega arith) (omega arith);
     }

@@ -1,29 +1,23 @@
-use Rattle.std.proofs.Common.{arith, rules}
+use Rattle.std.proofs.Common.{arith}
 use Rattle.rart_shape.proofs.CountingLemmas.{counts-most, counts-then, entered-then}
 use Rattle.rart_versioned.proofs.VersionDiffLemmas.{walks-are}
 use Rattle.rart_versioned.proofs.counted.tree.VersionedAdaptiveRadixTree.both_walks.Goals as goal
 
-pub returns-in_err-old : goal.returns-in_err-old
-returns-in_err-old g c =
-    let refused = c.from_residual.ensures.0 in
-    record {
-      walks = search (rules, refused);
-      nodes = search (rules, refused);
-      counted = counts-most c.whole_walk.ensures.counted (omega arith) (omega arith);
-      entered = c.whole_walk.ensures.entered;
-    }
+pub returns-in_err-old-clause-counted : goal.returns-in_err-old-clause-counted
+returns-in_err-old-clause-counted g c =
+    counts-most c.whole_walk.ensures.counted (omega arith) (omega arith)
 
-pub returns-in_err-new : goal.returns-in_err-new
-returns-in_err-new g c =
-    let refused = c.from_residual-in_err-new.ensures.0 in
+pub returns-in_err-new-clause-counted : goal.returns-in_err-new-clause-counted
+returns-in_err-new-clause-counted g c =
     let one = c.whole_walk.ensures in
     let other = c.whole_walk-2.ensures in
-    record {
-      walks = search (rules, refused);
-      nodes = search (rules, refused);
-      counted = counts-then one.counted other.counted (omega arith) (omega arith);
-      entered = λ keyed. entered-then c.args.work.now (one.entered keyed) other.counted;
-    }
+    counts-then one.counted other.counted (omega arith) (omega arith)
+
+pub returns-in_err-new-clause-entered : goal.returns-in_err-new-clause-entered
+returns-in_err-new-clause-entered g c =
+    let one = c.whole_walk.ensures in
+    let other = c.whole_walk-2.ensures in
+    λ keyed. entered-then c.args.work.now (one.entered keyed) other.counted
 
 pub returns : goal.returns
 returns g c =

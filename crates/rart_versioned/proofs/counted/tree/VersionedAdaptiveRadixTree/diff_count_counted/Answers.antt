@@ -1,4 +1,4 @@
-use Rattle.std.proofs.Common.{rules, ◌∙◌, length, arith, ap}
+use Rattle.std.proofs.Common.{◌∙◌, length, arith, ap}
 use Rattle.rart_versioned.proofs.VersionDiffLemmas.{changes-few}
 use Rattle.std.proofs.lemmas.Result.{IfOk-weaker}
 use Rattle.rart_shape.proofs.CountingLemmas.{entered-then}
@@ -10,15 +10,6 @@ count_changes-requires-clause-fits g c =
     let same = ap length c.in_ok-old.ensures.walks.changes_are in
     let few = changes-few g.V.PartialEq.eq c.args.self.now.content c.args.other.now.content in
     omega (arith, same, few)
-
-pub returns-in_err-old : goal.returns-in_err-old
-returns-in_err-old g c =
-    let refused = c.from_residual.ensures.0 in
-    record {
-      count = search (rules, refused);
-      counted = c.both_walks.ensures.counted;
-      entered = c.both_walks.ensures.entered;
-    }
 
 pub returns : goal.returns
 returns g c =

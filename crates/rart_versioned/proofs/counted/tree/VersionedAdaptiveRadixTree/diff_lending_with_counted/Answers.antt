@@ -12,16 +12,12 @@ visit_changed_views-requires-clause-visitable g c =
     subst (Visitable g.F.FnMut ByViewChange c.args.f.now)
     (sym c.in_ok-old.ensures.walks.changes_are) c.requires.visitable
 
-pub returns-in_err-old : goal.returns-in_err-old
-returns-in_err-old g c =
+pub returns-in_err-old-clause-visits : goal.returns-in_err-old-clause-visits
+returns-in_err-old-clause-visits g c =
     let start = up_to-start g.F.FnMut ByViewChange tt c.args.f.now _ in
-    record {
-      visits = visits-refused g.F.FnMut ByViewChange c.from_residual.result
-          c.from_residual.ensures.0
-          (_, start);
-      counted = c.both_walks.ensures.counted;
-      entered = c.both_walks.ensures.entered;
-    }
+    visits-refused g.F.FnMut ByViewChange c.from_residual.result
+    c.from_residual.ensures.0
+    (_, start)
 
 pub returns : goal.returns
 returns g c =

@@ -1,17 +1,8 @@
-use Rattle.std.proofs.Common.{◌≡◌, ◌↔◌, [], IsTrue, rules, subst}
+use Rattle.std.proofs.Common.{◌≡◌, ◌↔◌, [], IsTrue, subst}
 use Rattle.std.proofs.lemmas.Result.{IfOk-weaker}
 use Rattle.rart_shape.proofs.CountingLemmas.{entered-then}
 use Rattle.rart_versioned.proofs.VersionVisitLemmas.{counts-through}
 use Rattle.rart_versioned.proofs.counted.tree.VersionedAdaptiveRadixTree.equals_counted.Goals as goal
-
-pub returns-in_err-old : goal.returns-in_err-old
-returns-in_err-old g c =
-    let refused = c.from_residual.ensures.0 in
-    record {
-      equal = search (rules, refused);
-      counted = c.both_walks.ensures.counted;
-      entered = c.both_walks.ensures.entered;
-    }
 
 pub returns : goal.returns
 returns g c =

@@ -1,4 +1,4 @@
-use Rattle.std.proofs.Common.{rules, ◌≡◌, ℕ, List, [], ◌∷◌, arith, refl, sym, ap, subst, ◌∙◌}
+use Rattle.std.proofs.Common.{◌≡◌, ℕ, List, [], ◌∷◌, arith, refl, sym, ap, subst, ◌∙◌}
 use Rattle.std.specs.Prelude.{◌-◌, ◌^◌, Some, filter, length}
 use Rattle.std.specs.Ordering.{as_partial_cmp}
 use Rattle.std.specs.Range.Bound.{bound_map, bounds_contain}
@@ -37,40 +37,37 @@ first_from-requires-clause-short g c =
     c.self.inside.version c.self.inside.root c.args.self.now c.self.invariant c.self.view_is
     c.in-Some.root c.in-Some.is (Some (2 ^ 64 - 1)) (λ count less. omega (arith, less))
 
-pub returns-in-None : goal.returns-in-None
-returns-in-None g c =
-    record {
-      first =
-          let most = g.K.KeyTrait.MAXIMUM_SIZE in
-          let test = λ (pair : List ℕ × g.row.V.Denot). bounds_contain (as_partial_cmp byte_order)
-          (bound_map (λ low. low.now) c.args.low) Unbounded pair.0 in
-          let none = no-pairs shape_of most c.self.inside.version c.self.inside.root c.args.self.now
-          c.self.invariant c.self.view_is c.in-None.is in
-          (ap (filter test) none, refl);
-      counted = search rules;
-      entered = λ keyed.
-          absurd (none-keyed shape_of g.K.KeyTrait.MAXIMUM_SIZE
-          c.self.inside.version c.self.inside.root c.args.self.now c.self.invariant c.self.view_is
-          c.in-None.is keyed);
-    }
+pub returns-in-None-clause-first : goal.returns-in-None-clause-first
+returns-in-None-clause-first g c =
+    let most = g.K.KeyTrait.MAXIMUM_SIZE in
+    let test = λ (pair : List ℕ × g.row.V.Denot). bounds_contain (as_partial_cmp byte_order)
+    (bound_map (λ low. low.now) c.args.low) Unbounded pair.0 in
+    let none = no-pairs shape_of most c.self.inside.version c.self.inside.root c.args.self.now
+    c.self.invariant c.self.view_is c.in-None.is in
+    (ap (filter test) none, refl)
 
-pub returns-in-Some : goal.returns-in-Some
-returns-in-Some g c =
-    record {
-      first =
-          let most = g.K.KeyTrait.MAXIMUM_SIZE in
-          let low = bound_map (λ low. low.now) c.args.low in
-          let all = root-pairs shape_of most c.self.inside.version c.self.inside.root
-          c.args.self.now c.self.invariant c.self.view_is c.in-Some.root c.in-Some.is in
-          subst (λ list. Finds list c.first_from.result c.args.room.now c.first_from.new.room)
-          (sym (within-from c.args.self.now.content low Unbounded ∙ up_to-all _ ∙ ap (from low)
-          all))
-          c.first_from.ensures.first;
-      counted =
-          let s = c.in-Some.root.shape in
-          let low = bound_map (λ low. low.now) c.args.low in
-          let most = path-most s (start_of low) in
-          let same = ap length (start-is low) in
-          counts-most c.first_from.ensures.counted (omega (arith, most, same)) (omega arith);
-      entered = λ keyed. c.first_from.ensures.entered;
-    }
+pub returns-in-None-clause-entered : goal.returns-in-None-clause-entered
+returns-in-None-clause-entered g c =
+    λ keyed.
+    absurd (none-keyed shape_of g.K.KeyTrait.MAXIMUM_SIZE
+    c.self.inside.version c.self.inside.root c.args.self.now c.self.invariant c.self.view_is
+    c.in-None.is keyed)
+
+pub returns-in-Some-clause-first : goal.returns-in-Some-clause-first
+returns-in-Some-clause-first g c =
+    let most = g.K.KeyTrait.MAXIMUM_SIZE in
+    let low = bound_map (λ low. low.now) c.args.low in
+    let all = root-pairs shape_of most c.self.inside.version c.self.inside.root
+    c.args.self.now c.self.invariant c.self.view_is c.in-Some.root c.in-Some.is in
+    subst (λ list. Finds list c.first_from.result c.args.room.now c.first_from.new.room)
+    (sym (within-from c.args.self.now.content low Unbounded ∙ up_to-all _ ∙ ap (from low)
+    all))
+    c.first_from.ensures.first
+
+pub returns-in-Some-clause-counted : goal.returns-in-Some-clause-counted
+returns-in-Some-clause-counted g c =
+    let s = c.in-Some.root.shape in
+    let low = bound_map (λ low. low.now) c.args.low in
+    let most = path-most s (start_of low) in
+    let same = ap length (start-is low) in
+    counts-most c.first_from.ensures.counted (omega (arith, most, same)) (omega arith)

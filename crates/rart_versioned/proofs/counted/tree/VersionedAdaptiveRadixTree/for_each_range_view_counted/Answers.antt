@@ -13,5 +13,14 @@ visit_range-requires g c =
     ∙ ap (within m (bound_map (λ bytes. bytes.now) c.bytes_of.result)) (sym c.bytes_of-2.ensures) in
     record { visitable = subst (Visitable g.F.FnMut ByView c.args.f.now) same c.requires.visitable }
 
-pub returns : goal.returns
-returns g c = rw (c.bytes_of.ensures, c.bytes_of-2.ensures) at c.visit_range.ensures
+pub returns-clause-visits : goal.returns-clause-visits
+returns-clause-visits g c =
+    rw (c.bytes_of.ensures, c.bytes_of-2.ensures) at c.visit_range.ensures.visits
+
+pub returns-clause-counted : goal.returns-clause-counted
+returns-clause-counted g c =
+    rw (c.bytes_of.ensures, c.bytes_of-2.ensures) at c.visit_range.ensures.counted
+
+pub returns-clause-each : goal.returns-clause-each
+returns-clause-each g c =
+    rw (c.bytes_of.ensures, c.bytes_of-2.ensures) at c.visit_range.ensures.each

@@ -1,4 +1,4 @@
-use Rattle.std.proofs.Common.{arith, rules, sym, subst}
+use Rattle.std.proofs.Common.{arith, sym, subst}
 use Rattle.rart_maps.specs.Visits.{ByView, Visitable, Visits}
 use Rattle.rart_maps.proofs.VisitLemmas.{up_to-start, visits-refused}
 use Rattle.rart_shape.proofs.CountingLemmas.{entered-then}
@@ -10,16 +10,11 @@ visit_views-requires-clause-visitable g c =
     subst (Visitable g.F.FnMut ByView c.args.f.now) (sym c.in_ok-walk.ensures.pairs)
     c.requires.visitable
 
-pub returns-in_err-walk : goal.returns-in_err-walk
-returns-in_err-walk g c =
+pub returns-in_err-walk-clause-visits : goal.returns-in_err-walk-clause-visits
+returns-in_err-walk-clause-visits g c =
     let start = up_to-start g.F.FnMut ByView tt c.args.f.now _ in
     let refused = c.from_residual.ensures.0 in
-    record {
-      visits = visits-refused g.F.FnMut ByView c.from_residual.result refused (_, start);
-      counted = c.whole_walk.ensures.counted;
-      entered = search (rules, refused);
-      entered_least = c.whole_walk.ensures.entered;
-    }
+    visits-refused g.F.FnMut ByView c.from_residual.result refused (_, start)
 
 pub returns : goal.returns
 returns g c =
@@ -42,6 +37,6 @@ returns g c =
         made_grows = omega (arith, way_made, made);
         made_at_most = omega (arith, way_none, none);
       };
-      entered = OnOk-weaker c.visit_views.result (λ all. omega (arith, all, nodes)) visit.entered;
-      entered_least = λ keyed. entered-then c.args.work.now (walk.entered keyed) visit.counted;
+      exact = OnOk-weaker c.visit_views.result (λ all. omega (arith, all, nodes)) visit.entered;
+      entered = λ keyed. entered-then c.args.work.now (walk.entered keyed) visit.counted;
     }

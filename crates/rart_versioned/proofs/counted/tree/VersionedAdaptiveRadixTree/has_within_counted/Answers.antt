@@ -1,4 +1,4 @@
-use Rattle.std.proofs.Common.{rules, ◌≡◌, Bool, true, false, ℕ, List, [], ◌∷◌, length, refl, arith, sym, ap, ◌∙◌}
+use Rattle.std.proofs.Common.{◌≡◌, Bool, true, false, ℕ, List, [], ◌∷◌, length, refl, arith, sym, ap, ◌∙◌}
 use Rattle.std.proofs.lemmas.Bool.Decides.{nat_tests}
 use Rattle.std.specs.Prelude.{◌-◌, ◌^◌, ◌==◌, Some, not, filter}
 use Rattle.std.specs.Ordering.{as_partial_cmp}
@@ -56,45 +56,42 @@ has_within-requires-clause-short g c =
     c.self.inside.version c.self.inside.root c.args.self.now c.self.invariant c.self.view_is
     c.in-Some.root c.in-Some.is (Some (2 ^ 64 - 1)) (λ count less. omega (arith, less))
 
-pub returns-in-None : goal.returns-in-None
-returns-in-None g c =
-    record {
-      answer =
-          let most = g.K.KeyTrait.MAXIMUM_SIZE in
-          let test = λ (pair : List ℕ × g.row.V.Denot). bounds_contain (as_partial_cmp byte_order)
-          (bound_map (λ low. low.now) c.args.low) (bound_map (λ high. high.now) c.args.high) pair.0
-          in
-          let none = no-pairs shape_of most c.self.inside.version c.self.inside.root c.args.self.now
-          c.self.invariant c.self.view_is c.in-None.is in
-          sym (ap (λ list. not (length (filter test list) == 0)) none);
-      counted = search rules;
-      entered = λ keyed.
-          absurd (none-keyed shape_of g.K.KeyTrait.MAXIMUM_SIZE
-          c.self.inside.version c.self.inside.root c.args.self.now c.self.invariant c.self.view_is
-          c.in-None.is keyed);
-    }
+pub returns-in-None-clause-answer : goal.returns-in-None-clause-answer
+returns-in-None-clause-answer g c =
+    let most = g.K.KeyTrait.MAXIMUM_SIZE in
+    let test = λ (pair : List ℕ × g.row.V.Denot). bounds_contain (as_partial_cmp byte_order)
+    (bound_map (λ low. low.now) c.args.low) (bound_map (λ high. high.now) c.args.high) pair.0
+    in
+    let none = no-pairs shape_of most c.self.inside.version c.self.inside.root c.args.self.now
+    c.self.invariant c.self.view_is c.in-None.is in
+    sym (ap (λ list. not (length (filter test list) == 0)) none)
 
-pub returns-in-Some : goal.returns-in-Some
-returns-in-Some g c =
-    record {
-      answer =
-          let most = g.K.KeyTrait.MAXIMUM_SIZE in
-          let low = bound_map (λ low. low.now) c.args.low in
-          let high = bound_map (λ high. high.now) c.args.high in
-          let all = root-pairs shape_of most c.self.inside.version c.self.inside.root
-          c.args.self.now c.self.invariant c.self.view_is c.in-Some.root c.in-Some.is in
-          let content = c.args.self.now.content in
-          c.has_within.ensures.passes
-          ∙ sym (ap (λ list. first_passes (is_below high) (from low list)) all)
-          ∙ passes-up_to high (from low (pairs content)) (from-ascends content low)
-          ∙ sym (ap (λ list. not (length list == 0)) (within-from content low high));
-      counted =
-          let s = c.in-Some.root.shape in
-          let low = bound_map (λ low. low.now) c.args.low in
-          let high = bound_map (λ high. high.now) c.args.high in
-          let most = path-most s (start_of low) in
-          let same = ap length (start-is low) in
-          let also = ap length (start-is high) in
-          counts-most c.has_within.ensures.counted (omega (arith, most, same, also)) (omega arith);
-      entered = λ keyed. c.has_within.ensures.entered;
-    }
+pub returns-in-None-clause-entered : goal.returns-in-None-clause-entered
+returns-in-None-clause-entered g c =
+    λ keyed.
+    absurd (none-keyed shape_of g.K.KeyTrait.MAXIMUM_SIZE
+    c.self.inside.version c.self.inside.root c.args.self.now c.self.invariant c.self.view_is
+    c.in-None.is keyed)
+
+pub returns-in-Some-clause-answer : goal.returns-in-Some-clause-answer
+returns-in-Some-clause-answer g c =
+    let most = g.K.KeyTrait.MAXIMUM_SIZE in
+    let low = bound_map (λ low. low.now) c.args.low in
+    let high = bound_map (λ high. high.now) c.args.high in
+    let all = root-pairs shape_of most c.self.inside.version c.self.inside.root
+    c.args.self.now c.self.invariant c.self.view_is c.in-Some.root c.in-Some.is in
+    let content = c.args.self.now.content in
+    c.has_within.ensures.passes
+    ∙ sym (ap (λ list. first_passes (is_below high) (from low list)) all)
+    ∙ passes-up_to high (from low (pairs content)) (from-ascends content low)
+    ∙ sym (ap (λ list. not (length list == 0)) (within-from content low high))
+
+pub returns-in-Some-clause-counted : goal.returns-in-Some-clause-counted
+returns-in-Some-clause-counted g c =
+    let s = c.in-Some.root.shape in
+    let low = bound_map (λ low. low.now) c.args.low in
+    let high = bound_map (λ high. high.now) c.args.high in
+    let most = path-most s (start_of low) in
+    let same = ap length (start-is low) in
+    let also = ap length (start-is high) in
+    counts-most c.has_within.ensures.counted (omega (arith, most, same, also)) (omega arith)

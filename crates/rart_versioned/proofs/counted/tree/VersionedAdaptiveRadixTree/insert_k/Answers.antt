@@ -1,10 +1,8 @@
-use Rattle.rart_maps.proofs.LookupLemmas.{insertion-sets}
+use Rattle.rart_versioned.proofs.OutcomeLemmas.{set-lookups}
 use Rattle.rart_versioned.proofs.counted.tree.VersionedAdaptiveRadixTree.insert_k.Goals as goal
 
-pub returns : goal.returns
-returns g c = record {
-  changes = c.insert_k_counted.ensures.changes;
-  sets = insertion-sets c.args.self.now c.insert_k_counted.new.self
-      (g.K.KeyTrait.bytes c.args.key.now) c.args.value c.insert_k_counted.result
-      c.insert_k_counted.ensures.changes;
-}
+pub returns-clause-lookups : goal.returns-clause-lookups
+returns-clause-lookups g c =
+    set-lookups c.args.self.now c.insert_k_counted.new.self
+    (g.K.KeyTrait.bytes c.args.key.now) c.args.value
+    c.insert_k_counted.result c.insert_k_counted.ensures.set

@@ -1,4 +1,4 @@
-use Rattle.std.proofs.Common.{arith, rules, length, sym, subst, ap, ◌∙◌}
+use Rattle.std.proofs.Common.{arith, length, sym, subst, ap, ◌∙◌}
 use Rattle.rart_maps.specs.Pairs.{under}
 use Rattle.rart_maps.specs.Visits.{ByView, Visitable, Visits}
 use Rattle.rart_maps.proofs.VisitLemmas.{up_to-start, visits-refused}
@@ -12,18 +12,21 @@ visit_views-requires-clause-visitable g c =
     ∙ ap (under c.args.self.now.content) c.as_ref.ensures in
     subst (Visitable g.F.FnMut ByView c.args.f.now) (sym same) c.requires.visitable
 
-pub returns-in_err-walk : goal.returns-in_err-walk
-returns-in_err-walk g c =
+pub returns-in_err-walk-clause-visits : goal.returns-in_err-walk-clause-visits
+returns-in_err-walk-clause-visits g c =
     let start = up_to-start g.F.FnMut ByView tt c.args.f.now _ in
     let refused = c.from_residual.ensures.0 in
+    visits-refused g.F.FnMut ByView c.from_residual.result refused (_, start)
+
+pub returns-in_err-walk-clause-counted : goal.returns-in_err-walk-clause-counted
+returns-in_err-walk-clause-counted g c =
     let way = rw c.as_ref.ensures at c.walk_under.ensures.counted in
-    record {
-      visits = visits-refused g.F.FnMut ByView c.from_residual.result refused (_, start);
-      counted = counts-most way (omega arith) (omega arith);
-      counted_by_pairs = counts-most way (omega arith) (omega arith);
-      entered = c.walk_under.ensures.entered;
-      each = search (rules, refused);
-    }
+    counts-most way (omega arith) (omega arith)
+
+pub returns-in_err-walk-clause-counted_by_pairs : goal.returns-in_err-walk-clause-counted_by_pairs
+returns-in_err-walk-clause-counted_by_pairs g c =
+    let way = rw c.as_ref.ensures at c.walk_under.ensures.counted in
+    counts-most way (omega arith) (omega arith)
 
 pub returns : goal.returns
 returns g c =

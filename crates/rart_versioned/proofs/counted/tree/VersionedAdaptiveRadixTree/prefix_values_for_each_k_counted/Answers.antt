@@ -1,4 +1,4 @@
-use Rattle.std.proofs.Common.{arith, rules, length, map, refl, sym, ap, subst, ◌∙◌}
+use Rattle.std.proofs.Common.{arith, length, map, refl, sym, ap, subst, ◌∙◌}
 use Rattle.rart_maps.specs.Pairs.{under}
 use Rattle.rart_maps.specs.Visits.{Visits, ByValue, Visitable}
 use Rattle.rart_maps.proofs.VisitLemmas.{up_to-start, visits-refused}
@@ -18,18 +18,21 @@ visit_values-requires g c κs =
       ),
     )
 
-pub returns-in_err-walk : goal.returns-in_err-walk
-returns-in_err-walk g c =
+pub returns-in_err-walk-clause-visits : goal.returns-in_err-walk-clause-visits
+returns-in_err-walk-clause-visits g c =
     let start = up_to-start g.F.FnMut ByValue tt c.args.f.now _ in
     let refused = c.from_residual.ensures.0 in
+    visits-refused g.F.FnMut ByValue c.from_residual.result refused (_, start)
+
+pub returns-in_err-walk-clause-counted : goal.returns-in_err-walk-clause-counted
+returns-in_err-walk-clause-counted g c =
     let way = rw c.as_ref.ensures at c.walk_under.ensures.counted in
-    record {
-      visits = visits-refused g.F.FnMut ByValue c.from_residual.result refused (_, start);
-      counted = counts-most way (omega arith) (omega arith);
-      counted_by_pairs = counts-most way (omega arith) (omega arith);
-      entered = c.walk_under.ensures.entered;
-      each = search (rules, refused);
-    }
+    counts-most way (omega arith) (omega arith)
+
+pub returns-in_err-walk-clause-counted_by_pairs : goal.returns-in_err-walk-clause-counted_by_pairs
+returns-in_err-walk-clause-counted_by_pairs g c =
+    let way = rw c.as_ref.ensures at c.walk_under.ensures.counted in
+    counts-most way (omega arith) (omega arith)
 
 pub returns : goal.returns
 returns g c =

@@ -1,13 +1,13 @@
-use Rattle.std.proofs.lemmas.Bool.{true≢false}
-use Rattle.rart_maps.specs.Versions.{has_no_key}
-use Rattle.std.proofs.Common.{◌≡◌, ◌+◌, None, Some, true, length, sym, ap, subst, ◌∙◌, arith, rules}
+use Rattle.std.proofs.Common.{◌+◌, None, Some, length, sym, ap, subst, ◌∙◌, arith}
 use Rattle.std.specs.Option.{option_map}
 use Rattle.rart_below.specs.Bytes.{IsAdmitted}
 use Rattle.rart_node.specs.Seen.{shape_of}
 use Rattle.rart_shape.proofs.CountingLemmas.{counts-most, path-most}
-use Rattle.rart_versioned.specs.Roots.{IsSound, found_in}
+use Rattle.rart_versioned.specs.Roots.{IsSound}
 use Rattle.rart_versioned.proofs.VersionMapLemmas.{get-found}
-use Rattle.rart_versioned.proofs.SoundLemmas.{IsPutIn, leaf-put, root-put, sound-put, map-put, value-in, no-key, all-bytes}
+use Rattle.rart_versioned.proofs.SoundLemmas.{IsPutIn, leaf-put, root-put, sound-put, map-put, all-bytes}
+use Rattle.rart_versioned.proofs.VersionIterationLemmas.{root-sound, root-value}
+use Rattle.rart_versioned.proofs.VersionVisitLemmas.{none-keyed}
 use Rattle.rart_versioned.proofs.counted.tree.VersionedAdaptiveRadixTree.put_in.Goals as goal
 
 pub leaf_of-requires : goal.leaf_of-requires
@@ -59,73 +59,49 @@ invariant_of-self-in-Some g c =
     (root-put w c.args.value c.in-Some.root.shape
     c.insert_below.new.at.shape c.in_ok-old-in-Some.ensures.puts.0)
 
-pub returns-in_ok-leaf-in-None : goal.returns-in_ok-leaf-in-None
-returns-in_ok-leaf-in-None g c =
-    let none : has_no_key c.args.self.now ≡ true =
-    rw (← c.self.view_is, c.in-None.is) (no-key g.row.V.Denot c.self.inside.version) in
-    record {
-      changes = (
-        rw (← c.self.view_is, c.in-None.is) (sym (get-found None c.args.key.now tt)),
-        search rules,
-      );
-      counted = record {
-        at_most = search rules;
-        at_least = λ keyed. absurd (true≢false (sym none ∙ keyed));
-      };
-      made = let made = c.in_ok-leaf-in-None.ensures.made in omega (arith, made);
-    }
+pub returns-in_ok-leaf-in-None-clause-answer : goal.returns-in_ok-leaf-in-None-clause-answer
+returns-in_ok-leaf-in-None-clause-answer g c =
+    rw (← c.self.view_is, c.in-None.is) (sym (get-found None c.args.key.now tt))
 
-pub returns-in_err-leaf-in-None : goal.returns-in_err-leaf-in-None
-returns-in_err-leaf-in-None g c =
-    let none : has_no_key c.args.self.now ≡ true =
-    rw (← c.self.view_is, c.in-None.is) (no-key g.row.V.Denot c.self.inside.version) in
-    record {
-      changes = search rules;
-      counted = record {
-        at_most = search rules;
-        at_least = λ keyed. absurd (true≢false (sym none ∙ keyed));
-      };
-      made = search rules;
-    }
+pub returns-in_ok-leaf-in-None-clause-entered : goal.returns-in_ok-leaf-in-None-clause-entered
+returns-in_ok-leaf-in-None-clause-entered g c keyed =
+    absurd (none-keyed shape_of g.K.KeyTrait.MAXIMUM_SIZE c.self.inside.version
+    c.self.inside.root c.args.self.now c.self.invariant c.self.view_is c.in-None.is keyed)
 
-pub returns-in_err-old-in-Some : goal.returns-in_err-old-in-Some
-returns-in_err-old-in-Some g c = record {
-  changes = search rules;
-  counted = record {
-    at_most =
-        counts-most c.insert_below.ensures.counted
-        (path-most c.in-Some.root.shape c.args.key.now)
-        (omega arith);
-    at_least = λ keyed. c.insert_below.ensures.entered;
-  };
-  made = search rules;
-}
+pub returns-in_ok-leaf-in-None-clause-made : goal.returns-in_ok-leaf-in-None-clause-made
+returns-in_ok-leaf-in-None-clause-made g c =
+    let made = c.in_ok-leaf-in-None.ensures.made in
+    omega (arith, made)
 
-pub returns-in_ok-old-in-Some : goal.returns-in_ok-old-in-Some
-returns-in_ok-old-in-Some g c =
+pub returns-in_err-leaf-in-None-clause-entered : goal.returns-in_err-leaf-in-None-clause-entered
+returns-in_err-leaf-in-None-clause-entered g c keyed =
+    absurd (none-keyed shape_of g.K.KeyTrait.MAXIMUM_SIZE c.self.inside.version
+    c.self.inside.root c.args.self.now c.self.invariant c.self.view_is c.in-None.is keyed)
+
+pub returns-in_err-old-in-Some-clause-counted : goal.returns-in_err-old-in-Some-clause-counted
+returns-in_err-old-in-Some-clause-counted g c =
+    counts-most c.insert_below.ensures.counted
+    (path-most c.in-Some.root.shape c.args.key.now) (omega arith)
+
+pub returns-in_ok-old-in-Some-clause-answer : goal.returns-in_ok-old-in-Some-clause-answer
+returns-in_ok-old-in-Some-clause-answer g c =
+    c.in_ok-old-in-Some.ensures.puts.1
+    ∙ root-value shape_of g.K.KeyTrait.MAXIMUM_SIZE c.self.inside.version c.self.inside.root
+    c.args.self.now c.self.invariant c.self.view_is c.in-Some.root c.in-Some.is c.args.key.now
+
+pub returns-in_ok-old-in-Some-clause-set : goal.returns-in_ok-old-in-Some-clause-set
+returns-in_ok-old-in-Some-clause-set g c =
     let w = c.args.key.now in
     let n = c.self.inside.version in
-    let o = option_map shape_of c.self.inside.root in
-    let sound : IsSound g.K.KeyTrait.MAXIMUM_SIZE n (Some c.in-Some.root.shape) =
-    subst (λ z. IsSound g.K.KeyTrait.MAXIMUM_SIZE n (option_map shape_of z)) c.in-Some.is
-    c.self.invariant in
-    record {
-      changes = (
-        rw (← c.self.view_is) (c.in_ok-old-in-Some.ensures.puts.1
-            ∙ sym (value-in g.K.KeyTrait.MAXIMUM_SIZE n o n w c.self.invariant
-            ∙ ap (λ z. found_in (option_map shape_of z) w) c.in-Some.is)),
-        rw (← c.self.view_is, c.in-Some.is)
-            (ap (λ m. record { content = m; number = n + c.args.more })
-            (map-put (Some c.in-Some.root.shape) c.insert_below.new.at.shape w c.args.value sound.0
-            (root-put w c.args.value c.in-Some.root.shape
-            c.insert_below.new.at.shape c.in_ok-old-in-Some.ensures.puts.0))),
-      );
-      counted = record {
-        at_most =
-            counts-most c.insert_below.ensures.counted
-            (path-most c.in-Some.root.shape c.args.key.now)
-            (omega arith);
-        at_least = λ keyed. c.insert_below.ensures.entered;
-      };
-      made = c.insert_below.ensures.made;
-    }
+    let sound = root-sound shape_of g.K.KeyTrait.MAXIMUM_SIZE n c.self.inside.root c.args.self.now
+    c.self.invariant c.self.view_is c.in-Some.root c.in-Some.is in
+    rw (← c.self.view_is, c.in-Some.is)
+    (ap (λ m. record { content = m; number = n + c.args.more })
+    (map-put (Some c.in-Some.root.shape) c.insert_below.new.at.shape w c.args.value sound.0
+    (root-put w c.args.value c.in-Some.root.shape
+    c.insert_below.new.at.shape c.in_ok-old-in-Some.ensures.puts.0)))
+
+pub returns-in_ok-old-in-Some-clause-counted : goal.returns-in_ok-old-in-Some-clause-counted
+returns-in_ok-old-in-Some-clause-counted g c =
+    counts-most c.insert_below.ensures.counted
+    (path-most c.in-Some.root.shape c.args.key.now) (omega arith)

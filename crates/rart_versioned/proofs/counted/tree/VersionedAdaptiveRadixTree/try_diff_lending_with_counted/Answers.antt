@@ -13,12 +13,9 @@ visit_changed_views_until-requires-clause-visitable g c =
     subst (VisitableUntil g.F.FnMut ByViewChange c.args.f.now)
     (sym c.in-Ok.ensures.walks.changes_are) c.requires.visitable
 
-pub returns-in-Err : goal.returns-in-Err
-returns-in-Err g c = record {
-  visits = (_, up_to-start g.F.FnMut ByViewChange (Ok Continue) c.args.f.now _);
-  counted = c.both_walks.ensures.counted;
-  entered = c.both_walks.ensures.entered;
-}
+pub returns-in-Err-clause-visits : goal.returns-in-Err-clause-visits
+returns-in-Err-clause-visits g c =
+    (_, up_to-start g.F.FnMut ByViewChange (Ok Continue) c.args.f.now _)
 
 pub returns-in-Ok : goal.returns-in-Ok
 returns-in-Ok g c =

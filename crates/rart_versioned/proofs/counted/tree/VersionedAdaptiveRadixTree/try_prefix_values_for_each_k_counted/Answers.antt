@@ -19,16 +19,19 @@ visit_values_until-requires g c κs =
       ),
     )
 
-pub returns-in-Err : goal.returns-in-Err
-returns-in-Err g c =
+pub returns-in-Err-clause-visits : goal.returns-in-Err-clause-visits
+returns-in-Err-clause-visits g c =
+    (_, up_to-start g.F.FnMut ByValue (Ok Continue) c.args.f.now _)
+
+pub returns-in-Err-clause-counted : goal.returns-in-Err-clause-counted
+returns-in-Err-clause-counted g c =
     let way = rw c.as_ref.ensures at c.walk_under-walk.ensures.counted in
-    record {
-      visits = (_, up_to-start g.F.FnMut ByValue (Ok Continue) c.args.f.now _);
-      counted = counts-most way (omega arith) (omega arith);
-      counted_by_pairs = counts-most way (omega arith) (omega arith);
-      entered = c.walk_under-walk.ensures.entered;
-      ends = tt;
-    }
+    counts-most way (omega arith) (omega arith)
+
+pub returns-in-Err-clause-counted_by_pairs : goal.returns-in-Err-clause-counted_by_pairs
+returns-in-Err-clause-counted_by_pairs g c =
+    let way = rw c.as_ref.ensures at c.walk_under-walk.ensures.counted in
+    counts-most way (omega arith) (omega arith)
 
 pub returns-in-Ok : goal.returns-in-Ok
 returns-in-Ok g c =

@@ -7,7 +7,7 @@ returns g c =
     let w = g.K.KeyTrait.bytes c.args.key.now in
     record {
       updates = updates;
-      sets = tried-update-sets g.F.FnOnce c.args.f c.args.self.now c.try_update_k_counted.new.self
+      lookups = tried-update-sets g.F.FnOnce c.args.f c.args.self.now c.try_update_k_counted.new.self
           w c.try_update_k_counted.result updates;
       refused = refused-update-keeps g.F.FnOnce c.args.f c.args.self.now
           c.try_update_k_counted.new.self w c.try_update_k_counted.result updates;

@@ -12,7 +12,7 @@ returns g c =
     let root = option_map shape_of c.self.inside.root in
     record {
       number = ap (λ (v : Version g.row.V.Denot). v.number) c.self.view_is;
-      keys = few-in most number root c.args.self.now c.self.invariant c.self.view_is;
+      few = few-in most number root c.args.self.now c.self.invariant c.self.view_is;
       lengths = lengths-in most number root c.args.self.now c.self.invariant c.self.view_is;
       bytes = bytes-in most number root c.args.self.now c.self.invariant c.self.view_is;
     }

@@ -9,16 +9,19 @@ use Rattle.rart_shape.proofs.CountingLemmas.{counts-most}
 use Rattle.rart_versioned.proofs.VersionVisitLemmas.{OnOk-weaker}
 use Rattle.rart_versioned.proofs.counted.tree.VersionedAdaptiveRadixTree.visit_range.Goals as goal
 
-pub returns-in_err-walk : goal.returns-in_err-walk
-returns-in_err-walk g c =
+pub returns-in_err-walk-clause-visits : goal.returns-in_err-walk-clause-visits
+returns-in_err-walk-clause-visits g c =
     let start = up_to-start g.F.FnMut ByView tt c.args.f.now _ in
-    record {
-      visits = visits-refused g.F.FnMut ByView c.from_residual.result
-          c.from_residual.ensures.0 (_, start);
-      counted = counts-most c.walk_from.ensures.counted (omega arith) (le_refl 0);
-      entered = c.walk_from.ensures.entered;
-      each = let refused = c.from_residual.ensures.0 in search (rules, refused);
-    }
+    visits-refused g.F.FnMut ByView c.from_residual.result
+    c.from_residual.ensures.0 (_, start)
+
+pub returns-in_err-walk-clause-counted : goal.returns-in_err-walk-clause-counted
+returns-in_err-walk-clause-counted g c =
+    counts-most c.walk_from.ensures.counted (omega arith) (le_refl 0)
+
+pub returns-in_err-walk-clause-each : goal.returns-in_err-walk-clause-each
+returns-in_err-walk-clause-each g c =
+    let refused = c.from_residual.ensures.0 in search (rules, refused)
 
 pub visit_views_up_to-requires-clause-ascend : goal.visit_views_up_to-requires-clause-ascend
 visit_views_up_to-requires-clause-ascend g c =

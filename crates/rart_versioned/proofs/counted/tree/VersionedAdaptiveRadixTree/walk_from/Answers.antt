@@ -7,7 +7,7 @@ use Rattle.std.proofs.lemmas.Result.{IfOk-weaker}
 use Rattle.rart_below.specs.Bytes.{IsAdmitted, byte_order}
 use Rattle.rart_node.specs.Seen.{shape_of}
 use Rattle.rart_maps.specs.Pairs.{pairs}
-use Rattle.rart_versioned.specs.IteratorFields.{AreAdmitted}
+use Rattle.rart_versioned.specs.TreeWalks.{AreAdmitted}
 use Rattle.rart_versioned.proofs.VersionIterationLemmas.{content-admitted, no-pairs, root-sound, root-pairs, root-short}
 use Rattle.rart_versioned.proofs.VersionVisitLemmas.{start-is, none-keyed, root-range}
 use Rattle.std.specs.Prelude.{count_by}

@@ -1,7 +1,7 @@
 use Rattle.std.proofs.Common.{rules, length, arith, refl, sym, ap, subst, ◌∙◌}
 use Rattle.std.proofs.lemmas.Result.{IfOk-weaker}
 use Rattle.rart_node.specs.Seen.{shape_of}
-use Rattle.rart_versioned.specs.IteratorFields.{AreAdmitted}
+use Rattle.rart_versioned.specs.TreeWalks.{AreAdmitted}
 use Rattle.rart_versioned.proofs.VersionIterationLemmas.{content-admitted, no-pairs, root-sound, root-pairs, root-short}
 use Rattle.rart_versioned.proofs.VersionVisitLemmas.{none-keyed, none-walk, root-walk, some-node}
 use Rattle.rart_versioned.proofs.counted.tree.VersionedAdaptiveRadixTree.whole_walk.Goals as goal

@@ -1,0 +1,133 @@
+-- What an iterator over a tree has left, by the walk or the node that it goes on with, or the lack
+-- of one, and what one call gives of that.
+use Rattle.std.specs.Prelude.{◌≡◌, ◌≤◌, ℕ, List, [], ◌∷◌, Option, Some, None, IfSome, drop, filter, length, map, take, ⊤}
+use Rattle.std.specs.Borrow.{Bor}
+use Rattle.std.specs.Option.{option_map}
+use Rattle.std.specs.declared.ops.Bound.{Bound}
+use Rattle.std.specs.Ordering.{as_partial_cmp}
+use Rattle.std.specs.Range.Bound.{is_up_to_end}
+use Rattle.rart_below.specs.Bytes.{IsAdmitted, begins, byte_order}
+use Rattle.rart_maps.specs.FoundLaws.{KeysAscend}
+use Rattle.rart_node.specs.Shape.{Shape, height}
+use Rattle.rart_shape.specs.Trees.{pairs_of}
+use Rattle.rart_walks.specs.Frames.{behind_path}
+use Rattle.rart_walks.specs.declared.walk.Walk.{Walk as PairWalk}
+use Rattle.rart_walks.specs.WalkFields.{IsWalk, cursor}
+use Rattle.rart_walks.specs.KeyPaths.{HoldsBytes}
+use Rattle.rart_versioned.specs.declared.plain.iterators.iter.Entries.{Entries}
+use Rattle.rart_versioned.specs.declared.plain.iterators.iter.Entries.TheVariants.{Empty, Entry, Walk}
+use Rattle.rart_versioned.specs.declared.plain.iterators.prefix_match.Way.{Way}
+use Rattle.rart_versioned.specs.Roots.{IsTreeIn}
+use Rattle.rart_versioned.specs.TreeWalks.{AreAdmitted}
+
+-- of some pairs, those whose key meets an upper bound
+abbrev pub up_to : {V : Type 0} → Bound (List ℕ) → List (List ℕ × V) → List (List ℕ × V)
+up_to high pairs = filter (λ pair. is_up_to_end (as_partial_cmp byte_order) high pair.0) pairs
+
+-- ---- along a walk
+
+module _ {P V : Type 0} {partial : _} where
+  module _ {T : Type 0} where
+    -- the pairs that are still to come
+    abbrev pub pairs_left : Option (PairWalk P V T partial) → Option (List (List ℕ × V))
+    pairs_left walk = option_map (λ walk. (cursor walk).pairs) walk
+
+    -- their values
+    abbrev pub values_left : Option (PairWalk P V T partial) → Option (List V)
+    values_left walk = option_map (λ pairs. map (λ pair. pair.1) pairs) (pairs_left walk)
+
+    -- the pairs that are still to come where they end with an upper bound
+    abbrev pub within_left :
+        Bound (List ℕ) → Option (PairWalk P V T partial) → Option (List (List ℕ × V))
+    within_left high walk = option_map (λ walk. up_to high (cursor walk).pairs) walk
+
+  -- A walk that keeps the bytes of its keys, of each of which a key can be made.
+  pub record IsKeyWalk (most : Option ℕ) (walk : PairWalk P V (List ℕ) partial) : Type 0 where
+    pub walks : IsWalk HoldsBytes None walk
+    pub admitted : AreAdmitted most (cursor walk).pairs
+
+  -- Its keys ascend too.
+  pub record IsRangeWalk (most : Option ℕ) (walk : PairWalk P V (List ℕ) partial) : Type 0 where
+    pub keyed : IsKeyWalk most walk
+    pub ascends : KeysAscend (λ pair. pair.0) (cursor walk).pairs
+
+-- ---- over all pairs, or those under a prefix
+
+module _ {P V : Type 0} {partial : _} where
+  -- the pairs that are still to come
+  abbrev pub pairs_to_come : Entries P V partial → List (List ℕ × V)
+  pairs_to_come Empty = []
+  pairs_to_come (Entry key value) = (key.now, value.now) ∷ []
+  pairs_to_come (Walk walk) = (cursor walk).pairs
+
+  abbrev pub entries_left : Option (Entries P V partial) → Option (List (List ℕ × V))
+  entries_left left = option_map pairs_to_come left
+
+  -- A key can be made of each.
+  abbrev pub HasKeys : Option ℕ → Entries P V partial → Type 0
+  HasKeys most Empty = ⊤
+  HasKeys most (Entry key value) = IsAdmitted most (length key.now)
+  HasKeys most (Walk walk) = IsKeyWalk most walk
+
+-- ---- along a probe
+
+module _ {V : Type 0} where
+  -- the pairs below a node, or the lack of one, whose key begins the probe, where `depth` bytes of
+  -- the probe stand above the node
+  abbrev pub matches_below : List ℕ → ℕ → Option (Shape V) → List (List ℕ × V)
+  matches_below probe depth None = []
+  matches_below probe depth (Some s) =
+      behind_path (take depth probe)
+      (filter (λ pair. begins pair.0 (drop depth probe)) (pairs_of s))
+
+  -- The first pair has this key and this value, or there is none.
+  abbrev pub ValueGives :
+      List (List ℕ × V) → List ℕ → Option (Bor V) → List (List ℕ × V) → Type 0
+  ValueGives before key None after = before ≡ []
+  ValueGives before key (Some value) after = before ≡ (key, value.now) ∷ after
+
+  -- how high the tree below is
+  abbrev pub height_in : Option (Shape V) → ℕ
+  height_in None = 0
+  height_in (Some s) = height s
+
+module _ {P V : Type 0} where
+  -- the node that comes next
+  abbrev pub next_node : Way P V → Option (Shape V)
+  next_node way = option_map (λ at. at.now.shape) way.at
+
+  module _ (probe : List ℕ) where
+    -- the pairs that are still to come
+    abbrev pub matches_on : Way P V → List (List ℕ × V)
+    matches_on way = matches_below probe way.depth (next_node way)
+
+    abbrev pub matches_left : Option (Way P V) → Option (List (List ℕ × V))
+    matches_left way = option_map matches_on way
+
+    -- The way has come so far down the probe, and all below is in order.
+    pub record IsWay (way : Way P V) : Type 0 where
+      pub depth : way.depth ≤ length probe
+      pub tree : IsTreeIn (next_node way)
+
+-- ---- what one call gives
+
+module _ {K V : Type 0} (bytes : K → List ℕ) where
+  -- The first pair was given, with a key of its own, or there was none.
+  abbrev pub EntryGives :
+      List (List ℕ × V) → Option (K × Bor V) → List (List ℕ × V) → Type 0
+  EntryGives before None after = before ≡ []
+  EntryGives before (Some entry) after = before ≡ (bytes entry.0, entry.1.now) ∷ after
+
+-- ---- what `size_hint` tells
+
+module _ {X : Type 0} where
+  -- how many members are still to come
+  abbrev pub members_left : Option (List X) → ℕ
+  members_left None = 0
+  members_left (Some members) = length members
+
+  -- The lower bound is at most how many members are still to come, and the upper one, if there is
+  -- one, at least.
+  pub record IsHintOf (left : Option (List X)) (hint : ℕ × Option ℕ) : Type 0 where
+    pub lower : hint.0 ≤ members_left left
+    pub upper : IfSome hint.1 (λ most. members_left left ≤ most)

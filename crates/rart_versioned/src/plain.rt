@@ -1,0 +1,21 @@
+// Ported from rart 0.11.0 (Apache-2.0), and rewritten.
+//! Whatever makes a `Work` of its own, or calls what does: the forms that count nothing, and the
+//! iterators, whose `next` makes one.
+
+mod diff;
+mod first;
+mod get_mut;
+mod insert;
+mod intersect;
+mod iterators;
+mod longest;
+mod lookup;
+mod remove;
+mod try_insert;
+mod unversioned;
+mod update;
+mod visitors;
+mod within;
+
+pub use iterators::{VersionedIter, VersionedPrefixMatchIter, VersionedRange, VersionedValuesIter};
+pub use try_insert::InsertError;

@@ -1,0 +1,12 @@
+// Ported from rart 0.11.0 (Apache-2.0), and rewritten.
+//! The iterators over a tree: of each what it has left, how it is made, and what comes next.
+
+mod iter;
+mod prefix_match;
+mod range;
+mod values;
+
+pub use iter::VersionedIter;
+pub use prefix_match::VersionedPrefixMatchIter;
+pub use range::VersionedRange;
+pub use values::VersionedValuesIter;

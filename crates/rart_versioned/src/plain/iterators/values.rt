@@ -1,0 +1,94 @@
+// Ported from rart 0.11.0 (Apache-2.0), and rewritten.
+//! The values of a tree, in the order of their keys.
+ghost use Rattle.std.specs.Prelude.{◌≡◌, Some, map, IfOk, IfSome};
+ghost use Rattle.rart_maps.specs.Pairs.{pairs};
+
+use crate::counted::VersionedAdaptiveRadixTree;
+use rart_below::{KeyTrait, Partial};
+use rart_node::Work;
+use rart_walks::{NoPath, Walk};
+use std::alloc::AllocError;
+use std::marker::Model;
+
+/// The values of a tree, in the order of their keys.
+///
+/// Contracts see the values that are still to come, or `None` behind the end and behind a refusal.
+#[derive(Drop)]
+pub struct VersionedValuesIter<'a, P: Partial, V> {
+    walk: Option<Walk<'a, P, V, NoPath>>,
+}
+
+impl<'a, P: Partial, V> Model for VersionedValuesIter<'a, P, V> {
+    ghost use Rattle.std.specs.Prelude.{List, Option, IfSome, None};
+    ghost use Rattle.rart_walks.specs.WalkFields.{IsWalk};
+    ghost use Rattle.rart_walks.specs.KeyPaths.{HoldsNothing};
+    ghost use Rattle.rart_versioned.specs.Iterators.{values_left};
+
+    ghost Value = { Option (List V) };
+
+    ghost view = { λ iter. values_left iter.walk };
+
+    ghost invariant = { λ iter. IfSome iter.walk (IsWalk HoldsNothing None) };
+}
+
+impl<K: KeyTrait, V: Clone + Drop> VersionedAdaptiveRadixTree<K, V> {
+    /// All values, in the order of their keys. No key is made.
+    ///
+    /// ```
+    /// for price in list.values_iter()? {
+    ///     prices.push(*price?)?;
+    /// }
+    /// ```
+    ///
+    /// Refused for memory, there is no iterator. A later refusal is an item, which is the last: so
+    /// without one the values are all. In Rust neither is there, and the items are values.
+    pub fn values_iter(&self) -> Result<VersionedValuesIter<'_, K::PartialType, V>, AllocError>
+        ensures { IfOk result (λ iter. iter
+            ≡ Some (map (λ pair. pair.1) (pairs self.now.content))) }
+    {
+        let walk = self.whole_walk(&mut Work::new())?;
+        Ok(VersionedValuesIter { walk: Some(walk) })
+    }
+}
+
+impl<'a, P: Partial, V: Drop> Iterator for VersionedValuesIter<'a, P, V> {
+    type Item = Result<&'a V, AllocError>;
+
+    ghost use Rattle.std.specs.Iterator.{UpTo};
+    ghost use Rattle.std.specs.Iterator.SizeHint.{IsWithinCount};
+    ghost use Rattle.rart_maps.specs.Iterations.{ByReference, NextGives, items_left};
+    ghost use Rattle.rart_versioned.specs.Iterators.{IsHintOf};
+
+    ghost next_gives = { NextGives ByReference };
+
+    ghost remaining = { items_left };
+
+    fn next(&mut self) -> Option<Result<&'a V, AllocError>> {
+        match &mut self.walk {
+            None => None,
+            Some(walk) => match walk.next_value(&mut Work::new()) {
+                Ok(Some(value)) => Some(Ok(value)),
+                Ok(None) => {
+                    self.walk = None;
+                    None
+                }
+                Err(refused) => {
+                    self.walk = None;
+                    Some(Err(refused))
+                }
+            },
+        }
+    }
+
+    /// That nothing comes any more is known behind the end alone.
+    fn size_hint(&self) -> (usize, Option<usize>)
+        ensures lower { IsWithinCount result.0 (items_left self.now) }
+        ensures upper { IfSome result.1 (UpTo (items_left self.now)) }
+        ensures hint { IsHintOf self.now result }
+    {
+        match &self.walk {
+            None => (0, Some(0)),
+            Some(_) => (0, None),
+        }
+    }
+}

@@ -2,11 +2,10 @@
 use Rattle.std.proofs.Common.{◌≡◌, ◌≢◌, ℕ, zero, suc, ◌<◌, ◌≤◌, ◌+◌, ◌^◌, Bool, true, false, nat_lt, cond, List, [], ◌∷◌, ◌++◌, length, refl, sym, ap, ◌∙◌, subst, ⊎_elim, arith}
 use Rattle.std.proofs.lemmas.List.{length-append}
 use Rattle.std.specs.Prelude.{Option, Some, None, slice_get, slice_set}
-use Rattle.rart_maps.specs.Versions.{Version, with_rise}
+use Rattle.rart_maps.specs.Versions.{Version}
 use Rattle.rart_family.specs.declared.family.command.Command.{Command}
-use Rattle.rart_family.specs.declared.family.command.Command.TheVariants.{New, NewAt, Snapshot, Duplicate, Discard, Version as NumberOf, IsEmpty, Get, GetMut, Insert, Replace, Remove, Delete, Update, TryUpdate, Iter, Values as ValuesOf, Range, Prefix, Matches, MatchesEach, Views, PrefixViews, RangeViews, PrefixValues, Until, Intersect, IntersectViews, IntersectValues, IntersectCount, Flatten, Longest}
 use Rattle.rart_family.specs.Replies.{Reply, NoRoom}
-use Rattle.rart_family.specs.Families.{Family, Outcome, call_outcome, placement, intersection_outcome, change_outcome, version_at, after}
+use Rattle.rart_family.specs.Families.{Family, Outcome, Call, Makes, Copies, Discards, Reads, Meets, Changes, call_outcome, with_room, placement, called, version_at, call_of}
 use Rattle.rart_family.specs.Runs.{Step, Run}
 use Rattle.rart_family.specs.Laws.{place_changed, StepsAreIsolated, PlacesStay, RepliesFixSteps, RepliesFixRuns, StepsReplyTheirOwn, RunsReplyToEach, NoReplyIsWant}
 use Rattle.rart_family.proofs.RunLemmas.{is_no_memory, reply_is_no_want, step_next}
@@ -38,95 +37,40 @@ module _ {V : Type 0} (f : Family V) (P : Family V → Type 0) (same : P f) wher
   kept_called call kept None = same
   kept_called call kept (Some v) = kept v
 
-  kept_met : (left right : ℕ) (reply : Version V → Version V → Reply V)
-      → P (intersection_outcome f left right reply).1
-  kept_met left right reply =
+  kept_cond : (b : Bool) (outcome : Outcome V) → P outcome.1 → P (cond b outcome (NoRoom, f)).1
+  kept_cond true outcome kept = kept
+  kept_cond false outcome kept = same
+
+  kept_room : (v : Version V) (room : ℕ) (outcome : Outcome V) → P outcome.1
+      → P (with_room f v room outcome).1
+  kept_room v zero outcome kept = kept
+  kept_room v (suc room) outcome kept = kept_cond (nat_lt (v.number + suc room) (2 ^ 64)) outcome kept
+
+  -- A fact of families holds after a call where it holds of the family, of the family with a new
+  -- last place, and of the family with another version at the place that the call may change.
+  kept_after : ((v : Option (Version V)) → P (f ++ v ∷ [])) → (call : Call V)
+      → ((place : ℕ) (v : Option (Version V)) → place_changed call ≡ Some place
+      → P (slice_set f place v)) → P (called f call).1
+  kept_after push (Makes v) set = push _
+  kept_after push (Copies place room copy) set =
+      kept_called _ (λ v. kept_room v room (placement f (copy v)) (push _)) (version_at f place)
+  kept_after push (Discards place) set =
+      kept_called _ (λ v. set place None refl) (version_at f place)
+  kept_after push (Reads place reply) set = kept_called _ (λ v. same) (version_at f place)
+  kept_after push (Meets left right reply) set =
       kept_called _ (λ one. kept_called _ (λ other. same) (version_at f right)) (version_at f left)
-
-  kept_room : (b : Bool) (outcome : Outcome V) → P outcome.1 → P (cond b outcome (NoRoom, f)).1
-  kept_room true outcome kept = kept
-  kept_room false outcome kept = same
-
-  kept_changes : (place room : ℕ) (call : Version V → Reply V × Version V)
-      → ((v : Version V) → P (slice_set f place (Some v))) → P (change_outcome f place room call).1
-  kept_changes place room call kept =
-      kept_called _ (λ v. kept_room (nat_lt (v.number + room) (2 ^ 64))
-      ((call v).0, slice_set f place (Some (call v).1)) (kept (call v).1)) (version_at f place)
+  kept_after push (Changes place room key change) set =
+      kept_called _ (λ v. kept_room v room ((change v).0, slice_set f place (Some (change v).1))
+      (set place (Some (change v).1) refl)) (version_at f place)
 
 module _ {K V : Type 0} (bytes : K → List ℕ) where
-  -- A fact of families holds after a command where it holds of the family, of the family with a new
-  -- last place, and of the family with another version at the place that the command may change.
-  kept_after : (f : Family V) (P : Family V → Type 0) → P f
-      → ((v : Option (Version V)) → P (f ++ v ∷ [])) → (c : Command K V)
-      → ((place : ℕ) (v : Option (Version V)) → place_changed c ≡ Some place
-      → P (slice_set f place v)) → P (after bytes f c)
-  kept_after f P same push New set = push _
-  kept_after f P same push (NewAt number) set = push _
-  kept_after f P same push (Snapshot place) set =
-      kept_called f P same _ (λ v. kept_room f P same (nat_lt (v.number + 1) (2 ^ 64))
-      (placement f (with_rise v 1)) (push _)) (version_at f place)
-  kept_after f P same push (Duplicate place) set =
-      kept_called f P same _ (λ v. push _) (version_at f place)
-  kept_after f P same push (Discard place) set =
-      kept_called f P same _ (λ v. set place None refl) (version_at f place)
-  kept_after f P same push (NumberOf place) set =
-      kept_called f P same _ (λ v. same) (version_at f place)
-  kept_after f P same push (IsEmpty place) set =
-      kept_called f P same _ (λ v. same) (version_at f place)
-  kept_after f P same push (Get place key) set =
-      kept_called f P same _ (λ v. same) (version_at f place)
-  kept_after f P same push (GetMut place key value) set =
-      kept_changes f P same place 1 _ (λ v. set place (Some v) refl)
-  kept_after f P same push (Insert place key value) set =
-      kept_changes f P same place 1 _ (λ v. set place (Some v) refl)
-  kept_after f P same push (Replace place key value) set =
-      kept_changes f P same place 1 _ (λ v. set place (Some v) refl)
-  kept_after f P same push (Remove place key) set =
-      kept_changes f P same place 1 _ (λ v. set place (Some v) refl)
-  kept_after f P same push (Delete place key) set =
-      kept_changes f P same place 1 _ (λ v. set place (Some v) refl)
-  kept_after f P same push (Update place key write answer) set =
-      kept_changes f P same place 1 _ (λ v. set place (Some v) refl)
-  kept_after f P same push (TryUpdate place key write answer) set =
-      kept_changes f P same place 2 _ (λ v. set place (Some v) refl)
-  kept_after f P same push (Iter place) set =
-      kept_called f P same _ (λ v. same) (version_at f place)
-  kept_after f P same push (ValuesOf place) set =
-      kept_called f P same _ (λ v. same) (version_at f place)
-  kept_after f P same push (Range place lo hi) set =
-      kept_called f P same _ (λ v. same) (version_at f place)
-  kept_after f P same push (Prefix place prefix) set =
-      kept_called f P same _ (λ v. same) (version_at f place)
-  kept_after f P same push (Matches place key) set =
-      kept_called f P same _ (λ v. same) (version_at f place)
-  kept_after f P same push (MatchesEach place key) set =
-      kept_called f P same _ (λ v. same) (version_at f place)
-  kept_after f P same push (Views place) set =
-      kept_called f P same _ (λ v. same) (version_at f place)
-  kept_after f P same push (PrefixViews place prefix) set =
-      kept_called f P same _ (λ v. same) (version_at f place)
-  kept_after f P same push (RangeViews place lo hi) set =
-      kept_called f P same _ (λ v. same) (version_at f place)
-  kept_after f P same push (PrefixValues place prefix) set =
-      kept_called f P same _ (λ v. same) (version_at f place)
-  kept_after f P same push (Until place prefix visits fails) set =
-      kept_called f P same _ (λ v. same) (version_at f place)
-  kept_after f P same push (Intersect left right) set = kept_met f P same left right _
-  kept_after f P same push (IntersectViews left right) set = kept_met f P same left right _
-  kept_after f P same push (IntersectValues left right) set = kept_met f P same left right _
-  kept_after f P same push (IntersectCount left right) set = kept_met f P same left right _
-  kept_after f P same push (Flatten place) set =
-      kept_called f P same _ (λ v. same) (version_at f place)
-  kept_after f P same push (Longest place key) set =
-      kept_called f P same _ (λ v. same) (version_at f place)
-
   -- The same after a step.
   kept_step : (P : Family V → Type 0) (old new : Family V) (c : Command K V) (r : Reply V)
       → Step bytes old c r new → P old → ((v : Option (Version V)) → P (old ++ v ∷ []))
-      → ((place : ℕ) (v : Option (Version V)) → place_changed c ≡ Some place
+      → ((place : ℕ) (v : Option (Version V)) → place_changed (call_of bytes c) ≡ Some place
       → P (slice_set old place v)) → P new
   kept_step P old new c r step same push set =
-      ⊎_elim (λ own. subst P (sym own.1) (kept_after old P same push c set))
+      ⊎_elim (λ own. subst P (sym own.1) (kept_after old P same push (call_of bytes c) set))
       (λ want. subst P (sym want.1) same) step
 
 module _ (K V : Type 0) (bytes : K → List ℕ) where

@@ -7,50 +7,26 @@ use Rattle.std.specs.Prelude.{Option, Some, None}
 use Rattle.rart_maps.specs.Versions.{Map, Version}
 use Rattle.rart_maps.specs.Pairs.{common}
 use Rattle.rart_maps.proofs.PairLawLemmas.{common_swaps}
-use Rattle.rart_family.specs.declared.family.command.Command.{Command}
-use Rattle.rart_family.specs.declared.family.command.Command.TheVariants.{Version as NumberOf, IsEmpty, Get, Iter, Values as ValuesOf, Range, Prefix, Matches, MatchesEach, Views, PrefixViews, RangeViews, PrefixValues, Until, Intersect, IntersectViews, IntersectValues, IntersectCount, Flatten, Longest}
 use Rattle.rart_family.specs.Replies.{Reply, Pairs, ValuePairs, Count, NoVersion}
-use Rattle.rart_family.specs.Families.{Family, call_outcome, value_pairs_of, version_at, after}
+use Rattle.rart_family.specs.Families.{Family, Call, Reads, Meets, call_outcome, called, value_pairs_of, version_at, call_of}
 use Rattle.rart_family.specs.Laws.{swapped_reply, OnlyReads, ReadsLeaveFamily, VisitorsReplyAsIterators, IntersectionsSwap}
 
-called_leaves : {V : Type 0} (f : Family V) (reply : Version V → Reply V)
+placed_leaves : {V : Type 0} (f : Family V) (reply : Version V → Reply V)
     (found : Option (Version V)) → (call_outcome f (λ v. (reply v, f)) found).1 ≡ f
-called_leaves f reply None = refl
-called_leaves f reply (Some v) = refl
+placed_leaves f reply None = refl
+placed_leaves f reply (Some v) = refl
 
 met_leaves : {V : Type 0} (f : Family V) (reply : Version V → Version V → Reply V)
     (left right : Option (Version V))
     → (call_outcome f (λ one. call_outcome f (λ other. (reply one other, f)) right) left).1 ≡ f
 met_leaves f reply None right = refl
-met_leaves f reply (Some one) right = called_leaves f (reply one) right
+met_leaves f reply (Some one) right = placed_leaves f (reply one) right
 
-module _ {K V : Type 0} (bytes : K → List ℕ) where
-  after_reading : (f : Family V) (c : Command K V) → OnlyReads c → after bytes f c ≡ f
-  after_reading f (NumberOf place) reads = called_leaves f _ (version_at f place)
-  after_reading f (IsEmpty place) reads = called_leaves f _ (version_at f place)
-  after_reading f (Get place key) reads = called_leaves f _ (version_at f place)
-  after_reading f (Iter place) reads = called_leaves f _ (version_at f place)
-  after_reading f (ValuesOf place) reads = called_leaves f _ (version_at f place)
-  after_reading f (Range place lo hi) reads = called_leaves f _ (version_at f place)
-  after_reading f (Prefix place prefix) reads = called_leaves f _ (version_at f place)
-  after_reading f (Matches place key) reads = called_leaves f _ (version_at f place)
-  after_reading f (MatchesEach place key) reads = called_leaves f _ (version_at f place)
-  after_reading f (Views place) reads = called_leaves f _ (version_at f place)
-  after_reading f (PrefixViews place prefix) reads = called_leaves f _ (version_at f place)
-  after_reading f (RangeViews place lo hi) reads = called_leaves f _ (version_at f place)
-  after_reading f (PrefixValues place prefix) reads = called_leaves f _ (version_at f place)
-  after_reading f (Until place prefix visits fails) reads = called_leaves f _ (version_at f place)
-  after_reading f (Intersect left right) reads =
-      met_leaves f _ (version_at f left) (version_at f right)
-  after_reading f (IntersectViews left right) reads =
-      met_leaves f _ (version_at f left) (version_at f right)
-  after_reading f (IntersectValues left right) reads =
-      met_leaves f _ (version_at f left) (version_at f right)
-  after_reading f (IntersectCount left right) reads =
-      met_leaves f _ (version_at f left) (version_at f right)
-  after_reading f (Flatten place) reads = called_leaves f _ (version_at f place)
-  after_reading f (Longest place key) reads = called_leaves f _ (version_at f place)
-  after_reading f c reads = absurd reads
+after_reading : {V : Type 0} (f : Family V) (call : Call V) → OnlyReads call → (called f call).1 ≡ f
+after_reading f (Reads place reply) reads = placed_leaves f reply (version_at f place)
+after_reading f (Meets left right reply) reads =
+    met_leaves f reply (version_at f left) (version_at f right)
+after_reading f call reads = absurd reads
 
 -- Where what is replied of two versions in turn is what is replied of them swapped, so it is where
 -- either may be lacking.
@@ -87,7 +63,7 @@ module _ {V : Type 0} where
 module _ (K V : Type 0) (bytes : K → List ℕ) where
   pub reads_leave_family : ReadsLeaveFamily K V bytes
   reads_leave_family old new c r reads step =
-      ⊎_elim (λ own. own.1 ∙ after_reading bytes old c reads) (λ want. want.1) step
+      ⊎_elim (λ own. own.1 ∙ after_reading old (call_of bytes c) reads) (λ want. want.1) step
 
   pub visitors_reply_as_iterators : VisitorsReplyAsIterators K V bytes
   visitors_reply_as_iterators f place key lo hi = (refl, refl, refl, refl)

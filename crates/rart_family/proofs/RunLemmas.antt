@@ -1,13 +1,13 @@
 -- Laws of steps and runs: out of memory is no command's own reply, a reply fixes the family after
 -- it, and a run goes on by one step at its end.
-use Rattle.std.proofs.Common.{◌≡◌, ℕ, ◌+◌, Bool, true, false, cond, length, take, List, [], ◌∷◌, ◌++◌, refl, sym, ap, ◌∙◌, subst, add_assoc, ⊎_elim, zero-add, add-zero, rules}
-use Rattle.std.specs.Prelude.{Option, Some, None, Result, Ok, Err}
+use Rattle.std.proofs.Common.{◌≡◌, ℕ, zero, suc, ◌+◌, Bool, true, false, cond, length, take, List, [], ◌∷◌, ◌++◌, refl, sym, ap, ◌∙◌, subst, add_assoc, ⊎_elim, zero-add, add-zero, rules}
+use Rattle.std.specs.Prelude.{Option, Some, None, Result, Ok, Err, slice_set, ⊤}
 use Rattle.rart_maps.specs.Versions.{Version}
 use Rattle.rart_family.specs.declared.family.command.Failure.{Failure}
 use Rattle.rart_family.specs.declared.family.command.Command.{Command}
-use Rattle.rart_family.specs.declared.family.command.Command.TheVariants.{New, NewAt, Snapshot, Duplicate, Discard, Version as NumberOf, IsEmpty, Get, GetMut, Insert, Replace, Remove, Delete, Update, TryUpdate, Iter, Values as ValuesOf, Range, Prefix, Matches, MatchesEach, Views, PrefixViews, RangeViews, PrefixValues, Until, Intersect, IntersectViews, IntersectValues, IntersectCount, Flatten, Longest}
-use Rattle.rart_family.specs.Replies.{Reply, Stopped, NoMemory}
-use Rattle.rart_family.specs.Families.{Family, Outcome, call_outcome, intersection_outcome, tried_reply, is_reached, stopped, version_at, reply_to, after}
+use Rattle.rart_family.specs.declared.family.command.Command.TheVariants.{TryUpdate, Until}
+use Rattle.rart_family.specs.Replies.{Reply, Stopped, NoVersion, NoRoom, NoMemory}
+use Rattle.rart_family.specs.Families.{Family, Outcome, Call, Makes, Copies, Discards, Reads, Meets, Changes, call_outcome, with_room, placement, called, tried_reply, is_reached, stopped, version_at, call_of, reply_to, after}
 use Rattle.rart_family.specs.Runs.{Step, Run, next}
 use Rattle.rart_family.specs.Costs.{along}
 
@@ -15,75 +15,78 @@ abbrev pub is_no_memory : {V : Type 0} → Reply V → Bool
 is_no_memory NoMemory = true
 is_no_memory r = false
 
-module _ {V : Type 0} (f : Family V) where
-  called_tells : (call : Version V → Outcome V)
-      → ((v : Version V) → is_no_memory (call v).0 ≡ false) → (found : Option (Version V))
-      → is_no_memory (call_outcome f call found).0 ≡ false
-  called_tells call tells None = refl
-  called_tells call tells (Some v) = tells v
+abbrev pub is_refusal : {V : Type 0} → Reply V → Bool
+is_refusal NoVersion = true
+is_refusal NoRoom = true
+is_refusal NoMemory = true
+is_refusal r = false
 
-  met_tells : (reply : Version V → Version V → Reply V)
-      → ((one other : Version V) → is_no_memory (reply one other) ≡ false) → (left right : ℕ)
-      → is_no_memory (intersection_outcome f left right reply).0 ≡ false
-  met_tells reply tells left right =
-      called_tells _ (λ one. called_tells _ (tells one) (version_at f right)) (version_at f left)
-
-  tried_tells : (answer : Result Bool Failure) → is_no_memory (tried_reply {V = V} answer) ≡ false
-  tried_tells (Ok flag) = refl
-  tried_tells (Err failure) = refl
+no_refusal : {V : Type 0} (reply : Reply V) → is_refusal reply ≡ false → is_no_memory reply ≡ false
+no_refusal NoMemory e = absurd (cc)
+no_refusal reply e = refl
 
 either_tells : {V : Type 0} (b : Bool) (one other : Reply V) →
-    is_no_memory one ≡ false → is_no_memory other ≡ false → is_no_memory (cond b one other) ≡ false
+    is_refusal one ≡ false → is_refusal other ≡ false → is_refusal (cond b one other) ≡ false
 either_tells true one other tells told = tells
 either_tells false one other tells told = told
 
 stopped_tells : {V : Type 0} (visit : ℕ) (fails : Bool) (values : List V) →
-    is_no_memory (stopped visit fails values) ≡ false
+    is_refusal (stopped visit fails values) ≡ false
 stopped_tells visit fails values =
     either_tells (is_reached visit (length values))
     (Stopped (take visit values) fails) (Stopped values false) refl refl
 
+module _ {V : Type 0} where
+  -- What the call itself replies is no refusal.
+  abbrev pub Answers : Call V → Type 0
+  Answers (Makes v) = ⊤
+  Answers (Copies place room copy) = ⊤
+  Answers (Discards place) = ⊤
+  Answers (Reads place reply) = (v : Version V) → is_refusal (reply v) ≡ false
+  Answers (Meets left right reply) =
+      (one other : Version V) → is_refusal (reply one other) ≡ false
+  Answers (Changes place room key change) = (v : Version V) → is_refusal (change v).0 ≡ false
+
+module _ {V : Type 0} (f : Family V) where
+  tried_tells : (answer : Result Bool Failure) → is_refusal (tried_reply {V = V} answer) ≡ false
+  tried_tells (Ok flag) = refl
+  tried_tells (Err failure) = refl
+
+  placed_tells : (call : Version V → Outcome V)
+      → ((v : Version V) → is_no_memory (call v).0 ≡ false) → (found : Option (Version V))
+      → is_no_memory (call_outcome f call found).0 ≡ false
+  placed_tells call tells None = refl
+  placed_tells call tells (Some v) = tells v
+
+  room_tells : (v : Version V) (room : ℕ) (outcome : Outcome V) → is_no_memory outcome.0 ≡ false
+      → is_no_memory (with_room f v room outcome).0 ≡ false
+  room_tells v zero outcome tells = tells
+  room_tells v (suc room) outcome tells = grind rules
+
+  called_tells : (call : Call V) → Answers call → is_no_memory (called f call).0 ≡ false
+  called_tells (Makes v) tells = refl
+  called_tells (Copies place room copy) tells =
+      placed_tells _ (λ v. room_tells v room (placement f (copy v)) refl) (version_at f place)
+  called_tells (Discards place) tells = placed_tells _ (λ v. refl) (version_at f place)
+  called_tells (Reads place reply) tells =
+      placed_tells _ (λ v. no_refusal (reply v) (tells v)) (version_at f place)
+  called_tells (Meets left right reply) tells =
+      placed_tells _ (λ one. placed_tells _ (λ other. no_refusal (reply one other) (tells one other))
+      (version_at f right)) (version_at f left)
+  called_tells (Changes place room key change) tells =
+      placed_tells _ (λ v. room_tells v room
+      ((change v).0, slice_set f place (Some (change v).1)) (no_refusal (change v).0 (tells v)))
+      (version_at f place)
+
 module _ {K V : Type 0} (bytes : K → List ℕ) where
+  pub command_answers : (f : Family V) (c : Command K V) → Answers (call_of bytes c)
+  command_answers f (TryUpdate place key write answer) = λ v. tried_tells f _
+  command_answers f (Until place prefix visits fails) = λ v. stopped_tells visits fails _
+  command_answers f c = search rules
+
   pub reply_is_no_want : (f : Family V) (c : Command K V)
       → is_no_memory (reply_to bytes f c) ≡ false
-  reply_is_no_want f New = refl
-  reply_is_no_want f (NewAt number) = refl
-  reply_is_no_want f (Snapshot place) = called_tells f _ (λ v. grind rules) (version_at f place)
-  reply_is_no_want f (Duplicate place) = called_tells f _ (λ v. refl) (version_at f place)
-  reply_is_no_want f (Discard place) = called_tells f _ (λ v. refl) (version_at f place)
-  reply_is_no_want f (NumberOf place) = called_tells f _ (λ v. refl) (version_at f place)
-  reply_is_no_want f (IsEmpty place) = called_tells f _ (λ v. refl) (version_at f place)
-  reply_is_no_want f (Get place key) = called_tells f _ (λ v. refl) (version_at f place)
-  reply_is_no_want f (GetMut place key value) =
-      called_tells f _ (λ v. grind rules) (version_at f place)
-  reply_is_no_want f (Insert place key value) =
-      called_tells f _ (λ v. grind rules) (version_at f place)
-  reply_is_no_want f (Replace place key value) =
-      called_tells f _ (λ v. grind rules) (version_at f place)
-  reply_is_no_want f (Remove place key) = called_tells f _ (λ v. grind rules) (version_at f place)
-  reply_is_no_want f (Delete place key) = called_tells f _ (λ v. grind rules) (version_at f place)
-  reply_is_no_want f (Update place key write answer) =
-      called_tells f _ (λ v. grind rules) (version_at f place)
-  reply_is_no_want f (TryUpdate place key write answer) =
-      called_tells f _ (λ v. grind (rules, tried_tells)) (version_at f place)
-  reply_is_no_want f (Iter place) = called_tells f _ (λ v. refl) (version_at f place)
-  reply_is_no_want f (ValuesOf place) = called_tells f _ (λ v. refl) (version_at f place)
-  reply_is_no_want f (Range place lo hi) = called_tells f _ (λ v. refl) (version_at f place)
-  reply_is_no_want f (Prefix place prefix) = called_tells f _ (λ v. refl) (version_at f place)
-  reply_is_no_want f (Matches place key) = called_tells f _ (λ v. refl) (version_at f place)
-  reply_is_no_want f (MatchesEach place key) = called_tells f _ (λ v. refl) (version_at f place)
-  reply_is_no_want f (Views place) = called_tells f _ (λ v. refl) (version_at f place)
-  reply_is_no_want f (PrefixViews place prefix) = called_tells f _ (λ v. refl) (version_at f place)
-  reply_is_no_want f (RangeViews place lo hi) = called_tells f _ (λ v. refl) (version_at f place)
-  reply_is_no_want f (PrefixValues place prefix) = called_tells f _ (λ v. refl) (version_at f place)
-  reply_is_no_want f (Until place prefix visits fails) =
-      called_tells f _ (λ v. stopped_tells visits fails _) (version_at f place)
-  reply_is_no_want f (Intersect left right) = met_tells f _ (λ one other. refl) left right
-  reply_is_no_want f (IntersectViews left right) = met_tells f _ (λ one other. refl) left right
-  reply_is_no_want f (IntersectValues left right) = met_tells f _ (λ one other. refl) left right
-  reply_is_no_want f (IntersectCount left right) = met_tells f _ (λ one other. refl) left right
-  reply_is_no_want f (Flatten place) = called_tells f _ (λ v. refl) (version_at f place)
-  reply_is_no_want f (Longest place key) = called_tells f _ (λ v. refl) (version_at f place)
+  reply_is_no_want f c = called_tells f (call_of bytes c) (command_answers f c)
 
   next_after : (f : Family V) (c : Command K V) (r : Reply V) → is_no_memory r ≡ false
       → next bytes f c r ≡ after bytes f c

@@ -4,9 +4,9 @@ use Rattle.rart_versioned.specs.Counts.{Counts}
 use Rattle.rart_maps.specs.Versions.{Version, has_no_key}
 use Rattle.rart_maps.specs.Bounds.{lookup_bound, change_bound, meet_bound}
 use Rattle.rart_family.specs.declared.family.command.Command.{Command}
-use Rattle.rart_family.specs.declared.family.command.Command.TheVariants.{Get, GetMut, Insert, Replace, Remove, Delete, Update, TryUpdate, Intersect, IntersectViews, IntersectValues, IntersectCount}
+use Rattle.rart_family.specs.declared.family.command.Command.TheVariants.{Get, Insert, Replace, Remove, Delete}
 use Rattle.rart_family.specs.Replies.{Reply, NoVersion, NoRoom, NoMemory}
-use Rattle.rart_family.specs.Families.{Family, version_at}
+use Rattle.rart_family.specs.Families.{Family, Call, Meets, Changes, version_at, call_of}
 use Rattle.rart_family.specs.Runs.{next}
 
 module _ {V : Type 0} where
@@ -53,43 +53,43 @@ pub record ChangesBetween (least most touched : ℕ) (before after : Counts) : T
   pub entered_at_least : before.entered + touched ≤ after.entered
   pub entered_at_most : after.entered ≤ before.entered + 3 * most
 
+module _ {V : Type 0} (f : Family V) where
+  -- the most nodes that a call, replied so, enters to read two versions, and the fewest
+  abbrev pub meet_most : Call V → Reply V → ℕ
+  meet_most (Meets left right reply) r =
+      if_called r (meet_cost (version_at f left) (version_at f right))
+  meet_most call r = 0
+
+  abbrev pub meet_least : Call V → Reply V → ℕ
+  meet_least (Meets left right reply) r =
+      if_done r (two_with_keys (version_at f left) (version_at f right))
+  meet_least call r = 0
+
+  -- the most nodes that a call makes to change its version
+  abbrev pub make_most : Call V → Reply V → ℕ
+  make_most (Changes place room key change) r = if_called r (change_bound key)
+  make_most call r = 0
+
+  -- The fewest nodes that a call enters to change its version, where that has a key and the call is
+  -- done.
+  abbrev pub enter_done : Call V → Reply V → ℕ
+  enter_done (Changes place room key change) r = if_done r (one_with_key (version_at f place))
+  enter_done call r = 0
+
 module _ {K V : Type 0} (bytes : K → List ℕ) where
   -- the most nodes that a command, replied so, enters to read
   abbrev pub read_cost_of : Family V → Command K V → Reply V → ℕ
   read_cost_of f (Get place key) r = if_called r (lookup_bound (bytes key))
-  read_cost_of f (Intersect left right) r =
-      if_called r (meet_cost (version_at f left) (version_at f right))
-  read_cost_of f (IntersectViews left right) r =
-      if_called r (meet_cost (version_at f left) (version_at f right))
-  read_cost_of f (IntersectValues left right) r =
-      if_called r (meet_cost (version_at f left) (version_at f right))
-  read_cost_of f (IntersectCount left right) r =
-      if_called r (meet_cost (version_at f left) (version_at f right))
-  read_cost_of f c r = 0
+  read_cost_of f c r = meet_most f (call_of bytes c) r
 
   -- and the fewest
   abbrev pub read_least_of : Family V → Command K V → Reply V → ℕ
   read_least_of f (Get place key) r = if_done r (one_with_key (version_at f place))
-  read_least_of f (Intersect left right) r =
-      if_done r (two_with_keys (version_at f left) (version_at f right))
-  read_least_of f (IntersectViews left right) r =
-      if_done r (two_with_keys (version_at f left) (version_at f right))
-  read_least_of f (IntersectValues left right) r =
-      if_done r (two_with_keys (version_at f left) (version_at f right))
-  read_least_of f (IntersectCount left right) r =
-      if_done r (two_with_keys (version_at f left) (version_at f right))
-  read_least_of f c r = 0
+  read_least_of f c r = meet_least f (call_of bytes c) r
 
   -- the most nodes that it makes to change its version
   abbrev pub change_cost_of : Family V → Command K V → Reply V → ℕ
-  change_cost_of f (GetMut place key value) r = if_called r (change_bound (bytes key))
-  change_cost_of f (Insert place key value) r = if_called r (change_bound (bytes key))
-  change_cost_of f (Replace place key value) r = if_called r (change_bound (bytes key))
-  change_cost_of f (Remove place key) r = if_called r (change_bound (bytes key))
-  change_cost_of f (Delete place key) r = if_called r (change_bound (bytes key))
-  change_cost_of f (Update place key write answer) r = if_called r (change_bound (bytes key))
-  change_cost_of f (TryUpdate place key write answer) r = if_called r (change_bound (bytes key))
-  change_cost_of f c r = 0
+  change_cost_of f c r = make_most f (call_of bytes c) r
 
   -- and the fewest
   abbrev pub change_least_of : Family V → Command K V → Reply V → ℕ
@@ -100,15 +100,9 @@ module _ {K V : Type 0} (bytes : K → List ℕ) where
   -- The fewest nodes that it enters to change its version, where that has a key. Before a call with
   -- a value the value is copied, so there out of memory may come before a node is entered.
   abbrev pub enter_least_of : Family V → Command K V → Reply V → ℕ
-  enter_least_of f (GetMut place key value) r = if_done r (one_with_key (version_at f place))
-  enter_least_of f (Insert place key value) r = if_done r (one_with_key (version_at f place))
-  enter_least_of f (Replace place key value) r = if_done r (one_with_key (version_at f place))
   enter_least_of f (Remove place key) r = if_called r (one_with_key (version_at f place))
   enter_least_of f (Delete place key) r = if_called r (one_with_key (version_at f place))
-  enter_least_of f (Update place key write answer) r = if_done r (one_with_key (version_at f place))
-  enter_least_of f (TryUpdate place key write answer) r =
-      if_done r (one_with_key (version_at f place))
-  enter_least_of f c r = 0
+  enter_least_of f c r = enter_done f (call_of bytes c) r
 
   -- A command, replied so, raises the counts by what it costs.
   abbrev pub CountsReads : Family V → Command K V → Reply V → Counts → Counts → Type 0

@@ -1,5 +1,5 @@
 -- A family of versions: what each command is replied, and what it leaves.
-use Rattle.std.specs.Prelude.{ℕ, ◌+◌, ◌^◌, Bool, false, ◌&&◌, if◌then◌else◌, nat_lt, nat_le, List, [], ◌∷◌, ◌++◌, length, map, take, Option, Some, None, slice_get, slice_set, Result, Ok, Err}
+use Rattle.std.specs.Prelude.{ℕ, zero, ◌+◌, ◌^◌, Bool, false, ◌&&◌, if◌then◌else◌, nat_lt, nat_le, List, [], ◌∷◌, ◌++◌, length, map, take, Option, Some, None, slice_get, slice_set, Result, Ok, Err}
 use Rattle.std.specs.Option.{unwrap_or, option_to_list}
 use Rattle.std.specs.Range.Bound.{bound_map}
 use Rattle.rart_maps.specs.Versions.{Version, empty_at, has_no_key, value_at, has_key, with_rise, with_key}
@@ -22,6 +22,22 @@ version_at family place = unwrap_or (slice_get family place) None
 abbrev pub Outcome : Type 0 → Type 0
 Outcome V = Reply V × Family V
 
+-- What is called, on the versions of which places, and with how much room: what it replies, and
+-- what it leaves.
+pub data Call (V : Type 0) : Type 0 where
+  -- a version at a new last place
+  Makes : Version V → Call V
+  -- a copy of the version, so much room asked of it, at a new last place
+  Copies : ℕ → ℕ → (Version V → Version V) → Call V
+  -- the version is dropped
+  Discards : ℕ → Call V
+  -- the version is read
+  Reads : ℕ → (Version V → Reply V) → Call V
+  -- two versions are read
+  Meets : ℕ → ℕ → (Version V → Version V → Reply V) → Call V
+  -- the version, so much room asked of it, is changed at a key
+  Changes : ℕ → ℕ → List ℕ → (Version V → Reply V × Version V) → Call V
+
 module _ {V : Type 0} (family : Family V) where
   -- a call on a version; where there is none the family stays
   abbrev pub call_outcome : (Version V → Outcome V) → Option (Version V) → Outcome V
@@ -32,27 +48,26 @@ module _ {V : Type 0} (family : Family V) where
   abbrev pub at_place : ℕ → (Version V → Outcome V) → Outcome V
   at_place place call = call_outcome call (version_at family place)
 
-  -- a call that asks for room; where the number lacks it the family stays
+  -- a call that asks for room, if any; where the number lacks it the family stays
   abbrev pub with_room : Version V → ℕ → Outcome V → Outcome V
+  with_room v zero outcome = outcome
   with_room v room outcome = if nat_lt (v.number + room) (2 ^ 64) then outcome else (NoRoom, family)
 
   -- a version at a new last place
   abbrev pub placement : Version V → Outcome V
   placement v = (Place (length family), family ++ Some v ∷ [])
 
-  -- a call that leaves the family
-  abbrev pub read_outcome : ℕ → (Version V → Reply V) → Outcome V
-  read_outcome place reply = at_place place (λ v. (reply v, family))
-
-  -- a call that reads the versions at two places, and leaves the family; so where either has none
-  abbrev pub intersection_outcome : ℕ → ℕ → (Version V → Version V → Reply V) → Outcome V
-  intersection_outcome left right reply =
+  -- what each kind of call is replied, and what it leaves
+  abbrev pub called : Call V → Outcome V
+  called (Makes v) = placement v
+  called (Copies place room copy) = at_place place (λ v. with_room v room (placement (copy v)))
+  called (Discards place) = at_place place (λ v. (Discarded, slice_set family place None))
+  called (Reads place reply) = at_place place (λ v. (reply v, family))
+  called (Meets left right reply) =
       at_place left (λ one. at_place right (λ other. (reply one other, family)))
-
-  -- a call that replaces the version at its place
-  abbrev pub change_outcome : ℕ → ℕ → (Version V → Reply V × Version V) → Outcome V
-  change_outcome place room call =
-      at_place place (λ v. with_room v room ((call v).0, slice_set family place (Some (call v).1)))
+  called (Changes place room key change) =
+      at_place place (λ v. with_room v room
+      ((change v).0, slice_set family place (Some (change v).1)))
 
 module _ {V : Type 0} where
   -- what a command's callback leaves of the value in its slot
@@ -93,70 +108,64 @@ callback_answer None = Err (record {})
 callback_answer (Some answer) = Ok answer
 
 module _ {K V : Type 0} (bytes : K → List ℕ) where
-  abbrev pub outcome : Family V → Command K V → Outcome V
-  outcome f New = placement f (empty_at 0)
-  outcome f (NewAt number) = placement f (empty_at number)
-  outcome f (Snapshot place) = at_place f place (λ v. with_room f v 1 (placement f (with_rise v 1)))
-  outcome f (Duplicate place) = at_place f place (placement f)
-  outcome f (Discard place) = at_place f place (λ v. (Discarded, slice_set f place None))
-  outcome f (NumberOf place) = read_outcome f place (λ v. Number v.number)
-  outcome f (IsEmpty place) = read_outcome f place (λ v. Flag (has_no_key v))
-  outcome f (Get place key) = read_outcome f place (λ v. Value (value_at v (bytes key)))
-  outcome f (GetMut place key value) =
-      change_outcome f place 1 (λ v.
+  -- the call that each command is
+  abbrev pub call_of : Command K V → Call V
+  call_of New = Makes (empty_at 0)
+  call_of (NewAt number) = Makes (empty_at number)
+  call_of (Snapshot place) = Copies place 1 (λ v. with_rise v 1)
+  call_of (Duplicate place) = Copies place 0 (λ v. v)
+  call_of (Discard place) = Discards place
+  call_of (NumberOf place) = Reads place (λ v. Number v.number)
+  call_of (IsEmpty place) = Reads place (λ v. Flag (has_no_key v))
+  call_of (Get place key) = Reads place (λ v. Value (value_at v (bytes key)))
+  call_of (GetMut place key value) = Changes place 1 (bytes key) (λ v.
       (Flag (has_key v (bytes key)), after_writing v (bytes key) value))
-  outcome f (Insert place key value) =
-      change_outcome f place 1 (λ v. (Flag (has_key v (bytes key)), with_key v (bytes key) value 1))
-  outcome f (Replace place key value) =
-      change_outcome f place 1 (λ v.
+  call_of (Insert place key value) = Changes place 1 (bytes key) (λ v.
+      (Flag (has_key v (bytes key)), with_key v (bytes key) value 1))
+  call_of (Replace place key value) = Changes place 1 (bytes key) (λ v.
       (Value (value_at v (bytes key)), with_key v (bytes key) value 1))
-  outcome f (Remove place key) =
-      change_outcome f place 1 (λ v. (Value (value_at v (bytes key)), after_removal v (bytes key)))
-  outcome f (Delete place key) =
-      change_outcome f place 1 (λ v. (Flag (has_key v (bytes key)), after_removal v (bytes key)))
-  outcome f (Update place key write answer) = change_outcome f place 1 (λ v.
+  call_of (Remove place key) = Changes place 1 (bytes key) (λ v.
+      (Value (value_at v (bytes key)), after_removal v (bytes key)))
+  call_of (Delete place key) = Changes place 1 (bytes key) (λ v.
+      (Flag (has_key v (bytes key)), after_removal v (bytes key)))
+  call_of (Update place key write answer) = Changes place 1 (bytes key) (λ v.
       let after =
       slot_update v (bytes key) (slot_of (value_after_write (value_at v (bytes key)) write))
       answer in (Flag after.0, after.1))
-  outcome f (TryUpdate place key write answer) = change_outcome f place 2 (λ v.
+  call_of (TryUpdate place key write answer) = Changes place 2 (bytes key) (λ v.
       let after =
       slot_attempt v (bytes key) (slot_of (value_after_write (value_at v (bytes key)) write))
       (callback_answer answer) in (tried_reply after.0, after.1))
-  outcome f (Iter place) = read_outcome f place (λ v. Entries (pairs v.content))
-  outcome f (ValuesOf place) = read_outcome f place (λ v. Values (values_of (pairs v.content)))
-  outcome f (Range place lo hi) =
-      read_outcome f place (λ v. Entries
-      (within v.content (bound_map bytes lo) (bound_map bytes hi)))
-  outcome f (Prefix place prefix) =
-      read_outcome f place (λ v. Entries (under v.content (bytes prefix)))
-  outcome f (Matches place key) =
-      read_outcome f place (λ v. Entries (prefix_matches v.content (bytes key)))
-  outcome f (MatchesEach place key) =
-      read_outcome f place (λ v. Entries (prefix_matches v.content (bytes key)))
-  outcome f (Views place) = read_outcome f place (λ v. Entries (pairs v.content))
-  outcome f (PrefixViews place prefix) =
-      read_outcome f place (λ v. Entries (under v.content (bytes prefix)))
-  outcome f (RangeViews place lo hi) =
-      read_outcome f place (λ v. Entries
-      (within v.content (bound_map bytes lo) (bound_map bytes hi)))
-  outcome f (PrefixValues place prefix) =
-      read_outcome f place (λ v. Values (values_of (under v.content (bytes prefix))))
-  outcome f (Until place prefix visits fails) =
-      read_outcome f place (λ v. stopped visits fails (values_of (under v.content (bytes prefix))))
-  outcome f (Intersect left right) =
-      intersection_outcome f left right (λ one other. Pairs (common one.content other.content))
-  outcome f (IntersectViews left right) =
-      intersection_outcome f left right (λ one other. Pairs (common one.content other.content))
-  outcome f (IntersectValues left right) =
-      intersection_outcome f left right (λ one other.
-      ValuePairs (value_pairs_of (common one.content other.content)))
-  outcome f (IntersectCount left right) =
-      intersection_outcome f left right
-      (λ one other. Count (length (common one.content other.content)))
-  outcome f (Flatten place) = read_outcome f place (λ v. Entries (pairs v.content))
-  outcome f (Longest place key) =
-      read_outcome f place (λ v. Entries
-      (option_to_list (longest_prefix_match v.content (bytes key))))
+  call_of (Iter place) = Reads place (λ v. Entries (pairs v.content))
+  call_of (ValuesOf place) = Reads place (λ v. Values (values_of (pairs v.content)))
+  call_of (Range place lo hi) =
+      Reads place (λ v. Entries (within v.content (bound_map bytes lo) (bound_map bytes hi)))
+  call_of (Prefix place prefix) = Reads place (λ v. Entries (under v.content (bytes prefix)))
+  call_of (Matches place key) = Reads place (λ v. Entries (prefix_matches v.content (bytes key)))
+  call_of (MatchesEach place key) =
+      Reads place (λ v. Entries (prefix_matches v.content (bytes key)))
+  call_of (Views place) = Reads place (λ v. Entries (pairs v.content))
+  call_of (PrefixViews place prefix) = Reads place (λ v. Entries (under v.content (bytes prefix)))
+  call_of (RangeViews place lo hi) =
+      Reads place (λ v. Entries (within v.content (bound_map bytes lo) (bound_map bytes hi)))
+  call_of (PrefixValues place prefix) =
+      Reads place (λ v. Values (values_of (under v.content (bytes prefix))))
+  call_of (Until place prefix visits fails) =
+      Reads place (λ v. stopped visits fails (values_of (under v.content (bytes prefix))))
+  call_of (Intersect left right) =
+      Meets left right (λ one other. Pairs (common one.content other.content))
+  call_of (IntersectViews left right) =
+      Meets left right (λ one other. Pairs (common one.content other.content))
+  call_of (IntersectValues left right) =
+      Meets left right (λ one other. ValuePairs (value_pairs_of (common one.content other.content)))
+  call_of (IntersectCount left right) =
+      Meets left right (λ one other. Count (length (common one.content other.content)))
+  call_of (Flatten place) = Reads place (λ v. Entries (pairs v.content))
+  call_of (Longest place key) =
+      Reads place (λ v. Entries (option_to_list (longest_prefix_match v.content (bytes key))))
+
+  abbrev pub outcome : Family V → Command K V → Outcome V
+  outcome f c = called f (call_of c)
 
   abbrev pub reply_to : Family V → Command K V → Reply V
   reply_to f c = (outcome f c).0

@@ -2,48 +2,24 @@
 use Rattle.std.specs.Prelude.{◌≡◌, ◌≢◌, ℕ, ◌<◌, ◌≤◌, false, List, length, map, Option, Some, None, slice_get, IfSome, ◌⊎◌, ⊤}
 use Rattle.std.specs.declared.ops.Bound.{Bound}
 use Rattle.rart_family.specs.declared.family.command.Command.{Command}
-use Rattle.rart_family.specs.declared.family.command.Command.TheVariants.{Discard, Version as NumberOf, IsEmpty, Get, GetMut, Insert, Replace, Remove, Delete, Update, TryUpdate, Iter, Values as ValuesOf, Range, Prefix, Matches, MatchesEach, Views, PrefixViews, RangeViews, PrefixValues, Until, Intersect, IntersectViews, IntersectValues, IntersectCount, Flatten, Longest}
+use Rattle.rart_family.specs.declared.family.command.Command.TheVariants.{Discard, Version as NumberOf, IsEmpty, Get, Remove, Delete, Update, TryUpdate, Iter, Range, Prefix, Matches, MatchesEach, Views, PrefixViews, RangeViews, Intersect, IntersectViews, IntersectValues, IntersectCount}
 use Rattle.rart_maps.specs.Versions.{has_key}
 use Rattle.rart_family.specs.Replies.{Reply, Pairs, ValuePairs, NoVersion, NoRoom, NoMemory}
-use Rattle.rart_family.specs.Families.{Family, version_at, reply_to, after}
+use Rattle.rart_family.specs.Families.{Family, Call, Discards, Reads, Meets, Changes, version_at, call_of, reply_to, after}
 use Rattle.rart_family.specs.Runs.{Step, Run}
 use Rattle.rart_family.specs.Updates.{Inserts}
 
--- the one place, of those that are there, whose version a command may change
-abbrev pub place_changed : {K V : Type 0} → Command K V → Option ℕ
-place_changed (Discard place) = Some place
-place_changed (GetMut place key value) = Some place
-place_changed (Insert place key value) = Some place
-place_changed (Replace place key value) = Some place
-place_changed (Remove place key) = Some place
-place_changed (Delete place key) = Some place
-place_changed (Update place key write answer) = Some place
-place_changed (TryUpdate place key write answer) = Some place
-place_changed c = None
+-- the one place, of those that are there, whose version a call may change
+abbrev pub place_changed : {V : Type 0} → Call V → Option ℕ
+place_changed (Discards place) = Some place
+place_changed (Changes place room key change) = Some place
+place_changed call = None
 
--- The command reads a version, and nothing more.
-abbrev pub OnlyReads : {K V : Type 0} → Command K V → Type 0
-OnlyReads (NumberOf place) = ⊤
-OnlyReads (IsEmpty place) = ⊤
-OnlyReads (Get place key) = ⊤
-OnlyReads (Iter place) = ⊤
-OnlyReads (ValuesOf place) = ⊤
-OnlyReads (Range place lo hi) = ⊤
-OnlyReads (Prefix place prefix) = ⊤
-OnlyReads (Matches place key) = ⊤
-OnlyReads (MatchesEach place key) = ⊤
-OnlyReads (Views place) = ⊤
-OnlyReads (PrefixViews place prefix) = ⊤
-OnlyReads (RangeViews place lo hi) = ⊤
-OnlyReads (PrefixValues place prefix) = ⊤
-OnlyReads (Until place prefix visits fails) = ⊤
-OnlyReads (Intersect left right) = ⊤
-OnlyReads (IntersectViews left right) = ⊤
-OnlyReads (IntersectValues left right) = ⊤
-OnlyReads (IntersectCount left right) = ⊤
-OnlyReads (Flatten place) = ⊤
-OnlyReads (Longest place key) = ⊤
-OnlyReads c = ⊥
+-- The call reads versions, and nothing more.
+abbrev pub OnlyReads : {V : Type 0} → Call V → Type 0
+OnlyReads (Reads place reply) = ⊤
+OnlyReads (Meets left right reply) = ⊤
+OnlyReads call = ⊥
 
 -- a reply with the two values of each key swapped
 abbrev pub swapped_reply : {V : Type 0} → Reply V → Reply V
@@ -56,7 +32,7 @@ module _ (K V : Type 0) (bytes : K → List ℕ) where
   abbrev pub StepsAreIsolated : Type 0
   StepsAreIsolated =
       (old new : Family V) (c : Command K V) (r : Reply V) (place : ℕ)
-      → Step bytes old c r new → place < length old → place_changed c ≢ Some place
+      → Step bytes old c r new → place < length old → place_changed (call_of bytes c) ≢ Some place
       → slice_get new place ≡ slice_get old place
 
   -- No step takes a place away.
@@ -127,7 +103,7 @@ module _ (K V : Type 0) (bytes : K → List ℕ) where
   abbrev pub ReadsLeaveFamily : Type 0
   ReadsLeaveFamily =
       (old new : Family V) (c : Command K V) (r : Reply V)
-      → OnlyReads c → Step bytes old c r new → new ≡ old
+      → OnlyReads (call_of bytes c) → Step bytes old c r new → new ≡ old
 
   -- A visitor is replied as the iterator over the same list.
   abbrev pub VisitorsReplyAsIterators : Type 0

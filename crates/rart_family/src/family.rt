@@ -1,24 +1,24 @@
 //! Families of versions: commands on them, and their replies.
 ghost use Rattle.std.specs.Borrow.{sem};
-ghost use Rattle.std.specs.Prelude.{◌≡◌, ◌+◌, ◌*◌, ◌≤◌, [], map, length, Some, IfOk, IfErr, OnOk, OnErr, MatchOption};
+ghost use Rattle.std.specs.Prelude.{◌≡◌, ◌+◌, ◌*◌, ◌≤◌, [], map, length, None, Some, Ok, IfOk, IfErr, OnOk, OnErr, MatchOption};
 ghost use Rattle.std.specs.Option.{option_copied};
 ghost use Rattle.rart_versioned.specs.Clones.{ClonesEqual};
 ghost use Rattle.rart_maps.specs.Versions.{HasRoom};
-ghost use Rattle.rart_family.specs.Attempts.{Tries, Gives, reply_or_want};
+ghost use Rattle.rart_family.specs.Attempts.{Tries, Gives, replied};
 ghost use Rattle.rart_family.specs.Costs.{read_cost, read_least, change_cost, change_least, enter_least, CountsReads, CountsChanges};
 ghost use Rattle.rart_family.specs.Families.{version_at, placement};
 ghost use Rattle.rart_family.specs.Lent.{LendsVersion};
 ghost use Rattle.rart_family.specs.Replies.{reply_value};
 ghost use Rattle.rart_family.specs.Runs.{Step, Run};
-ghost use Rattle.rart_family.specs.declared.family.reply.Reply.TheVariants.{NoVersion, NoRoom};
+ghost use Rattle.rart_family.specs.declared.family.refused.Refused.TheVariants.{NoVersion, NoRoom};
 
 mod changes;
 mod collection;
 mod command;
 mod flatten;
 mod intersections;
-mod keys;
 mod reads;
+mod refused;
 mod reply;
 mod updates;
 mod versions;
@@ -28,6 +28,7 @@ mod writing;
 
 pub use command::{Command, Failure};
 use rart_versioned::{KeyTrait, VersionedAdaptiveRadixTree, Work};
+use refused::Refused;
 pub use reply::Reply;
 use std::alloc::{AllocError, Global};
 use std::marker::Model;
@@ -156,31 +157,34 @@ impl<K: KeyTrait, V: Clone + Drop> Family<K, V> {
     {
         match self.try_step(command, reads, changes) {
             Ok(reply) => reply,
-            Err(AllocError) => Reply::NoMemory,
+            Err(Refused::NoVersion) => Reply::NoVersion,
+            Err(Refused::NoRoom) => Reply::NoRoom,
+            Err(Refused::NoMemory) => Reply::NoMemory,
         }
     }
 
+    /// Does one command by the method of its name.
     fn try_step(
         &mut self,
         command: &Command<K, V>,
         reads: &mut Work,
         changes: &mut Work,
-    ) -> Result<Reply<K, V>, AllocError>
+    ) -> Result<Reply<K, V>, Refused>
         requires clones { ClonesEqual V.is_clone }
         ensures tries { Tries K.bytes self.old command.now result self.new }
         ensures reads { CountsReads K.bytes self.old command.now
-            (reply_or_want K.bytes result) reads.old reads.new }
+            (replied K.bytes result) reads.old reads.new }
         ensures changes { CountsChanges K.bytes self.old command.now
-            (reply_or_want K.bytes result) changes.old changes.new }
+            (replied K.bytes result) changes.old changes.new }
     {
         match command {
-            Command::New => self.place(VersionedAdaptiveRadixTree::new(self.alloc)),
+            Command::New => Ok(self.place(VersionedAdaptiveRadixTree::new(self.alloc))?),
             Command::NewAt { number } => self.new_at(*number),
             Command::Snapshot { place } => self.snapshot(*place),
             Command::Duplicate { place } => self.duplicate(*place),
-            Command::Discard { place } => Ok(self.discard(*place)),
-            Command::Version { place } => Ok(self.version(*place)),
-            Command::IsEmpty { place } => Ok(self.is_empty(*place)),
+            Command::Discard { place } => self.discard(*place),
+            Command::Version { place } => self.version(*place),
+            Command::IsEmpty { place } => self.is_empty(*place),
             Command::Get { place, key } => self.get(*place, key, reads),
             Command::GetMut { place, key, value } => self.get_mut(*place, key, value, changes),
             Command::Insert { place, key, value } => self.insert(*place, key, value, changes),
@@ -218,21 +222,19 @@ impl<K: KeyTrait, V: Clone + Drop> Family<K, V> {
             Command::Intersect { left, right } => self.intersect(*left, *right, reads),
             Command::IntersectViews { left, right } => self.intersect_views(*left, *right, reads),
             Command::IntersectValues { left, right } => self.intersect_values(*left, *right, reads),
-            Command::IntersectCount { left, right } => {
-                Ok(self.intersect_count(*left, *right, reads))
-            }
+            Command::IntersectCount { left, right } => self.intersect_count(*left, *right, reads),
             Command::Flatten { place } => self.flatten(*place),
             Command::Longest { place, key } => self.longest(*place, key),
         }
     }
 
-    // The version at a new last place.
+    /// The version at a new last place.
     fn place(
         &mut self,
         version: VersionedAdaptiveRadixTree<K, V>,
     ) -> Result<Reply<K, V>, AllocError>
         ensures ok { IfOk result (λ reply.
-            Gives K.bytes (placement self.old version) reply self.new) }
+            Gives K.bytes (placement self.old version) (Ok reply) self.new) }
         ensures refused { OnErr result (self.new ≡ self.old) }
     {
         let place = self.len();
@@ -240,30 +242,38 @@ impl<K: KeyTrait, V: Clone + Drop> Family<K, V> {
         Ok(Reply::Place(place))
     }
 
-    // The version at a place, for writing, where its number can be raised by so much; else the
-    // reply that refuses.
+    /// The version at a place, for reading.
+    fn at(&self, place: usize) -> Result<&VersionedAdaptiveRadixTree<K, V>, Refused>
+        ensures found { IfOk result (λ version. version_at self.now place ≡ Some version.now) }
+        ensures lacking { IfErr result (λ refused. (refused ≡ NoVersion)
+            × (version_at self.now place ≡ None)) }
+    {
+        self.version_at(place).ok_or(Refused::NoVersion)
+    }
+
+    /// The version at a place, for writing, where its number can be raised by so much.
     fn version_to_change(
         &mut self,
         place: usize,
         rise: u64,
-    ) -> Result<&mut VersionedAdaptiveRadixTree<K, V>, Reply<K, V>>
+    ) -> Result<&mut VersionedAdaptiveRadixTree<K, V>, Refused>
         ensures* writes_back { sem 𝓛 (LendsVersion K.row V.row K.PartialType.row K.MAXIMUM_SIZE
             K.bytes K.eq K.cmp K.partial_cmp K.PartialType.Partial V.Clone self.entry place
             result) }
         ensures found { IfOk result (λ version. version_at self.old place ≡ Some version.now) }
         ensures room { IfOk result (λ version. HasRoom version.now rise) }
-        ensures refused { IfErr result (λ refusal. MatchOption (version_at self.old place)
-            (refusal ≡ NoVersion)
-            (λ version. (refusal ≡ NoRoom) × ¬ (HasRoom version rise))) }
+        ensures refused { IfErr result (λ refused. MatchOption (version_at self.old place)
+            (refused ≡ NoVersion)
+            (λ version. (refused ≡ NoRoom) × ¬ (HasRoom version rise))) }
     {
         let Some(slot) = self.versions.get_mut(place) else {
-            return Err(Reply::NoVersion);
+            return Err(Refused::NoVersion);
         };
         let Some(version) = slot.as_mut() else {
-            return Err(Reply::NoVersion);
+            return Err(Refused::NoVersion);
         };
         if version.version() > u64::MAX - rise {
-            return Err(Reply::NoRoom);
+            return Err(Refused::NoRoom);
         }
         Ok(version)
     }

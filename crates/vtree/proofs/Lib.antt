@@ -1,15 +1,14 @@
 pub mod NumberLemmas
+pub mod GrammarLemmas
 pub mod WordLemmas
+pub mod FormLemmas
 pub mod KnownLemmas
 pub mod PutLemmas
 pub mod SessionLemmas
-pub mod OneCommand
 pub mod OwnLineLemmas
 pub mod GoodWordLemmas
 pub mod OwnWordLemmas
 pub mod LineSplitLemmas
-pub mod FoundWordLemmas
-pub mod FoundLineLemmas
 pub mod TranscriptLemmas
 pub mod WorkedCommandLemmas
 pub mod WorkedLineLemmas

@@ -4,7 +4,8 @@ use Rattle.std.proofs.lemmas.Bool.{ne_eqb}
 use Rattle.std.proofs.lemmas.List.{append-nil}
 use Rattle.std.specs.Prelude.{if◌then◌else◌}
 use Rattle.vtree.specs.Lines.{lines_of, onto_line}
-use Rattle.vtree.specs.Laws.{HasNoFeed, Each, ended, LinesAreRead}
+use Rattle.vtree.specs.OwnLines.{Each}
+use Rattle.vtree.specs.Laws.{HasNoFeed, ended, LinesAreRead}
 
 -- two choices by a test that does not hold
 chosen : {A : Type 0} (test : Bool) (one other : A) → test ≡ false →

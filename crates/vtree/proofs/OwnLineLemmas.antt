@@ -1,27 +1,25 @@
 -- A command's own line is that command.
 use Rattle.std.proofs.Common.{◌≡◌, ℕ, ◌≤◌, ◌<◌, ◌+◌, ◌*◌, zero, suc, List, [], ◌∷◌, ◌++◌, length, refl, sym, ◌∙◌, ap, subst, arith, rules, Bool, true, false, eqb}
-use Rattle.std.proofs.lemmas.Bool.{ne_eqb}
-use Rattle.std.proofs.lemmas.List.{take_all, length-append}
+use Rattle.std.proofs.lemmas.Bool.{ne_eqb, leb-true}
+use Rattle.std.proofs.lemmas.List.{take_all, length-append, length-map}
 use Rattle.std.proofs.lemmas.List.Elements.{All-head, All-tail}
+use Rattle.std.proofs.lemmas.List.Sums.{AllPass-from_list_all}
 use Rattle.std.proofs.lemmas.List.Splits.{slice_split-cons_no}
 use Rattle.std.proofs.lemmas.Fmt.{decimal_is_IsNumeral, length-decimal-le, decimal_nonempty, digits_decimal, digits_value-decimal}
 use Rattle.std.proofs.lemmas.Str.Parse.{IsNumeralModel, numerals_by_fold}
-use Rattle.std.specs.Prelude.{codes, decimal, ◌&&◌, Option, Some, None, ⊤}
+use Rattle.std.specs.Prelude.{codes, decimal, ◌&&◌, Some, ⊤, map}
 use Rattle.std.specs.List.{AllPass, onto_first, join_with_byte}
 use Rattle.std.specs.Char.{is_ascii_graphic, digit_value}
 use Rattle.std.specs.Str.{all_ascii_digits}
 use Rattle.std.specs.Str.Parse.{AllDigits}
-use Rattle.std.specs.declared.ops.Bound.{Bound}
-use Rattle.std.specs.declared.ops.Bound.TheVariants.{Included, Excluded, Unbounded}
-use Rattle.rart_versioned.specs.SlotUpdate.{SlotUpdate}
-use Rattle.rart_versioned.specs.SlotUpdate.TheVariants as slot
-use Rattle.rart_family.specs.declared.family.command.Command.TheVariants.{New, NewAt, Snapshot, Duplicate, Discard, Version, IsEmpty, Get, GetMut, Insert, Replace, Remove, Delete, Update, TryUpdate, Iter, Values, Range, Prefix, Matches, MatchesEach, Views, PrefixViews, RangeViews, PrefixValues, Until, Intersect, IntersectViews, IntersectValues, IntersectCount, Flatten, Longest}
-use Rattle.vtree.specs.Lines.{words, value_from}
-use Rattle.vtree.specs.Grammar.{Said, Says, IsLineOf, IsNumber, IsKeyText, IsBound, IsWrite, IsAnswer, IsFailingAnswer, IsEnd}
-use Rattle.vtree.specs.OwnLines.{key_word, bound_word, write_word, answer_words, failing_answer_words, end_word, own_words, line_of, Fits, BoundStands, WriteStands, AnswerStands, FailingAnswerStands, CanStand}
-use Rattle.vtree.specs.Laws.{OwnLinesAreRead, Each}
+use Rattle.vtree.specs.Lines.{words, value_from, number_of}
+use Rattle.vtree.specs.Grammar.{Said, Word, Number, Key, Included, Excluded, Text, Bytes, word_of, form_of, IsLineOf}
+use Rattle.vtree.specs.OwnLines.{text_of, line_of, Fits, WordStands, CanStand, Each}
+use Rattle.vtree.specs.Laws.{WordsAreOneCommand, OwnLinesAreRead}
 use Rattle.vtree.proofs.NumberLemmas.{some_number}
-use Rattle.vtree.proofs.OneCommand.{line_is_one_command, words_are_one_command}
+use Rattle.vtree.proofs.GrammarLemmas.{and_left, and_right, same_command, line_is_one_command}
+use Rattle.vtree.proofs.WordLemmas.{Shows, shown, number_word, words_are_read}
+use Rattle.vtree.proofs.FormLemmas.{IsOwn, forms_are_own, form_few, form_some}
 
 -- no byte of a word is a space
 abbrev pub NoSpace : List ℕ → Type 0
@@ -60,24 +58,6 @@ joined_short word (next ∷ more) (suc n) l h =
       length-append word (32 ∷ join_with_byte 32 (next ∷ more)),
     )
 
-pub line_made : (command : Said) (word : List ℕ) (more : List (List ℕ)) →
-    own_words command ≡ word ∷ more → Each IsWord (word ∷ more) → length more ≤ 6 →
-    Says command (word ∷ more) → IsLineOf (line_of command) command
-line_made command word more e each few says =
-    let line : line_of command ≡ join_with_byte 32 (word ∷ more) = ap (join_with_byte 32) e in (
-      omega (arith, ap length line, joined_short word more 6 few each),
-      subst (λ (s : List (List ℕ)). Says command s)
-          (sym (ap words line ∙ words_joined word more each)) says,
-    )
-
-pub and_left : (a b : Bool) → (a && b) ≡ true → a ≡ true
-and_left true b e = refl
-and_left false b e = absurd (cc)
-
-pub and_right : (a b : Bool) → (a && b) ≡ true → b ≡ true
-and_right true b e = e
-and_right false b e = absurd (cc)
-
 abbrev pub not_space : Bool → Bool
 not_space true = false
 not_space false = true
@@ -115,19 +95,10 @@ graphic_no_space (byte ∷ key) h = (
   graphic_no_space key (All-tail (λ b. is_ascii_graphic b ≡ true) byte key h),
 )
 
-pub number_word : (n : ℕ) → Fits n → IsWord (decimal n)
-number_word n h = (
-  digits_no_space (decimal n) (decimal_is_IsNumeral n h).0.1,
-  length-decimal-le 20 n (omega arith) (omega (arith, h)) h,
-)
-
-pub key_is_word : (key : List ℕ) → IsKeyText key → IsWord (key_word key)
-key_is_word key h = ((refl, graphic_no_space key h.1), omega (arith, h.0))
-
 pub own_numerals : IsNumeralModel (λ ds. all_ascii_digits ds ≡ true) (value_from 0)
 own_numerals = numerals_by_fold _ (search rules) value_from (search rules)
 
-pub number_is : (n : ℕ) → Fits n → IsNumber (decimal n) n
+pub number_is : (n : ℕ) → Fits n → number_of (decimal n) ≡ Some n
 number_is n h =
     let l = length (decimal n) in
     let whole = take_all l (decimal n) (omega arith) in
@@ -136,193 +107,69 @@ number_is n h =
     (ap all_ascii_digits whole ∙ digits_decimal own_numerals n h)
     (sym (ap (value_from 0) whole ∙ digits_value-decimal own_numerals n h)) h
 
-pub bound_is_word : (bound : Bound (List ℕ)) → BoundStands bound → IsWord (bound_word bound)
-bound_is_word (Included key) h = ((refl, (refl, graphic_no_space key h.1)), omega (arith, h.0))
-bound_is_word (Excluded key) h = ((refl, (refl, graphic_no_space key h.1)), omega (arith, h.0))
-bound_is_word Unbounded h = ((refl, tt), omega arith)
+pub number_short : (n : ℕ) → Fits n → IsWord (decimal n)
+number_short n h = (
+  digits_no_space (decimal n) (decimal_is_IsNumeral n h).0.1,
+  length-decimal-le 20 n (omega arith) (omega (arith, h)) h,
+)
 
-pub bound_is : (bound : Bound (List ℕ)) → BoundStands bound → IsBound (bound_word bound) bound
-bound_is (Included key) h = (refl, h)
-bound_is (Excluded key) h = (refl, h)
-bound_is Unbounded h = refl
+-- ---- own words
 
-pub write_is_word : (write : Option ℕ) → WriteStands write → IsWord (write_word write)
-write_is_word None h = ((refl, tt), omega arith)
-write_is_word (Some n) h = number_word n h
+-- The text that is read as a word is read as it.
+pub word_is : (word : Word) → WordStands word → IsOwn word → word_of (text_of word) ≡ word
+word_is (Number n) stands own = number_word (decimal n) n (number_is n stands)
+word_is (Key key) stands own = ((words_are_read (codes "'" ++ key)).1 key).1 (refl, stands)
+word_is (Included key) stands own = ((words_are_read (codes "i'" ++ key)).2 key).1 (refl, stands)
+word_is (Excluded key) stands own = ((words_are_read (codes "x'" ++ key)).3 key).1 (refl, stands)
+word_is (Text text) stands own = own.0
+word_is Bytes stands own = absurd own
 
-pub write_is : (write : Option ℕ) → WriteStands write → IsWrite (write_word write) write
-write_is None h = refl
-write_is (Some n) h = number_is n h
+text_graphic : (text : List ℕ) → word_of text ≡ Text text → AllPass is_ascii_graphic text
+text_graphic text own =
+    AllPass-from_list_all is_ascii_graphic text (subst (Shows text) own (shown text)).1
 
-pub end_is_word : (fails : Bool) → IsWord (end_word fails)
-end_is_word false = (no_space (codes "stop") refl, omega arith)
-end_is_word true = (no_space (codes "fail") refl, omega arith)
+own_word : (word : Word) → WordStands word → IsOwn word → IsWord (text_of word)
+own_word (Number n) stands own = number_short n stands
+own_word (Key key) stands own = ((refl, graphic_no_space key stands.1), omega (arith, stands.0))
+own_word (Included key) stands own =
+    ((refl, (refl, graphic_no_space key stands.1)), omega (arith, stands.0))
+own_word (Excluded key) stands own =
+    ((refl, (refl, graphic_no_space key stands.1)), omega (arith, stands.0))
+own_word (Text text) stands own =
+    (graphic_no_space text (text_graphic text own.0), leb-true _ _ own.1)
+own_word Bytes stands own = absurd own
 
-pub end_is : (fails : Bool) → IsEnd (end_word fails) fails
-end_is false = refl
-end_is true = refl
+texts_are_words : (form : List Word) → Each WordStands form → Each IsOwn form →
+    Each IsWord (map text_of form)
+texts_are_words [] stands own = tt
+texts_are_words (word ∷ form) stands own =
+    (own_word word stands.0 own.0, texts_are_words form stands.1 own.1)
 
-pub answer_are_words : (answer : SlotUpdate ℕ) → AnswerStands answer →
-    Each IsWord (answer_words answer)
-answer_are_words slot.Keep h = ((no_space (codes "keep") refl, omega arith), tt)
-answer_are_words slot.Remove h = ((no_space (codes "remove") refl, omega arith), tt)
-answer_are_words (slot.Insert n) h =
-    ((no_space (codes "insert") refl, omega arith), (number_word n h, tt))
+texts_are_read : (form : List Word) → Each WordStands form → Each IsOwn form →
+    map word_of (map text_of form) ≡ form
+texts_are_read [] stands own = refl
+texts_are_read (word ∷ form) stands own =
+    rw (word_is word stands.0 own.0, texts_are_read form stands.1 own.1) refl
 
-pub answer_is : (answer : SlotUpdate ℕ) → AnswerStands answer →
-    IsAnswer answer (answer_words answer)
-answer_is slot.Keep h = refl
-answer_is slot.Remove h = refl
-answer_is (slot.Insert n) h = (refl, number_is n h)
-
-pub answer_few : (answer : SlotUpdate ℕ) → length (answer_words answer) ≤ 2
-answer_few slot.Keep = omega arith
-answer_few slot.Remove = omega arith
-answer_few (slot.Insert n) = omega arith
-
-pub failing_are_words : (answer : Option (SlotUpdate ℕ)) → FailingAnswerStands answer →
-    Each IsWord (failing_answer_words answer)
-failing_are_words None h = ((no_space (codes "fail") refl, omega arith), tt)
-failing_are_words (Some answer) h = answer_are_words answer h
-
-pub failing_is : (answer : Option (SlotUpdate ℕ)) → FailingAnswerStands answer →
-    IsFailingAnswer answer (failing_answer_words answer)
-failing_is None h = refl
-failing_is (Some answer) h = answer_is answer h
-
-pub failing_few : (answer : Option (SlotUpdate ℕ)) → length (failing_answer_words answer) ≤ 2
-failing_few None = omega arith
-failing_few (Some answer) = answer_few answer
+line_read : (form : List Word) → 0 < length form → length form ≤ 6 → Each WordStands form →
+    Each IsOwn form →
+    (length (join_with_byte 32 (map text_of form)) ≤ 200)
+    × (map word_of (words (join_with_byte 32 (map text_of form))) ≡ form)
+line_read [] some few stands own = absurd (omega (arith, some))
+line_read (word ∷ form) some few stands own =
+    let each = texts_are_words (word ∷ form) stands own in
+    let more = length-map form text_of in (
+      omega (arith, joined_short (text_of word) (map text_of form) 5 (omega (arith, few, more)) each),
+      ap (map word_of) (words_joined (text_of word) (map text_of form) each)
+          ∙ texts_are_read (word ∷ form) stands own,
+    )
 
 pub own_line : (command : Said) → CanStand command → IsLineOf (line_of command) command
-own_line New h = line_made New _ _ refl ((no_space (codes "new") refl, omega arith), tt)
-    (omega arith) refl
-own_line (NewAt a) h = line_made (NewAt a) _ _ refl
-    ((no_space (codes "new-at") refl, omega arith), (number_word a h, tt)) (omega arith)
-    (refl, number_is a h)
-own_line (Snapshot a) h = line_made (Snapshot a) _ _ refl
-    ((no_space (codes "snapshot") refl, omega arith), (number_word a h, tt)) (omega arith)
-    (refl, number_is a h)
-own_line (Duplicate a) h = line_made (Duplicate a) _ _ refl
-    ((no_space (codes "clone") refl, omega arith), (number_word a h, tt)) (omega arith)
-    (refl, number_is a h)
-own_line (Discard a) h = line_made (Discard a) _ _ refl
-    ((no_space (codes "discard") refl, omega arith), (number_word a h, tt)) (omega arith)
-    (refl, number_is a h)
-own_line (Version a) h = line_made (Version a) _ _ refl
-    ((no_space (codes "version") refl, omega arith), (number_word a h, tt)) (omega arith)
-    (refl, number_is a h)
-own_line (IsEmpty a) h = line_made (IsEmpty a) _ _ refl
-    ((no_space (codes "empty") refl, omega arith), (number_word a h, tt)) (omega arith)
-    (refl, number_is a h)
-own_line (Get a b) h = line_made (Get a b) _ _ refl
-    ((no_space (codes "get") refl, omega arith), (number_word a h.0, (key_is_word b h.1, tt)))
-    (omega arith) (refl, number_is a h.0, (refl, h.1))
-own_line (GetMut a b c) h = line_made (GetMut a b c) _ _ refl (
-  (no_space (codes "get-mut") refl, omega arith),
-  (number_word a h.0, (key_is_word b h.1, (number_word c h.2, tt))),
-) (omega arith)
-    (refl, number_is a h.0, (refl, h.1), number_is c h.2)
-own_line (Insert a b c) h = line_made (Insert a b c) _ _ refl (
-  (no_space (codes "insert") refl, omega arith),
-  (number_word a h.0, (key_is_word b h.1, (number_word c h.2, tt))),
-) (omega arith)
-    (refl, number_is a h.0, (refl, h.1), number_is c h.2)
-own_line (Replace a b c) h = line_made (Replace a b c) _ _ refl (
-  (no_space (codes "replace") refl, omega arith),
-  (number_word a h.0, (key_is_word b h.1, (number_word c h.2, tt))),
-) (omega arith)
-    (refl, number_is a h.0, (refl, h.1), number_is c h.2)
-own_line (Remove a b) h = line_made (Remove a b) _ _ refl
-    ((no_space (codes "remove") refl, omega arith), (number_word a h.0, (key_is_word b h.1, tt)))
-    (omega arith) (refl, number_is a h.0, (refl, h.1))
-own_line (Delete a b) h = line_made (Delete a b) _ _ refl
-    ((no_space (codes "delete") refl, omega arith), (number_word a h.0, (key_is_word b h.1, tt)))
-    (omega arith) (refl, number_is a h.0, (refl, h.1))
-own_line (Update a b c d) h = line_made (Update a b c d) _ _ refl (
-  (no_space (codes "update") refl, omega arith),
-  (number_word a h.0, (key_is_word b h.1, (write_is_word c h.2, answer_are_words d h.3))),
-)
-    (omega (arith, answer_few d))
-    (refl, number_is a h.0, (refl, h.1), write_is c h.2, answer_is d h.3)
-own_line (TryUpdate a b c d) h =
-    line_made (TryUpdate a b c d) _ _ refl (
-      (no_space (codes "try-update") refl, omega arith),
-      (number_word a h.0, (key_is_word b h.1, (write_is_word c h.2, failing_are_words d h.3))),
-    )
-    (omega (arith, failing_few d))
-    (refl, number_is a h.0, (refl, h.1), write_is c h.2, failing_is d h.3)
-own_line (Iter a) h = line_made (Iter a) _ _ refl
-    ((no_space (codes "iter") refl, omega arith), (number_word a h, tt)) (omega arith)
-    (refl, number_is a h)
-own_line (Values a) h = line_made (Values a) _ _ refl
-    ((no_space (codes "values") refl, omega arith), (number_word a h, tt)) (omega arith)
-    (refl, number_is a h)
-own_line (Range a b c) h = line_made (Range a b c) _ _ refl (
-  (no_space (codes "range") refl, omega arith),
-  (number_word a h.0, (bound_is_word b h.1, (bound_is_word c h.2, tt))),
-) (omega arith)
-    (refl, number_is a h.0, bound_is b h.1, bound_is c h.2)
-own_line (Prefix a b) h = line_made (Prefix a b) _ _ refl
-    ((no_space (codes "prefix") refl, omega arith), (number_word a h.0, (key_is_word b h.1, tt)))
-    (omega arith) (refl, number_is a h.0, (refl, h.1))
-own_line (Matches a b) h = line_made (Matches a b) _ _ refl
-    ((no_space (codes "matches") refl, omega arith), (number_word a h.0, (key_is_word b h.1, tt)))
-    (omega arith) (refl, number_is a h.0, (refl, h.1))
-own_line (MatchesEach a b) h = line_made (MatchesEach a b) _ _ refl (
-  (no_space (codes "matches-each") refl, omega arith),
-  (number_word a h.0, (key_is_word b h.1, tt)),
-) (omega arith) (refl, number_is a h.0, (refl, h.1))
-own_line (Views a) h = line_made (Views a) _ _ refl
-    ((no_space (codes "views") refl, omega arith), (number_word a h, tt)) (omega arith)
-    (refl, number_is a h)
-own_line (PrefixViews a b) h = line_made (PrefixViews a b) _ _ refl (
-  (no_space (codes "prefix-views") refl, omega arith),
-  (number_word a h.0, (key_is_word b h.1, tt)),
-) (omega arith) (refl, number_is a h.0, (refl, h.1))
-own_line (RangeViews a b c) h =
-    line_made (RangeViews a b c) _ _ refl (
-      (no_space (codes "range-views") refl, omega arith),
-      (number_word a h.0, (bound_is_word b h.1, (bound_is_word c h.2, tt))),
-    ) (omega arith)
-    (refl, number_is a h.0, bound_is b h.1, bound_is c h.2)
-own_line (PrefixValues a b) h =
-    line_made (PrefixValues a b) _ _ refl (
-      (no_space (codes "prefix-values") refl, omega arith),
-      (number_word a h.0, (key_is_word b h.1, tt)),
-    ) (omega arith) (refl, number_is a h.0, (refl, h.1))
-own_line (Until a b c d) h = line_made (Until a b c d) _ _ refl (
-  (no_space (codes "until") refl, omega arith),
-  (number_word a h.0, (key_is_word b h.1, (number_word c h.2, (end_is_word d, tt)))),
-)
-    (omega arith) (refl, number_is a h.0, (refl, h.1), number_is c h.2, end_is d)
-own_line (Intersect a b) h = line_made (Intersect a b) _ _ refl
-    ((no_space (codes "intersect") refl, omega arith), (number_word a h.0, (number_word b h.1, tt)))
-    (omega arith) (refl, number_is a h.0, number_is b h.1)
-own_line (IntersectViews a b) h =
-    line_made (IntersectViews a b) _ _ refl (
-      (no_space (codes "intersect-views") refl, omega arith),
-      (number_word a h.0, (number_word b h.1, tt)),
-    ) (omega arith)
-    (refl, number_is a h.0, number_is b h.1)
-own_line (IntersectValues a b) h =
-    line_made (IntersectValues a b) _ _ refl (
-      (no_space (codes "intersect-values") refl, omega arith),
-      (number_word a h.0, (number_word b h.1, tt)),
-    ) (omega arith)
-    (refl, number_is a h.0, number_is b h.1)
-own_line (IntersectCount a b) h =
-    line_made (IntersectCount a b) _ _ refl (
-      (no_space (codes "intersect-count") refl, omega arith),
-      (number_word a h.0, (number_word b h.1, tt)),
-    ) (omega arith)
-    (refl, number_is a h.0, number_is b h.1)
-own_line (Flatten a) h = line_made (Flatten a) _ _ refl
-    ((no_space (codes "flatten") refl, omega arith), (number_word a h, tt)) (omega arith)
-    (refl, number_is a h)
-own_line (Longest a b) h = line_made (Longest a b) _ _ refl
-    ((no_space (codes "longest") refl, omega arith), (number_word a h.0, (key_is_word b h.1, tt)))
-    (omega arith) (refl, number_is a h.0, (refl, h.1))
+own_line command stands = line_read (form_of command) (form_some command) (form_few command) stands
+    (forms_are_own command)
+
+pub words_are_one_command : WordsAreOneCommand
+words_are_one_command words one other h k = same_command one other (sym h ∙ k)
 
 pub own_lines_are_read : OwnLinesAreRead
 own_lines_are_read command h = (

@@ -13,9 +13,24 @@ use Rattle.rart_family.specs.Replies.{Reply, Place, Discarded, Number, Flag, Val
 use Rattle.vtree.specs.Lines.{words, value_from}
 use Rattle.vtree.specs.ReplyTexts.{number_text, key_text, entry_text, pair_text, value_pair_text, line, reply_line, bad_line}
 use Rattle.vtree.specs.OwnLines.{Fits}
-use Rattle.vtree.specs.Laws.{HasNoFeed, Each, Stands, TextsAreLines, BadTextIsNoReply, told, TextsTell, TellingFixesText}
-use Rattle.vtree.proofs.OneCommand.{ap2, ap3, behind_first, first_of_text}
+use Rattle.vtree.specs.OwnLines.{Each}
+use Rattle.vtree.specs.Laws.{HasNoFeed, Stands, TextsAreLines, BadTextIsNoReply, told, TextsTell, TellingFixesText}
 use Rattle.vtree.proofs.OwnLineLemmas.{NoSpace, split_word, split_last, digits_no_space, graphic_no_space, no_space}
+
+ap2 : {A B X : Type 0} (f : A → B → X) {a a' : A} {b b' : B} → a ≡ a' → b ≡ b' → f a b ≡ f a' b'
+ap2 f {a} {a'} {b} {b'} e g = ap (λ t. f t b) e ∙ ap (f a') g
+
+ap3 : {A B C X : Type 0} (f : A → B → C → X) {a a' : A} {b b' : B} {c c' : C} → a ≡ a' →
+    b ≡ b' → c ≡ c' → f a b c ≡ f a' b' c'
+ap3 f {a} {a'} {b} {b'} {c} {c'} e g h = ap (λ t. f t b c) e ∙ ap (λ t. f a' t c) g ∙ ap (f a' b') h
+
+abbrev behind_first : List ℕ → List ℕ
+behind_first [] = []
+behind_first (x ∷ xs) = xs
+
+abbrev first_of_text : List ℕ → ℕ
+first_of_text [] = 0
+first_of_text (x ∷ xs) = x
 
 -- ---- one line feed, at the end
 

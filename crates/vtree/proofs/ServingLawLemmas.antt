@@ -1,16 +1,15 @@
 -- What is left where an input ends, and where its serving ends early.
-use Rattle.std.proofs.Common.{inl, inr, ◌≡◌, ◌≢◌, ◌+◌, ◌⊎◌, Bool, true, false, ℕ, List, [], ◌∷◌, ◌++◌, refl, sym, ◌∙◌, ap, subst, arith, append_assoc, append-nil}
+use Rattle.std.proofs.Common.{inl, inr, ◌≡◌, ◌≢◌, ◌+◌, ◌⊎◌, Bool, true, false, ℕ, zero, suc, List, [], ◌∷◌, ◌++◌, refl, sym, ◌∙◌, ap, subst, arith, append_assoc, append-nil}
 use Rattle.std.proofs.lemmas.List.{take_all}
 use Rattle.std.proofs.lemmas.List.Folds.{concat-append}
-use Rattle.std.specs.Prelude.{◌^◌, ◌-◌, codes, if◌then◌else◌, nat_lt, slice_set, Option, Result, Ok, Err}
+use Rattle.std.specs.Prelude.{◌^◌, ◌-◌, codes, if◌then◌else◌, nat_lt, slice_set, Option}
 use Rattle.std.specs.List.{concat, flat_map}
 use Rattle.std.specs.declared.option.Option.TheVariants.{Some, None}
-use Rattle.rart_maps.specs.Versions.{Version, empty_at, with_rise, value_at, has_key}
-use Rattle.rart_family.specs.declared.family.command.Failure.{Failure}
-use Rattle.rart_family.specs.declared.family.command.Command.TheVariants.{New, NewAt, Snapshot, Duplicate, Discard, Version as NumberOf, IsEmpty, Get, GetMut, Insert, Replace, Remove, Delete, Update, TryUpdate, Iter, Values as ValuesOf, Range, Prefix, Matches, MatchesEach, Views, PrefixViews, RangeViews, PrefixValues, Until, Intersect, IntersectViews, IntersectValues, IntersectCount, Flatten, Longest}
+use Rattle.rart_maps.specs.Versions.{Version}
 use Rattle.rart_family.specs.Replies.{Reply, Place, Discarded, Number, Flag, Value, Entries, Values, Stopped, Pairs, ValuePairs, Count, Failed, NoVersion, NoRoom, NoMemory}
-use Rattle.rart_family.specs.Families.{Family, Outcome, version_at, call_outcome, at_place, with_room, placement, read_outcome, intersection_outcome, change_outcome, tried_reply, outcome}
+use Rattle.rart_family.specs.Families.{Family, Outcome, Call, Makes, Copies, Discards, Reads, Meets, Changes, version_at, call_outcome, with_room, placement, called, call_of, outcome}
 use Rattle.rart_family.proofs.LawLemmas.{no_want}
+use Rattle.rart_family.proofs.RunLemmas.{is_refusal, Answers, command_answers}
 use Rattle.rart_family.proofs.OutOfMemoryLemmas.{no_want_without_memory, no_want_before_lack}
 use Rattle.vtree.specs.Lines.{lines_of}
 use Rattle.vtree.specs.Grammar.{Said}
@@ -43,95 +42,39 @@ if_stays : (f : Family ℕ) (has_room : Bool) (out : Outcome ℕ) → Stays f ou
 if_stays f true out stays lack = stays lack
 if_stays f false out stays lack = refl
 
--- a reply that is no lack
-place_stays : (f : Family ℕ) (v : Version ℕ) → Stays f (placement f v)
-place_stays f v (inl e) = absurd (cc)
-place_stays f v (inr e) = absurd (cc)
+room_stays : (f : Family ℕ) (v : Version ℕ) (room : ℕ) (out : Outcome ℕ) → Stays f out →
+    Stays f (with_room f v room out)
+room_stays f v zero out stays = stays
+room_stays f v (suc room) out stays = if_stays f (nat_lt (v.number + suc room) (2 ^ 64)) out stays
 
-flag_stays : (f new : Family ℕ) (b : Bool) → Stays f (Flag b, new)
-flag_stays f new b (inl e) = absurd (cc)
-flag_stays f new b (inr e) = absurd (cc)
+-- a reply that is no refusal is no lack
+no_lack : (reply : Reply ℕ) → is_refusal reply ≡ false → ¬ IsLack reply
+no_lack reply is (inl e) = let clash : false ≡ true = sym is ∙ ap is_refusal e in cc
+no_lack reply is (inr e) = let clash : false ≡ true = sym is ∙ ap is_refusal e in cc
 
-value_stays : (f new : Family ℕ) (value : Option ℕ) → Stays f (Value value, new)
-value_stays f new value (inl e) = absurd (cc)
-value_stays f new value (inr e) = absurd (cc)
+placed_stays : (f : Family ℕ) (v : Version ℕ) → Stays f (placement f v)
+placed_stays f v lack = absurd (no_lack (placement f v).0 refl lack)
 
-discarded_stays : (f new : Family ℕ) → Stays f (Discarded, new)
-discarded_stays f new (inl e) = absurd (cc)
-discarded_stays f new (inr e) = absurd (cc)
-
-tried_stays : (f new : Family ℕ) (r : Result Bool Failure) → Stays f (tried_reply r, new)
-tried_stays f new (Ok b) lack = flag_stays f new b lack
-tried_stays f new (Err e) (inl lack) = absurd (cc)
-tried_stays f new (Err e) (inr lack) = absurd (cc)
-
--- a call that asks for room, and where it is there is replied no lack
-change_stays : (f : Family ℕ) (place room : ℕ) (call : Version ℕ → Reply ℕ × Version ℕ) →
-    ((v : Version ℕ) (new : Family ℕ) → Stays f ((call v).0, new)) →
-    Stays f (change_outcome f place room call)
-change_stays f place room call stays = call_stays f
-    (λ v. with_room f v room ((call v).0, slice_set f place (Some (call v).1))) (version_at f place)
-    (λ v. if_stays f (nat_lt (v.number + room) (2 ^ 64))
-    ((call v).0, slice_set f place (Some (call v).1))
-    (stays v (slice_set f place (Some (call v).1))))
-
-read_stays : (f : Family ℕ) (place : ℕ) (reply : Version ℕ → Reply ℕ) →
-    Stays f (read_outcome f place reply)
-read_stays f place reply =
-    call_stays f (λ v. (reply v, f)) (version_at f place) (λ v lack. refl)
-
-intersection_stays : (f : Family ℕ) (left right : ℕ) (reply : Version ℕ → Version ℕ → Reply ℕ) →
-    Stays f (intersection_outcome f left right reply)
-intersection_stays f left right reply =
-    call_stays f (λ one. at_place f right (λ other. (reply one other, f))) (version_at f left)
-    (λ one. call_stays f (λ other. (reply one other, f)) (version_at f right) (λ other lack. refl))
+called_stays : (f : Family ℕ) (call : Call ℕ) → Answers call → Stays f (called f call)
+called_stays f (Makes v) answers = placed_stays f v
+called_stays f (Copies place room copy) answers =
+    call_stays f _ (version_at f place)
+    (λ v. room_stays f v room (placement f (copy v)) (placed_stays f (copy v)))
+called_stays f (Discards place) answers =
+    call_stays f _ (version_at f place) (λ v lack. absurd (no_lack Discarded refl lack))
+called_stays f (Reads place reply) answers =
+    call_stays f _ (version_at f place) (λ v lack. refl)
+called_stays f (Meets left right reply) answers =
+    call_stays f _ (version_at f left)
+    (λ one. call_stays f _ (version_at f right) (λ other lack. refl))
+called_stays f (Changes place room key change) answers =
+    call_stays f _ (version_at f place) (λ v. room_stays f v room
+    ((change v).0, slice_set f place (Some (change v).1))
+    (λ lack. absurd (no_lack (change v).0 (answers v) lack)))
 
 lack_stays : (f : Family ℕ) (command : Said) → Stays f (outcome (λ key. key) f command)
-lack_stays f New = place_stays f (empty_at 0)
-lack_stays f (NewAt number) = place_stays f (empty_at number)
-lack_stays f (Snapshot place) =
-    call_stays f (λ v. with_room f v 1 (placement f (with_rise v 1))) (version_at f place)
-    (λ v. if_stays f (nat_lt (v.number + 1) (2 ^ 64)) (placement f (with_rise v 1))
-    (place_stays f (with_rise v 1)))
-lack_stays f (Duplicate place) =
-    call_stays f (placement f) (version_at f place) (place_stays f)
-lack_stays f (Discard place) =
-    call_stays f (λ v. (Discarded, slice_set f place None)) (version_at f place)
-    (λ v. discarded_stays f (slice_set f place None))
-lack_stays f (GetMut place key value) =
-    change_stays f place 1 _ (λ v new. flag_stays f new (has_key v key))
-lack_stays f (Insert place key value) =
-    change_stays f place 1 _ (λ v new. flag_stays f new (has_key v key))
-lack_stays f (Replace place key value) =
-    change_stays f place 1 _ (λ v new. value_stays f new (value_at v key))
-lack_stays f (Remove place key) =
-    change_stays f place 1 _ (λ v new. value_stays f new (value_at v key))
-lack_stays f (Delete place key) =
-    change_stays f place 1 _ (λ v new. flag_stays f new (has_key v key))
-lack_stays f (Update place key write answer) =
-    change_stays f place 1 _ (λ v new. flag_stays f new _)
-lack_stays f (TryUpdate place key write answer) =
-    change_stays f place 2 _ (λ v new. tried_stays f new _)
-lack_stays f (NumberOf place) = read_stays f place _
-lack_stays f (IsEmpty place) = read_stays f place _
-lack_stays f (Get place key) = read_stays f place _
-lack_stays f (Iter place) = read_stays f place _
-lack_stays f (ValuesOf place) = read_stays f place _
-lack_stays f (Range place lo hi) = read_stays f place _
-lack_stays f (Prefix place prefix) = read_stays f place _
-lack_stays f (Matches place key) = read_stays f place _
-lack_stays f (MatchesEach place key) = read_stays f place _
-lack_stays f (Views place) = read_stays f place _
-lack_stays f (PrefixViews place prefix) = read_stays f place _
-lack_stays f (RangeViews place lo hi) = read_stays f place _
-lack_stays f (PrefixValues place prefix) = read_stays f place _
-lack_stays f (Until place prefix visits fails) = read_stays f place _
-lack_stays f (Intersect left right) = intersection_stays f left right _
-lack_stays f (IntersectViews left right) = intersection_stays f left right _
-lack_stays f (IntersectValues left right) = intersection_stays f left right _
-lack_stays f (IntersectCount left right) = intersection_stays f left right _
-lack_stays f (Flatten place) = read_stays f place _
-lack_stays f (Longest place key) = read_stays f place _
+lack_stays f command =
+    called_stays f (call_of (λ key. key) command) (command_answers (λ key. key) f command)
 
 pub refusals_change_nothing : RefusalsChangeNothing
 refusals_change_nothing old new command reply refusal (inr want) = want.1

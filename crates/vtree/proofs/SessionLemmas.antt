@@ -17,6 +17,7 @@ use Rattle.vtree.specs.declared.served.Served.TheVariants.{Clean, BadLine}
 use Rattle.vtree.specs.Lines.{lines_of, onto_line, words}
 use Rattle.vtree.specs.Grammar.{Said, Says, IsLineOf, IsBad}
 use Rattle.vtree.specs.ReplyTexts.{reply_line}
+use Rattle.vtree.specs.Reading.{Reads}
 use Rattle.vtree.specs.Writing.{AppendsPart}
 use Rattle.vtree.specs.Transcript.{Replies, LineGives, Transcript, HasBad, Tells, Serves, Stops, Gains}
 use Rattle.vtree.specs.Sessions.{IsReading, Ends, EndsLine, Commands, onto, Serving, Takes, Finishes}
@@ -308,30 +309,17 @@ kept_line session line reading short =
     let l : length line ≤ 200 = omega (arith, reading.counted, short) in
     (reading.kept ∙ take_all 200 line l, l)
 
--- a line whose words no command is
-pub no_line : (session : Session) (line text : List ℕ) → text ≡ session.line.items →
-    IsReading session line → session.length ≤ 200 → ((said : Said) → Says said (words text) → ⊥) →
-    IsBad line
-no_line session line text e reading short none = λ said is.
+-- what is read of the bytes of a line
+pub read_line : {C : Type 0} (view : C → Said) (session : Session) (line text : List ℕ)
+    (answer : Option C) → text ≡ session.line.items → IsReading session line →
+    session.length ≤ 200 → Reads view answer (λ said. Says said (words text)) →
+    Commands view line answer
+read_line view session line text None e reading short none = λ said is.
     none said (subst (λ (s : List ℕ). Says said (words s))
     (sym (e ∙ (kept_line session line reading short).0)) is.1)
-
--- a line whose words a command is
-pub is_line : (session : Session) (line text : List ℕ) (said : Said) → text ≡ session.line.items →
-    IsReading session line → session.length ≤ 200 → Says said (words text) → IsLineOf line said
-is_line session line text said e reading short says =
+read_line view session line text (Some made) e reading short says =
     let kept = kept_line session line reading short in
-    (kept.1, subst (λ (s : List ℕ). Says said (words s)) (e ∙ kept.0) says)
-
-pub commands_none : {C : Type 0} (view : C → Said) (line : List ℕ) (answer : Option C) →
-    answer ≡ None → IsBad line → Commands view line answer
-commands_none view line None h bad = bad
-commands_none view line (Some made) h bad = absurd (cc)
-
--- the command with keys of its own
-pub command_made : {C : Type 0} (view : C → Said) (line : List ℕ) (made : C) (said : Said) →
-    view made ≡ said → IsLineOf line said → IsLineOf line (view made)
-command_made view line made said same is = subst (λ (s : Said). IsLineOf line s) (sym same) is
+    (kept.1, subst (λ (s : List ℕ). Says (view made) (words s)) (e ∙ kept.0) says)
 
 -- a good line's reply is its text
 pub ends_good : (line : List ℕ) (old new : Session) (said : Said) (reply : Reply ℕ) →

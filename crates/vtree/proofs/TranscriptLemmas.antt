@@ -1,13 +1,16 @@
 -- Transcripts of the same lines agree, and own replies are one.
-use Rattle.std.proofs.Common.{inl, inr, ◌≡◌, ◌≢◌, ℕ, List, [], ◌∷◌, refl, sym, ◌∙◌, ap, subst}
+use Rattle.std.proofs.Common.{inl, inr, ◌≡◌, ◌≢◌, ℕ, List, [], ◌∷◌, refl, sym, ◌∙◌, ap, subst, ◌≤◌, ◌<◌, length, map, true, false, leb, arith}
+use Rattle.std.proofs.lemmas.Bool.Decides.{leb_tells}
+use Rattle.std.specs.Prelude.{◌⊎◌}
 use Rattle.rart_family.specs.Replies.{Reply, NoMemory}
 use Rattle.rart_family.specs.Families.{Family, reply_to, after}
 use Rattle.rart_family.proofs.LawLemmas.{own_replies}
-use Rattle.vtree.specs.Grammar.{Said}
-use Rattle.vtree.specs.ReplyTexts.{reply_line}
+use Rattle.vtree.specs.Grammar.{Said, word_of, form_of, IsLineOf}
+use Rattle.vtree.specs.Lines.{words}
+use Rattle.vtree.specs.ReplyTexts.{reply_line, bad_line}
 use Rattle.vtree.specs.Transcript.{Replies, LineGives, Transcript}
-use Rattle.vtree.specs.Laws.{TranscriptsAgree, BadLinesChangeNothing, OwnRepliesAreTranscripts}
-use Rattle.vtree.proofs.OneCommand.{ap2, line_is_one_command}
+use Rattle.vtree.specs.Laws.{EachLineGives, TranscriptsAgree, BadLinesChangeNothing, OwnRepliesAreTranscripts}
+use Rattle.vtree.proofs.GrammarLemmas.{Finds, form_found, line_is_one_command}
 use Rattle.vtree.proofs.OwnLineLemmas.{own_line}
 
 -- a reply that does not say that memory was refused is the command's own
@@ -41,7 +44,7 @@ transcripts_agree old one other (l ∷ ls) (t ∷ ts) (u ∷ us) h k p q =
     let first = line_agrees old h.0 k.0 l t u h.1 k.1 p.0 q.0 in
     let rest = transcripts_agree h.0 one other ls ts us h.2
     (subst (λ (f : Family ℕ). Transcript f ls us other) (sym first.1) k.2) p.1 q.1 in
-    (ap2 (λ a b. a ∷ b) first.0 rest.0, rest.1)
+    (rw (first.0, rest.0) refl, rest.1)
 
 pub bad_lines_change_nothing : BadLinesChangeNothing
 bad_lines_change_nothing old new line text bad (inl b) = (b.1, b.2)
@@ -57,3 +60,26 @@ own_replies_are_transcripts old (c ∷ cs) h = (
 
 -- what transcripts of the same lines have in common
 pub ruleset transcripts = (transcripts_agree, bad_lines_change_nothing, own_replies_are_transcripts)
+
+-- ---- each line is a command's, or a bad one
+
+line_at : (line : List ℕ) → ((leb (length line) 200 ≡ true) × (length line ≤ 200)) ⊎
+    ((leb (length line) 200 ≡ false) × (200 < length line)) →
+    Finds Said (λ command. map word_of (words line) ≡ form_of command) →
+    Finds Said (IsLineOf line)
+line_at line (inr l) found = inr (λ c h. absurd (omega (arith, l.1, h.0)))
+line_at line (inl l) (inl found) = inl (found.0, (l.1, found.1))
+line_at line (inl l) (inr none) = inr (λ c h. none c h.1)
+
+gives_at : (old : Family ℕ) (line : List ℕ) → Finds Said (IsLineOf line) →
+    (text : List ℕ) × (new : Family ℕ) × LineGives old line text new
+gives_at old line (inl found) = (
+  reply_line (reply_to (λ key. key) old found.0),
+  after (λ key. key) old found.0,
+  inr (found.0, reply_to (λ key. key) old found.0, found.1, inl (refl, refl), refl),
+)
+gives_at old line (inr bad) = (bad_line, old, inl (bad, refl, refl))
+
+pub each_line_gives : EachLineGives
+each_line_gives old line = gives_at old line
+    (line_at line (leb_tells (length line) 200) (form_found (map word_of (words line))))

@@ -1,272 +1,180 @@
--- Shapes of lines are the rows of the grammar.
-use Rattle.std.proofs.Common.{◌≡◌, ◌≢◌, ℕ, List, [], ◌∷◌, refl, sym, ◌∙◌, subst}
-use Rattle.std.specs.Prelude.{codes, Option, Some, None}
-use Rattle.rart_family.specs.declared.family.command.Command.TheVariants.{New, NewAt, Snapshot, Duplicate, Discard, Version, IsEmpty, Get, GetMut, Insert, Replace, Remove, Delete, Update, TryUpdate, Iter, Values, Range, Prefix, Matches, MatchesEach, Views, PrefixViews, RangeViews, PrefixValues, Until, Intersect, IntersectViews, IntersectValues, IntersectCount, Flatten, Longest}
-use Rattle.rart_versioned.specs.SlotUpdate.{SlotUpdate}
-use Rattle.vtree.specs.Grammar.{Said, Says, IsNumber, IsKey, IsAnswer, IsFailingAnswer}
-use Rattle.vtree.specs.Reading.{Reads}
-use Rattle.vtree.specs.Shapes.{name_of, HasPlace, HasPair, IsKeyed, IsIntersection, IsRange}
+-- What a word shows of the bytes that it was read of.
+use Rattle.std.proofs.Common.{◌≡◌, ℕ, zero, suc, ◌<◌, List, [], ◌∷◌, ◌++◌, refl, sym, ap, subst, ◌∙◌, arith, Bool, true, false}
+use Rattle.std.proofs.lemmas.Bool.{leb-true, le-leb}
+use Rattle.std.proofs.lemmas.Bool.Decides.{nat_tests}
+use Rattle.std.proofs.lemmas.List.{take-append-drop}
+use Rattle.std.proofs.lemmas.List.Sums.{AllPass-from_list_all, list_all-from_AllPass}
+use Rattle.std.proofs.lemmas.Slice.Eq.{bytes_eq-Decides}
+use Rattle.std.proofs.lemmas.Str.{IsUtf8-from_ascii}
+use Rattle.std.specs.Prelude.{Option, Some, None, Result, Ok, Err, MatchResult, IfSome, ◌&&◌, map, take, drop, length, codes, nat_lt, nat_le, if◌then◌else◌, ◌^◌, ⊤}
+use Rattle.std.specs.Option.{option_map, unwrap_or}
+use Rattle.std.specs.Result.{result_ok}
+use Rattle.std.specs.List.{list_all}
+use Rattle.std.specs.Str.{IsUtf8, IsAscii, bytes_eq, all_ascii_digits}
+use Rattle.std.specs.Char.{is_ascii_graphic, is_ascii_digit}
+use Rattle.std.specs.Borrow.{Bor}
+use Rattle.vtree.specs.Lines.{number_of, value_from}
+use Rattle.vtree.specs.Grammar.{Word, Number, Key, Included, Excluded, Text, Bytes, IsKeyText, word_of, key_behind, is_key_text}
+use Rattle.vtree.specs.Words.{IsShort, AreShort}
+use Rattle.vtree.specs.Laws.{WordsAreRead}
+use Rattle.vtree.proofs.NumberLemmas.{none_from, and_none}
+use Rattle.vtree.proofs.GrammarLemmas.{and_left, and_right}
 
--- one reading for another
-pub reads_same : {X Y : Type 0} (view : X → Y) (answer : Option X) (P Q : Y → Type 0) →
-    ((y : Y) → P y → Q y) → ((y : Y) → Q y → P y) → Reads view answer P → Reads view answer Q
-reads_same view None P Q to back h = λ y q. h y (back y q)
-reads_same view (Some x) P Q to back h = to (view x) h
+graphic_byte : (byte : ℕ) → is_ascii_graphic byte ≡ true → byte < 128
+graphic_byte byte is = grind (arith, nat_tests)
 
--- a command's first word is its name
-pub says_name : (command : Said) (name : List ℕ) (args : List (List ℕ)) →
-    Says command (name ∷ args) → name ≡ name_of command
-says_name New name [] h = h
-says_name (NewAt a) name (w0 ∷ []) h = h.0
-says_name (Snapshot a) name (w0 ∷ []) h = h.0
-says_name (Duplicate a) name (w0 ∷ []) h = h.0
-says_name (Discard a) name (w0 ∷ []) h = h.0
-says_name (Version a) name (w0 ∷ []) h = h.0
-says_name (IsEmpty a) name (w0 ∷ []) h = h.0
-says_name (Iter a) name (w0 ∷ []) h = h.0
-says_name (Values a) name (w0 ∷ []) h = h.0
-says_name (Views a) name (w0 ∷ []) h = h.0
-says_name (Flatten a) name (w0 ∷ []) h = h.0
-says_name (Get a b) name (w0 ∷ w1 ∷ []) h = h.0
-says_name (Remove a b) name (w0 ∷ w1 ∷ []) h = h.0
-says_name (Delete a b) name (w0 ∷ w1 ∷ []) h = h.0
-says_name (Prefix a b) name (w0 ∷ w1 ∷ []) h = h.0
-says_name (Matches a b) name (w0 ∷ w1 ∷ []) h = h.0
-says_name (MatchesEach a b) name (w0 ∷ w1 ∷ []) h = h.0
-says_name (PrefixViews a b) name (w0 ∷ w1 ∷ []) h = h.0
-says_name (PrefixValues a b) name (w0 ∷ w1 ∷ []) h = h.0
-says_name (Longest a b) name (w0 ∷ w1 ∷ []) h = h.0
-says_name (Intersect a b) name (w0 ∷ w1 ∷ []) h = h.0
-says_name (IntersectViews a b) name (w0 ∷ w1 ∷ []) h = h.0
-says_name (IntersectValues a b) name (w0 ∷ w1 ∷ []) h = h.0
-says_name (IntersectCount a b) name (w0 ∷ w1 ∷ []) h = h.0
-says_name (GetMut a b c) name (w0 ∷ w1 ∷ w2 ∷ []) h = h.0
-says_name (Insert a b c) name (w0 ∷ w1 ∷ w2 ∷ []) h = h.0
-says_name (Replace a b c) name (w0 ∷ w1 ∷ w2 ∷ []) h = h.0
-says_name (Range a b c) name (w0 ∷ w1 ∷ w2 ∷ []) h = h.0
-says_name (RangeViews a b c) name (w0 ∷ w1 ∷ w2 ∷ []) h = h.0
-says_name (Until a b c d) name (w0 ∷ w1 ∷ w2 ∷ w3 ∷ []) h = h.0
-says_name (Update a b c d) name (w0 ∷ w1 ∷ w2 ∷ more) h = h.0
-says_name (TryUpdate a b c d) name (w0 ∷ w1 ∷ w2 ∷ more) h = h.0
-says_name command name args h = absurd h
+graphic_is_ascii : (word : List ℕ) → list_all is_ascii_graphic word ≡ true → IsAscii word
+graphic_is_ascii [] is i = omega arith
+graphic_is_ascii (byte ∷ word) is zero = graphic_byte byte (and_left _ _ is)
+graphic_is_ascii (byte ∷ word) is (suc i) =
+    graphic_is_ascii word (and_right (is_ascii_graphic byte) _ is) i
 
-pub some_same : (a b : ℕ) → Some a ≡ Some b → a ≡ b
-some_same a b e = cc
+-- Graphic bytes are read as a text.
+pub text_read : {E : Type 0} (word : List ℕ) (read : Result (Bor (List ℕ)) E) (P : E → Type 0) →
+    list_all is_ascii_graphic word ≡ true →
+    MatchResult read (λ text. (text.now ≡ word) × IsUtf8 word) (λ e. ¬ (IsUtf8 word) × P e) →
+    option_map (λ text. text.now) (result_ok read) ≡ Some word
+text_read word (Ok text) P is read = ap Some read.0
+text_read word (Err e) P is read =
+    absurd (read.0 (IsUtf8-from_ascii word (graphic_is_ascii word is)))
 
--- a name and a place are the words of a command
-pub place_says : (command : Said) (name word : List ℕ) (place : ℕ) → IsNumber word place →
-    (name ≡ name_of command) × HasPlace command place → Says command (name ∷ word ∷ [])
-place_says (Snapshot a) name word place is h = (h.0, subst (IsNumber word) (sym h.1) is)
-place_says (Duplicate a) name word place is h = (h.0, subst (IsNumber word) (sym h.1) is)
-place_says (Discard a) name word place is h = (h.0, subst (IsNumber word) (sym h.1) is)
-place_says (Version a) name word place is h = (h.0, subst (IsNumber word) (sym h.1) is)
-place_says (IsEmpty a) name word place is h = (h.0, subst (IsNumber word) (sym h.1) is)
-place_says (Iter a) name word place is h = (h.0, subst (IsNumber word) (sym h.1) is)
-place_says (Values a) name word place is h = (h.0, subst (IsNumber word) (sym h.1) is)
-place_says (Views a) name word place is h = (h.0, subst (IsNumber word) (sym h.1) is)
-place_says (Flatten a) name word place is h = (h.0, subst (IsNumber word) (sym h.1) is)
-place_says command name word place is h = absurd h.1
+-- ---- what a word shows
 
-pub says_place : (command : Said) (name word : List ℕ) (place : ℕ) → IsNumber word place →
-    name ≢ codes "new-at" → Says command (name ∷ word ∷ []) →
-    (name ≡ name_of command) × HasPlace command place
-says_place (Snapshot a) name word place is other h = (h.0, some_same a place (sym h.1 ∙ is))
-says_place (Duplicate a) name word place is other h = (h.0, some_same a place (sym h.1 ∙ is))
-says_place (Discard a) name word place is other h = (h.0, some_same a place (sym h.1 ∙ is))
-says_place (Version a) name word place is other h = (h.0, some_same a place (sym h.1 ∙ is))
-says_place (IsEmpty a) name word place is other h = (h.0, some_same a place (sym h.1 ∙ is))
-says_place (Iter a) name word place is other h = (h.0, some_same a place (sym h.1 ∙ is))
-says_place (Values a) name word place is other h = (h.0, some_same a place (sym h.1 ∙ is))
-says_place (Views a) name word place is other h = (h.0, some_same a place (sym h.1 ∙ is))
-says_place (Flatten a) name word place is other h = (h.0, some_same a place (sym h.1 ∙ is))
-says_place (NewAt a) name word place is other h = absurd (other h.0)
-says_place command name word place is other h = absurd h
+-- The word is what its bytes show.
+abbrev pub Shows : List ℕ → Word → Type 0
+Shows bytes (Number number) = number_of bytes ≡ Some number
+Shows bytes (Key key) = (bytes ≡ codes "'" ++ key) × IsKeyText key
+Shows bytes (Included key) = (bytes ≡ codes "i'" ++ key) × IsKeyText key
+Shows bytes (Excluded key) = (bytes ≡ codes "x'" ++ key) × IsKeyText key
+Shows bytes (Text text) = (bytes ≡ text) × (list_all is_ascii_graphic bytes ≡ true)
+Shows bytes Bytes = ⊤
 
--- a name and two places are the words of a command
-pub pair_says : (command : Said) (name p q : List ℕ) (left right : ℕ) → IsNumber p left →
-    IsNumber q right → (name ≡ name_of command) × HasPair command left right →
-    IsIntersection command × Says command (name ∷ p ∷ q ∷ [])
-pair_says (Intersect a b) name p q left right one other h =
-    (tt, (h.0, subst (IsNumber p) (sym h.1.0) one, subst (IsNumber q) (sym h.1.1) other))
-pair_says (IntersectViews a b) name p q left right one other h =
-    (tt, (h.0, subst (IsNumber p) (sym h.1.0) one, subst (IsNumber q) (sym h.1.1) other))
-pair_says (IntersectValues a b) name p q left right one other h =
-    (tt, (h.0, subst (IsNumber p) (sym h.1.0) one, subst (IsNumber q) (sym h.1.1) other))
-pair_says (IntersectCount a b) name p q left right one other h =
-    (tt, (h.0, subst (IsNumber p) (sym h.1.0) one, subst (IsNumber q) (sym h.1.1) other))
-pair_says command name p q left right one other h = absurd h.1
+shows_or : (bytes : List ℕ) (answer : Option Word) (word : Word) → IfSome answer (Shows bytes) →
+    Shows bytes word → Shows bytes (unwrap_or answer word)
+shows_or bytes None word here later = later
+shows_or bytes (Some found) word here later = here
 
-pub says_pair : (command : Said) (name p q : List ℕ) (left right : ℕ) → IsNumber p left →
-    IsNumber q right → IsIntersection command × Says command (name ∷ p ∷ q ∷ []) →
-    (name ≡ name_of command) × HasPair command left right
-says_pair (Intersect a b) name p q left right one other h =
-    (h.1.0, (some_same a left (sym h.1.1 ∙ one), some_same b right (sym h.1.2 ∙ other)))
-says_pair (IntersectViews a b) name p q left right one other h =
-    (h.1.0, (some_same a left (sym h.1.1 ∙ one), some_same b right (sym h.1.2 ∙ other)))
-says_pair (IntersectValues a b) name p q left right one other h =
-    (h.1.0, (some_same a left (sym h.1.1 ∙ one), some_same b right (sym h.1.2 ∙ other)))
-says_pair (IntersectCount a b) name p q left right one other h =
-    (h.1.0, (some_same a left (sym h.1.1 ∙ one), some_same b right (sym h.1.2 ∙ other)))
-says_pair command name p q left right one other h = absurd h.0
+number_shown : (bytes : List ℕ) (answer : Option ℕ) → number_of bytes ≡ answer →
+    IfSome (option_map Number answer) (Shows bytes)
+number_shown bytes None e = tt
+number_shown bytes (Some n) e = e
 
--- a name, a place, a key and the rest are the words of a command
-pub keyed_says : (command : Said) (name p k : List ℕ) (rest : List (List ℕ)) →
-    IsKeyed name p k rest command → Says command (name ∷ p ∷ k ∷ rest)
-keyed_says (Get a b) name p k [] h = let (place, key, number, word, same, rest) = h.1 in
-    (h.0, subst (IsNumber p) (sym same.0) number, subst (IsKey k) (sym same.1) word)
-keyed_says (Get a b) name p k (w ∷ more) h = absurd h.1.5
-keyed_says (Remove a b) name p k [] h = let (place, key, number, word, same, rest) = h.1 in
-    (h.0, subst (IsNumber p) (sym same.0) number, subst (IsKey k) (sym same.1) word)
-keyed_says (Remove a b) name p k (w ∷ more) h = absurd h.1.5
-keyed_says (Delete a b) name p k [] h = let (place, key, number, word, same, rest) = h.1 in
-    (h.0, subst (IsNumber p) (sym same.0) number, subst (IsKey k) (sym same.1) word)
-keyed_says (Delete a b) name p k (w ∷ more) h = absurd h.1.5
-keyed_says (Prefix a b) name p k [] h = let (place, key, number, word, same, rest) = h.1 in
-    (h.0, subst (IsNumber p) (sym same.0) number, subst (IsKey k) (sym same.1) word)
-keyed_says (Prefix a b) name p k (w ∷ more) h = absurd h.1.5
-keyed_says (Matches a b) name p k [] h = let (place, key, number, word, same, rest) = h.1 in
-    (h.0, subst (IsNumber p) (sym same.0) number, subst (IsKey k) (sym same.1) word)
-keyed_says (Matches a b) name p k (w ∷ more) h = absurd h.1.5
-keyed_says (MatchesEach a b) name p k [] h = let (place, key, number, word, same, rest) = h.1 in
-    (h.0, subst (IsNumber p) (sym same.0) number, subst (IsKey k) (sym same.1) word)
-keyed_says (MatchesEach a b) name p k (w ∷ more) h = absurd h.1.5
-keyed_says (PrefixViews a b) name p k [] h = let (place, key, number, word, same, rest) = h.1 in
-    (h.0, subst (IsNumber p) (sym same.0) number, subst (IsKey k) (sym same.1) word)
-keyed_says (PrefixViews a b) name p k (w ∷ more) h = absurd h.1.5
-keyed_says (PrefixValues a b) name p k [] h = let (place, key, number, word, same, rest) = h.1 in
-    (h.0, subst (IsNumber p) (sym same.0) number, subst (IsKey k) (sym same.1) word)
-keyed_says (PrefixValues a b) name p k (w ∷ more) h = absurd h.1.5
-keyed_says (Longest a b) name p k [] h = let (place, key, number, word, same, rest) = h.1 in
-    (h.0, subst (IsNumber p) (sym same.0) number, subst (IsKey k) (sym same.1) word)
-keyed_says (Longest a b) name p k (w ∷ more) h = absurd h.1.5
-keyed_says (GetMut a b v) name p k [] h = absurd h.1.5
-keyed_says (GetMut a b v) name p k (w ∷ []) h = let (place, key, number, word, same, rest) = h.1 in
-    (h.0, subst (IsNumber p) (sym same.0) number, subst (IsKey k) (sym same.1) word, rest)
-keyed_says (GetMut a b v) name p k (w ∷ x ∷ more) h = absurd h.1.5
-keyed_says (Insert a b v) name p k [] h = absurd h.1.5
-keyed_says (Insert a b v) name p k (w ∷ []) h = let (place, key, number, word, same, rest) = h.1 in
-    (h.0, subst (IsNumber p) (sym same.0) number, subst (IsKey k) (sym same.1) word, rest)
-keyed_says (Insert a b v) name p k (w ∷ x ∷ more) h = absurd h.1.5
-keyed_says (Replace a b v) name p k [] h = absurd h.1.5
-keyed_says (Replace a b v) name p k (w ∷ []) h = let (place, key, number, word, same, rest) = h.1 in
-    (h.0, subst (IsNumber p) (sym same.0) number, subst (IsKey k) (sym same.1) word, rest)
-keyed_says (Replace a b v) name p k (w ∷ x ∷ more) h = absurd h.1.5
-keyed_says (Update a b w v) name p k [] h = absurd h.1.5
-keyed_says (Update a b w v) name p k (x ∷ more) h = let (place, key, number, word, same, rest) =
-    h.1 in (
-      h.0,
-      subst (IsNumber p) (sym same.0) number,
-      subst (IsKey k) (sym same.1) word,
-      rest.0,
-      rest.1,
-    )
-keyed_says (TryUpdate a b w v) name p k [] h = absurd h.1.5
-keyed_says (TryUpdate a b w v) name p k (x ∷ more) h = let (place, key, number, word, same, rest) =
-    h.1 in (
-      h.0,
-      subst (IsNumber p) (sym same.0) number,
-      subst (IsKey k) (sym same.1) word,
-      rest.0,
-      rest.1,
-    )
-keyed_says (Until a b n f) name p k [] h = absurd h.1.5
-keyed_says (Until a b n f) name p k (x ∷ []) h = absurd h.1.5
-keyed_says (Until a b n f) name p k (x ∷ y ∷ []) h = let (place, key, number, word, same, rest) =
-    h.1 in (
-      h.0,
-      subst (IsNumber p) (sym same.0) number,
-      subst (IsKey k) (sym same.1) word,
-      rest.0,
-      rest.1,
-    )
-keyed_says (Until a b n f) name p k (x ∷ y ∷ z ∷ more) h = absurd h.1.5
-keyed_says New name p k rest h = absurd h.1.4
-keyed_says (NewAt n) name p k rest h = absurd h.1.4
-keyed_says (Snapshot a) name p k rest h = absurd h.1.4
-keyed_says (Duplicate a) name p k rest h = absurd h.1.4
-keyed_says (Discard a) name p k rest h = absurd h.1.4
-keyed_says (Version a) name p k rest h = absurd h.1.4
-keyed_says (IsEmpty a) name p k rest h = absurd h.1.4
-keyed_says (Iter a) name p k rest h = absurd h.1.4
-keyed_says (Values a) name p k rest h = absurd h.1.4
-keyed_says (Views a) name p k rest h = absurd h.1.4
-keyed_says (Flatten a) name p k rest h = absurd h.1.4
-keyed_says (Range a lo hi) name p k rest h = absurd h.1.4
-keyed_says (RangeViews a lo hi) name p k rest h = absurd h.1.4
-keyed_says (Intersect x y) name p k rest h = absurd h.1.4
-keyed_says (IntersectViews x y) name p k rest h = absurd h.1.4
-keyed_says (IntersectValues x y) name p k rest h = absurd h.1.4
-keyed_says (IntersectCount x y) name p k rest h = absurd h.1.4
+key_shown : (mark bytes : List ℕ) →
+    IfSome (key_behind mark bytes) (λ key. (bytes ≡ mark ++ key) × IsKeyText key)
+key_shown mark bytes =
+    let key = drop (length mark) bytes in
+    elim (bytes_eq (take (length mark) bytes) mark && is_key_text key) as (λ t.
+    (bytes_eq (take (length mark) bytes) mark && is_key_text key) ≡ t →
+    IfSome (if t then Some key else None) (λ key. (bytes ≡ mark ++ key) × IsKeyText key)) [
+      | true ↦ λ is.
+          let begins : take (length mark) bytes ≡ mark =
+          (bytes_eq-Decides (take (length mark) bytes) mark).0 (and_left _ _ is) in
+          let text : is_key_text key ≡ true =
+          and_right (bytes_eq (take (length mark) bytes) mark) _ is in (
+            sym (take-append-drop (length mark) bytes) ∙ ap (λ front. front ++ key) begins,
+            (
+              leb-true _ _ (and_left _ _ text),
+              AllPass-from_list_all is_ascii_graphic key
+                  (and_right (nat_le (length key) 16) _ text),
+            ),
+          )
+      | false ↦ λ is. tt
+    ] refl
 
--- and the words of a command with a key are these, but for two kinds
-pub says_keyed : (command : Said) (name p k : List ℕ) (rest : List (List ℕ)) →
-    (IsIntersection command → ⊥) → (IsRange command → ⊥) → Says command (name ∷ p ∷ k ∷ rest) →
-    IsKeyed name p k rest command
-says_keyed (Get a b) name p k [] i r h = (h.0, (a, b, h.1, h.2, (refl, refl), tt))
-says_keyed (Get a b) name p k (w ∷ more) i r h = absurd h
-says_keyed (Remove a b) name p k [] i r h = (h.0, (a, b, h.1, h.2, (refl, refl), tt))
-says_keyed (Remove a b) name p k (w ∷ more) i r h = absurd h
-says_keyed (Delete a b) name p k [] i r h = (h.0, (a, b, h.1, h.2, (refl, refl), tt))
-says_keyed (Delete a b) name p k (w ∷ more) i r h = absurd h
-says_keyed (Prefix a b) name p k [] i r h = (h.0, (a, b, h.1, h.2, (refl, refl), tt))
-says_keyed (Prefix a b) name p k (w ∷ more) i r h = absurd h
-says_keyed (Matches a b) name p k [] i r h = (h.0, (a, b, h.1, h.2, (refl, refl), tt))
-says_keyed (Matches a b) name p k (w ∷ more) i r h = absurd h
-says_keyed (MatchesEach a b) name p k [] i r h = (h.0, (a, b, h.1, h.2, (refl, refl), tt))
-says_keyed (MatchesEach a b) name p k (w ∷ more) i r h = absurd h
-says_keyed (PrefixViews a b) name p k [] i r h = (h.0, (a, b, h.1, h.2, (refl, refl), tt))
-says_keyed (PrefixViews a b) name p k (w ∷ more) i r h = absurd h
-says_keyed (PrefixValues a b) name p k [] i r h = (h.0, (a, b, h.1, h.2, (refl, refl), tt))
-says_keyed (PrefixValues a b) name p k (w ∷ more) i r h = absurd h
-says_keyed (Longest a b) name p k [] i r h = (h.0, (a, b, h.1, h.2, (refl, refl), tt))
-says_keyed (Longest a b) name p k (w ∷ more) i r h = absurd h
-says_keyed (GetMut a b v) name p k [] i r h = absurd h
-says_keyed (GetMut a b v) name p k (w ∷ []) i r h = (h.0, (a, b, h.1, h.2, (refl, refl), h.3))
-says_keyed (GetMut a b v) name p k (w ∷ x ∷ more) i r h = absurd h
-says_keyed (Insert a b v) name p k [] i r h = absurd h
-says_keyed (Insert a b v) name p k (w ∷ []) i r h = (h.0, (a, b, h.1, h.2, (refl, refl), h.3))
-says_keyed (Insert a b v) name p k (w ∷ x ∷ more) i r h = absurd h
-says_keyed (Replace a b v) name p k [] i r h = absurd h
-says_keyed (Replace a b v) name p k (w ∷ []) i r h = (h.0, (a, b, h.1, h.2, (refl, refl), h.3))
-says_keyed (Replace a b v) name p k (w ∷ x ∷ more) i r h = absurd h
-says_keyed (Update a b w v) name p k [] i r h = absurd h
-says_keyed (Update a b w v) name p k (x ∷ more) i r h =
-    (h.0, (a, b, h.1, h.2, (refl, refl), (h.3, h.4)))
-says_keyed (TryUpdate a b w v) name p k [] i r h = absurd h
-says_keyed (TryUpdate a b w v) name p k (x ∷ more) i r h =
-    (h.0, (a, b, h.1, h.2, (refl, refl), (h.3, h.4)))
-says_keyed (Until a b n f) name p k [] i r h = absurd h
-says_keyed (Until a b n f) name p k (x ∷ []) i r h = absurd h
-says_keyed (Until a b n f) name p k (x ∷ y ∷ []) i r h =
-    (h.0, (a, b, h.1, h.2, (refl, refl), (h.3, h.4)))
-says_keyed (Until a b n f) name p k (x ∷ y ∷ z ∷ more) i r h = absurd h
-says_keyed New name p k rest i r h = absurd h
-says_keyed (NewAt n) name p k rest i r h = absurd h
-says_keyed (Snapshot a) name p k rest i r h = absurd h
-says_keyed (Duplicate a) name p k rest i r h = absurd h
-says_keyed (Discard a) name p k rest i r h = absurd h
-says_keyed (Version a) name p k rest i r h = absurd h
-says_keyed (IsEmpty a) name p k rest i r h = absurd h
-says_keyed (Iter a) name p k rest i r h = absurd h
-says_keyed (Values a) name p k rest i r h = absurd h
-says_keyed (Views a) name p k rest i r h = absurd h
-says_keyed (Flatten a) name p k rest i r h = absurd h
-says_keyed (Range a lo hi) name p k rest i r h = absurd (r tt)
-says_keyed (RangeViews a lo hi) name p k rest i r h = absurd (r tt)
-says_keyed (Intersect x y) name p k rest i r h = absurd (i tt)
-says_keyed (IntersectViews x y) name p k rest i r h = absurd (i tt)
-says_keyed (IntersectValues x y) name p k rest i r h = absurd (i tt)
-says_keyed (IntersectCount x y) name p k rest i r h = absurd (i tt)
+map_shown : (bytes mark : List ℕ) (make : List ℕ → Word) (answer : Option (List ℕ)) →
+    ((key : List ℕ) → (bytes ≡ mark ++ key) × IsKeyText key → Shows bytes (make key)) →
+    IfSome answer (λ key. (bytes ≡ mark ++ key) × IsKeyText key) →
+    IfSome (option_map make answer) (Shows bytes)
+map_shown bytes mark make None each shown = tt
+map_shown bytes mark make (Some key) each shown = each key shown
 
--- nothing is read
-pub reads_none : {X Y : Type 0} (view : X → Y) (answer : Option X) (Is : Y → Type 0) →
-    answer ≡ None → ((y : Y) → Is y → ⊥) → Reads view answer Is
-reads_none view None Is e never = never
-reads_none view (Some x) Is e never = absurd (cc)
+text_shown : (bytes : List ℕ) (b : Bool) → list_all is_ascii_graphic bytes ≡ b →
+    Shows bytes (if b then Text bytes else Bytes)
+text_shown bytes true is = (refl, is)
+text_shown bytes false is = tt
 
--- words that are neither `fail` nor an answer
-pub no_failing : (words : List (List ℕ)) → (IsFailingAnswer None words → ⊥) →
-    ((a : SlotUpdate ℕ) → IsAnswer a words → ⊥) → (answer : Option (SlotUpdate ℕ)) →
-    IsFailingAnswer answer words → ⊥
-no_failing words fails answers None h = fails h
-no_failing words fails answers (Some a) h = answers a h
+pub shown : (bytes : List ℕ) → Shows bytes (word_of bytes)
+shown bytes =
+    shows_or bytes _ _ (number_shown bytes (number_of bytes) refl)
+    (shows_or bytes _ _ (map_shown bytes (codes "'") Key _ (λ key h. h) (key_shown (codes "'") bytes))
+    (shows_or bytes _ _
+    (map_shown bytes (codes "i'") Included _ (λ key h. h) (key_shown (codes "i'") bytes))
+    (shows_or bytes _ _
+    (map_shown bytes (codes "x'") Excluded _ (λ key h. h) (key_shown (codes "x'") bytes))
+    (text_shown bytes (list_all is_ascii_graphic bytes) refl))))
+
+is_short : (bytes : List ℕ) (word : Word) → Shows bytes word → IsShort word
+is_short bytes (Number n) h = tt
+is_short bytes (Key key) h = h.1.0
+is_short bytes (Included key) h = h.1.0
+is_short bytes (Excluded key) h = h.1.0
+is_short bytes (Text text) h = tt
+is_short bytes Bytes h = tt
+
+pub words_short : (words : List (List ℕ)) → AreShort (map word_of words)
+words_short [] = tt
+words_short (word ∷ words) = (is_short word (word_of word) (shown word), words_short words)
+
+-- ---- and what shows it
+
+no_number : (byte : ℕ) (bytes : List ℕ) → is_ascii_digit byte ≡ false →
+    number_of (byte ∷ bytes) ≡ None
+no_number byte bytes other = none_from (byte ∷ bytes)
+    (and_none _ _ (ap (λ b. (b && all_ascii_digits bytes)
+    && nat_lt (value_from 0 (byte ∷ bytes)) (2 ^ 64)) other))
+
+key_text : (key : List ℕ) → IsKeyText key → is_key_text key ≡ true
+key_text key is =
+    rw (le-leb (length key) 16 is.0, list_all-from_AllPass is_ascii_graphic key is.1) refl
+
+-- a word by what each reader finds
+abbrev reading : List ℕ → Option ℕ → Option (List ℕ) → Option (List ℕ) → Option (List ℕ) → Word
+reading bytes number key included excluded =
+    unwrap_or (option_map Number number)
+    (unwrap_or (option_map Key key)
+    (unwrap_or (option_map Included included)
+    (unwrap_or (option_map Excluded excluded)
+    (if list_all is_ascii_graphic bytes then Text bytes else Bytes))))
+
+pub number_word : (bytes : List ℕ) (n : ℕ) → number_of bytes ≡ Some n → word_of bytes ≡ Number n
+number_word bytes n is = ap (λ number. reading bytes number (key_behind (codes "'") bytes)
+    (key_behind (codes "i'") bytes) (key_behind (codes "x'") bytes)) is
+
+-- the text of a key behind a mark
+abbrev marked : List ℕ → List ℕ → Bool → Option (List ℕ)
+marked mark key b = if b then Some key else None
+
+key_word : (key : List ℕ) → IsKeyText key → word_of (codes "'" ++ key) ≡ Key key
+key_word key is =
+    let bytes = codes "'" ++ key in
+    ap (λ number. reading bytes number (key_behind (codes "'") bytes)
+    (key_behind (codes "i'") bytes) (key_behind (codes "x'") bytes)) (no_number 39 key refl)
+    ∙ ap (λ b. reading bytes None (marked (codes "'") key b)
+    (key_behind (codes "i'") bytes) (key_behind (codes "x'") bytes)) (key_text key is)
+
+included_word : (key : List ℕ) → IsKeyText key → word_of (codes "i'" ++ key) ≡ Included key
+included_word key is =
+    let bytes = codes "i'" ++ key in
+    ap (λ number. reading bytes number None (key_behind (codes "i'") bytes)
+    (key_behind (codes "x'") bytes)) (no_number 105 (39 ∷ key) refl)
+    ∙ ap (λ b. reading bytes None None (marked (codes "i'") key b)
+    (key_behind (codes "x'") bytes)) (key_text key is)
+
+excluded_word : (key : List ℕ) → IsKeyText key → word_of (codes "x'" ++ key) ≡ Excluded key
+excluded_word key is =
+    let bytes = codes "x'" ++ key in
+    ap (λ number. reading bytes number None None (key_behind (codes "x'") bytes))
+    (no_number 120 (39 ∷ key) refl)
+    ∙ ap (λ b. reading bytes None None None (marked (codes "x'") key b)) (key_text key is)
+
+shown_as : (bytes : List ℕ) (word : Word) → word_of bytes ≡ word → Shows bytes word
+shown_as bytes word is = subst (Shows bytes) is (shown bytes)
+
+pub words_are_read : WordsAreRead
+words_are_read bytes = (
+  λ n. (shown_as bytes (Number n), number_word bytes n),
+  λ key. (shown_as bytes (Key key), λ h. ap word_of h.0 ∙ key_word key h.1),
+  λ key. (shown_as bytes (Included key), λ h. ap word_of h.0 ∙ included_word key h.1),
+  λ key. (shown_as bytes (Excluded key), λ h. ap word_of h.0 ∙ excluded_word key h.1),
+  λ text is. (shown_as bytes (Text text) is).0,
+)

@@ -1,8 +1,12 @@
 -- The worked runs, by computation.
-use Rattle.std.proofs.Common.{inl, inr, ◌≡◌, ◌≢◌, ℕ, List, [], ◌∷◌, ◌++◌, length, refl, sym, ◌∙◌, ap, subst, arith}
+use Rattle.std.proofs.Common.{inl, inr, ◌≡◌, ◌≢◌, ℕ, List, [], ◌∷◌, ◌++◌, length, refl, sym, ◌∙◌, ap, subst, arith, true, false, ◌≤◌}
 use Rattle.std.proofs.lemmas.List.{length-replicate}
+use Rattle.std.proofs.lemmas.List.Sums.{AllPass-from_list_all}
+use Rattle.std.proofs.lemmas.Slice.Eq.{bytes_eq-Decides}
 use Rattle.std.specs.Prelude.{codes, map, Some}
-use Rattle.std.specs.List.{concat}
+use Rattle.std.specs.List.{concat, list_all}
+use Rattle.std.specs.Char.{is_ascii_graphic}
+use Rattle.std.specs.Str.{bytes_eq}
 use Rattle.std.specs.FinMap as finite
 use Rattle.std.specs.FinMap.{gets}
 use Rattle.std.specs.Fmt.{digits}
@@ -16,15 +20,18 @@ use Rattle.vtree.specs.declared.served.Served.TheVariants.{Clean, BadLine}
 use Rattle.vtree.specs.Lines.{lines_of}
 use Rattle.vtree.specs.Grammar.{Said, IsKeyText, IsLineOf, IsBad}
 use Rattle.vtree.specs.ReplyTexts.{reply_line, bad_line}
-use Rattle.vtree.specs.OwnLines.{line_of, CanStand}
-use Rattle.vtree.specs.Laws.{own_texts, own_family, Each, NoneRefused}
+use Rattle.vtree.specs.OwnLines.{line_of, CanStand, Each}
+use Rattle.vtree.specs.Laws.{own_texts, own_family, NoneRefused}
 use Rattle.vtree.specs.Transcript.{LineGives, Transcript, HasBad, Tells}
 use Rattle.vtree.specs.WorkedRuns.{RunsTo, first_lines, first_replies, FirstRun, long_line, bad_lines, bad_replies, long_key_lines, long_key_replies, great_number_lines, great_number_replies, WorkedRuns}
-use Rattle.vtree.proofs.OneCommand.{Alike, alike_names}
+use Rattle.vtree.proofs.GrammarLemmas.{bad_by}
 use Rattle.vtree.proofs.OwnLineLemmas.{own_line}
 use Rattle.vtree.proofs.TranscriptLemmas.{transcripts_agree, own_replies_are_transcripts}
-use Rattle.vtree.proofs.WorkedCommandLemmas.{key_text_is}
-use Rattle.vtree.proofs.WorkedLineLemmas.{bad_0, bad_3, bad_4, bad_5, bad_7, bad_insertion, bad_long_key}
+
+-- a key text, by computation
+key_text_is : (key : List ℕ) → length key ≤ 16 → list_all is_ascii_graphic key ≡ true →
+    IsKeyText key
+key_text_is key l e = (l, AllPass-from_list_all is_ascii_graphic key e)
 
 -- lines tell one thing alone
 tell_once : (lines : List (List ℕ)) (one other : Served) → Tells one lines → Tells other lines →
@@ -53,8 +60,10 @@ own_lines_good [] h bad = bad
 own_lines_good (c ∷ cs) h (inl bad) = bad c (own_line c h.0)
 own_lines_good (c ∷ cs) h (inr bad) = own_lines_good cs h.1 bad
 
-other : (text : List ℕ) → (Alike text (reply_line NoMemory) → ⊥) → text ≢ reply_line NoMemory
-other text never e = never (alike_names text text (reply_line NoMemory) refl e)
+other : (text : List ℕ) → bytes_eq text (reply_line NoMemory) ≡ false → text ≢ reply_line NoMemory
+other text apart e =
+    let clash : false ≡ true = sym apart ∙ (bytes_eq-Decides text (reply_line NoMemory)).1 e in
+    absurd (cc)
 
 -- ---- the first run
 
@@ -69,14 +78,14 @@ first_texts = codes "at 0\n" ∷ codes "false\n" ∷ codes "at 1\n" ∷ codes "s
 
 first_stands : Each CanStand first_commands
 first_stands = (
-  tt,
+  (tt, tt),
   (
-    (omega arith, key_text_is (codes "key1") (omega arith) refl, omega arith),
+    (tt, (omega arith, (key_text_is (codes "key1") (omega arith) refl, (omega arith, tt)))),
     (
-      omega arith,
+      (tt, (omega arith, tt)),
       (
-        (omega arith, key_text_is (codes "key1") (omega arith) refl),
-        (omega arith, (omega arith, tt)),
+        (tt, (omega arith, (key_text_is (codes "key1") (omega arith) refl, tt))),
+        ((tt, (omega arith, tt)), ((tt, (omega arith, tt)), tt)),
       ),
     ),
   ),
@@ -93,16 +102,16 @@ first_own_texts = simp gets refl
 -- none of these texts says that memory was refused
 first_not_refused : NoneRefused first_texts
 first_not_refused = (
-  other (codes "at 0\n") (λ never. never),
+  other (codes "at 0\n") refl,
   (
-    other (codes "false\n") (λ never. never),
+    other (codes "false\n") refl,
     (
-      other (codes "at 1\n") (λ never. never),
+      other (codes "at 1\n") refl,
       (
-        other (codes "some 1\n") (λ never. never),
+        other (codes "some 1\n") refl,
         (
-          other (codes "version 1\n") (λ never. never),
-          (other (codes "version 2\n") (λ never. never), tt),
+          other (codes "version 1\n") refl,
+          (other (codes "version 2\n") refl, tt),
         ),
       ),
     ),
@@ -145,7 +154,7 @@ new_gives = good_gives [] (codes "new") New (codes "at 0\n") (omega arith, refl)
 version_gives : LineGives made (codes "version 0") (codes "version 0\n") made
 unfolding digits
 version_gives = good_gives made (codes "version 0") (Version 0) (codes "version 0\n")
-    (omega arith, (refl, refl)) refl
+    (omega arith, refl) refl
 
 new_is_good : IsBad (codes "new") → ⊥
 new_is_good bad = bad New (omega arith, refl)
@@ -155,13 +164,13 @@ new_alone_good (inl bad) = new_is_good bad
 new_alone_good (inr bad) = bad
 
 at_clear : codes "at 0\n" ≢ reply_line NoMemory
-at_clear = other (codes "at 0\n") (λ never. never)
+at_clear = other (codes "at 0\n") refl
 
 bad_clear : bad_line ≢ reply_line NoMemory
-bad_clear = other bad_line (λ never. never)
+bad_clear = other bad_line refl
 
 version_clear : codes "version 0\n" ≢ reply_line NoMemory
-version_clear = other (codes "version 0\n") (λ never. never)
+version_clear = other (codes "version 0\n") refl
 
 no_run : RunsTo [] Clean []
 no_run = runs_to [] Clean [] [] [] refl tt refl (λ bad. bad)
@@ -173,25 +182,25 @@ open_run = runs_to (codes "new") Clean (codes "at 0\n") (codes "at 0\n" ∷ []) 
 mixed_run : RunsTo (codes "new\nold\nversion 0\n") BadLine (codes "at 0\nbad line\nversion 0\n")
 mixed_run = runs_to (codes "new\nold\nversion 0\n") BadLine (codes "at 0\nbad line\nversion 0\n")
     (codes "at 0\n" ∷ bad_line ∷ codes "version 0\n" ∷ []) made
-    (made, new_gives, (made, bad_gives made (codes "old") bad_3, (made, version_gives, refl)))
-    (at_clear, (bad_clear, (version_clear, tt))) refl (inr (inl bad_3))
+    (made, new_gives, (made, bad_gives made (codes "old") (bad_by (codes "old") refl), (made, version_gives, refl)))
+    (at_clear, (bad_clear, (version_clear, tt))) refl (inr (inl (bad_by (codes "old") refl)))
 
 empty_run : RunsTo (codes "new\n\n") BadLine (codes "at 0\nbad line\n")
 empty_run = runs_to (codes "new\n\n") BadLine (codes "at 0\nbad line\n")
     (codes "at 0\n" ∷ bad_line ∷ []) made
-    (made, new_gives, (made, bad_gives made [] bad_0, refl))
-    (at_clear, (bad_clear, tt)) refl (inr (inl bad_0))
+    (made, new_gives, (made, bad_gives made [] (bad_by [] refl), refl))
+    (at_clear, (bad_clear, tt)) refl (inr (inl (bad_by [] refl)))
 
 return_run : RunsTo (codes "new" ++ 13 ∷ 10 ∷ []) BadLine (codes "bad line\n")
 return_run = runs_to (codes "new" ++ 13 ∷ 10 ∷ []) BadLine (codes "bad line\n") (bad_line ∷ []) []
-    ([], bad_gives [] (codes "new" ++ 13 ∷ []) bad_4, refl)
-    (bad_clear, tt) refl (inl bad_4)
+    ([], bad_gives [] (codes "new" ++ 13 ∷ []) (bad_by (codes "new" ++ 13 ∷ []) refl), refl)
+    (bad_clear, tt) refl (inl (bad_by (codes "new" ++ 13 ∷ []) refl))
 
 spaces_run : RunsTo (codes "new\nversion  0\n") BadLine (codes "at 0\nbad line\n")
 spaces_run = runs_to (codes "new\nversion  0\n") BadLine (codes "at 0\nbad line\n")
     (codes "at 0\n" ∷ bad_line ∷ []) made
-    (made, new_gives, (made, bad_gives made (codes "version  0") bad_5, refl))
-    (at_clear, (bad_clear, tt)) refl (inr (inl bad_5))
+    (made, new_gives, (made, bad_gives made (codes "version  0") (bad_by (codes "version  0") refl), refl))
+    (at_clear, (bad_clear, tt)) refl (inr (inl (bad_by (codes "version  0") refl)))
 
 bad_long : IsBad long_line
 bad_long command h = let long : length long_line ≡ 201 = length-replicate {A = ℕ} 201 97 in
@@ -207,7 +216,7 @@ long_run = runs_to (long_line ++ codes "\nnew\n") BadLine (codes "bad line\nat 0
 
 lost_gives : LineGives made (codes "get 7 'a") (codes "no version\n") made
 lost_gives = good_gives made (codes "get 7 'a") (Get 7 (codes "a")) (codes "no version\n")
-    (omega arith, (refl, refl, (refl, key_text_is (codes "a") (omega arith) refl))) refl
+    (omega arith, refl) refl
 
 bad_run : RunsTo bad_lines BadLine bad_replies
 bad_run = runs_to bad_lines BadLine bad_replies
@@ -216,14 +225,14 @@ bad_run = runs_to bad_lines BadLine bad_replies
       new_gives,
       (
         made,
-        bad_gives made (codes "insert 0 a 1") bad_insertion,
-        (made, bad_gives made [] bad_0, (made, lost_gives, refl)),
+        bad_gives made (codes "insert 0 a 1") (bad_by (codes "insert 0 a 1") refl),
+        (made, bad_gives made [] (bad_by [] refl), (made, lost_gives, refl)),
       ),
     ) (
       at_clear,
-      (bad_clear, (bad_clear, (other (codes "no version\n") (λ never. never), tt))),
+      (bad_clear, (bad_clear, (other (codes "no version\n") refl, tt))),
     )
-    refl (inr (inl bad_insertion))
+    refl (inr (inl (bad_by (codes "insert 0 a 1") refl)))
 
 -- ---- keys of 16, 17 and no bytes
 
@@ -239,7 +248,7 @@ with_both = after (λ key. key) with_longest (Insert 0 [] 3)
 longest_gives : LineGives made (codes "insert 0 'abcdefghijklmnop 1") (codes "false\n") with_longest
 longest_gives = good_gives made (codes "insert 0 'abcdefghijklmnop 1") (Insert 0 longest_key 1)
     (codes "false\n")
-    (omega arith, (refl, refl, (refl, key_text_is longest_key (omega arith) refl), refl))
+    (omega arith, refl)
     (simp gets refl)
 
 found_gives : LineGives with_longest (codes "get 0 'abcdefghijklmnop") (codes "some 1\n")
@@ -247,11 +256,11 @@ found_gives : LineGives with_longest (codes "get 0 'abcdefghijklmnop") (codes "s
 unfolding digits
 found_gives = good_gives with_longest (codes "get 0 'abcdefghijklmnop") (Get 0 longest_key)
     (codes "some 1\n")
-    (omega arith, (refl, refl, (refl, key_text_is longest_key (omega arith) refl))) (simp gets refl)
+    (omega arith, refl) (simp gets refl)
 
 shortest_gives : LineGives with_longest (codes "insert 0 ' 3") (codes "false\n") with_both
 shortest_gives = good_gives with_longest (codes "insert 0 ' 3") (Insert 0 [] 3) (codes "false\n")
-    (omega arith, (refl, refl, (refl, key_text_is [] (omega arith) refl), refl)) (simp gets refl)
+    (omega arith, refl) (simp gets refl)
 
 abbrev pub both : List (List ℕ × ℕ)
 both = ([], 3) ∷ (longest_key, 1) ∷ []
@@ -266,7 +275,7 @@ both_text = refl
 both_give : LineGives with_both (codes "iter 0") (codes "entries ' 3 'abcdefghijklmnop 1\n")
     with_both
 both_give = good_gives with_both (codes "iter 0") (Iter 0)
-    (codes "entries ' 3 'abcdefghijklmnop 1\n") (omega arith, (refl, refl))
+    (codes "entries ' 3 'abcdefghijklmnop 1\n") (omega arith, refl)
     (ap reply_line both_entries ∙ both_text)
 
 long_key_run : RunsTo long_key_lines BadLine long_key_replies
@@ -280,27 +289,27 @@ long_key_run = runs_to long_key_lines BadLine long_key_replies
         longest_gives,
         (
           with_longest,
-          bad_gives with_longest (codes "insert 0 'abcdefghijklmnopq 2") bad_long_key,
+          bad_gives with_longest (codes "insert 0 'abcdefghijklmnopq 2") (bad_by (codes "insert 0 'abcdefghijklmnopq 2") refl),
           (with_longest, found_gives, (with_both, shortest_gives, (with_both, both_give, refl))),
         ),
       ),
     ) (
       at_clear,
       (
-        other (codes "false\n") (λ never. never),
+        other (codes "false\n") refl,
         (
           bad_clear,
           (
-            other (codes "some 1\n") (λ never. never),
+            other (codes "some 1\n") refl,
             (
-              other (codes "false\n") (λ never. never),
-              (other (codes "entries ' 3 'abcdefghijklmnop 1\n") (λ never. never), tt),
+              other (codes "false\n") refl,
+              (other (codes "entries ' 3 'abcdefghijklmnop 1\n") refl, tt),
             ),
           ),
         ),
       ),
     )
-    refl (inr (inr (inl bad_long_key)))
+    refl (inr (inr (inl (bad_by (codes "insert 0 'abcdefghijklmnopq 2") refl))))
 
 -- ---- the greatest numbers
 
@@ -323,29 +332,26 @@ is_updated = simp gets refl
 abbrev pub great_twice : Family ℕ
 great_twice = after (λ key. key) great_with_2 (Duplicate 0)
 
-a_is_key : IsKeyText (codes "a")
-a_is_key = key_text_is (codes "a") (omega arith) refl
-
 great_gives : LineGives [] (codes "new-at 18446744073709551613") (codes "at 0\n") great
 unfolding digits
 great_gives = good_gives [] (codes "new-at 18446744073709551613") (NewAt 18446744073709551613)
-    (codes "at 0\n") (omega arith, (refl, refl)) refl
+    (codes "at 0\n") (omega arith, refl) refl
 
 first_value_gives : LineGives great (codes "insert 0 'a 1") (codes "false\n") great_with_1
 first_value_gives = good_gives great (codes "insert 0 'a 1") (Insert 0 (codes "a") 1)
-    (codes "false\n") (omega arith, (refl, refl, (refl, a_is_key), refl)) (simp gets refl)
+    (codes "false\n") (omega arith, refl) (simp gets refl)
 
 no_room_for_two : LineGives great_with_1 (codes "try-update 0 'a 2 keep") (codes "no room\n")
     great_with_1
 no_room_for_two = good_gives great_with_1 (codes "try-update 0 'a 2 keep")
     (TryUpdate 0 (codes "a") (Some 2) (Some slot.Keep)) (codes "no room\n")
-    (omega arith, (refl, refl, (refl, a_is_key), refl, refl)) refl
+    (omega arith, refl) refl
 
 great_version_gives : LineGives great_with_1 (codes "version 0")
     (codes "version 18446744073709551614\n") great_with_1
 unfolding digits
 great_version_gives = good_gives great_with_1 (codes "version 0") (Version 0)
-    (codes "version 18446744073709551614\n") (omega arith, (refl, refl)) refl
+    (codes "version 18446744073709551614\n") (omega arith, refl) refl
 
 second_value_gives : LineGives great_with_1 (codes "update 0 'a 2 keep") (codes "true\n")
     great_with_2
@@ -353,29 +359,29 @@ second_value_gives =
     subst (λ (f : Family ℕ). LineGives great_with_1 (codes "update 0 'a 2 keep") (codes "true\n") f)
     is_updated (good_gives great_with_1 (codes "update 0 'a 2 keep")
     (Update 0 (codes "a") (Some 2) slot.Keep) (codes "true\n")
-    (omega arith, (refl, refl, (refl, a_is_key), refl, refl)) (simp gets refl))
+    (omega arith, refl) (simp gets refl))
 
 no_room_for_update : LineGives great_with_2 (codes "update 0 'a 3 keep") (codes "no room\n")
     great_with_2
 no_room_for_update = good_gives great_with_2 (codes "update 0 'a 3 keep")
     (Update 0 (codes "a") (Some 3) slot.Keep) (codes "no room\n")
-    (omega arith, (refl, refl, (refl, a_is_key), refl, refl)) refl
+    (omega arith, refl) refl
 
 no_room_for_deletion : LineGives great_with_2 (codes "delete 0 'x") (codes "no room\n")
     great_with_2
 no_room_for_deletion = good_gives great_with_2 (codes "delete 0 'x") (Delete 0 (codes "x"))
     (codes "no room\n")
-    (omega arith, (refl, refl, (refl, key_text_is (codes "x") (omega arith) refl))) refl
+    (omega arith, refl) refl
 
 clone_gives : LineGives great_with_2 (codes "clone 0") (codes "at 1\n") great_twice
 unfolding digits
 clone_gives = good_gives great_with_2 (codes "clone 0") (Duplicate 0) (codes "at 1\n")
-    (omega arith, (refl, refl)) refl
+    (omega arith, refl) refl
 
 clone_value_gives : LineGives great_twice (codes "get 1 'a") (codes "some 2\n") great_twice
 unfolding digits
 clone_value_gives = good_gives great_twice (codes "get 1 'a") (Get 1 (codes "a"))
-    (codes "some 2\n") (omega arith, (refl, refl, (refl, a_is_key))) (simp gets refl)
+    (codes "some 2\n") (omega arith, refl) (simp gets refl)
 
 great_number_run : RunsTo great_number_lines BadLine great_number_replies
 great_number_run = runs_to great_number_lines BadLine great_number_replies
@@ -410,7 +416,7 @@ great_number_run = runs_to great_number_lines BadLine great_number_replies
                       clone_value_gives,
                       (
                         great_twice,
-                        bad_gives great_twice (codes "new-at 18446744073709551616") bad_7,
+                        bad_gives great_twice (codes "new-at 18446744073709551616") (bad_by (codes "new-at 18446744073709551616") refl),
                         refl,
                       ),
                     ),
@@ -424,20 +430,20 @@ great_number_run = runs_to great_number_lines BadLine great_number_replies
     ) (
       at_clear,
       (
-        other (codes "false\n") (λ never. never),
+        other (codes "false\n") refl,
         (
-          other (codes "no room\n") (λ never. never),
+          other (codes "no room\n") refl,
           (
-            other (codes "version 18446744073709551614\n") (λ never. never),
+            other (codes "version 18446744073709551614\n") refl,
             (
-              other (codes "true\n") (λ never. never),
+              other (codes "true\n") refl,
               (
-                other (codes "no room\n") (λ never. never),
+                other (codes "no room\n") refl,
                 (
-                  other (codes "no room\n") (λ never. never),
+                  other (codes "no room\n") refl,
                   (
-                    other (codes "at 1\n") (λ never. never),
-                    (other (codes "some 2\n") (λ never. never), (bad_clear, tt)),
+                    other (codes "at 1\n") refl,
+                    (other (codes "some 2\n") refl, (bad_clear, tt)),
                   ),
                 ),
               ),
@@ -446,7 +452,7 @@ great_number_run = runs_to great_number_lines BadLine great_number_replies
         ),
       ),
     )
-    refl (inr (inr (inr (inr (inr (inr (inr (inr (inr (inl bad_7))))))))))
+    refl (inr (inr (inr (inr (inr (inr (inr (inr (inr (inl (bad_by (codes "new-at 18446744073709551616") refl)))))))))))
 
 pub worked_runs : WorkedRuns
 worked_runs = (

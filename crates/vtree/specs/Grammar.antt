@@ -1,9 +1,11 @@
 -- Which words are which command: one row a command. A key is its bytes.
-use Rattle.std.specs.Prelude.{◌≡◌, ◌≤◌, ℕ, List, [], ◌∷◌, length, codes, Bool, true, false, Option, Some, None}
-use Rattle.std.specs.List.{AllPass}
+use Rattle.std.specs.Prelude.{◌≡◌, ◌≤◌, ℕ, List, [], ◌∷◌, map, length, codes, Bool, true, false, ◌&&◌, take, drop, nat_le, Option, Some, None, if◌then◌else◌}
+use Rattle.std.specs.Option.{unwrap_or, option_map}
+use Rattle.std.specs.List.{list_all, AllPass}
+use Rattle.std.specs.Str.{bytes_eq}
 use Rattle.std.specs.Char.{is_ascii_graphic}
 use Rattle.std.specs.declared.ops.Bound.{Bound}
-use Rattle.std.specs.declared.ops.Bound.TheVariants.{Included, Excluded, Unbounded}
+use Rattle.std.specs.declared.ops.Bound.TheVariants as bound
 use Rattle.rart_versioned.specs.SlotUpdate.{SlotUpdate}
 use Rattle.rart_versioned.specs.SlotUpdate.TheVariants as slot
 use Rattle.rart_family.specs.declared.family.command.Command.{Command}
@@ -14,105 +16,123 @@ use Rattle.vtree.specs.Lines.{words, number_of}
 abbrev pub Said : Type 0
 Said = Command (List ℕ) ℕ
 
--- P, N or V: 1 to 20 decimal digits, below 2^64
-abbrev pub IsNumber : List ℕ → ℕ → Type 0
-IsNumber word number = number_of word ≡ Some number
+-- What a word of a line can be.
+pub data Word : Type 0 where
+  -- 1 to 20 decimal digits, below 2^64
+  Number : ℕ → Word
+  -- an apostrophe, and then the key: 0 to 16 bytes from `!` to `~`
+  Key : List ℕ → Word
+  -- the same behind `i`, or behind `x`: a bound that is included, or excluded
+  Included : List ℕ → Word
+  Excluded : List ℕ → Word
+  -- any other word of bytes from `!` to `~`
+  Text : List ℕ → Word
+  -- and any other word
+  Bytes : Word
 
--- what can stand as a key: at most 16 bytes from `!` to `~`
+-- what can stand as a key
+abbrev pub is_key_text : List ℕ → Bool
+is_key_text key = nat_le (length key) 16 && list_all is_ascii_graphic key
+
+-- the same as a fact
 abbrev pub IsKeyText : List ℕ → Type 0
 IsKeyText key = (length key ≤ 16) × AllPass is_ascii_graphic key
 
--- K: an apostrophe, and then the key
-abbrev pub IsKey : List ℕ → List ℕ → Type 0
-IsKey word key = (word ≡ 39 ∷ key) × IsKeyText key
+-- the key that stands behind a mark
+abbrev pub key_behind : List ℕ → List ℕ → Option (List ℕ)
+key_behind mark word =
+    if bytes_eq (take (length mark) word) mark && is_key_text (drop (length mark) word)
+    then Some (drop (length mark) word) else None
 
--- B: `i` and a K that is included, `x` and a K that is excluded, or `-` for none
-abbrev pub IsBound : List ℕ → Bound (List ℕ) → Type 0
-IsBound word (Included key) = (word ≡ 105 ∷ 39 ∷ key) × IsKeyText key
-IsBound word (Excluded key) = (word ≡ 120 ∷ 39 ∷ key) × IsKeyText key
-IsBound word Unbounded = word ≡ codes "-"
+-- what a word is
+abbrev pub word_of : List ℕ → Word
+word_of word =
+    unwrap_or (option_map Number (number_of word))
+    (unwrap_or (option_map Key (key_behind (codes "'") word))
+    (unwrap_or (option_map Included (key_behind (codes "i'") word))
+    (unwrap_or (option_map Excluded (key_behind (codes "x'") word))
+    (if list_all is_ascii_graphic word then Text word else Bytes))))
 
--- W: a V, or `-` where nothing is written
-abbrev pub IsWrite : List ℕ → Option ℕ → Type 0
-IsWrite word None = word ≡ codes "-"
-IsWrite word (Some number) = IsNumber word number
+-- a bound, `-` for none
+abbrev pub bound_form : Bound (List ℕ) → Word
+bound_form (bound.Included key) = Included key
+bound_form (bound.Excluded key) = Excluded key
+bound_form bound.Unbounded = Text (codes "-")
 
--- A: `keep`, `remove`, or the two words `insert V`
-abbrev pub IsAnswer : SlotUpdate ℕ → List (List ℕ) → Type 0
-IsAnswer slot.Keep (word ∷ []) = word ≡ codes "keep"
-IsAnswer slot.Remove (word ∷ []) = word ≡ codes "remove"
-IsAnswer (slot.Insert number) (word ∷ v ∷ []) = (word ≡ codes "insert") × IsNumber v number
-IsAnswer answer words = ⊥
+-- what is written, `-` for nothing
+abbrev pub write_form : Option ℕ → Word
+write_form None = Text (codes "-")
+write_form (Some number) = Number number
 
--- A, or `fail` where the callback answers its error
-abbrev pub IsFailingAnswer : Option (SlotUpdate ℕ) → List (List ℕ) → Type 0
-IsFailingAnswer (Some answer) words = IsAnswer answer words
-IsFailingAnswer None (word ∷ []) = word ≡ codes "fail"
-IsFailingAnswer None words = ⊥
+-- what a callback answers
+abbrev pub answer_form : SlotUpdate ℕ → List Word
+answer_form slot.Keep = Text (codes "keep") ∷ []
+answer_form slot.Remove = Text (codes "remove") ∷ []
+answer_form (slot.Insert number) = Text (codes "insert") ∷ Number number ∷ []
 
--- `stop`, or `fail` where the callback answers its error
-abbrev pub IsEnd : List ℕ → Bool → Type 0
-IsEnd word false = word ≡ codes "stop"
-IsEnd word true = word ≡ codes "fail"
+-- or that it fails
+abbrev pub tried_form : Option (SlotUpdate ℕ) → List Word
+tried_form None = Text (codes "fail") ∷ []
+tried_form (Some answer) = answer_form answer
 
--- A command is these words.
+-- how a visit ends
+abbrev pub end_form : Bool → Word
+end_form false = Text (codes "stop")
+end_form true = Text (codes "fail")
+
+-- the words of a command's line
+abbrev pub form_of : Said → List Word
+form_of New = Text (codes "new") ∷ []
+form_of (NewAt number) = Text (codes "new-at") ∷ Number number ∷ []
+form_of (Snapshot place) = Text (codes "snapshot") ∷ Number place ∷ []
+form_of (Duplicate place) = Text (codes "clone") ∷ Number place ∷ []
+form_of (Discard place) = Text (codes "discard") ∷ Number place ∷ []
+form_of (Version place) = Text (codes "version") ∷ Number place ∷ []
+form_of (IsEmpty place) = Text (codes "empty") ∷ Number place ∷ []
+form_of (Get place key) = Text (codes "get") ∷ Number place ∷ Key key ∷ []
+form_of (GetMut place key value) =
+    Text (codes "get-mut") ∷ Number place ∷ Key key ∷ Number value ∷ []
+form_of (Insert place key value) =
+    Text (codes "insert") ∷ Number place ∷ Key key ∷ Number value ∷ []
+form_of (Replace place key value) =
+    Text (codes "replace") ∷ Number place ∷ Key key ∷ Number value ∷ []
+form_of (Remove place key) = Text (codes "remove") ∷ Number place ∷ Key key ∷ []
+form_of (Delete place key) = Text (codes "delete") ∷ Number place ∷ Key key ∷ []
+form_of (Update place key write answer) =
+    Text (codes "update") ∷ Number place ∷ Key key ∷ write_form write ∷ answer_form answer
+form_of (TryUpdate place key write answer) =
+    Text (codes "try-update") ∷ Number place ∷ Key key ∷ write_form write ∷ tried_form answer
+form_of (Iter place) = Text (codes "iter") ∷ Number place ∷ []
+form_of (Values place) = Text (codes "values") ∷ Number place ∷ []
+form_of (Views place) = Text (codes "views") ∷ Number place ∷ []
+form_of (Range place lo hi) =
+    Text (codes "range") ∷ Number place ∷ bound_form lo ∷ bound_form hi ∷ []
+form_of (RangeViews place lo hi) =
+    Text (codes "range-views") ∷ Number place ∷ bound_form lo ∷ bound_form hi ∷ []
+form_of (Prefix place prefix) = Text (codes "prefix") ∷ Number place ∷ Key prefix ∷ []
+form_of (PrefixViews place prefix) = Text (codes "prefix-views") ∷ Number place ∷ Key prefix ∷ []
+form_of (PrefixValues place prefix) =
+    Text (codes "prefix-values") ∷ Number place ∷ Key prefix ∷ []
+form_of (Matches place key) = Text (codes "matches") ∷ Number place ∷ Key key ∷ []
+form_of (MatchesEach place key) = Text (codes "matches-each") ∷ Number place ∷ Key key ∷ []
+form_of (Until place prefix visits fails) =
+    Text (codes "until") ∷ Number place ∷ Key prefix ∷ Number visits ∷ end_form fails ∷ []
+form_of (Intersect left right) = Text (codes "intersect") ∷ Number left ∷ Number right ∷ []
+form_of (IntersectViews left right) =
+    Text (codes "intersect-views") ∷ Number left ∷ Number right ∷ []
+form_of (IntersectValues left right) =
+    Text (codes "intersect-values") ∷ Number left ∷ Number right ∷ []
+form_of (IntersectCount left right) =
+    Text (codes "intersect-count") ∷ Number left ∷ Number right ∷ []
+form_of (Flatten place) = Text (codes "flatten") ∷ Number place ∷ []
+form_of (Longest place key) = Text (codes "longest") ∷ Number place ∷ Key key ∷ []
+
+-- Words are a command's.
 abbrev pub Says : Said → List (List ℕ) → Type 0
-Says New (name ∷ []) = name ≡ codes "new"
-Says (NewAt number) (name ∷ n ∷ []) = (name ≡ codes "new-at") × IsNumber n number
-Says (Snapshot place) (name ∷ p ∷ []) = (name ≡ codes "snapshot") × IsNumber p place
-Says (Duplicate place) (name ∷ p ∷ []) = (name ≡ codes "clone") × IsNumber p place
-Says (Discard place) (name ∷ p ∷ []) = (name ≡ codes "discard") × IsNumber p place
-Says (Version place) (name ∷ p ∷ []) = (name ≡ codes "version") × IsNumber p place
-Says (IsEmpty place) (name ∷ p ∷ []) = (name ≡ codes "empty") × IsNumber p place
-Says (Get place key) (name ∷ p ∷ k ∷ []) = (name ≡ codes "get") × IsNumber p place × IsKey k key
-Says (GetMut place key value) (name ∷ p ∷ k ∷ v ∷ []) =
-    (name ≡ codes "get-mut") × IsNumber p place × IsKey k key × IsNumber v value
-Says (Insert place key value) (name ∷ p ∷ k ∷ v ∷ []) =
-    (name ≡ codes "insert") × IsNumber p place × IsKey k key × IsNumber v value
-Says (Replace place key value) (name ∷ p ∷ k ∷ v ∷ []) =
-    (name ≡ codes "replace") × IsNumber p place × IsKey k key × IsNumber v value
-Says (Remove place key) (name ∷ p ∷ k ∷ []) =
-    (name ≡ codes "remove") × IsNumber p place × IsKey k key
-Says (Delete place key) (name ∷ p ∷ k ∷ []) =
-    (name ≡ codes "delete") × IsNumber p place × IsKey k key
-Says (Update place key write answer) (name ∷ p ∷ k ∷ w ∷ a) =
-    (name ≡ codes "update") × IsNumber p place × IsKey k key × IsWrite w write × IsAnswer answer a
-Says (TryUpdate place key write answer) (name ∷ p ∷ k ∷ w ∷ a) =
-    (name ≡ codes "try-update") × IsNumber p place × IsKey k key × IsWrite w write
-    × IsFailingAnswer answer a
-Says (Iter place) (name ∷ p ∷ []) = (name ≡ codes "iter") × IsNumber p place
-Says (Values place) (name ∷ p ∷ []) = (name ≡ codes "values") × IsNumber p place
-Says (Views place) (name ∷ p ∷ []) = (name ≡ codes "views") × IsNumber p place
-Says (Range place lo hi) (name ∷ p ∷ b ∷ c ∷ []) =
-    (name ≡ codes "range") × IsNumber p place × IsBound b lo × IsBound c hi
-Says (RangeViews place lo hi) (name ∷ p ∷ b ∷ c ∷ []) =
-    (name ≡ codes "range-views") × IsNumber p place × IsBound b lo × IsBound c hi
-Says (Prefix place prefix) (name ∷ p ∷ k ∷ []) =
-    (name ≡ codes "prefix") × IsNumber p place × IsKey k prefix
-Says (PrefixViews place prefix) (name ∷ p ∷ k ∷ []) =
-    (name ≡ codes "prefix-views") × IsNumber p place × IsKey k prefix
-Says (PrefixValues place prefix) (name ∷ p ∷ k ∷ []) =
-    (name ≡ codes "prefix-values") × IsNumber p place × IsKey k prefix
-Says (Matches place key) (name ∷ p ∷ k ∷ []) =
-    (name ≡ codes "matches") × IsNumber p place × IsKey k key
-Says (MatchesEach place key) (name ∷ p ∷ k ∷ []) =
-    (name ≡ codes "matches-each") × IsNumber p place × IsKey k key
-Says (Until place prefix visits fails) (name ∷ p ∷ k ∷ n ∷ e ∷ []) =
-    (name ≡ codes "until") × IsNumber p place × IsKey k prefix × IsNumber n visits × IsEnd e fails
-Says (Intersect left right) (name ∷ p ∷ q ∷ []) =
-    (name ≡ codes "intersect") × IsNumber p left × IsNumber q right
-Says (IntersectViews left right) (name ∷ p ∷ q ∷ []) =
-    (name ≡ codes "intersect-views") × IsNumber p left × IsNumber q right
-Says (IntersectValues left right) (name ∷ p ∷ q ∷ []) =
-    (name ≡ codes "intersect-values") × IsNumber p left × IsNumber q right
-Says (IntersectCount left right) (name ∷ p ∷ q ∷ []) =
-    (name ≡ codes "intersect-count") × IsNumber p left × IsNumber q right
-Says (Flatten place) (name ∷ p ∷ []) = (name ≡ codes "flatten") × IsNumber p place
-Says (Longest place key) (name ∷ p ∷ k ∷ []) =
-    (name ≡ codes "longest") × IsNumber p place × IsKey k key
-Says command words = ⊥
+Says command words = map word_of words ≡ form_of command
 
--- A line, without its line feed, is the command: it has at most 200 bytes, and its words are it.
+-- A line, without its line feed, is the command: it has at most 200 bytes, and its words are the
+-- command's.
 abbrev pub IsLineOf : List ℕ → Said → Type 0
 IsLineOf line command = (length line ≤ 200) × Says command (words line)
 

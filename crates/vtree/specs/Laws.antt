@@ -1,14 +1,29 @@
 -- Laws that show what the definitions of lines, replies and transcripts mean.
-use Rattle.std.specs.Prelude.{◌≡◌, ◌≢◌, ◌≤◌, ◌⊎◌, ℕ, List, [], ◌∷◌, ◌++◌, length, replicate, codes, decimal, map, true, false, Some, ⊤}
+use Rattle.std.specs.Prelude.{◌≡◌, ◌≢◌, ◌≤◌, ◌⊎◌, ◌↔◌, ℕ, List, [], ◌∷◌, ◌++◌, length, replicate, codes, decimal, map, true, false, Some, ⊤}
 use Rattle.std.specs.List.{AllPass}
 use Rattle.std.specs.Char.{is_ascii_graphic}
 use Rattle.rart_family.specs.Replies.{Reply, Place, Number, Value, Entries, Values, Stopped, Pairs, ValuePairs, Count, Failed, NoMemory}
 use Rattle.rart_family.specs.Families.{Family, reply_to, after}
-use Rattle.vtree.specs.Lines.{lines_of}
-use Rattle.vtree.specs.Grammar.{Said, Says, IsLineOf, IsBad}
+use Rattle.vtree.specs.Lines.{lines_of, number_of}
+use Rattle.vtree.specs.Grammar.{Said, Key, Included, Excluded, Text, IsKeyText, word_of, Says, IsLineOf, IsBad}
+use Rattle.vtree.specs.Grammar as grammar
 use Rattle.vtree.specs.ReplyTexts.{reply_line, bad_line}
 use Rattle.vtree.specs.Transcript.{LineGives, Transcript}
-use Rattle.vtree.specs.OwnLines.{own_words, line_of, CanStand, Fits}
+use Rattle.vtree.specs.OwnLines.{own_words, line_of, CanStand, Fits, Each}
+
+-- A word is a number exactly where `number_of` gives it, a key where it is an apostrophe and then
+-- the key, a bound where `i` or `x` stands before these; and a text is itself.
+abbrev pub WordsAreRead : Type 0
+WordsAreRead =
+    (word : List ℕ)
+    → ((number : ℕ) → (word_of word ≡ grammar.Number number) ↔ (number_of word ≡ Some number))
+    × ((key : List ℕ)
+    → (word_of word ≡ Key key) ↔ ((word ≡ codes "'" ++ key) × IsKeyText key))
+    × ((key : List ℕ)
+    → (word_of word ≡ Included key) ↔ ((word ≡ codes "i'" ++ key) × IsKeyText key))
+    × ((key : List ℕ)
+    → (word_of word ≡ Excluded key) ↔ ((word ≡ codes "x'" ++ key) × IsKeyText key))
+    × ((text : List ℕ) → word_of word ≡ Text text → word ≡ text)
 
 -- No words are two commands.
 abbrev pub WordsAreOneCommand : Type 0
@@ -52,11 +67,6 @@ OwnWordsAreGood =
 abbrev pub HasNoFeed : List ℕ → Type 0
 HasNoFeed [] = ⊤
 HasNoFeed (byte ∷ text) = (byte ≢ 10) × HasNoFeed text
-
--- each member is so
-abbrev pub Each : {X : Type 0} → (X → Type 0) → List X → Type 0
-Each Is [] = ⊤
-Each Is (x ∷ xs) = Is x × Each Is xs
 
 -- the text of lines that each end by a line feed
 abbrev pub ended : List (List ℕ) → List ℕ

@@ -1,10 +1,10 @@
 pub mod Lines
 pub mod Grammar
+pub mod Words
 pub mod ReplyTexts
 pub mod Transcript
 pub mod Reading
 pub mod Writing
-pub mod Shapes
 pub mod Sessions
 pub mod OwnLines
 pub mod Laws

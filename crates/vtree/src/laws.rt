@@ -4,7 +4,12 @@ ghost use Rattle.vtree.specs.ServingLaws.{InputIsRead, RefusalsChangeNothing, Re
 ghost use Rattle.vtree.specs.WorkedLines.{WorkedNumbers, WorkedSplits, WorkedBadLines, WorkedTexts};
 ghost use Rattle.vtree.specs.WorkedCommandLines.{WorkedChangeLines, WorkedReadLines, WorkedWalkLines, WorkedIntersectionLines};
 ghost use Rattle.vtree.specs.WorkedRuns.{FirstRun, WorkedRuns};
-ghost use Rattle.vtree.specs.Laws.{WordsAreOneCommand, OwnLinesAreRead, GoodWordsAreOwn, OwnWordsAreGood, TranscriptsAgree, BadLinesChangeNothing, OwnRepliesAreTranscripts, EachLineGives, LinesAreRead, TextsAreLines, BadTextIsNoReply, TextsTell, TellingFixesText};
+ghost use Rattle.vtree.specs.Laws.{WordsAreRead, WordsAreOneCommand, OwnLinesAreRead, GoodWordsAreOwn, OwnWordsAreGood, TranscriptsAgree, BadLinesChangeNothing, OwnRepliesAreTranscripts, EachLineGives, LinesAreRead, TextsAreLines, BadTextIsNoReply, TextsTell, TellingFixesText};
+
+/// What a word is read as.
+pub fn words_are_read()
+    ensures { WordsAreRead }
+{}
 
 #[tactic(auto, using(crate::proofs::OwnLineLemmas::lines))]
 /// No words are two commands, and a command's own line is that command and no other.
@@ -27,7 +32,7 @@ pub fn lines_are_read()
     ensures { LinesAreRead }
 {}
 
-#[tactic(auto, using(crate::proofs::FoundLineLemmas::each_line_gives))]
+#[tactic(auto, using(crate::proofs::TranscriptLemmas::each_line_gives))]
 /// Each line gives a text and a family: it is a command's, or a bad one.
 pub fn each_line_gives()
     ensures { EachLineGives }

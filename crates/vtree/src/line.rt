@@ -1,276 +1,181 @@
 //! Lines of commands, as the program reads them.
-ghost use Rattle.std.specs.Prelude.{◌≡◌, ◌≢◌, ℕ, List, [], ◌∷◌, length, map, MatchBool};
-ghost use Rattle.vtree.specs.Lines.{words};
-ghost use Rattle.vtree.specs.Grammar.{Said, Says};
+ghost use Rattle.std.specs.Prelude.{◌≡◌, ◌≤◌, [], ◌∷◌, codes, length, map};
+ghost use Rattle.std.specs.Range.Bound.{bound_map};
 ghost use Rattle.rart_family.specs.Keys.{by_bytes};
+ghost use Rattle.vtree.specs.Lines.{words};
+ghost use Rattle.vtree.specs.Grammar.{Says, Text, Number, Key, form_of, bound_form, write_form, answer_form, tried_form, end_form};
 ghost use Rattle.vtree.specs.Reading.{Reads};
-ghost use Rattle.vtree.specs.Shapes.{name_of, HasPlace, HasPair, HasKey, HasValue, IsRest, IsKeyed, IsIntersection, IsRange, IsUpdate, IsTryUpdate, IsUntil};
+ghost use Rattle.vtree.specs.Words.{word_value, IsShort, AreShort};
 
-use crate::words::{
-    answer_of, bound_of, end_of, failing_answer_of, is, key_of, number_of, place_of, words_of,
-    write_of,
-};
-use rart_family::Command;
+use crate::words::{Word, words_of};
+use rart_family::{ArrayKey, Command, KeyTrait, SlotUpdate};
+use std::alloc::Global;
+use std::ops::Bound;
 
-/// A command as a line says it: its keys are bytes of the line.
-pub type SaidCommand<'a> = Command<&'a [u8], u64>;
+/// A command as the program has it: keys of at most 16 bytes, and numbers for values.
+pub type LineCommand = Command<LineKey, u64>;
+
+/// A key as the program has it, held inline.
+pub type LineKey = ArrayKey<16>;
 
 /// The command of a line, without its line feed, or `None` where the line is a bad one.
 ///
-/// A line is words parted by exactly one space. P, N and V are numbers of 1 to 20 digits, below
-/// `2^64`. K is an apostrophe and then the key, 0 to 16 bytes from 0x21 to 0x7E. B is a bound: `i`
-/// and a K that is included, `x` and a K that is excluded, or `-` for none. W is a V or `-`. A is
-/// `keep`, `remove` or `insert V`.
-///
-/// | line | command |
-/// |---|---|
-/// | `new`, `new-at N` | `New`, `NewAt` |
-/// | `snapshot P`, `clone P`, `discard P` | `Snapshot`, `Duplicate`, `Discard` |
-/// | `version P`, `empty P` | `Version`, `IsEmpty` |
-/// | `get P K` | `Get` |
-/// | `get-mut P K V` | `GetMut` |
-/// | `insert P K V`, `replace P K V` | `Insert`, `Replace` |
-/// | `remove P K`, `delete P K` | `Remove`, `Delete` |
-/// | `update P K W A` | `Update` |
-/// | `try-update P K W A`, `try-update P K W fail` | `TryUpdate`, which answers its error for
-/// `fail` |
-/// | `iter P`, `values P`, `views P` | `Iter`, `Values`, `Views` |
-/// | `range P B B`, `range-views P B B` | `Range`, `RangeViews`, the lower bound first |
-/// | `prefix P K`, `prefix-views P K`, `prefix-values P K` | `Prefix`, `PrefixViews`,
-/// `PrefixValues` |
-/// | `matches P K`, `matches-each P K` | `Matches`, `MatchesEach` |
-/// | `until P K N stop`, `until P K N fail` | `Until`, which answers its error for `fail` |
-/// | `intersect P P`, `intersect-views P P` | `Intersect`, `IntersectViews` |
-/// | `intersect-values P P`, `intersect-count P P` | `IntersectValues`, `IntersectCount` |
-/// | `flatten P` | `Flatten` |
-/// | `longest P K` | `Longest` |
-pub fn parse(line: &[u8]) -> Option<SaidCommand<'_>>
-    ensures { Reads (by_bytes (λ key. key.now)) result
+/// A line is words parted by exactly one space. `word_of` of `specs/Grammar.antt` says what a word
+/// is, and `form_of` which words a command has. No memory is taken.
+pub fn parse(alloc: Global, line: &[u8]) -> Option<LineCommand>
+    ensures { Reads (by_bytes (λ key. key.bytes.items)) result
         (λ command. Says command (words line.now)) }
 {
     let words = words_of(line)?;
-    parse_words(words.as_slice())
+    parse_words(alloc, words.as_slice())
 }
 
-fn parse_words<'a>(words: &[&'a [u8]]) -> Option<SaidCommand<'a>>
-    ensures { Reads (by_bytes (λ key. key.now)) result
-        (λ command. Says command (map (λ word. word.now) words.now)) }
+/// The command of words, or `None` where they are none's.
+fn parse_words(alloc: Global, words: &[Word<'_>]) -> Option<LineCommand>
+    requires short { AreShort (map word_value words.now) }
+    ensures { Reads (by_bytes (λ key. key.bytes.items)) result
+        (λ command. form_of command ≡ map word_value words.now) }
 {
     match words {
-        [name] => parse_name(name),
-        [name, word] => parse_one(name, word),
-        [name, first, second, rest @ ..] => parse_longer(name, first, second, rest),
-        _ => None,
-    }
-}
-
-fn parse_name<'a>(name: &[u8]) -> Option<SaidCommand<'a>>
-    ensures { Reads (by_bytes (λ key. key.now)) result
-        (λ command. Says command (name.now ∷ [])) }
-{
-    if is(name, "new") {
-        Some(Command::New)
-    } else {
-        None
-    }
-}
-
-fn parse_one<'a>(name: &[u8], word: &[u8]) -> Option<SaidCommand<'a>>
-    ensures { Reads (by_bytes (λ key. key.now)) result
-        (λ command. Says command (name.now ∷ word.now ∷ [])) }
-{
-    let number = number_of(word)?;
-    if is(name, "new-at") {
-        Some(Command::NewAt { number })
-    } else {
-        parse_place_command(name, number as usize)
-    }
-}
-
-fn parse_place_command<'a>(name: &[u8], place: usize) -> Option<SaidCommand<'a>>
-    ensures { Reads (by_bytes (λ key. key.now)) result
-        (λ command. (name.now ≡ name_of command) × HasPlace command place) }
-{
-    if is(name, "snapshot") {
-        Some(Command::Snapshot { place })
-    } else if is(name, "clone") {
-        Some(Command::Duplicate { place })
-    } else if is(name, "discard") {
-        Some(Command::Discard { place })
-    } else if is(name, "version") {
-        Some(Command::Version { place })
-    } else if is(name, "empty") {
-        Some(Command::IsEmpty { place })
-    } else if is(name, "iter") {
-        Some(Command::Iter { place })
-    } else if is(name, "values") {
-        Some(Command::Values { place })
-    } else if is(name, "views") {
-        Some(Command::Views { place })
-    } else if is(name, "flatten") {
-        Some(Command::Flatten { place })
-    } else {
-        None
-    }
-}
-
-fn parse_longer<'a>(
-    name: &[u8],
-    first: &'a [u8],
-    second: &'a [u8],
-    rest: &[&'a [u8]],
-) -> Option<SaidCommand<'a>>
-    ensures { Reads (by_bytes (λ key. key.now)) result
-        (λ command. Says command
-        (name.now ∷ first.now ∷ second.now ∷ map (λ word. word.now) rest.now)) }
-{
-    if is_intersection(name) {
-        parse_pair(name, first, second, rest)
-    } else if is_range(name) {
-        parse_range(name, first, second, rest)
-    } else {
-        parse_keyed(name, first, second, rest)
-    }
-}
-
-fn is_intersection(name: &[u8]) -> bool
-    ensures { MatchBool result
-        ((command : Said) → name.now ≡ name_of command → IsIntersection command)
-        ((command : Said) → name.now ≡ name_of command → IsIntersection command → ⊥) }
-{
-    is(name, "intersect")
-        || is(name, "intersect-views")
-        || is(name, "intersect-values")
-        || is(name, "intersect-count")
-}
-
-fn is_range(name: &[u8]) -> bool
-    ensures { MatchBool result
-        ((command : Said) → name.now ≡ name_of command → IsRange command)
-        ((command : Said) → name.now ≡ name_of command → IsRange command → ⊥) }
-{
-    is(name, "range") || is(name, "range-views")
-}
-
-fn parse_pair<'a>(name: &[u8], left: &[u8], right: &[u8], rest: &[&[u8]]) -> Option<SaidCommand<'a>>
-    ensures { Reads (by_bytes (λ key. key.now)) result
-        (λ command. IsIntersection command
-        × Says command (name.now ∷ left.now ∷ right.now ∷ map (λ word. word.now) rest.now)) }
-{
-    match rest {
-        [] => parse_intersection(name, left, right),
-        _ => None,
-    }
-}
-
-fn parse_intersection<'a>(name: &[u8], left: &[u8], right: &[u8]) -> Option<SaidCommand<'a>>
-    ensures { Reads (by_bytes (λ key. key.now)) result
-        (λ command. IsIntersection command
-        × Says command (name.now ∷ left.now ∷ right.now ∷ [])) }
-{
-    let left = place_of(left)?;
-    let right = place_of(right)?;
-    parse_places(name, left, right)
-}
-
-fn parse_places<'a>(name: &[u8], left: usize, right: usize) -> Option<SaidCommand<'a>>
-    ensures { Reads (by_bytes (λ key. key.now)) result
-        (λ command. (name.now ≡ name_of command) × HasPair command left right) }
-{
-    if is(name, "intersect") {
-        Some(Command::Intersect { left, right })
-    } else if is(name, "intersect-views") {
-        Some(Command::IntersectViews { left, right })
-    } else if is(name, "intersect-values") {
-        Some(Command::IntersectValues { left, right })
-    } else if is(name, "intersect-count") {
-        Some(Command::IntersectCount { left, right })
-    } else {
-        None
-    }
-}
-
-fn parse_range<'a>(
-    name: &[u8],
-    place: &[u8],
-    lo: &'a [u8],
-    rest: &[&'a [u8]],
-) -> Option<SaidCommand<'a>>
-    ensures { Reads (by_bytes (λ key. key.now)) result
-        (λ command. IsRange command
-        × Says command (name.now ∷ place.now ∷ lo.now ∷ map (λ word. word.now) rest.now)) }
-{
-    match rest {
-        [hi] => parse_bounds(name, place, lo, hi),
-        _ => None,
-    }
-}
-
-fn parse_bounds<'a>(
-    name: &[u8],
-    place: &[u8],
-    lo: &'a [u8],
-    hi: &'a [u8],
-) -> Option<SaidCommand<'a>>
-    ensures { Reads (by_bytes (λ key. key.now)) result
-        (λ command. IsRange command
-        × Says command (name.now ∷ place.now ∷ lo.now ∷ hi.now ∷ [])) }
-{
-    let place = place_of(place)?;
-    let lo = bound_of(lo)?;
-    let hi = bound_of(hi)?;
-    if is(name, "range") {
-        Some(Command::Range { place, lo, hi })
-    } else if is(name, "range-views") {
-        Some(Command::RangeViews { place, lo, hi })
-    } else {
-        None
-    }
-}
-
-fn parse_keyed<'a>(
-    name: &[u8],
-    place: &[u8],
-    key: &'a [u8],
-    rest: &[&[u8]],
-) -> Option<SaidCommand<'a>>
-    ensures { Reads (by_bytes (λ key. key.now)) result
-        (IsKeyed name.now place.now key.now (map (λ word. word.now) rest.now)) }
-{
-    let place = place_of(place)?;
-    let key = key_of(key)?;
-    parse_key_command(name, place, key, rest)
-}
-
-fn parse_key_command<'a>(
-    name: &[u8],
-    place: usize,
-    key: &'a [u8],
-    rest: &[&[u8]],
-) -> Option<SaidCommand<'a>>
-    ensures { Reads (by_bytes (λ key. key.now)) result
-        (λ command. (name.now ≡ name_of command) × HasKey command place key.now
-        × IsRest command (map (λ word. word.now) rest.now)) }
-{
-    if is(name, "update") {
-        parse_update(place, key, rest)
-    } else if is(name, "try-update") {
-        parse_try_update(place, key, rest)
-    } else if is(name, "until") {
-        parse_until(place, key, rest)
-    } else {
-        match rest {
-            [] => parse_bare_key_command(name, place, key),
-            [value] => parse_value_command(name, place, key, number_of(value)?),
-            _ => None,
+        [Word::Text("new")] => Some(Command::New),
+        [Word::Text(name), Word::Number(number), rest @ ..] => {
+            numbered_command(alloc, name, *number, rest)
         }
+        _ => None,
     }
 }
 
-fn parse_update<'a>(place: usize, key: &'a [u8], rest: &[&[u8]]) -> Option<SaidCommand<'a>>
-    ensures { Reads (by_bytes (λ key. key.now)) result
-        (λ command. IsUpdate command × HasKey command place key.now
-        × IsRest command (map (λ word. word.now) rest.now)) }
+/// The command of a name, a number, and the words behind them.
+fn numbered_command(
+    alloc: Global,
+    name: &str,
+    number: u64,
+    rest: &[Word<'_>],
+) -> Option<LineCommand>
+    requires short { AreShort (map word_value rest.now) }
+    ensures { Reads (by_bytes (λ key. key.bytes.items)) result
+        (λ command. form_of command ≡ Text name.now ∷ Number number ∷ map word_value rest.now) }
+{
+    let place = number as usize;
+    match rest {
+        [] => number_command(name, number),
+        [Word::Number(right)] => pair_command(name, place, *right as usize),
+        [Word::Key(key), rest @ ..] => keyed_command(name, place, to_key(alloc, key), rest),
+        [lo, hi] => range_command(name, place, bound_of(alloc, lo)?, bound_of(alloc, hi)?),
+        _ => None,
+    }
+}
+
+/// The command of a name and a number, most often a place.
+fn number_command(name: &str, number: u64) -> Option<LineCommand>
+    ensures { Reads (by_bytes (λ key. key.bytes.items)) result
+        (λ command. form_of command ≡ Text name.now ∷ Number number ∷ []) }
+{
+    let place = number as usize;
+    match name {
+        "new-at" => Some(Command::NewAt { number }),
+        "snapshot" => Some(Command::Snapshot { place }),
+        "clone" => Some(Command::Duplicate { place }),
+        "discard" => Some(Command::Discard { place }),
+        "version" => Some(Command::Version { place }),
+        "empty" => Some(Command::IsEmpty { place }),
+        "iter" => Some(Command::Iter { place }),
+        "values" => Some(Command::Values { place }),
+        "views" => Some(Command::Views { place }),
+        "flatten" => Some(Command::Flatten { place }),
+        _ => None,
+    }
+}
+
+/// The command of a name and two places.
+fn pair_command(name: &str, left: usize, right: usize) -> Option<LineCommand>
+    ensures { Reads (by_bytes (λ key. key.bytes.items)) result
+        (λ command. form_of command ≡ Text name.now ∷ Number left ∷ Number right ∷ []) }
+{
+    match name {
+        "intersect" => Some(Command::Intersect { left, right }),
+        "intersect-views" => Some(Command::IntersectViews { left, right }),
+        "intersect-values" => Some(Command::IntersectValues { left, right }),
+        "intersect-count" => Some(Command::IntersectCount { left, right }),
+        _ => None,
+    }
+}
+
+/// The command of a name, a place, and bounds, the lower one first.
+fn range_command(
+    name: &str,
+    place: usize,
+    lo: Bound<LineKey>,
+    hi: Bound<LineKey>,
+) -> Option<LineCommand>
+    ensures { Reads (by_bytes (λ key. key.bytes.items)) result
+        (λ command. form_of command ≡ Text name.now ∷ Number place
+        ∷ bound_form (bound_map (λ key. key.bytes.items) lo)
+        ∷ bound_form (bound_map (λ key. key.bytes.items) hi) ∷ []) }
+{
+    match name {
+        "range" => Some(Command::Range { place, lo, hi }),
+        "range-views" => Some(Command::RangeViews { place, lo, hi }),
+        _ => None,
+    }
+}
+
+/// The command of a name, a place, a key, and the words behind them.
+fn keyed_command(name: &str, place: usize, key: LineKey, rest: &[Word<'_>]) -> Option<LineCommand>
+    ensures { Reads (by_bytes (λ key. key.bytes.items)) result
+        (λ command. form_of command
+        ≡ Text name.now ∷ Number place ∷ Key key.bytes.items ∷ map word_value rest.now) }
+{
+    match name {
+        "update" => update_command(place, key, rest),
+        "try-update" => try_update_command(place, key, rest),
+        "until" => until_command(place, key, rest),
+        _ => match rest {
+            [] => key_command(name, place, key),
+            [Word::Number(value)] => value_command(name, place, key, *value),
+            _ => None,
+        },
+    }
+}
+
+/// The command of a name, a place and a key.
+fn key_command(name: &str, place: usize, key: LineKey) -> Option<LineCommand>
+    ensures { Reads (by_bytes (λ key. key.bytes.items)) result
+        (λ command. form_of command ≡ Text name.now ∷ Number place ∷ Key key.bytes.items ∷ []) }
+{
+    match name {
+        "get" => Some(Command::Get { place, key }),
+        "remove" => Some(Command::Remove { place, key }),
+        "delete" => Some(Command::Delete { place, key }),
+        "prefix" => Some(Command::Prefix { place, prefix: key }),
+        "prefix-views" => Some(Command::PrefixViews { place, prefix: key }),
+        "prefix-values" => Some(Command::PrefixValues { place, prefix: key }),
+        "matches" => Some(Command::Matches { place, key }),
+        "matches-each" => Some(Command::MatchesEach { place, key }),
+        "longest" => Some(Command::Longest { place, key }),
+        _ => None,
+    }
+}
+
+/// The command of a name, a place, a key and a value.
+fn value_command(name: &str, place: usize, key: LineKey, value: u64) -> Option<LineCommand>
+    ensures { Reads (by_bytes (λ key. key.bytes.items)) result
+        (λ command. form_of command
+        ≡ Text name.now ∷ Number place ∷ Key key.bytes.items ∷ Number value ∷ []) }
+{
+    match name {
+        "get-mut" => Some(Command::GetMut { place, key, value }),
+        "insert" => Some(Command::Insert { place, key, value }),
+        "replace" => Some(Command::Replace { place, key, value }),
+        _ => None,
+    }
+}
+
+/// The update of a place, a key, and the words behind them.
+fn update_command(place: usize, key: LineKey, rest: &[Word<'_>]) -> Option<LineCommand>
+    ensures { Reads (by_bytes (λ key. key.bytes.items)) result
+        (λ command. form_of command ≡ Text (codes "update") ∷ Number place
+        ∷ Key key.bytes.items ∷ map word_value rest.now) }
 {
     match rest {
         [write, answer @ ..] => Some(Command::Update {
@@ -283,83 +188,107 @@ fn parse_update<'a>(place: usize, key: &'a [u8], rest: &[&[u8]]) -> Option<SaidC
     }
 }
 
-fn parse_try_update<'a>(place: usize, key: &'a [u8], rest: &[&[u8]]) -> Option<SaidCommand<'a>>
-    ensures { Reads (by_bytes (λ key. key.now)) result
-        (λ command. IsTryUpdate command × HasKey command place key.now
-        × IsRest command (map (λ word. word.now) rest.now)) }
+/// The update that may fail.
+fn try_update_command(place: usize, key: LineKey, rest: &[Word<'_>]) -> Option<LineCommand>
+    ensures { Reads (by_bytes (λ key. key.bytes.items)) result
+        (λ command. form_of command ≡ Text (codes "try-update") ∷ Number place
+        ∷ Key key.bytes.items ∷ map word_value rest.now) }
 {
     match rest {
         [write, answer @ ..] => Some(Command::TryUpdate {
             place,
             key,
             write: write_of(write)?,
-            answer: failing_answer_of(answer)?,
+            answer: tried_of(answer)?,
         }),
         _ => None,
     }
 }
 
-fn parse_until<'a>(place: usize, key: &'a [u8], rest: &[&[u8]]) -> Option<SaidCommand<'a>>
-    ensures { Reads (by_bytes (λ key. key.now)) result
-        (λ command. IsUntil command × HasKey command place key.now
-        × IsRest command (map (λ word. word.now) rest.now)) }
+/// The visit of a place, a prefix, and the words behind them.
+fn until_command(place: usize, key: LineKey, rest: &[Word<'_>]) -> Option<LineCommand>
+    ensures { Reads (by_bytes (λ key. key.bytes.items)) result
+        (λ command. form_of command ≡ Text (codes "until") ∷ Number place
+        ∷ Key key.bytes.items ∷ map word_value rest.now) }
 {
     match rest {
-        [visits, end] => Some(Command::Until {
+        [Word::Number(visits), Word::Text(end)] => Some(Command::Until {
             place,
             prefix: key,
-            visits: number_of(visits)?,
+            visits: *visits,
             fails: end_of(end)?,
         }),
         _ => None,
     }
 }
 
-fn parse_bare_key_command<'a>(name: &[u8], place: usize, key: &'a [u8]) -> Option<SaidCommand<'a>>
-    ensures { Reads (by_bytes (λ key. key.now)) result
-        (λ command. (name.now ≡ name_of command) × HasKey command place key.now
-        × IsRest command []) }
+/// The bound that a word is.
+fn bound_of(alloc: Global, word: &Word<'_>) -> Option<Bound<LineKey>>
+    requires short { IsShort (word_value word.now) }
+    ensures { Reads (bound_map (λ key. key.bytes.items)) result
+        (λ bound. bound_form bound ≡ word_value word.now) }
 {
-    if is(name, "get") {
-        Some(Command::Get { place, key })
-    } else if is(name, "remove") {
-        Some(Command::Remove { place, key })
-    } else if is(name, "delete") {
-        Some(Command::Delete { place, key })
-    } else if is(name, "prefix") {
-        Some(Command::Prefix { place, prefix: key })
-    } else if is(name, "prefix-views") {
-        Some(Command::PrefixViews { place, prefix: key })
-    } else if is(name, "prefix-values") {
-        Some(Command::PrefixValues { place, prefix: key })
-    } else if is(name, "matches") {
-        Some(Command::Matches { place, key })
-    } else if is(name, "matches-each") {
-        Some(Command::MatchesEach { place, key })
-    } else if is(name, "longest") {
-        Some(Command::Longest { place, key })
-    } else {
-        None
+    match word {
+        Word::Text("-") => Some(Bound::Unbounded),
+        Word::Included(key) => Some(Bound::Included(to_key(alloc, key))),
+        Word::Excluded(key) => Some(Bound::Excluded(to_key(alloc, key))),
+        _ => None,
     }
 }
 
-fn parse_value_command<'a>(
-    name: &[u8],
-    place: usize,
-    key: &'a [u8],
-    value: u64,
-) -> Option<SaidCommand<'a>>
-    ensures { Reads (by_bytes (λ key. key.now)) result
-        (λ command. (name.now ≡ name_of command) × HasKey command place key.now
-        × HasValue command value) }
+/// What is written into a slot.
+fn write_of(word: &Word<'_>) -> Option<Option<u64>>
+    ensures { Reads (λ write. write) result (λ write. write_form write ≡ word_value word.now) }
 {
-    if is(name, "get-mut") {
-        Some(Command::GetMut { place, key, value })
-    } else if is(name, "insert") {
-        Some(Command::Insert { place, key, value })
-    } else if is(name, "replace") {
-        Some(Command::Replace { place, key, value })
-    } else {
-        None
+    match word {
+        Word::Text("-") => Some(None),
+        Word::Number(number) => Some(Some(*number)),
+        _ => None,
+    }
+}
+
+/// The answer of a callback.
+fn answer_of(words: &[Word<'_>]) -> Option<SlotUpdate<u64>>
+    ensures { Reads (λ answer. answer) result
+        (λ answer. answer_form answer ≡ map word_value words.now) }
+{
+    match words {
+        [Word::Text("keep")] => Some(SlotUpdate::Keep),
+        [Word::Text("remove")] => Some(SlotUpdate::Remove),
+        [Word::Text("insert"), Word::Number(value)] => Some(SlotUpdate::Insert(*value)),
+        _ => None,
+    }
+}
+
+/// The answer of a callback that may fail, which is none where it does.
+fn tried_of(words: &[Word<'_>]) -> Option<Option<SlotUpdate<u64>>>
+    ensures { Reads (λ answer. answer) result
+        (λ answer. tried_form answer ≡ map word_value words.now) }
+{
+    match words {
+        [Word::Text("fail")] => Some(None),
+        _ => Some(Some(answer_of(words)?)),
+    }
+}
+
+/// Whether a visit ends by an error.
+fn end_of(word: &str) -> Option<bool>
+    ensures { Reads (λ fails. fails) result (λ fails. end_form fails ≡ Text word.now) }
+{
+    match word {
+        "stop" => Some(false),
+        "fail" => Some(true),
+        _ => None,
+    }
+}
+
+/// The key, held inline.
+fn to_key(alloc: Global, bytes: &[u8]) -> LineKey
+    requires { length bytes.now ≤ 16 }
+    ensures { result.bytes.items ≡ bytes.now }
+{
+    match ArrayKey::new_from_slice(alloc, bytes) {
+        Ok(key) => key,
+        Err(_) => unreachable!(), // an inline key takes no memory
     }
 }

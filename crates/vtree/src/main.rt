@@ -5,7 +5,6 @@
 //! failed, or memory was refused for the buffer that it reads into.
 #![tactic(auto)]
 
-mod keys;
 mod laws;
 mod line;
 mod output;

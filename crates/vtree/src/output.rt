@@ -8,7 +8,7 @@ use itoa::Buffer;
 use std::io::{ErrorKind, Write};
 use thiserror::Error;
 
-// Bytes that a page holds.
+/// Bytes that a page holds.
 const ROOM: usize = 1024;
 
 /// Writing failed.

@@ -80,7 +80,7 @@ fn put_word_and_number<W: Write>(
     page.put(writer, b"\n")
 }
 
-// A kind of list in a reply: what is put for each member.
+/// A kind of list in a reply: what is put for each member.
 trait ReplyList<T> {
     ghost text: { T → List ℕ };
 
@@ -89,7 +89,7 @@ trait ReplyList<T> {
             page.old.bytes.items page.new.bytes.items (text member.now) };
 }
 
-// Values alone.
+/// Values alone.
 struct Values;
 
 impl ReplyList<u64> for Values {
@@ -100,7 +100,7 @@ impl ReplyList<u64> for Values {
     }
 }
 
-// Two values each.
+/// Two values each.
 struct ValuePairs;
 
 impl ReplyList<(u64, u64)> for ValuePairs {
@@ -117,7 +117,7 @@ impl ReplyList<(u64, u64)> for ValuePairs {
     }
 }
 
-// Keys with a value each.
+/// Keys with a value each.
 struct Entries;
 
 impl<K: KeyTrait> ReplyList<(K, u64)> for Entries {
@@ -130,7 +130,7 @@ impl<K: KeyTrait> ReplyList<(K, u64)> for Entries {
     }
 }
 
-// Keys with two values each.
+/// Keys with two values each.
 struct Pairs;
 
 impl<K: KeyTrait> ReplyList<(K, u64, u64)> for Pairs {

@@ -5,22 +5,21 @@ ghost use Rattle.rart_family.specs.Keys.{by_bytes};
 ghost use Rattle.vtree.specs.Transcript.{Replies};
 ghost use Rattle.vtree.specs.Sessions.{IsReading, EndsLine, Commands, Serving, Takes, Finishes};
 
-use crate::keys::{LineCommand, with_keys};
-use crate::line::parse;
+use crate::line::{LineCommand, LineKey, parse};
 use crate::output::{WriteFailed, write_bytes};
 use crate::reply::write_reply;
 use crate::served::Served;
 use arrayvec::ArrayVec;
-use rart_family::{ArrayKey, Family, Reply, Work};
+use rart_family::{Family, Reply, Work};
 use std::alloc::Global;
 use std::io::Write;
 
-// The greatest length of a good line, without its line feed.
+/// The greatest length of a good line, without its line feed.
 const LONGEST: usize = 200;
 
-type LineFamily = Family<ArrayKey<16>, u64>;
+type LineFamily = Family<LineKey, u64>;
 
-type LineReply = Reply<ArrayKey<16>, u64>;
+type LineReply = Reply<LineKey, u64>;
 
 /// The family, the line that is being read, and whether each line so far was a good one. Of a line
 /// that is too long the bytes past the greatest length are counted alone.
@@ -102,7 +101,7 @@ impl Session {
         }
     }
 
-    // The command of the line that is read.
+    /// The command of the line that is read.
     fn command(&self) -> Option<LineCommand>
         ensures { (line : List ℕ) → IsReading self.now line
             → Commands (by_bytes (λ key. key.bytes.items)) line result }
@@ -110,8 +109,7 @@ impl Session {
         if self.length > LONGEST {
             return None;
         }
-        let said = parse(&self.line)?;
-        Some(with_keys(self.alloc, said))
+        parse(self.alloc, &self.line)
     }
 
     fn reply_to(&mut self, command: &LineCommand) -> LineReply

@@ -1,4 +1,4 @@
-// What no clause says: that calls succeed where there is memory, and what is written when.
+//! What no clause says: that calls succeed where there is memory, and what is written when.
 
 mod heap;
 mod lists;
@@ -11,22 +11,22 @@ use std::process::Abort;
 use std::test::Fail;
 use streams::{Sink, Source, none_answered};
 
-// How a text of lines is read and its replies are written.
+/// How a text of lines is read and its replies are written.
 #[derive(Clone, Copy)]
 struct Trial<'a> {
     lines: &'a [u8],
-    // Whether reading fails at the end.
+    /// Whether reading fails at the end.
     fails_to_read: bool,
-    // How many bytes a write takes.
+    /// How many bytes a write takes.
     at_once: usize,
-    // How often a write is interrupted before it takes any.
+    /// How often a write is interrupted before it takes any.
     interruptions: usize,
-    // How many bytes are taken before writing fails.
+    /// How many bytes are taken before writing fails.
     most: usize,
 }
 
 impl<'a> Trial<'a> {
-    // Nothing fails.
+    /// Nothing fails.
     fn of(lines: &'a [u8]) -> Trial<'a> {
         Trial {
             lines,
@@ -38,7 +38,7 @@ impl<'a> Trial<'a> {
     }
 }
 
-// Serves lines, and compares what is written and answered.
+/// Serves lines, and compares what is written and answered.
 fn assert_served(
     rt: &impl Abort,
     alloc: Global,

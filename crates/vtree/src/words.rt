@@ -1,40 +1,56 @@
 //! The words of a line, and what each may be.
-ghost use Rattle.std.specs.Prelude.{◌≡◌, ◌≢◌, ◌<◌, length, map, MatchBool, None, IfSome, IfNone};
-ghost use Rattle.std.specs.Range.Bound.{bound_map};
+ghost use Rattle.std.specs.Prelude.{◌≡◌, ◌<◌, length, map, if◌then◌else◌, None, Some, IfSome, IfNone};
+ghost use Rattle.std.specs.Option.{option_map};
+ghost use Rattle.std.specs.List.{list_all};
+ghost use Rattle.std.specs.Char.{is_ascii_graphic};
 ghost use Rattle.vtree.specs.Lines.{words, number_of};
-ghost use Rattle.vtree.specs.Grammar.{IsNumber, IsKey, IsBound, IsWrite, IsAnswer, IsFailingAnswer, IsEnd};
-ghost use Rattle.vtree.specs.Reading.{Reads};
+ghost use Rattle.vtree.specs.Grammar.{word_of, key_behind};
+ghost use Rattle.vtree.specs.Words.{word_value};
 
 use arrayvec::ArrayVec;
-use rart_family::SlotUpdate;
-use std::ops::Bound;
 
-// The most words that a good line has: `try-update P K W insert V`.
+/// The most words that a good line has: `try-update P K W insert V`.
 const MOST_WORDS: usize = 6;
 
-/// The words of a line, or `None` where there are more than any command has.
-pub fn words_of(line: &[u8]) -> Option<ArrayVec<&[u8], MOST_WORDS>>
-    ensures some { IfSome result (λ found. map (λ word. word.now) found.items ≡ words line.now) }
-    ensures none { IfNone result (6 < length (words line.now)) }
-{
-    let mut words = ArrayVec::new();
-    for word in line.split(|byte| *byte == b' ') {
-        if words.try_push(word).is_err() {
-            return None;
-        }
-    }
-    Some(words)
+/// What a word of a line can be.
+#[derive(Clone, Copy, Default)]
+pub enum Word<'a> {
+    /// 1 to 20 decimal digits, below `2^64`.
+    Number(u64),
+    /// An apostrophe, and then the key.
+    Key(&'a [u8]),
+    /// `i`, and then a key behind its apostrophe: a bound that is included.
+    Included(&'a [u8]),
+    /// `x`, and then a key behind its apostrophe: a bound that is excluded.
+    Excluded(&'a [u8]),
+    /// Any other word of bytes from `!` to `~`.
+    Text(&'a str),
+    /// Any other word.
+    #[default]
+    Bytes,
 }
 
-/// Whether a word is this one.
-pub fn is(word: &[u8], text: &str) -> bool
-    ensures { MatchBool result (word.now ≡ text.now) (word.now ≢ text.now) }
+/// What a word is.
+fn word_of<'a>(word: &'a [u8]) -> Word<'a>
+    ensures { word_value result ≡ word_of word.now }
 {
-    word == text.as_bytes()
+    if let Some(number) = number_of(word) {
+        Word::Number(number)
+    } else if let Some(key) = key_behind(b"'", word) {
+        Word::Key(key)
+    } else if let Some(key) = key_behind(b"i'", word) {
+        Word::Included(key)
+    } else if let Some(key) = key_behind(b"x'", word) {
+        Word::Excluded(key)
+    } else if let Some(text) = text_of(word) {
+        Word::Text(text)
+    } else {
+        Word::Bytes
+    }
 }
 
 /// The number that a word is: 1 to 20 decimal digits, below `2^64`.
-pub fn number_of(word: &[u8]) -> Option<u64>
+fn number_of(word: &[u8]) -> Option<u64>
     ensures { result ≡ number_of word.now }
 {
     if word.is_empty() || word.len() > 20 {
@@ -52,89 +68,48 @@ pub fn number_of(word: &[u8]) -> Option<u64>
     Some(number)
 }
 
-/// The place that a word is, a number.
-pub fn place_of(word: &[u8]) -> Option<usize>
-    ensures { Reads (λ place. place) result (IsNumber word.now) }
+/// The key that stands behind a mark.
+fn key_behind<'a>(mark: &[u8], word: &'a [u8]) -> Option<&'a [u8]>
+    ensures { option_map (λ key. key.now) result ≡ key_behind mark.now word.now }
 {
-    Some(number_of(word)? as usize)
-}
-
-/// The key that a word is, behind its apostrophe.
-pub fn key_of(word: &[u8]) -> Option<&[u8]>
-    ensures { Reads (λ key. key.now) result (IsKey word.now) }
-{
-    match word {
-        [b'\'', key @ ..] if key.len() <= 16 && key.iter().all(|byte| byte.is_ascii_graphic()) => {
-            Some(key)
-        }
-        _ => None,
-    }
-}
-
-/// The bound that a word is.
-pub fn bound_of(word: &[u8]) -> Option<Bound<&[u8]>>
-    ensures { Reads (bound_map (λ key. key.now)) result (IsBound word.now) }
-{
-    match word {
-        b"-" => Some(Bound::Unbounded),
-        [b'i', key @ ..] => Some(Bound::Included(key_of(key)?)),
-        [b'x', key @ ..] => Some(Bound::Excluded(key_of(key)?)),
-        _ => None,
-    }
-}
-
-/// Whether a visit ends by an error.
-pub fn end_of(word: &[u8]) -> Option<bool>
-    ensures { Reads (λ fails. fails) result (IsEnd word.now) }
-{
-    match word {
-        b"stop" => Some(false),
-        b"fail" => Some(true),
-        _ => None,
-    }
-}
-
-/// What is written into a slot.
-pub fn write_of(word: &[u8]) -> Option<Option<u64>>
-    ensures { Reads (λ write. write) result (IsWrite word.now) }
-{
-    match word {
-        b"-" => Some(None),
-        _ => Some(Some(number_of(word)?)),
-    }
-}
-
-/// The answer of a callback that may fail, which is none where it does.
-pub fn failing_answer_of(words: &[&[u8]]) -> Option<Option<SlotUpdate<u64>>>
-    ensures { Reads (λ answer. answer) result
-        (λ answer. IsFailingAnswer answer (map (λ word. word.now) words.now)) }
-{
-    if is_fail(words) {
-        Some(None)
+    let key = word.strip_prefix(mark)?;
+    if key.len() <= 16 && is_graphic(key) {
+        Some(key)
     } else {
-        Some(Some(answer_of(words)?))
+        None
     }
 }
 
-fn is_fail(words: &[&[u8]]) -> bool
-    ensures { MatchBool result (IsFailingAnswer None (map (λ word. word.now) words.now))
-        (IsFailingAnswer None (map (λ word. word.now) words.now) → ⊥) }
+/// Whether all bytes are from `!` to `~`.
+fn is_graphic(bytes: &[u8]) -> bool
+    ensures { result ≡ list_all is_ascii_graphic bytes.now }
 {
-    match words {
-        [word] => is(word, "fail"),
-        _ => false,
+    bytes.iter().all(|byte| byte.is_ascii_graphic())
+}
+
+/// The word as a text, where all its bytes are from `!` to `~`.
+fn text_of<'a>(word: &'a [u8]) -> Option<&'a str>
+    ensures { option_map (λ text. text.now) result
+        ≡ (if list_all is_ascii_graphic word.now then Some word.now else None) }
+{
+    if is_graphic(word) {
+        str::from_utf8(word).ok()
+    } else {
+        None
     }
 }
 
-/// The answer of a callback.
-pub fn answer_of(words: &[&[u8]]) -> Option<SlotUpdate<u64>>
-    ensures { Reads (λ answer. answer) result
-        (λ answer. IsAnswer answer (map (λ word. word.now) words.now)) }
+/// The words of a line, or `None` where there are more than any command has.
+pub fn words_of<'a>(line: &'a [u8]) -> Option<ArrayVec<Word<'a>, MOST_WORDS>>
+    ensures some { IfSome result (λ found.
+        map word_value found.items ≡ map word_of (words line.now)) }
+    ensures none { IfNone result (6 < length (words line.now)) }
 {
-    match words {
-        [word] if is(word, "keep") => Some(SlotUpdate::Keep),
-        [word] if is(word, "remove") => Some(SlotUpdate::Remove),
-        [word, value] if is(word, "insert") => Some(SlotUpdate::Insert(number_of(value)?)),
-        _ => None,
+    let mut words = ArrayVec::new();
+    for word in line.split(|byte| *byte == b' ') {
+        if words.try_push(word_of(word)).is_err() {
+            return None;
+        }
     }
+    Some(words)
 }

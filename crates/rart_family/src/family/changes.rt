@@ -1,13 +1,13 @@
-// Commands that change the version at their place by one key.
+//! Commands that change the version at their place by one key.
 ghost use Rattle.rart_versioned.specs.Clones.{ClonesEqual};
-ghost use Rattle.rart_family.specs.Attempts.{Tries, reply_or_want};
+ghost use Rattle.rart_family.specs.Attempts.{Tries, replied};
 ghost use Rattle.rart_family.specs.Costs.{CountsChanges};
 ghost use Rattle.rart_family.specs.declared.family.command.Command.TheVariants.{GetMut, Insert, Replace, Remove, Delete};
 
+use super::refused::Refused;
 use super::writing::write_value;
 use super::{Family, Reply};
 use rart_versioned::{KeyTrait, Work};
-use std::alloc::AllocError;
 
 impl<K: KeyTrait, V: Clone + Drop> Family<K, V> {
     pub(super) fn get_mut(
@@ -16,16 +16,13 @@ impl<K: KeyTrait, V: Clone + Drop> Family<K, V> {
         key: &K,
         value: &V,
         changes: &mut Work,
-    ) -> Result<Reply<K, V>, AllocError>
+    ) -> Result<Reply<K, V>, Refused>
         requires clones { ClonesEqual V.is_clone }
         ensures tries { Tries K.bytes self.old (GetMut place key.now value.now) result self.new }
         ensures changes { CountsChanges K.bytes self.old (GetMut place key.now value.now)
-            (reply_or_want K.bytes result) changes.old changes.new }
+            (replied K.bytes result) changes.old changes.new }
     {
-        let version = match self.version_to_change(place, 1) {
-            Ok(version) => version,
-            Err(refusal) => return Ok(refusal),
-        };
+        let version = self.version_to_change(place, 1)?;
         let value = value.clone()?;
         let found = write_value(version, key, value, changes)?;
         Ok(Reply::Flag(found))
@@ -37,16 +34,13 @@ impl<K: KeyTrait, V: Clone + Drop> Family<K, V> {
         key: &K,
         value: &V,
         changes: &mut Work,
-    ) -> Result<Reply<K, V>, AllocError>
+    ) -> Result<Reply<K, V>, Refused>
         requires clones { ClonesEqual V.is_clone }
         ensures tries { Tries K.bytes self.old (Insert place key.now value.now) result self.new }
         ensures changes { CountsChanges K.bytes self.old (Insert place key.now value.now)
-            (reply_or_want K.bytes result) changes.old changes.new }
+            (replied K.bytes result) changes.old changes.new }
     {
-        let version = match self.version_to_change(place, 1) {
-            Ok(version) => version,
-            Err(refusal) => return Ok(refusal),
-        };
+        let version = self.version_to_change(place, 1)?;
         let value = value.clone()?;
         let replaced = version.insert_k_counted(key, value, changes)?;
         Ok(Reply::Flag(replaced))
@@ -58,16 +52,13 @@ impl<K: KeyTrait, V: Clone + Drop> Family<K, V> {
         key: &K,
         value: &V,
         changes: &mut Work,
-    ) -> Result<Reply<K, V>, AllocError>
+    ) -> Result<Reply<K, V>, Refused>
         requires clones { ClonesEqual V.is_clone }
         ensures tries { Tries K.bytes self.old (Replace place key.now value.now) result self.new }
         ensures changes { CountsChanges K.bytes self.old (Replace place key.now value.now)
-            (reply_or_want K.bytes result) changes.old changes.new }
+            (replied K.bytes result) changes.old changes.new }
     {
-        let version = match self.version_to_change(place, 1) {
-            Ok(version) => version,
-            Err(refusal) => return Ok(refusal),
-        };
+        let version = self.version_to_change(place, 1)?;
         let value = value.clone()?;
         let replaced = version.insert_and_replace_k_counted(key, value, changes)?;
         Ok(Reply::Value(replaced))
@@ -78,16 +69,13 @@ impl<K: KeyTrait, V: Clone + Drop> Family<K, V> {
         place: usize,
         key: &K,
         changes: &mut Work,
-    ) -> Result<Reply<K, V>, AllocError>
+    ) -> Result<Reply<K, V>, Refused>
         requires clones { ClonesEqual V.is_clone }
         ensures tries { Tries K.bytes self.old (Remove place key.now) result self.new }
         ensures changes { CountsChanges K.bytes self.old (Remove place key.now)
-            (reply_or_want K.bytes result) changes.old changes.new }
+            (replied K.bytes result) changes.old changes.new }
     {
-        let version = match self.version_to_change(place, 1) {
-            Ok(version) => version,
-            Err(refusal) => return Ok(refusal),
-        };
+        let version = self.version_to_change(place, 1)?;
         let found = version.remove_k_counted(key, changes)?;
         Ok(Reply::Value(found))
     }
@@ -97,16 +85,13 @@ impl<K: KeyTrait, V: Clone + Drop> Family<K, V> {
         place: usize,
         key: &K,
         changes: &mut Work,
-    ) -> Result<Reply<K, V>, AllocError>
+    ) -> Result<Reply<K, V>, Refused>
         requires clones { ClonesEqual V.is_clone }
         ensures tries { Tries K.bytes self.old (Delete place key.now) result self.new }
         ensures changes { CountsChanges K.bytes self.old (Delete place key.now)
-            (reply_or_want K.bytes result) changes.old changes.new }
+            (replied K.bytes result) changes.old changes.new }
     {
-        let version = match self.version_to_change(place, 1) {
-            Ok(version) => version,
-            Err(refusal) => return Ok(refusal),
-        };
+        let version = self.version_to_change(place, 1)?;
         let found = version.delete_k_counted(key, changes)?;
         Ok(Reply::Flag(found))
     }

@@ -1,4 +1,4 @@
-// Copies of what visitors are called on.
+//! Copies of what visitors are called on.
 ghost use Rattle.std.specs.Prelude.{◌≡◌, ◌++◌, ◌∷◌, [], length, Ok, IfOk, OnOk};
 ghost use Rattle.rart_versioned.specs.Clones.{ClonesEqual};
 ghost use Rattle.rart_versioned.specs.Bytes.{IsAdmitted};
@@ -168,7 +168,7 @@ fn push_slice<K: KeyTrait, V: Clone + Drop>(
     Ok(())
 }
 
-// Puts a copy of the value at the end.
+/// Puts a copy of the value at the end.
 pub(super) fn push_value<V: Clone + Drop>(values: &mut Vec<V>, value: &V) -> Result<(), AllocError>
     requires clones { ClonesEqual V.is_clone }
     ensures { OnOk result (values.new.items ≡ values.old.items ++ value.now ∷ []) }

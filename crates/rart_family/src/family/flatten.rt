@@ -1,4 +1,4 @@
-// The command that lists what a version has by way of a plain tree.
+//! The command that lists what a version has by way of a plain tree.
 ghost use Rattle.std.specs.Prelude.{◌≡◌, IfOk};
 ghost use Rattle.std.specs.FinMap as finite;
 ghost use Rattle.rart_versioned.specs.Clones.{ClonesEqual};
@@ -6,28 +6,27 @@ ghost use Rattle.rart_family.specs.Attempts.{Tries};
 ghost use Rattle.rart_family.specs.Collections.{pairs_of};
 ghost use Rattle.rart_family.specs.declared.family.command.Command.TheVariants.{Flatten};
 
+use super::refused::Refused;
 use super::walks::key_copy;
 use super::{Family, Reply};
 use rart_versioned::{AdaptiveRadixTree, KeyTrait};
 use std::alloc::{AllocError, Global};
 
 impl<K: KeyTrait, V: Clone + Drop> Family<K, V> {
-    pub(super) fn flatten(&self, place: usize) -> Result<Reply<K, V>, AllocError>
+    pub(super) fn flatten(&self, place: usize) -> Result<Reply<K, V>, Refused>
         requires clones { ClonesEqual V.is_clone }
         ensures { Tries K.bytes self.now (Flatten place) result self.now }
     {
-        let Some(version) = self.version_at(place) else {
-            return Ok(Reply::NoVersion);
-        };
+        let version = self.at(place)?;
         let Ok(plain) = version.clone()?.into_unversioned() else {
-            return Err(AllocError);
+            return Err(Refused::NoMemory);
         };
         let entries = plain_entries(self.alloc, &plain)?;
         Ok(Reply::Entries(entries))
     }
 }
 
-// Copies of all entries of a plain tree.
+/// Copies of all entries of a plain tree.
 fn plain_entries<K: KeyTrait, V: Clone + Drop>(
     alloc: Global,
     plain: &AdaptiveRadixTree<K, V>,

@@ -1,18 +1,19 @@
-// Commands that read two versions at once.
-ghost use Rattle.std.specs.Prelude.{◌≡◌, ◌⊎◌, ◌+◌, ◌≤◌, false, None, Some, IfNone, IfOk, IfSome};
+//! Commands that read two versions at once.
+ghost use Rattle.std.specs.Prelude.{◌≡◌, ◌⊎◌, ◌+◌, ◌≤◌, false, None, Some, IfErr, IfOk};
 ghost use Rattle.rart_maps.specs.Bounds.{meet_bound};
 ghost use Rattle.rart_maps.specs.Pairs.{common};
 ghost use Rattle.rart_maps.specs.Versions.{has_no_key};
 ghost use Rattle.rart_versioned.specs.Clones.{ClonesEqual};
 ghost use Rattle.rart_versioned.specs.Counts.{CountsUpTo};
-ghost use Rattle.rart_family.specs.Attempts.{Tries, Gives, reply_or_want};
+ghost use Rattle.rart_family.specs.Attempts.{Tries, replied};
 ghost use Rattle.rart_family.specs.Collections.{triples_of};
 ghost use Rattle.rart_family.specs.Costs.{CountsReads};
-ghost use Rattle.rart_family.specs.Families.{outcome, value_pairs_of, version_at};
-ghost use Rattle.rart_family.specs.Replies.{reply_value};
+ghost use Rattle.rart_family.specs.Families.{value_pairs_of, version_at};
+ghost use Rattle.rart_family.specs.declared.family.refused.Refused.TheVariants.{NoVersion};
 ghost use Rattle.rart_family.specs.declared.family.command.Command.TheVariants.{Intersect, IntersectViews, IntersectValues, IntersectCount};
 
 use super::collection::Collection;
+use super::refused::Refused;
 use super::{Family, Reply};
 use rart_versioned::{KeyTrait, LendingKeyView, VersionedAdaptiveRadixTree, Work};
 use std::alloc::{AllocError, Global};
@@ -23,15 +24,13 @@ impl<K: KeyTrait, V: Clone + Drop> Family<K, V> {
         left: usize,
         right: usize,
         reads: &mut Work,
-    ) -> Result<Reply<K, V>, AllocError>
+    ) -> Result<Reply<K, V>, Refused>
         requires clones { ClonesEqual V.is_clone }
         ensures tries { Tries K.bytes self.now (Intersect left right) result self.now }
         ensures reads { CountsReads K.bytes self.now (Intersect left right)
-            (reply_or_want K.bytes result) reads.old reads.new }
+            (replied K.bytes result) reads.old reads.new }
     {
-        let Some((one, other)) = self.versions_at(left, right) else {
-            return Ok(Reply::NoVersion);
-        };
+        let (one, other) = self.versions_at(left, right)?;
         let entries = common_entries(self.alloc, one, other, reads)?;
         Ok(Reply::Pairs(entries))
     }
@@ -41,15 +40,13 @@ impl<K: KeyTrait, V: Clone + Drop> Family<K, V> {
         left: usize,
         right: usize,
         reads: &mut Work,
-    ) -> Result<Reply<K, V>, AllocError>
+    ) -> Result<Reply<K, V>, Refused>
         requires clones { ClonesEqual V.is_clone }
         ensures tries { Tries K.bytes self.now (IntersectViews left right) result self.now }
         ensures reads { CountsReads K.bytes self.now (IntersectViews left right)
-            (reply_or_want K.bytes result) reads.old reads.new }
+            (replied K.bytes result) reads.old reads.new }
     {
-        let Some((one, other)) = self.versions_at(left, right) else {
-            return Ok(Reply::NoVersion);
-        };
+        let (one, other) = self.versions_at(left, right)?;
         let entries = common_entries_by_views(self.alloc, one, other, reads)?;
         Ok(Reply::Pairs(entries))
     }
@@ -59,54 +56,55 @@ impl<K: KeyTrait, V: Clone + Drop> Family<K, V> {
         left: usize,
         right: usize,
         reads: &mut Work,
-    ) -> Result<Reply<K, V>, AllocError>
+    ) -> Result<Reply<K, V>, Refused>
         requires clones { ClonesEqual V.is_clone }
         ensures tries { Tries K.bytes self.now (IntersectValues left right) result self.now }
         ensures reads { CountsReads K.bytes self.now (IntersectValues left right)
-            (reply_or_want K.bytes result) reads.old reads.new }
+            (replied K.bytes result) reads.old reads.new }
     {
-        let Some((one, other)) = self.versions_at(left, right) else {
-            return Ok(Reply::NoVersion);
-        };
+        let (one, other) = self.versions_at(left, right)?;
         let values = common_values(self.alloc, one, other, reads)?;
         Ok(Reply::ValuePairs(values))
     }
 
-    pub(super) fn intersect_count(&self, left: usize, right: usize, reads: &mut Work) -> Reply<K, V>
-        ensures gives { Gives K.bytes (outcome K.bytes self.now (IntersectCount left right)) result
-            self.now }
+    pub(super) fn intersect_count(
+        &self,
+        left: usize,
+        right: usize,
+        reads: &mut Work,
+    ) -> Result<Reply<K, V>, Refused>
+        ensures tries { Tries K.bytes self.now (IntersectCount left right) result self.now }
         ensures reads { CountsReads K.bytes self.now (IntersectCount left right)
-            (reply_value K.bytes result) reads.old reads.new }
+            (replied K.bytes result) reads.old reads.new }
     {
-        match self.versions_at(left, right) {
-            Some((one, other)) => Reply::Count(one.intersect_count_counted(other, reads)),
-            None => Reply::NoVersion,
-        }
+        let (one, other) = self.versions_at(left, right)?;
+        Ok(Reply::Count(one.intersect_count_counted(other, reads)))
     }
 
-    // The versions at two places, unless either has none.
+    /// The versions at two places, unless either has none.
     fn versions_at(
         &self,
         left: usize,
         right: usize,
-    ) -> Option<
+    ) -> Result<
         (
             &VersionedAdaptiveRadixTree<K, V>,
             &VersionedAdaptiveRadixTree<K, V>,
         ),
+        Refused,
     >
-        ensures found { IfSome result (λ versions. (version_at self.now left ≡ Some versions.0.now)
+        ensures found { IfOk result (λ versions. (version_at self.now left ≡ Some versions.0.now)
             × (version_at self.now right ≡ Some versions.1.now)) }
-        ensures lacking { IfNone result ((version_at self.now left ≡ None)
-            ⊎ (version_at self.now right ≡ None)) }
+        ensures lacking { IfErr result (λ refused. (refused ≡ NoVersion)
+            × ((version_at self.now left ≡ None) ⊎ (version_at self.now right ≡ None))) }
     {
-        let one = self.version_at(left)?;
-        let other = self.version_at(right)?;
-        Some((one, other))
+        let one = self.at(left)?;
+        let other = self.at(right)?;
+        Ok((one, other))
     }
 }
 
-// The keys of both versions, with copies of their values.
+/// The keys of both versions, with copies of their values.
 fn common_entries<K: KeyTrait, V: Clone + Drop>(
     alloc: Global,
     one: &VersionedAdaptiveRadixTree<K, V>,
@@ -132,7 +130,7 @@ fn common_entries<K: KeyTrait, V: Clone + Drop>(
     collection.kept
 }
 
-// The same, by views of the keys.
+/// The same, by views of the keys.
 fn common_entries_by_views<K: KeyTrait, V: Clone + Drop>(
     alloc: Global,
     one: &VersionedAdaptiveRadixTree<K, V>,
@@ -147,8 +145,8 @@ fn common_entries_by_views<K: KeyTrait, V: Clone + Drop>(
     ensures entered { has_no_key one.now ≡ false → has_no_key other.now ≡ false
         → reads.old.entered + 2 ≤ reads.new.entered }
 {
-    // (its contract says that each key has a length that keys may have)
-    let _number = one.version();
+    // (each key has a length that keys may have)
+    one.know_keys_for_proof();
     let mut collection = Collection::new(alloc);
     one.intersect_lending_with_counted(
         other,
@@ -160,7 +158,7 @@ fn common_entries_by_views<K: KeyTrait, V: Clone + Drop>(
     collection.kept
 }
 
-// Copies of the values of the keys of both versions.
+/// Copies of the values of the keys of both versions.
 fn common_values<K: KeyTrait, V: Clone + Drop>(
     alloc: Global,
     one: &VersionedAdaptiveRadixTree<K, V>,

@@ -1,17 +1,17 @@
-// Commands that update the slot of a key by a callback.
+//! Commands that update the slot of a key by a callback.
 ghost use Rattle.std.specs.Prelude.{◌≡◌, IfOk, IsSome, OnErr, Some};
 ghost use Rattle.rart_versioned.specs.Clones.{ClonesEqual};
-ghost use Rattle.rart_maps.specs.Versions.{value_at};
+ghost use Rattle.rart_maps.specs.Versions.{HasRoom, value_at};
 ghost use Rattle.rart_maps.specs.Changes.{Changes, slot_of, slot_update, slot_attempt};
 ghost use Rattle.rart_maps.specs.Bounds.{enter_bound};
-ghost use Rattle.rart_family.specs.Attempts.{Tries, reply_or_want};
+ghost use Rattle.rart_family.specs.Attempts.{Tries, replied};
 ghost use Rattle.rart_family.specs.Costs.{CountsChanges};
 ghost use Rattle.rart_family.specs.Families.{value_after_write, callback_answer};
 ghost use Rattle.rart_family.specs.Updates.{Inserts, IsThereOrSet};
 ghost use Rattle.rart_family.specs.declared.family.command.Command.TheVariants.{Update, TryUpdate};
-ghost use Rattle.rart_versioned.specs.Asks.{CanChange};
 ghost use Rattle.rart_versioned.specs.ChangeCounts.{CountsChange};
 
+use super::refused::Refused;
 use super::{Failure, Family, Reply};
 use rart_versioned::{KeyTrait, Refusal, Slot, SlotUpdate, VersionedAdaptiveRadixTree, Work};
 use std::alloc::AllocError;
@@ -24,17 +24,14 @@ impl<K: KeyTrait, V: Clone + Drop> Family<K, V> {
         write: &Option<V>,
         answer: &SlotUpdate<V>,
         changes: &mut Work,
-    ) -> Result<Reply<K, V>, AllocError>
+    ) -> Result<Reply<K, V>, Refused>
         requires clones { ClonesEqual V.is_clone }
         ensures tries { Tries K.bytes self.old
             (Update place key.now write.now answer.now) result self.new }
         ensures changes { CountsChanges K.bytes self.old (Update place key.now write.now answer.now)
-            (reply_or_want K.bytes result) changes.old changes.new }
+            (replied K.bytes result) changes.old changes.new }
     {
-        let version = match self.version_to_change(place, 1) {
-            Ok(version) => version,
-            Err(refusal) => return Ok(refusal),
-        };
+        let version = self.version_to_change(place, 1)?;
         let write = write_copy(write)?;
         let answer = answer_copy(answer)?;
         let is_there = update_in(version, key, write, answer, changes)?;
@@ -48,18 +45,15 @@ impl<K: KeyTrait, V: Clone + Drop> Family<K, V> {
         write: &Option<V>,
         answer: &Option<SlotUpdate<V>>,
         changes: &mut Work,
-    ) -> Result<Reply<K, V>, AllocError>
+    ) -> Result<Reply<K, V>, Refused>
         requires clones { ClonesEqual V.is_clone }
         ensures tries { Tries K.bytes self.old
             (TryUpdate place key.now write.now answer.now) result self.new }
         ensures changes { CountsChanges K.bytes self.old
             (TryUpdate place key.now write.now answer.now)
-            (reply_or_want K.bytes result) changes.old changes.new }
+            (replied K.bytes result) changes.old changes.new }
     {
-        let version = match self.version_to_change(place, 2) {
-            Ok(version) => version,
-            Err(refusal) => return Ok(refusal),
-        };
+        let version = self.version_to_change(place, 2)?;
         let write = write_copy(write)?;
         let answer = match answer {
             Some(answer) => Some(answer_copy(answer)?),
@@ -95,8 +89,8 @@ fn answer_copy<V: Clone + Drop>(answer: &SlotUpdate<V>) -> Result<SlotUpdate<V>,
     }
 }
 
-// What a command's callback does to its slot: it writes where there is something to write, and a
-// value to write over.
+/// What a command's callback does to its slot: it writes where there is something to write, and a
+/// value to write over.
 fn write_slot<V: Drop>(slot: &mut Slot<V>, write: Option<V>)
     ensures { (found : _) → slot.old ≡ slot_of found
         → slot.new ≡ slot_of (value_after_write found write) }
@@ -106,7 +100,7 @@ fn write_slot<V: Drop>(slot: &mut Slot<V>, write: Option<V>)
     }
 }
 
-// Updates a key of this version by a callback that writes and answers so.
+/// Updates a key of this version by a callback that writes and answers so.
 fn update_in<K: KeyTrait, V: Clone + Drop>(
     version: &mut VersionedAdaptiveRadixTree<K, V>,
     key: &K,
@@ -114,7 +108,8 @@ fn update_in<K: KeyTrait, V: Clone + Drop>(
     answer: SlotUpdate<V>,
     changes: &mut Work,
 ) -> Result<bool, AllocError>
-    requires { CanChange V.is_clone version.old 1 }
+    requires clones { ClonesEqual V.is_clone }
+    requires room { HasRoom version.old 1 }
     ensures changes { Changes result version.old version.new
         (slot_update version.old (K.bytes key.now)
         (slot_of (value_after_write (value_at version.old (K.bytes key.now)) write)) answer) }
@@ -132,7 +127,7 @@ fn update_in<K: KeyTrait, V: Clone + Drop>(
     )
 }
 
-// The same by a callback that fails where there is no answer.
+/// The same by a callback that fails where there is no answer.
 fn try_update_in<K: KeyTrait, V: Clone + Drop>(
     version: &mut VersionedAdaptiveRadixTree<K, V>,
     key: &K,
@@ -140,7 +135,8 @@ fn try_update_in<K: KeyTrait, V: Clone + Drop>(
     answer: Option<SlotUpdate<V>>,
     changes: &mut Work,
 ) -> Result<Result<bool, Failure>, AllocError>
-    requires { CanChange V.is_clone version.old 2 }
+    requires clones { ClonesEqual V.is_clone }
+    requires room { HasRoom version.old 2 }
     ensures changes { Changes result version.old version.new
         (slot_attempt version.old (K.bytes key.now)
         (slot_of (value_after_write (value_at version.old (K.bytes key.now)) write))

@@ -1,4 +1,4 @@
-// Commands that list what a version has, by its visitors.
+//! Commands that list what a version has, by its visitors.
 ghost use Rattle.std.specs.Prelude.{◌≡◌, length, IfOk};
 ghost use Rattle.std.specs.Range.Bound.{bound_map};
 ghost use Rattle.rart_maps.specs.Pairs.{pairs, under, within, prefix_matches};
@@ -10,6 +10,7 @@ ghost use Rattle.rart_family.specs.Replies.{reply_value};
 ghost use Rattle.rart_family.specs.declared.family.command.Command.TheVariants.{MatchesEach, Views, PrefixViews, RangeViews, PrefixValues, Until};
 
 use super::collection::{Collection, Countdown};
+use super::refused::Refused;
 use super::walks::bounds_copy;
 use super::{Failure, Family, Reply};
 use rart_versioned::{KeyTrait, LendingKeyView, Refusal, VersionedAdaptiveRadixTree};
@@ -17,39 +18,29 @@ use std::alloc::{AllocError, Global};
 use std::ops::Bound;
 
 impl<K: KeyTrait, V: Clone + Drop> Family<K, V> {
-    pub(super) fn prefix_matches_each(
-        &self,
-        place: usize,
-        key: &K,
-    ) -> Result<Reply<K, V>, AllocError>
+    pub(super) fn prefix_matches_each(&self, place: usize, key: &K) -> Result<Reply<K, V>, Refused>
         requires clones { ClonesEqual V.is_clone }
         ensures { Tries K.bytes self.now (MatchesEach place key.now) result self.now }
     {
-        let Some(version) = self.version_at(place) else {
-            return Ok(Reply::NoVersion);
-        };
+        let version = self.at(place)?;
         let entries = entries_by_slices(self.alloc, version, key)?;
         Ok(Reply::Entries(entries))
     }
 
-    pub(super) fn views(&self, place: usize) -> Result<Reply<K, V>, AllocError>
+    pub(super) fn views(&self, place: usize) -> Result<Reply<K, V>, Refused>
         requires clones { ClonesEqual V.is_clone }
         ensures { Tries K.bytes self.now (Views place) result self.now }
     {
-        let Some(version) = self.version_at(place) else {
-            return Ok(Reply::NoVersion);
-        };
+        let version = self.at(place)?;
         let entries = entries_by_views(self.alloc, version)?;
         Ok(Reply::Entries(entries))
     }
 
-    pub(super) fn prefix_views(&self, place: usize, prefix: &K) -> Result<Reply<K, V>, AllocError>
+    pub(super) fn prefix_views(&self, place: usize, prefix: &K) -> Result<Reply<K, V>, Refused>
         requires clones { ClonesEqual V.is_clone }
         ensures { Tries K.bytes self.now (PrefixViews place prefix.now) result self.now }
     {
-        let Some(version) = self.version_at(place) else {
-            return Ok(Reply::NoVersion);
-        };
+        let version = self.at(place)?;
         let entries = entries_under_by_views(self.alloc, version, prefix)?;
         Ok(Reply::Entries(entries))
     }
@@ -59,25 +50,21 @@ impl<K: KeyTrait, V: Clone + Drop> Family<K, V> {
         place: usize,
         lo: &Bound<K>,
         hi: &Bound<K>,
-    ) -> Result<Reply<K, V>, AllocError>
+    ) -> Result<Reply<K, V>, Refused>
         requires clones { ClonesEqual V.is_clone }
         ensures { Tries K.bytes self.now (RangeViews place lo.now hi.now) result self.now }
     {
-        let Some(version) = self.version_at(place) else {
-            return Ok(Reply::NoVersion);
-        };
+        let version = self.at(place)?;
         let bounds = bounds_copy(self.alloc, lo, hi)?;
         let entries = entries_within_by_views(self.alloc, version, bounds)?;
         Ok(Reply::Entries(entries))
     }
 
-    pub(super) fn prefix_values(&self, place: usize, prefix: &K) -> Result<Reply<K, V>, AllocError>
+    pub(super) fn prefix_values(&self, place: usize, prefix: &K) -> Result<Reply<K, V>, Refused>
         requires clones { ClonesEqual V.is_clone }
         ensures { Tries K.bytes self.now (PrefixValues place prefix.now) result self.now }
     {
-        let Some(version) = self.version_at(place) else {
-            return Ok(Reply::NoVersion);
-        };
+        let version = self.at(place)?;
         let values = values_under(self.alloc, version, prefix)?;
         Ok(Reply::Values(values))
     }
@@ -88,14 +75,12 @@ impl<K: KeyTrait, V: Clone + Drop> Family<K, V> {
         prefix: &K,
         visits: u64,
         fails: bool,
-    ) -> Result<Reply<K, V>, AllocError>
+    ) -> Result<Reply<K, V>, Refused>
         requires clones { ClonesEqual V.is_clone }
         ensures { Tries K.bytes self.now (Until place prefix.now visits fails) result self.now }
     {
-        let Some(version) = self.version_at(place) else {
-            return Ok(Reply::NoVersion);
-        };
-        reply_until(self.alloc, version, prefix, visits, fails)
+        let version = self.at(place)?;
+        Ok(reply_until(self.alloc, version, prefix, visits, fails)?)
     }
 }
 
@@ -108,8 +93,8 @@ fn entries_by_slices<K: KeyTrait, V: Clone + Drop>(
     ensures { IfOk result (λ entries.
         pairs_of K.bytes entries.items ≡ prefix_matches version.now.content (K.bytes probe.now)) }
 {
-    // (its contract says that each key has a length that keys may have)
-    let _number = version.version();
+    // (each key has a length that keys may have)
+    version.know_keys_for_proof();
     let mut collection = Collection::new(alloc);
     version.prefix_match_for_each_k(
         probe,
@@ -128,7 +113,7 @@ fn entries_by_views<K: KeyTrait, V: Clone + Drop>(
     ensures { IfOk result (λ entries.
         pairs_of K.bytes entries.items ≡ pairs version.now.content) }
 {
-    let _number = version.version();
+    version.know_keys_for_proof();
     let mut collection = Collection::new(alloc);
     version.for_each_view(&mut |key: LendingKeyView<'_, '_>, value: &V| {
         collection.keep_view(&key, value);
@@ -145,7 +130,7 @@ fn entries_under_by_views<K: KeyTrait, V: Clone + Drop>(
     ensures { IfOk result (λ entries.
         pairs_of K.bytes entries.items ≡ under version.now.content (K.bytes prefix.now)) }
 {
-    let _number = version.version();
+    version.know_keys_for_proof();
     let mut collection = Collection::new(alloc);
     version.prefix_for_each_view_k(
         prefix,
@@ -165,7 +150,7 @@ fn entries_within_by_views<K: KeyTrait, V: Clone + Drop>(
     ensures { IfOk result (λ entries. pairs_of K.bytes entries.items
         ≡ within version.now.content (bound_map K.bytes bounds.0) (bound_map K.bytes bounds.1)) }
 {
-    let _number = version.version();
+    version.know_keys_for_proof();
     let mut collection = Collection::new(alloc);
     version.for_each_range_view(
         bounds,

@@ -1,11 +1,10 @@
-// A value written through the reference that a version lends.
+//! A value written through the reference that a version lends.
 ghost use Rattle.std.specs.Prelude.{◌≡◌, ◌*◌, IfErr, OnOk, OnErr, IsTrue, true};
 ghost use Rattle.std.specs.Borrow.{sem};
 ghost use Rattle.rart_versioned.specs.Clones.{ClonesEqual};
 ghost use Rattle.rart_maps.specs.Versions.{HasRoom, value_at, has_key};
 ghost use Rattle.rart_maps.specs.Changes.{Changes, writing};
 ghost use Rattle.rart_maps.specs.Bounds.{lookup_bound};
-ghost use Rattle.rart_versioned.specs.Asks.{CanChange};
 ghost use Rattle.rart_versioned.specs.ChangeCounts.{CountsChange};
 ghost use Rattle.rart_versioned.specs.Lent.{LendsValue};
 ghost use Rattle.rart_family.specs.Writing.{value_or_why, Explains};
@@ -22,14 +21,15 @@ pub(super) enum NoValue {
     Memory(AllocError),
 }
 
-// Writes the value of a key that is there, and says whether it was.
+/// Writes the value of a key that is there, and says whether it was.
 pub(super) fn write_value<K: KeyTrait, V: Clone + Drop>(
     version: &mut VersionedAdaptiveRadixTree<K, V>,
     key: &K,
     value: V,
     changes: &mut Work,
 ) -> Result<bool, AllocError>
-    requires { CanChange V.is_clone version.old 1 }
+    requires clones { ClonesEqual V.is_clone }
+    requires room { HasRoom version.old 1 }
     ensures changes { Changes result version.old version.new
         (writing version.old (K.bytes key.now) value) }
     ensures present { OnErr result (IsTrue (has_key version.old (K.bytes key.now))) }
@@ -46,7 +46,7 @@ pub(super) fn write_value<K: KeyTrait, V: Clone + Drop>(
     }
 }
 
-// The value of a key for writing, an absent key an error of its own.
+/// The value of a key for writing, an absent key an error of its own.
 fn value_mut<'a, K: KeyTrait, V: Clone + Drop>(
     version: &'a mut VersionedAdaptiveRadixTree<K, V>,
     key: &K,

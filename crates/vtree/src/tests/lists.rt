@@ -1,11 +1,11 @@
-// Long lines and long lists: where there is memory no command that lists is refused, however much
-// it lists.
+//! Long lines and long lists: where there is memory no command that lists is refused, however much
+//! it lists.
 use super::{Trial, assert_served};
 use crate::served::Served;
 use std::alloc::{AllocError, Global};
 use std::test::Fail;
 
-// Lines that make a version of 300 keys and a snapshot of it, and their replies.
+/// Lines that make a version of 300 keys and a snapshot of it, and their replies.
 fn made(alloc: Global) -> Result<(String, String), AllocError> {
     let mut lines = String::from_str(alloc, "new\n")?;
     let mut replies = String::from_str(alloc, "at 0\n")?;
@@ -18,7 +18,7 @@ fn made(alloc: Global) -> Result<(String, String), AllocError> {
     Ok((lines, replies))
 }
 
-// What these keys are listed as, with so many times their value, or the values alone.
+/// What these keys are listed as, with so many times their value, or the values alone.
 fn listed(alloc: Global, shows_keys: bool, values: usize) -> Result<String, AllocError> {
     let mut list = String::new(alloc);
     for number in 100..400 {
@@ -32,8 +32,8 @@ fn listed(alloc: Global, shows_keys: bool, values: usize) -> Result<String, Allo
     Ok(list)
 }
 
-// Each line that lists all of them: the word of its reply, whether it has keys, and how many values
-// of each.
+/// Each line that lists all of them: the word of its reply, whether it has keys, and how many values
+/// of each.
 const LISTS: [(&str, &str, bool, usize); 15] = [
     ("iter 0\n", "entries", true, 1),
     ("values 0\n", "values", false, 1),
@@ -71,7 +71,7 @@ fn three_hundred_keys_are_listed_by_each_command(rt: HostRuntime) -> Result<(), 
     )
 }
 
-// Keys of 1 to 16 letters, and what begins the longest.
+/// Keys of 1 to 16 letters, and what begins the longest.
 const CHAIN: &str = "new\ninsert 0 'a 1\ninsert 0 'aa 2\ninsert 0 'aaa 3\ninsert 0 'aaaa 4\n\
                      insert 0 'aaaaa 5\ninsert 0 'aaaaaa 6\ninsert 0 'aaaaaaa 7\n\
                      insert 0 'aaaaaaaa 8\ninsert 0 'aaaaaaaaa 9\ninsert 0 'aaaaaaaaaa 10\n\

@@ -1,4 +1,4 @@
-// Readers and writers that are interrupted, do a part of what they are asked, or fail.
+//! Readers and writers that are interrupted, do a part of what they are asked, or fail.
 use super::{Trial, assert_served};
 use crate::served::{ServeError, Served};
 use std::alloc::{AllocError, Global};
@@ -7,7 +7,7 @@ use std::io::{self, Read, Write};
 use std::rc::Rc;
 use std::test::Fail;
 
-// How many lines a writer was given, which its reader sees.
+/// How many lines a writer was given, which its reader sees.
 #[derive(Drop)]
 pub struct Answered {
     lines: Cell<usize>,
@@ -18,8 +18,8 @@ pub fn none_answered(alloc: Global) -> Result<Rc<Answered>, AllocError> {
     Ok(Rc::new(alloc, Answered { lines })?)
 }
 
-// Gives one byte a call, each behind an interruption. Fails where a line is asked for before all
-// lines before it are answered, and at its end where it is told to.
+/// Gives one byte a call, each behind an interruption. Fails where a line is asked for before all
+/// lines before it are answered, and at its end where it is told to.
 #[derive(Drop)]
 pub struct Source<'a> {
     bytes: &'a [u8],
@@ -62,8 +62,8 @@ impl Read for Source<'_> {
     }
 }
 
-// Takes bytes, some at once and each time after interruptions, up to a number in all, and then
-// fails. Where it took none it takes all that comes after.
+/// Takes bytes, some at once and each time after interruptions, up to a number in all, and then
+/// fails. Where it took none it takes all that comes after.
 #[derive(Drop)]
 pub struct Sink {
     pub taken: Vec<u8>,
@@ -117,7 +117,7 @@ impl Write for Sink {
     }
 }
 
-// Twenty lines, and their replies.
+/// Twenty lines, and their replies.
 const LINES: &str = "new\ninsert 0 'abc 1\ninsert 0 'abd 2\nsnapshot 0\ninsert 0 'abe 3\n\
                      get 1 'abe\nget 0 'abe\nversion 0\nversion 1\niter 0\nvalues 1\n\
                      replace 0 'abc 9\nintersect 0 1\nintersect-count 0 1\nprefix 0 'abd\n\
@@ -128,7 +128,7 @@ const REPLIES: &str = "at 0\nfalse\nfalse\nat 1\nfalse\nnone\nsome 3\nversion 3\
                        pairs 'abc 9 1 'abd 2 2\ncount 2\nentries 'abd 2\ntrue\nfailed\n\
                        entries 'abc 1\ndiscarded\nno version\n";
 
-// The first lines of a text, as many as the other one has whole.
+/// The first lines of a text, as many as the other one has whole.
 fn as_many_lines<'a>(text: &'a [u8], other: &[u8]) -> &'a [u8] {
     let mut rest = text;
     for byte in other {
@@ -141,7 +141,7 @@ fn as_many_lines<'a>(text: &'a [u8], other: &[u8]) -> &'a [u8] {
     text.get(..length).unwrap_or(&[])
 }
 
-// An unfinished line is given up.
+/// An unfinished line is given up.
 #[test]
 fn read_that_fails_at_any_byte_leaves_the_replies_before_it(rt: HostRuntime) -> Result<(), Fail> {
     for place in 0..LINES.len() {
@@ -211,8 +211,8 @@ fn interrupted_write_is_tried_as_often_as_it_takes(rt: HostRuntime) -> Result<()
     assert_served(&rt, rt.alloc(), late, b"at 0\n", Ok(Served::Clean))
 }
 
-// Two hundred insertions and a list of all, and what they are replied. The list has 2,008 bytes,
-// more than a page holds.
+/// Two hundred insertions and a list of all, and what they are replied. The list has 2,008 bytes,
+/// more than a page holds.
 fn long_list(alloc: Global) -> Result<(String, String), AllocError> {
     let mut lines = String::from_str(alloc, "new\n")?;
     let mut replies = String::from_str(alloc, "at 0\n")?;
@@ -228,7 +228,7 @@ fn long_list(alloc: Global) -> Result<(String, String), AllocError> {
     Ok((lines, replies))
 }
 
-// The list begins behind 1,205 bytes, and its first page has 1,017 to 1,024.
+/// The list begins behind 1,205 bytes, and its first page has 1,017 to 1,024.
 #[test]
 fn long_list_is_written_up_to_a_failure(rt: HostRuntime) -> Result<(), Fail> {
     let (lines, replies) = long_list(rt.alloc())?;

@@ -5,6 +5,9 @@ use Rattle.std.specs.declared.result.Result.TheVariants.{Ok, Err}
 use Rattle.std.proofs.lemmas.Iterator.Splits.{YieldsList-from_slice_split}
 use Rattle.std.proofs.lemmas.Iterator.Consumers.{YieldsList-turn, YieldsList-end}
 use Rattle.std.specs.Slice.Iter.{split_rest, split_done}
+use Rattle.std.proofs.lemmas.List.{length-map}
+use Rattle.vtree.specs.Grammar.{word_of}
+use Rattle.vtree.specs.Words.{word_value}
 use Rattle.vtree.proofs.words.words_of.Goals as goal
 
 err_gives : {T E : Type 0} (r : Result T E) (P : Type 0) → is_err r ≡ true → OnErr r P → P
@@ -18,7 +21,7 @@ returns-clause-some c =
     (ap split_rest into ∙ c.split-word-items.ensures.rest)
     (ap split_done into ∙ c.split-word-items.ensures.done) refl (λ x b q h. search (rules, tests)))
     c.loop-word.yielded _ c.loop-word.yielded_by _ _ c.in-None.is c.next.ensures.steps in
-    ap (map (λ w. w.now)) c.loop-word.invariant.kept ∙ e.0
+    c.loop-word.invariant.kept ∙ ap (map word_of) e.0
 
 pub returns-then-is_err-clause-none : goal.returns-then-is_err-clause-none
 returns-then-is_err-clause-none c =
@@ -31,4 +34,12 @@ returns-then-is_err-clause-none c =
     let full : length c.loop-word.words.items ≡ 6 =
     err_gives c.try_push.result _
     (sym c.is_err.ensures.value ∙ c.if-is_err.true) c.try_push.ensures.full in
-    omega (arith, e.0, full, ap length c.loop-word.invariant.kept)
+    omega (
+      arith,
+      e.0,
+      full,
+      ap length c.loop-word.invariant.kept,
+      length-map c.loop-word.words.items word_value,
+      length-map c.loop-word.yielded (λ word. word.now),
+      length-map (map (λ word. word.now) c.loop-word.yielded) word_of,
+    )

@@ -9,7 +9,7 @@ pub returns : goal.returns
 returns g c =
     let bytes = g.K.KeyTrait.bytes in
     let bounds = c.in_ok-bounds.bounds in
-    let found = within c.in-Some.version.now.content (bound_map bytes bounds.0)
+    let found = within c.in_ok-version.version.now.content (bound_map bytes bounds.0)
     (bound_map bytes bounds.1) in
     let listed = c.in_ok-entries.ensures found
     (gives_all (ByKey bytes) found _ c.in_ok-range.ensures) in

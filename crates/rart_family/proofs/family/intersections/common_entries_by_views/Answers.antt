@@ -18,7 +18,7 @@ intersect_lending_with_counted-requires g c =
           let clones = c.requires.clones in
           let admitted : IsAdmitted most (length shown.0) =
           subst (λ key. IsAdmitted most (length key)) (sym shows.0)
-          (common-admitted one other most c.version-number.ensures.lengths entry there) in
+          (common-admitted one other most c.know_keys_for_proof.ensures.lengths entry there) in
           search rules),
     )
 

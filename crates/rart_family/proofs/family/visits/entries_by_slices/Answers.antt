@@ -15,7 +15,7 @@ prefix_match_for_each_k-requires g c =
           let clones = c.requires.clones in
           let admitted : IsAdmitted most (length shown.0.now) =
           subst (λ key. IsAdmitted most (length key)) (sym shows.0)
-          (filtered-admitted version most c.version-number.ensures.lengths _ pair there) in
+          (filtered-admitted version most c.know_keys_for_proof.ensures.lengths _ pair there) in
           search rules);
     }
 

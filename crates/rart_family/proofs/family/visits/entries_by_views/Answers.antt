@@ -15,7 +15,7 @@ for_each_view-requires g c =
           let clones = c.requires.clones in
           let admitted : IsAdmitted most (length shown.0) =
           subst (λ key. IsAdmitted most (length key)) (sym shows.0)
-          (pair-admitted version most c.version-number.ensures.lengths pair there) in
+          (pair-admitted version most c.know_keys_for_proof.ensures.lengths pair there) in
           search rules);
     }
 

@@ -1,8 +1,8 @@
 //! How long a chain of nodes the machine's stack takes. An argument is a number of levels, and
 //! after a colon how many children each node of the chain has, as `1000` or `1000:49`; none says
 //! one. For each argument a tree gets that many keys, each one byte longer than the one before, and
-//! further keys beside them. The keys of the chain are looked up, the deepest one is changed and
-//! removed, the tree is dropped, and a line is written.
+//! further keys beside them. The keys of the chain are looked up, the tree is intersected with a
+//! clone, the deepest key is changed and removed, both trees are dropped, and a line is written.
 #![tactic(auto)]
 
 use anyhow::{Context, bail};
@@ -118,10 +118,20 @@ fn deepest_goes(alloc: Global, chain: &mut Chain, levels: usize) -> Result<bool,
     Ok(changed && removed && chain.get_k(&key).is_none())
 }
 
+// How many keys the chain has, by all that it has in common with a clone.
+fn len(chain: &Chain) -> Result<usize, AllocError> {
+    Ok(chain.intersect_count(&chain.clone()?))
+}
+
 fn holds(alloc: Global, shape: Shape) -> Result<bool, AllocError> {
     let mut chain = Chain::new(alloc);
     insert_all(alloc, &mut chain, shape)?;
-    Ok(has_all(alloc, &chain, shape.levels)? && deepest_goes(alloc, &mut chain, shape.levels)?)
+    let keys = shape.levels.saturating_mul(usize::from(shape.others) + 1);
+    Ok(
+        has_all(alloc, &chain, shape.levels)?
+            && len(&chain)? == keys
+            && deepest_goes(alloc, &mut chain, shape.levels)?,
+    )
 }
 
 fn main(rt: HostRuntime) -> anyhow::Result<()> {

@@ -11,7 +11,7 @@ use std::test::Fail;
 
 type Versions = Family<VectorKey, Fragile>;
 
-type Said<'a> = Command<&'a [u8], Fragile>;
+type Said = Command<VectorKey, Fragile>;
 
 // What keys are made of, as many first bytes of it as they are long.
 const LONGEST: &[u8] = &[b'k'; 300];
@@ -26,12 +26,12 @@ const COMMANDS: usize = 24;
 
 // A command by its number. The first ones list all keys at place 0, which all begin this one, or
 // what it has in common with place 1. The others are at this key of place 0.
-fn said(number: usize, key: &[u8], value: Fragile) -> Said<'_> {
+fn said(alloc: Global, number: usize, key: &[u8], value: Fragile) -> Result<Said, AllocError> {
     let (place, left, right) = (0, 0, 1);
-    let prefix = b"".as_slice();
+    let (key, prefix) = (key_of(alloc, key)?, key_of(alloc, b"")?);
     let lo = Bound::Unbounded;
     let hi = Bound::Unbounded;
-    match number {
+    Ok(match number {
         0 => Command::Iter { place },
         1 => Command::Values { place },
         2 => Command::Views { place },
@@ -71,56 +71,41 @@ fn said(number: usize, key: &[u8], value: Fragile) -> Said<'_> {
             write: None,
             answer: Some(SlotUpdate::Insert(value)),
         },
-    }
+    })
 }
 
 // As many keys at place 0 that begin each other, and a copy of it at place 1.
 fn made(alloc: Global, fuse: &Rc<Fuse>, count: usize) -> Result<Versions, AllocError> {
     let mut family = Family::new(alloc);
-    obey(alloc, &mut family, Command::New)?;
+    obey(&mut family, Command::New)?;
     for len in 1..=count {
-        let key = &LONGEST[..len.min(LONGEST.len())];
-        let value = Fragile::new(7, fuse)?;
-        obey(
-            alloc,
-            &mut family,
-            Command::Insert {
-                place: 0,
-                key,
-                value,
-            },
-        )?;
+        let insertion = Command::Insert {
+            place: 0,
+            key: key_of(alloc, &LONGEST[..len.min(LONGEST.len())])?,
+            value: Fragile::new(7, fuse)?,
+        };
+        obey(&mut family, insertion)?;
     }
-    obey(alloc, &mut family, Command::Snapshot { place: 0 })?;
+    obey(&mut family, Command::Snapshot { place: 0 })?;
     Ok(family)
 }
 
 // The reply to a command, unless memory was refused.
-fn obey(
-    alloc: Global,
-    family: &mut Versions,
-    said: Said,
-) -> Result<Reply<VectorKey, Fragile>, AllocError> {
-    let command = said.map_keys(|bytes: &[u8]| key_of(alloc, bytes))?;
-    match family.reply(&command, &mut Work::new(), &mut Work::new()) {
+fn obey(family: &mut Versions, said: Said) -> Result<Reply<VectorKey, Fragile>, AllocError> {
+    match family.reply(&said, &mut Work::new(), &mut Work::new()) {
         Reply::NoMemory => Err(AllocError),
         reply => Ok(reply),
     }
 }
 
-fn is_answered(family: &mut Versions, command: &Command<VectorKey, Fragile>) -> bool {
+fn is_answered(family: &mut Versions, command: &Said) -> bool {
     let reply = family.reply(command, &mut Work::new(), &mut Work::new());
     !matches!(reply, Reply::NoMemory)
 }
 
 // Whether the refusal of the clone of this number, or of a request, is answered, and the command
 // once nothing more is refused.
-fn survives(
-    family: &mut Versions,
-    command: &Command<VectorKey, Fragile>,
-    fuse: &Fuse,
-    clone: u64,
-) -> bool {
+fn survives(family: &mut Versions, command: &Said, fuse: &Fuse, clone: u64) -> bool {
     fuse.light(clone);
     if is_answered(family, command) {
         return fuse.clones() < clone;
@@ -137,8 +122,7 @@ fn command_survives(
 ) -> Result<bool, AllocError> {
     fuse.light(0);
     let mut family = made(alloc, fuse, 3)?;
-    let said = said(number, b"kk", Fragile::new(7, fuse)?);
-    let command = said.map_keys(|bytes: &[u8]| key_of(alloc, bytes))?;
+    let command = said(alloc, number, b"kk", Fragile::new(7, fuse)?)?;
     Ok(survives(&mut family, &command, fuse, clone))
 }
 
@@ -175,8 +159,8 @@ fn are_listed(alloc: Global) -> Result<bool, AllocError> {
     let fuse = Fuse::new(alloc)?;
     let mut family = made(alloc, &fuse, LONGEST.len())?;
     for number in 0..LISTS {
-        let said = said(number, LONGEST, Fragile::new(7, &fuse)?);
-        if listed(&obey(alloc, &mut family, said)?) != LONGEST.len() {
+        let command = said(alloc, number, LONGEST, Fragile::new(7, &fuse)?)?;
+        if listed(&obey(&mut family, command)?) != LONGEST.len() {
             return Ok(false);
         }
     }

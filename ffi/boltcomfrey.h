@@ -14,6 +14,27 @@
 
 static_assert(sizeof(size_t) == 8 && sizeof(void *) == 8, "the library is built for 64 bits");
 
+// What compilers are told of each call, so that they tell of mistakes: pointers that are null or
+// meet, answers that nobody looks at, buffers that are shorter than is said, or not yet written.
+#if defined(__GNUC__)
+#define RART_NONNULL __attribute__((nonnull))
+#define RART_MUST_USE __attribute__((warn_unused_result))
+#define RART_ALONE __restrict
+#else
+#define RART_NONNULL
+#define RART_MUST_USE
+#define RART_ALONE
+#endif
+#if defined(__GNUC__) && __GNUC__ >= 11
+#define RART_READS(...) __attribute__((access(read_only, __VA_ARGS__)))
+#define RART_WRITES(...) __attribute__((access(write_only, __VA_ARGS__)))
+#define RART_CHANGES(at) __attribute__((access(read_write, at)))
+#else
+#define RART_READS(...)
+#define RART_WRITES(...)
+#define RART_CHANGES(at)
+#endif
+
 #ifdef __cplusplus
 extern "C" {
 #endif
@@ -78,84 +99,110 @@ enum {
 
 // Makes copy the same map, its number one greater, and frees what copy was. RART_NO_ROOM says that
 // the number can't be raised, RART_NO_MEMORY that memory was refused: copy is as before then.
-rart_answer rart_snapshot(rart_tree *tree, rart_tree *copy);
+RART_NONNULL RART_MUST_USE RART_CHANGES(1) RART_CHANGES(2)
+rart_answer rart_snapshot(rart_tree *RART_ALONE tree, rart_tree *RART_ALONE copy);
 
 // Makes copy the same map, its number too, and frees what copy was. RART_NO_MEMORY says that memory
 // was refused: copy is as before then.
-rart_answer rart_clone(rart_tree *tree, rart_tree *copy);
+RART_NONNULL RART_MUST_USE RART_CHANGES(1) RART_CHANGES(2)
+rart_answer rart_clone(rart_tree *RART_ALONE tree, rart_tree *RART_ALONE copy);
 
 // Frees what the tree leads to, and leaves it without a key, its number so great. RART_NO_MEMORY
 // says that memory was refused: it is as before then.
+RART_NONNULL RART_MUST_USE RART_CHANGES(1)
 rart_answer rart_new_at(rart_tree *tree, uint64_t number);
 
 // The number.
+RART_NONNULL RART_MUST_USE RART_CHANGES(1)
 uint64_t rart_version(rart_tree *tree);
 
 // How many keys there are.
+RART_NONNULL RART_MUST_USE RART_CHANGES(1)
 size_t rart_len(rart_tree *tree);
 
 // Whether there is no key.
+RART_NONNULL RART_MUST_USE RART_CHANGES(1)
 bool rart_is_empty(rart_tree *tree);
 
 // Answers RART_DONE and writes the value of a key, or answers RART_ABSENT. It takes no memory.
-rart_answer rart_get(rart_tree *tree, const uint8_t *key, size_t key_len, uint64_t *value);
+RART_NONNULL RART_MUST_USE RART_CHANGES(1) RART_READS(2, 3) RART_WRITES(4)
+rart_answer rart_get(
+    rart_tree *RART_ALONE tree,
+    const uint8_t *RART_ALONE key,
+    size_t key_len,
+    uint64_t *RART_ALONE value
+);
 
 // Answers RART_DONE and writes how long the longest key is that begins the probe, and its value, or
 // answers RART_ABSENT. It takes no memory.
+RART_NONNULL RART_MUST_USE RART_CHANGES(1) RART_READS(2, 3) RART_WRITES(4) RART_WRITES(5)
 rart_answer rart_longest(
-    rart_tree *tree,
-    const uint8_t *probe,
+    rart_tree *RART_ALONE tree,
+    const uint8_t *RART_ALONE probe,
     size_t probe_len,
-    size_t *len,
-    uint64_t *value
+    size_t *RART_ALONE len,
+    uint64_t *RART_ALONE value
 );
 
 // How many keys both trees have. It takes no memory.
-size_t rart_common(rart_tree *tree, rart_tree *other);
+RART_NONNULL RART_MUST_USE RART_CHANGES(1) RART_CHANGES(2)
+size_t rart_common(rart_tree *RART_ALONE tree, rart_tree *RART_ALONE other);
 
 // Answers RART_DONE and writes the first key that is not before this one to the front of room, its
 // length and its value; behind the key room is as before. Where room is shorter than that key it
 // answers RART_TOO_SMALL and writes its length and no value; what room has then is not told. Where
 // there is none it answers RART_ABSENT and writes nothing. It takes no memory.
+RART_NONNULL RART_MUST_USE RART_CHANGES(1) RART_READS(2, 3) RART_WRITES(4, 5) RART_WRITES(6)
+RART_WRITES(7)
 rart_answer rart_seek(
-    rart_tree *tree,
-    const uint8_t *from,
+    rart_tree *RART_ALONE tree,
+    const uint8_t *RART_ALONE from,
     size_t from_len,
-    uint8_t *room,
+    uint8_t *RART_ALONE room,
     size_t room_len,
-    size_t *len,
-    uint64_t *value
+    size_t *RART_ALONE len,
+    uint64_t *RART_ALONE value
 );
 
 // As rart_seek, of the keys behind this one.
+RART_NONNULL RART_MUST_USE RART_CHANGES(1) RART_READS(2, 3) RART_WRITES(4, 5) RART_WRITES(6)
+RART_WRITES(7)
 rart_answer rart_next(
-    rart_tree *tree,
-    const uint8_t *after,
+    rart_tree *RART_ALONE tree,
+    const uint8_t *RART_ALONE after,
     size_t after_len,
-    uint8_t *room,
+    uint8_t *RART_ALONE room,
     size_t room_len,
-    size_t *len,
-    uint64_t *value
+    size_t *RART_ALONE len,
+    uint64_t *RART_ALONE value
 );
 
 // Frees what the tree leads to: it has no key then, and number 0.
+RART_NONNULL RART_CHANGES(1)
 void rart_clear(rart_tree *tree);
 
 // Sets a key to a value, the number then one greater. Answers RART_DONE and writes the value that
 // was replaced, or answers RART_ABSENT where the key is new. RART_NO_ROOM says that the number
 // can't be raised, RART_NO_MEMORY that memory was refused: nothing changed then.
+RART_NONNULL RART_MUST_USE RART_CHANGES(1) RART_READS(2, 3) RART_WRITES(5)
 rart_answer rart_insert(
-    rart_tree *tree,
-    const uint8_t *key,
+    rart_tree *RART_ALONE tree,
+    const uint8_t *RART_ALONE key,
     size_t key_len,
     uint64_t value,
-    uint64_t *replaced
+    uint64_t *RART_ALONE replaced
 );
 
 // Takes a key out, the number then one greater. Answers RART_DONE and writes its value, or answers
 // RART_ABSENT, and then nothing changed. RART_NO_ROOM says that the key is there and the number
 // can't be raised, RART_NO_MEMORY that it is there and memory was refused: nothing changed then.
-rart_answer rart_remove(rart_tree *tree, const uint8_t *key, size_t key_len, uint64_t *value);
+RART_NONNULL RART_MUST_USE RART_CHANGES(1) RART_READS(2, 3) RART_WRITES(4)
+rart_answer rart_remove(
+    rart_tree *RART_ALONE tree,
+    const uint8_t *RART_ALONE key,
+    size_t key_len,
+    uint64_t *RART_ALONE value
+);
 
 // Writes the first pairs within two bounds, as many as there is room for: their keys one behind the
 // other to the front of bytes, an entry of each to the front of entries, and how many they are to
@@ -164,118 +211,141 @@ rart_answer rart_remove(rart_tree *tree, const uint8_t *key, size_t key_len, uin
 // page begins RART_EXCLUDED at a copy of the last key. RART_TOO_SMALL says that not even the first
 // has room, and writes the length of its key to needed. A bound is of the kind RART_INCLUDED,
 // RART_EXCLUDED or RART_UNBOUNDED. It takes no memory.
+RART_NONNULL RART_MUST_USE RART_CHANGES(1) RART_READS(2, 3) RART_READS(5, 6) RART_WRITES(8, 9)
+RART_WRITES(10, 11) RART_WRITES(12) RART_WRITES(13)
 rart_answer rart_page(
-    rart_tree *tree,
-    const uint8_t *low,
+    rart_tree *RART_ALONE tree,
+    const uint8_t *RART_ALONE low,
     size_t low_len,
     uint8_t low_kind,
-    const uint8_t *high,
+    const uint8_t *RART_ALONE high,
     size_t high_len,
     uint8_t high_kind,
-    uint8_t *bytes,
+    uint8_t *RART_ALONE bytes,
     size_t bytes_len,
-    rart_entry *entries,
+    rart_entry *RART_ALONE entries,
     size_t entries_len,
-    size_t *count,
-    size_t *needed
+    size_t *RART_ALONE count,
+    size_t *RART_ALONE needed
 );
 
 // Makes copy the same map, its number one greater, and frees what copy was. RART_NO_ROOM says that
 // the number can't be raised, RART_NO_MEMORY that memory was refused: copy is as before then.
-rart_answer rart_bytes_snapshot(rart_bytes *tree, rart_bytes *copy);
+RART_NONNULL RART_MUST_USE RART_CHANGES(1) RART_CHANGES(2)
+rart_answer rart_bytes_snapshot(rart_bytes *RART_ALONE tree, rart_bytes *RART_ALONE copy);
 
 // Makes copy the same map, its number too, and frees what copy was. RART_NO_MEMORY says that memory
 // was refused: copy is as before then.
-rart_answer rart_bytes_clone(rart_bytes *tree, rart_bytes *copy);
+RART_NONNULL RART_MUST_USE RART_CHANGES(1) RART_CHANGES(2)
+rart_answer rart_bytes_clone(rart_bytes *RART_ALONE tree, rart_bytes *RART_ALONE copy);
 
 // Frees what the tree leads to, and leaves it without a key, its number so great. RART_NO_MEMORY
 // says that memory was refused: it is as before then.
+RART_NONNULL RART_MUST_USE RART_CHANGES(1)
 rart_answer rart_bytes_new_at(rart_bytes *tree, uint64_t number);
 
 // The number.
+RART_NONNULL RART_MUST_USE RART_CHANGES(1)
 uint64_t rart_bytes_version(rart_bytes *tree);
 
 // How many keys there are.
+RART_NONNULL RART_MUST_USE RART_CHANGES(1)
 size_t rart_bytes_len(rart_bytes *tree);
 
 // Whether there is no key.
+RART_NONNULL RART_MUST_USE RART_CHANGES(1)
 bool rart_bytes_is_empty(rart_bytes *tree);
 
 // Answers RART_DONE, writes the value of a key to the first bytes of into, and its length to len.
 // RART_TOO_SMALL says that into has fewer bytes than the value: len is written then and nothing
 // else. Answers RART_ABSENT where there is no such key. It takes no memory.
+RART_NONNULL RART_MUST_USE RART_CHANGES(1) RART_READS(2, 3) RART_WRITES(4, 5) RART_WRITES(6)
 rart_answer rart_bytes_get(
-    rart_bytes *tree,
-    const uint8_t *key,
+    rart_bytes *RART_ALONE tree,
+    const uint8_t *RART_ALONE key,
     size_t key_len,
-    uint8_t *into,
+    uint8_t *RART_ALONE into,
     size_t into_len,
-    size_t *len
+    size_t *RART_ALONE len
 );
 
 // Of the longest key that begins the probe: answers as rart_bytes_get of that key does, and where
 // there is one writes how long it is to key_len, also where into is too small. It takes no memory.
+RART_NONNULL RART_MUST_USE RART_CHANGES(1) RART_READS(2, 3) RART_WRITES(4) RART_WRITES(5, 6)
+RART_WRITES(7)
 rart_answer rart_bytes_longest(
-    rart_bytes *tree,
-    const uint8_t *probe,
+    rart_bytes *RART_ALONE tree,
+    const uint8_t *RART_ALONE probe,
     size_t probe_len,
-    size_t *key_len,
-    uint8_t *into,
+    size_t *RART_ALONE key_len,
+    uint8_t *RART_ALONE into,
     size_t into_len,
-    size_t *len
+    size_t *RART_ALONE len
 );
 
 // How many keys both trees have. It takes no memory.
-size_t rart_bytes_common(rart_bytes *tree, rart_bytes *other);
+RART_NONNULL RART_MUST_USE RART_CHANGES(1) RART_CHANGES(2)
+size_t rart_bytes_common(rart_bytes *RART_ALONE tree, rart_bytes *RART_ALONE other);
 
 // Answers RART_DONE, writes the first key that is not before this one to the front of room, its
 // value to the front of into, and the lengths of both; behind them room and into are as before.
 // Where the key is longer than room, or the value than into, it answers RART_TOO_SMALL and writes
 // both lengths, the key where room has the bytes for it, and no value; what room has else is not
 // told. Where there is none it answers RART_ABSENT and writes nothing. It takes no memory.
+RART_NONNULL RART_MUST_USE RART_CHANGES(1) RART_READS(2, 3) RART_WRITES(4, 5) RART_WRITES(6)
+RART_WRITES(7, 8) RART_WRITES(9)
 rart_answer rart_bytes_seek(
-    rart_bytes *tree,
-    const uint8_t *from,
+    rart_bytes *RART_ALONE tree,
+    const uint8_t *RART_ALONE from,
     size_t from_len,
-    uint8_t *room,
+    uint8_t *RART_ALONE room,
     size_t room_len,
-    size_t *key_len,
-    uint8_t *into,
+    size_t *RART_ALONE key_len,
+    uint8_t *RART_ALONE into,
     size_t into_len,
-    size_t *len
+    size_t *RART_ALONE len
 );
 
 // As rart_bytes_seek, of the keys behind this one.
+RART_NONNULL RART_MUST_USE RART_CHANGES(1) RART_READS(2, 3) RART_WRITES(4, 5) RART_WRITES(6)
+RART_WRITES(7, 8) RART_WRITES(9)
 rart_answer rart_bytes_next(
-    rart_bytes *tree,
-    const uint8_t *after,
+    rart_bytes *RART_ALONE tree,
+    const uint8_t *RART_ALONE after,
     size_t after_len,
-    uint8_t *room,
+    uint8_t *RART_ALONE room,
     size_t room_len,
-    size_t *key_len,
-    uint8_t *into,
+    size_t *RART_ALONE key_len,
+    uint8_t *RART_ALONE into,
     size_t into_len,
-    size_t *len
+    size_t *RART_ALONE len
 );
 
 // Frees what the tree leads to: it has no key then, and number 0.
+RART_NONNULL RART_CHANGES(1)
 void rart_bytes_clear(rart_bytes *tree);
 
 // Sets a key to a copy of the value, the number then one greater. Answers RART_DONE where a value
 // was replaced, RART_ABSENT where the key is new. RART_NO_ROOM says that the number can't be
 // raised, RART_NO_MEMORY that memory was refused: nothing changed then.
+RART_NONNULL RART_MUST_USE RART_CHANGES(1) RART_READS(2, 3) RART_READS(4, 5)
 rart_answer rart_bytes_insert(
-    rart_bytes *tree,
-    const uint8_t *key,
+    rart_bytes *RART_ALONE tree,
+    const uint8_t *RART_ALONE key,
     size_t key_len,
-    const uint8_t *value,
+    const uint8_t *RART_ALONE value,
     size_t value_len
 );
 
 // Takes a key out, the number then one greater. Answers RART_DONE, or RART_ABSENT where there is no
 // such key, and then nothing changed. RART_NO_ROOM says that the key is there and the number can't
 // be raised, RART_NO_MEMORY that it is there and memory was refused: nothing changed then.
-rart_answer rart_bytes_remove(rart_bytes *tree, const uint8_t *key, size_t key_len);
+RART_NONNULL RART_MUST_USE RART_CHANGES(1) RART_READS(2, 3)
+rart_answer rart_bytes_remove(
+    rart_bytes *RART_ALONE tree,
+    const uint8_t *RART_ALONE key,
+    size_t key_len
+);
 
 #ifdef __cplusplus
 }

@@ -8,9 +8,9 @@ fn main() {
     let folder = env::var_os("RART_C_DIR").map_or(own, PathBuf::from);
     let archive = folder.join("librart_c.a");
     if !archive.is_file() {
+        // (without it `cargo check` and `cargo doc` work, and nothing can be linked)
         let made = "run `rt lib` in crates/rart_c, and set RART_C_DIR to its folder `out`";
-        println!("cargo::error=there is no {}: {made}", archive.display());
-        return;
+        println!("cargo::warning=there is no {}: {made}", archive.display());
     }
     println!("cargo::rerun-if-changed={}", archive.display());
     println!("cargo::rustc-link-search=native={}", folder.display());

@@ -1,8 +1,8 @@
 use std::error::Error;
-use std::fmt;
+use std::{fmt, io};
 
-/// Why a call was refused. It has changed nothing then, but for `try_extend`: the pairs before the
-/// refused one are set.
+/// Why a call was refused. It has changed nothing then, but for calls on many pairs, as
+/// `try_extend`: the pairs before the refused one are done.
 #[derive(Clone, Copy, Debug, PartialEq, Eq, Hash)]
 #[non_exhaustive]
 pub enum Refusal {
@@ -22,3 +22,21 @@ impl fmt::Display for Refusal {
 }
 
 impl Error for Refusal {}
+
+impl From<Refusal> for io::Error {
+    fn from(refusal: Refusal) -> io::Error {
+        let kind = match refusal {
+            Refusal::NoRoom => io::ErrorKind::Other,
+            Refusal::NoMemory => io::ErrorKind::OutOfMemory,
+        };
+        io::Error::new(kind, refusal)
+    }
+}
+
+/// What was not refused. A refusal panics, as where std's maps lack memory.
+pub(crate) fn unrefused<T>(result: Result<T, Refusal>) -> T {
+    match result {
+        Ok(it) => it,
+        Err(refusal) => panic!("{refusal}"),
+    }
+}

@@ -1,29 +1,10 @@
-use std::collections::VecDeque;
+use crate::map::Map;
+use crate::value::{Text, Value};
+use crate::walk::Walk;
 use std::fmt;
 use std::iter::FusedIterator;
-use std::ops::{Bound, RangeBounds};
 
-// A first page is short, since many walks end soon; each later one has room for four times as many.
-const FIRST_PAIRS: usize = 4;
-const MOST_PAIRS: usize = 64;
-
-/// Pairs in the order of their keys, which stand one behind the other: each entry says where its
-/// key ends, and its value.
-pub struct Page<V> {
-    // Room for keys, kept from page to page. What stands behind the last key says nothing.
-    pub bytes: Vec<u8>,
-    pub entries: VecDeque<(usize, V)>,
-}
-
-/// A tree to be walked over, whose values are these.
-pub trait Pages<V> {
-    /// Fills a page without entries with the first pairs within two bounds, at most so many as are
-    /// asked for, and one at least where there is one. Answers whether others may be left.
-    fn fill(&self, low: Bound<&[u8]>, high: Bound<&[u8]>, asked: usize, page: &mut Page<V>)
-    -> bool;
-}
-
-/// The pairs of a map within two bounds, in the order of their keys.
+/// The pairs of a map within two bounds, in the order of their keys, each key a copy.
 ///
 /// It takes them by pages. The library takes no memory for it; the pages, and the copies of keys
 /// and of byte strings, do.
@@ -32,7 +13,7 @@ pub trait Pages<V> {
 ///
 /// ```compile_fail
 /// let mut map = boltcomfrey::VersionedMap::new();
-/// let mut pairs = map.iter();
+/// let mut pairs = map.range("a"..);
 /// map.remove("tea").ok();
 /// pairs.next();
 /// ```
@@ -41,114 +22,147 @@ pub trait Pages<V> {
 /// fn sends<T: Send>(_: T) {}
 /// sends(boltcomfrey::VersionedMap::new().iter());
 /// ```
-pub struct Iter<'a, V = u64> {
-    tree: &'a dyn Pages<V>,
-    // What is left behind the page.
-    low: Bound<Vec<u8>>,
-    high: Bound<Vec<u8>>,
-    asked: usize,
-    is_last: bool,
-    // What is left of the page, whose next key begins here.
-    page: Page<V>,
-    start: usize,
+#[derive(Clone)]
+pub struct Range<'a, V: Value> {
+    map: &'a Map<V>,
+    walk: Walk<V>,
 }
 
-impl<'a, V> Iter<'a, V> {
-    /// All pairs.
-    pub(crate) fn of(tree: &'a dyn Pages<V>) -> Iter<'a, V> {
-        Iter::between(tree, Bound::Unbounded, Bound::Unbounded)
+impl<'a, V: Value> Range<'a, V> {
+    pub(crate) fn new(map: &'a Map<V>, walk: Walk<V>) -> Range<'a, V> {
+        Range { map, walk }
     }
+}
 
-    /// Those whose keys are in a range.
-    pub(crate) fn within<K: AsRef<[u8]> + ?Sized>(
-        tree: &'a dyn Pages<V>,
-        range: impl RangeBounds<K>,
-    ) -> Iter<'a, V> {
-        let low = range.start_bound().map(|it| it.as_ref().to_vec());
-        let high = range.end_bound().map(|it| it.as_ref().to_vec());
-        Iter::between(tree, low, high)
+impl<V: Value> Iterator for Range<'_, V> {
+    type Item = (Vec<u8>, V);
+
+    fn next(&mut self) -> Option<(Vec<u8>, V)> {
+        self.walk.next(&self.map.tree)
     }
+}
 
-    /// Those whose keys a prefix begins.
-    pub(crate) fn under(tree: &'a dyn Pages<V>, prefix: &[u8]) -> Iter<'a, V> {
-        Iter::between(tree, Bound::Included(prefix.to_vec()), behind_all(prefix))
-    }
+impl<V: Value> FusedIterator for Range<'_, V> {}
 
-    fn between(tree: &'a dyn Pages<V>, low: Bound<Vec<u8>>, high: Bound<Vec<u8>>) -> Iter<'a, V> {
-        Iter {
-            tree,
-            low,
-            high,
-            asked: FIRST_PAIRS,
-            is_last: false,
-            page: Page {
-                bytes: Vec::new(),
-                entries: VecDeque::new(),
-            },
-            start: 0,
-        }
-    }
-
-    /// Takes the next page, which begins behind the last key of this one.
-    fn turn(&mut self) {
-        let (low, high) = (self.low.as_ref(), self.high.as_ref());
-        let (low, high) = (low.map(Vec::as_slice), high.map(Vec::as_slice));
-        self.is_last = !self.tree.fill(low, high, self.asked, &mut self.page);
-        self.asked = MOST_PAIRS.min(self.asked * 4);
-        self.start = 0;
-        if let Some((end, _)) = self.page.entries.back() {
-            let start = match self.page.entries.len() {
-                1 => 0,
-                count => self.page.entries[count - 2].0,
-            };
-            self.low = Bound::Excluded(self.page.bytes[start..*end].to_vec());
-        }
-    }
-
-    /// Shows the pairs as std shows a map, each value as it is shown here.
-    pub(crate) fn show<S: fmt::Debug>(
-        self,
-        f: &mut fmt::Formatter<'_>,
-        shown: impl Fn(V) -> S,
-    ) -> fmt::Result {
-        let pairs = self.map(|(key, value)| (Shown(key), shown(value)));
+/// What is left, as std shows a map, each key as text with escapes.
+impl<V: Value> fmt::Debug for Range<'_, V> {
+    fn fmt(&self, f: &mut fmt::Formatter<'_>) -> fmt::Result {
+        let pairs = self.clone().map(|(key, value)| (Text(key), value.shown()));
         f.debug_map().entries(pairs).finish()
     }
 }
 
-impl<V> Iterator for Iter<'_, V> {
+/// All pairs of a map, in the order of their keys, each key a copy. It knows how many are left.
+#[derive(Clone)]
+pub struct Iter<'a, V: Value> {
+    range: Range<'a, V>,
+    left: usize,
+}
+
+impl<'a, V: Value> Iter<'a, V> {
+    pub(crate) fn new(map: &'a Map<V>) -> Iter<'a, V> {
+        Iter {
+            range: Range::new(map, Walk::over_all()),
+            left: map.len(),
+        }
+    }
+}
+
+impl<V: Value> Iterator for Iter<'_, V> {
     type Item = (Vec<u8>, V);
 
     fn next(&mut self) -> Option<(Vec<u8>, V)> {
-        if self.page.entries.is_empty() && !self.is_last {
-            self.turn();
-        }
-        let (end, value) = self.page.entries.pop_front()?;
-        let key = self.page.bytes[self.start..end].to_vec();
-        self.start = end;
-        Some((key, value))
+        let pair = self.range.next()?;
+        self.left -= 1;
+        Some(pair)
+    }
+
+    fn size_hint(&self) -> (usize, Option<usize>) {
+        (self.left, Some(self.left))
     }
 }
 
-impl<V> FusedIterator for Iter<'_, V> {}
+impl<V: Value> ExactSizeIterator for Iter<'_, V> {}
 
-/// A byte string as text with escapes.
-pub(crate) struct Shown(pub(crate) Vec<u8>);
+impl<V: Value> FusedIterator for Iter<'_, V> {}
 
-impl fmt::Debug for Shown {
+impl<V: Value> fmt::Debug for Iter<'_, V> {
     fn fmt(&self, f: &mut fmt::Formatter<'_>) -> fmt::Result {
-        write!(f, "\"{}\"", self.0.escape_ascii())
+        self.range.fmt(f)
     }
 }
 
-// The upper bound of the keys that a prefix begins.
-fn behind_all(prefix: &[u8]) -> Bound<Vec<u8>> {
-    match prefix.iter().rposition(|it| *it != u8::MAX) {
-        None => Bound::Unbounded,
-        Some(last) => {
-            let mut behind = prefix[..=last].to_vec();
-            behind[last] += 1;
-            Bound::Excluded(behind)
+/// All pairs of a map that is given up, in the order of their keys.
+pub struct IntoIter<V: Value> {
+    map: Map<V>,
+    walk: Walk<V>,
+    left: usize,
+}
+
+impl<V: Value> IntoIter<V> {
+    pub(crate) fn new(map: Map<V>) -> IntoIter<V> {
+        IntoIter {
+            left: map.len(),
+            walk: Walk::over_all(),
+            map,
         }
     }
 }
+
+impl<V: Value> Iterator for IntoIter<V> {
+    type Item = (Vec<u8>, V);
+
+    fn next(&mut self) -> Option<(Vec<u8>, V)> {
+        let pair = self.walk.next(&self.map.tree)?;
+        self.left -= 1;
+        Some(pair)
+    }
+
+    fn size_hint(&self) -> (usize, Option<usize>) {
+        (self.left, Some(self.left))
+    }
+}
+
+impl<V: Value> ExactSizeIterator for IntoIter<V> {}
+
+impl<V: Value> FusedIterator for IntoIter<V> {}
+
+/// The keys of a map, in order, each a copy.
+#[derive(Clone, Debug)]
+pub struct Keys<'a, V: Value>(pub(crate) Iter<'a, V>);
+
+impl<V: Value> Iterator for Keys<'_, V> {
+    type Item = Vec<u8>;
+
+    fn next(&mut self) -> Option<Vec<u8>> {
+        self.0.next().map(|pair| pair.0)
+    }
+
+    fn size_hint(&self) -> (usize, Option<usize>) {
+        self.0.size_hint()
+    }
+}
+
+impl<V: Value> ExactSizeIterator for Keys<'_, V> {}
+
+impl<V: Value> FusedIterator for Keys<'_, V> {}
+
+/// The values of a map, in the order of their keys.
+#[derive(Clone, Debug)]
+pub struct Values<'a, V: Value>(pub(crate) Iter<'a, V>);
+
+impl<V: Value> Iterator for Values<'_, V> {
+    type Item = V;
+
+    fn next(&mut self) -> Option<V> {
+        self.0.next().map(|pair| pair.1)
+    }
+
+    fn size_hint(&self) -> (usize, Option<usize>) {
+        self.0.size_hint()
+    }
+}
+
+impl<V: Value> ExactSizeIterator for Values<'_, V> {}
+
+impl<V: Value> FusedIterator for Values<'_, V> {}

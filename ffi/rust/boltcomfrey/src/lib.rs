@@ -23,18 +23,24 @@
 #![warn(missing_docs)]
 #![deny(unsafe_code)]
 
-mod bytes;
+mod both;
 mod error;
+mod idioms;
 mod iter;
+mod key_range;
 mod map;
 #[allow(unsafe_code)]
 mod raw;
 #[allow(unsafe_code)]
 mod sys;
+mod value;
+mod walk;
 
-pub use bytes::VersionedBytes;
+pub use both::{Common, Diff};
 pub use error::Refusal;
-pub use iter::Iter;
-pub use map::VersionedMap;
+pub use iter::{IntoIter, Iter, Keys, Range, Values};
+pub use key_range::KeyRange;
+pub use map::{Map, VersionedBytes, VersionedMap};
 #[cfg(feature = "refusals")]
 pub use sys::refusals;
+pub use value::{Given, Value};

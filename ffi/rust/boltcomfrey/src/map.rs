@@ -1,10 +1,14 @@
-use crate::error::Refusal;
-use crate::iter::Iter;
+use crate::both::{Common, Diff};
+use crate::error::{Refusal, unrefused};
+use crate::iter::{Iter, Keys, Range, Values};
+use crate::key_range::KeyRange;
 use crate::raw::Tree;
-use std::fmt;
-use std::ops::RangeBounds;
+use crate::value::{Calls, Given, Value};
+use crate::walk::Walk;
+use std::ops::Bound;
 
-/// A map from byte strings to numbers, of which snapshots change independently.
+/// An ordered map from byte strings to values, of which snapshots change independently: a
+/// [`VersionedMap`] or a [`VersionedBytes`].
 ///
 /// Reads take `&self` and change nothing. Neither `Send` nor `Sync`: maps share nodes.
 ///
@@ -17,22 +21,28 @@ use std::ops::RangeBounds;
 /// fn shares<T: Sync>(_: T) {}
 /// shares(boltcomfrey::VersionedMap::new());
 /// ```
-#[derive(Default)]
-pub struct VersionedMap {
-    tree: Tree,
+pub struct Map<V: Value> {
+    pub(crate) tree: Tree<<V as Calls>::Handle>,
 }
 
-impl VersionedMap {
+/// A map from byte strings to numbers.
+pub type VersionedMap = Map<u64>;
+
+/// A map from byte strings to byte strings. It keeps a copy of each value, which versions share; a
+/// read copies it out.
+pub type VersionedBytes = Map<Vec<u8>>;
+
+impl<V: Value> Map<V> {
     /// A map without a key, its number 0. It takes no memory.
     ///
     /// ```
     /// # use boltcomfrey::VersionedMap;
-    /// const EMPTY: VersionedMap = VersionedMap::new();
-    /// assert!(EMPTY.is_empty());
+    /// let prices = const { VersionedMap::new() };
+    /// assert!(prices.is_empty());
     /// ```
     #[must_use]
-    pub const fn new() -> VersionedMap {
-        VersionedMap { tree: Tree::new() }
+    pub const fn new() -> Map<V> {
+        Map { tree: Tree::new() }
     }
 
     /// A map without a key, with this number.
@@ -42,9 +52,26 @@ impl VersionedMap {
     /// assert_eq!(VersionedMap::with_number(7)?.version(), 7);
     /// # Ok::<(), boltcomfrey::Refusal>(())
     /// ```
-    pub fn with_number(number: u64) -> Result<VersionedMap, Refusal> {
+    pub fn with_number(number: u64) -> Result<Map<V>, Refusal> {
         let tree = Tree::with_number(number)?;
-        Ok(VersionedMap { tree })
+        Ok(Map { tree })
+    }
+
+    /// A map of these pairs, of which a later one takes the place of an earlier one. Its number is
+    /// how many there were. `collect` and `From` do the same, and panic where they are refused.
+    ///
+    /// ```
+    /// # use boltcomfrey::VersionedMap;
+    /// let prices = VersionedMap::try_from_iter([("tea", 300), ("milk", 100)])?;
+    /// assert_eq!(prices.len(), 2);
+    /// # Ok::<(), boltcomfrey::Refusal>(())
+    /// ```
+    pub fn try_from_iter<K: AsRef<[u8]>, T: Given<V>>(
+        pairs: impl IntoIterator<Item = (K, T)>,
+    ) -> Result<Map<V>, Refusal> {
+        let mut map = Map::new();
+        map.try_extend(pairs)?;
+        Ok(map)
     }
 
     /// The number, at first 0 or that of `with_number`. An insertion raises it by one, and so does
@@ -87,19 +114,31 @@ impl VersionedMap {
         self.len() == 0
     }
 
-    /// The value of a key. It takes no memory.
+    /// The value of a key. A number takes no memory, a byte string is copied.
+    ///
+    /// ```
+    /// # use boltcomfrey::{VersionedBytes, VersionedMap};
+    /// let prices = VersionedMap::from([("tea", 300)]);
+    /// assert_eq!(prices.get(b"tea"), Some(300));
+    /// assert_eq!(prices.get("milk"), None);
+    /// let names = VersionedBytes::from([("tea", "Tea")]);
+    /// assert_eq!(names.get("tea"), Some(b"Tea".to_vec()));
+    /// ```
+    #[must_use]
+    pub fn get(&self, key: impl AsRef<[u8]>) -> Option<V> {
+        V::get(&self.tree, key.as_ref())
+    }
+
+    /// A key, copied, and its value, if it is there.
     ///
     /// ```
     /// # use boltcomfrey::VersionedMap;
-    /// let mut prices = VersionedMap::new();
-    /// prices.insert(b"tea", 300)?;
-    /// assert_eq!(prices.get(b"tea"), Some(300));
-    /// assert_eq!(prices.get("milk"), None);
-    /// # Ok::<(), boltcomfrey::Refusal>(())
+    /// assert_eq!(VersionedMap::new().get_key_value("tea"), None);
     /// ```
     #[must_use]
-    pub fn get(&self, key: impl AsRef<[u8]>) -> Option<u64> {
-        self.tree.get(key.as_ref())
+    pub fn get_key_value(&self, key: impl AsRef<[u8]>) -> Option<(Vec<u8>, V)> {
+        let value = self.get(&key)?;
+        Some((key.as_ref().to_vec(), value))
     }
 
     /// Whether a key is there. It takes no memory.
@@ -110,102 +149,232 @@ impl VersionedMap {
     /// ```
     #[must_use]
     pub fn contains_key(&self, key: impl AsRef<[u8]>) -> bool {
-        self.get(key).is_some()
+        V::has(&self.tree, key.as_ref())
     }
 
-    /// The length of the longest key that begins the probe, and its value. It takes no memory.
+    /// The length of the longest key that begins the probe, and its value.
     ///
     /// ```
     /// # use boltcomfrey::VersionedMap;
-    /// let mut routes = VersionedMap::new();
-    /// routes.insert("10.0", 1)?;
-    /// routes.insert("10.0.7", 2)?;
+    /// let routes = VersionedMap::from([("10.0", 1), ("10.0.7", 2)]);
     /// assert_eq!(routes.longest_prefix("10.0.3"), Some((4, 1)));
     /// assert_eq!(routes.longest_prefix("192.168"), None);
-    /// # Ok::<(), boltcomfrey::Refusal>(())
     /// ```
     #[must_use]
-    pub fn longest_prefix(&self, probe: impl AsRef<[u8]>) -> Option<(usize, u64)> {
-        self.tree.longest_prefix(probe.as_ref())
+    pub fn longest_prefix(&self, probe: impl AsRef<[u8]>) -> Option<(usize, V)> {
+        V::longest_prefix(&self.tree, probe.as_ref())
+    }
+
+    /// The first pair, if there is one.
+    ///
+    /// ```
+    /// # use boltcomfrey::VersionedMap;
+    /// let prices = VersionedMap::from([("tea", 300), ("milk", 100)]);
+    /// assert_eq!(prices.first_key_value(), Some((b"milk".to_vec(), 100)));
+    /// ```
+    #[must_use]
+    pub fn first_key_value(&self) -> Option<(Vec<u8>, V)> {
+        self.first(Bound::Unbounded)
+    }
+
+    /// The first pair whose key is this one or comes behind it.
+    ///
+    /// ```
+    /// # use boltcomfrey::VersionedMap;
+    /// let prices = VersionedMap::from([("tea", 300), ("milk", 100)]);
+    /// assert_eq!(prices.first_from("n"), Some((b"tea".to_vec(), 300)));
+    /// ```
+    #[must_use]
+    pub fn first_from(&self, key: impl AsRef<[u8]>) -> Option<(Vec<u8>, V)> {
+        self.first(Bound::Included(key.as_ref()))
+    }
+
+    /// The first pair whose key comes behind this one.
+    ///
+    /// ```
+    /// # use boltcomfrey::VersionedMap;
+    /// let prices = VersionedMap::from([("tea", 300), ("milk", 100)]);
+    /// assert_eq!(prices.first_after("tea"), None);
+    /// ```
+    #[must_use]
+    pub fn first_after(&self, key: impl AsRef<[u8]>) -> Option<(Vec<u8>, V)> {
+        self.first(Bound::Excluded(key.as_ref()))
+    }
+
+    fn first(&self, low: Bound<&[u8]>) -> Option<(Vec<u8>, V)> {
+        let mut key = Vec::new();
+        let (len, value) = V::first(&self.tree, low, &mut key)?;
+        key.truncate(len);
+        Some((key, value))
     }
 
     /// The pairs in the order of their keys, each key a copy.
     ///
     /// ```
     /// # use boltcomfrey::VersionedMap;
-    /// let mut prices = VersionedMap::new();
-    /// prices.try_extend([("tea", 300), ("milk", 100)])?;
-    /// let names: Vec<_> = prices.iter().map(|(name, _)| name).collect();
-    /// assert_eq!(names, [b"milk".to_vec(), b"tea".to_vec()]);
-    /// # Ok::<(), boltcomfrey::Refusal>(())
+    /// let prices = VersionedMap::from([("tea", 300), ("milk", 100)]);
+    /// let pairs: Vec<_> = prices.iter().collect();
+    /// assert_eq!(pairs, [(b"milk".to_vec(), 100), (b"tea".to_vec(), 300)]);
     /// ```
     #[must_use]
-    pub fn iter(&self) -> Iter<'_> {
-        Iter::of(&self.tree)
+    pub fn iter(&self) -> Iter<'_, V> {
+        Iter::new(self)
+    }
+
+    /// The keys in order, each a copy.
+    ///
+    /// ```
+    /// # use boltcomfrey::VersionedMap;
+    /// let prices = VersionedMap::from([("tea", 300), ("milk", 100)]);
+    /// let names: Vec<_> = prices.keys().collect();
+    /// assert_eq!(names, [b"milk", b"tea".as_slice()]);
+    /// ```
+    #[must_use]
+    pub fn keys(&self) -> Keys<'_, V> {
+        Keys(self.iter())
+    }
+
+    /// The values in the order of their keys.
+    ///
+    /// ```
+    /// # use boltcomfrey::VersionedMap;
+    /// let prices = VersionedMap::from([("tea", 300), ("milk", 100)]);
+    /// assert_eq!(prices.values().sum::<u64>(), 400);
+    /// ```
+    #[must_use]
+    pub fn values(&self) -> Values<'_, V> {
+        Values(self.iter())
+    }
+
+    /// The keys in order, of a map that is given up.
+    ///
+    /// ```
+    /// # use boltcomfrey::VersionedMap;
+    /// assert_eq!(VersionedMap::from([("tea", 300)]).into_keys().count(), 1);
+    /// ```
+    pub fn into_keys(self) -> impl Iterator<Item = Vec<u8>> {
+        self.into_iter().map(|pair| pair.0)
+    }
+
+    /// The values in the order of their keys, of a map that is given up.
+    ///
+    /// ```
+    /// # use boltcomfrey::VersionedMap;
+    /// assert_eq!(VersionedMap::from([("tea", 300)]).into_values().max(), Some(300));
+    /// ```
+    pub fn into_values(self) -> impl Iterator<Item = V> {
+        self.into_iter().map(|pair| pair.1)
     }
 
     /// The pairs whose keys are in a range, in order. Bounds the other way round are no fault: no
-    /// key is between them. Where a range alone doesn't say of what type its keys are, name it.
+    /// key is between them.
     ///
     /// ```
     /// # use boltcomfrey::VersionedMap;
     /// # use std::ops::Bound;
-    /// let mut prices = VersionedMap::new();
-    /// prices.try_extend([("milk", 100), ("salt", 50), ("tea", 300)])?;
+    /// let prices = VersionedMap::from([("milk", 100), ("salt", 50), ("tea", 300)]);
     /// assert_eq!(prices.range("n"..).count(), 2);
     /// assert_eq!(prices.range("milk".."tea").count(), 2);
     /// let behind = (Bound::Excluded("milk"), Bound::Unbounded);
-    /// assert_eq!(prices.range::<str>(behind).count(), 2);
-    /// # Ok::<(), boltcomfrey::Refusal>(())
+    /// assert_eq!(prices.range(behind).count(), 2);
     /// ```
-    pub fn range<K: AsRef<[u8]> + ?Sized>(&self, range: impl RangeBounds<K>) -> Iter<'_> {
-        Iter::within(&self.tree, range)
+    #[must_use]
+    pub fn range(&self, range: impl KeyRange) -> Range<'_, V> {
+        Range::new(self, Walk::within(range.bounds()))
     }
 
     /// The pairs whose keys a prefix begins, in order.
     ///
     /// ```
     /// # use boltcomfrey::VersionedMap;
-    /// let mut prices = VersionedMap::new();
-    /// prices.try_extend([("tea", 300), ("teapot", 2000), ("tin", 80)])?;
+    /// let prices = VersionedMap::from([("tea", 300), ("teapot", 2000), ("tin", 80)]);
     /// assert_eq!(prices.prefix("tea").count(), 2);
+    /// ```
+    #[must_use]
+    pub fn prefix(&self, prefix: impl AsRef<[u8]>) -> Range<'_, V> {
+        Range::new(self, Walk::under(prefix.as_ref()))
+    }
+
+    /// What differs from this map to a later one: each key at which they do, in order, with what
+    /// either has there. It walks over both.
+    ///
+    /// ```
+    /// # use boltcomfrey::VersionedMap;
+    /// let mut prices = VersionedMap::from([("tea", 300), ("milk", 100)]);
+    /// let yesterday = prices.snapshot()?;
+    /// prices.insert("tea", 350)?;
+    /// let changes: Vec<_> = yesterday.diff(&prices).collect();
+    /// assert_eq!(changes, [(b"tea".to_vec(), Some(300), Some(350))]);
     /// # Ok::<(), boltcomfrey::Refusal>(())
     /// ```
-    pub fn prefix(&self, prefix: impl AsRef<[u8]>) -> Iter<'_> {
-        Iter::under(&self.tree, prefix.as_ref())
+    #[must_use]
+    pub fn diff<'a>(&'a self, after: &'a Map<V>) -> Diff<'a, V> {
+        Diff::new(self, after)
+    }
+
+    /// The keys that both maps have, in order, with the value of either. It walks over both.
+    ///
+    /// ```
+    /// # use boltcomfrey::VersionedMap;
+    /// let left = VersionedMap::from([("tea", 300), ("milk", 100)]);
+    /// let right = VersionedMap::from([("tea", 350)]);
+    /// assert!(left.intersection(&right).eq([(b"tea".to_vec(), 300, 350)]));
+    /// ```
+    #[must_use]
+    pub fn intersection<'a>(&'a self, other: &'a Map<V>) -> Common<'a, V> {
+        Common::new(self, other)
     }
 
     /// How many keys both maps have, whatever their values. It takes no memory.
     ///
     /// ```
     /// # use boltcomfrey::VersionedMap;
-    /// let mut prices = VersionedMap::new();
-    /// prices.insert("tea", 300)?;
+    /// let mut prices = VersionedMap::from([("tea", 300)]);
     /// let yesterday = prices.snapshot()?;
     /// prices.insert("milk", 100)?;
     /// assert_eq!(prices.common_count(&yesterday), 1);
     /// # Ok::<(), boltcomfrey::Refusal>(())
     /// ```
     #[must_use]
-    pub fn common_count(&self, other: &VersionedMap) -> usize {
+    pub fn common_count(&self, other: &Map<V>) -> usize {
         self.tree.common_count(&other.tree)
     }
 
     /// Sets a key to a value, and gives the value that was replaced. The number rises by one.
-    /// Refused, nothing has changed.
+    /// Refused, nothing has changed. Where values are byte strings, the one before is looked up and
+    /// copied first: `set` does without.
     ///
     /// A chain of keys that begin one another takes stack: with 2 MiB keys of at most 2,000 bytes
     /// are safe.
     ///
     /// ```
-    /// # use boltcomfrey::VersionedMap;
+    /// # use boltcomfrey::{VersionedBytes, VersionedMap};
     /// let mut prices = VersionedMap::new();
     /// assert_eq!(prices.insert("tea", 300)?, None);
     /// assert_eq!(prices.insert("tea", 350)?, Some(300));
+    /// let mut names = VersionedBytes::new();
+    /// assert_eq!(names.insert("tea", "Tea")?, None);
     /// # Ok::<(), boltcomfrey::Refusal>(())
     /// ```
-    pub fn insert(&mut self, key: impl AsRef<[u8]>, value: u64) -> Result<Option<u64>, Refusal> {
-        self.tree.insert(key.as_ref(), value)
+    pub fn insert(
+        &mut self,
+        key: impl AsRef<[u8]>,
+        value: impl Given<V>,
+    ) -> Result<Option<V>, Refusal> {
+        V::insert(&mut self.tree, key.as_ref(), value.given())
+    }
+
+    /// As `insert`, and tells whether a value was replaced.
+    ///
+    /// ```
+    /// # use boltcomfrey::VersionedBytes;
+    /// let mut names = VersionedBytes::new();
+    /// assert!(!names.set("tea", "Tea")?);
+    /// assert!(names.set("tea", "Green tea")?);
+    /// # Ok::<(), boltcomfrey::Refusal>(())
+    /// ```
+    pub fn set(&mut self, key: impl AsRef<[u8]>, value: impl Given<V>) -> Result<bool, Refusal> {
+        V::set(&mut self.tree, key.as_ref(), value.given())
     }
 
     /// Takes a key out, and gives its value; the number rises by one then. Without the key nothing
@@ -213,14 +382,182 @@ impl VersionedMap {
     ///
     /// ```
     /// # use boltcomfrey::VersionedMap;
-    /// let mut prices = VersionedMap::new();
-    /// prices.insert("tea", 300)?;
+    /// let mut prices = VersionedMap::from([("tea", 300)]);
     /// assert_eq!(prices.remove("tea")?, Some(300));
     /// assert_eq!(prices.remove("tea")?, None);
     /// # Ok::<(), boltcomfrey::Refusal>(())
     /// ```
-    pub fn remove(&mut self, key: impl AsRef<[u8]>) -> Result<Option<u64>, Refusal> {
-        self.tree.remove(key.as_ref())
+    pub fn remove(&mut self, key: impl AsRef<[u8]>) -> Result<Option<V>, Refusal> {
+        V::remove(&mut self.tree, key.as_ref())
+    }
+
+    /// As `remove`, and gives the key too, copied.
+    ///
+    /// ```
+    /// # use boltcomfrey::VersionedMap;
+    /// let mut prices = VersionedMap::from([("tea", 300)]);
+    /// assert_eq!(prices.remove_entry("tea")?, Some((b"tea".to_vec(), 300)));
+    /// # Ok::<(), boltcomfrey::Refusal>(())
+    /// ```
+    pub fn remove_entry(&mut self, key: impl AsRef<[u8]>) -> Result<Option<(Vec<u8>, V)>, Refusal> {
+        let value = self.remove(&key)?;
+        Ok(value.map(|it| (key.as_ref().to_vec(), it)))
+    }
+
+    /// As `remove`, and tells whether the key was there.
+    ///
+    /// ```
+    /// # use boltcomfrey::VersionedBytes;
+    /// let mut names = VersionedBytes::from([("tea", "Tea")]);
+    /// assert!(names.delete("tea")?);
+    /// assert!(!names.delete("tea")?);
+    /// # Ok::<(), boltcomfrey::Refusal>(())
+    /// ```
+    pub fn delete(&mut self, key: impl AsRef<[u8]>) -> Result<bool, Refusal> {
+        V::delete(&mut self.tree, key.as_ref())
+    }
+
+    /// Takes the first pair out, and gives it. It panics where it is refused; `try_pop_first`
+    /// answers.
+    ///
+    /// ```
+    /// # use boltcomfrey::VersionedMap;
+    /// let mut prices = VersionedMap::from([("tea", 300), ("milk", 100)]);
+    /// assert_eq!(prices.pop_first(), Some((b"milk".to_vec(), 100)));
+    /// ```
+    pub fn pop_first(&mut self) -> Option<(Vec<u8>, V)> {
+        unrefused(self.try_pop_first())
+    }
+
+    /// Takes the first pair out, and gives it. Refused, nothing has changed.
+    ///
+    /// ```
+    /// # use boltcomfrey::VersionedMap;
+    /// assert_eq!(VersionedMap::new().try_pop_first()?, None);
+    /// # Ok::<(), boltcomfrey::Refusal>(())
+    /// ```
+    pub fn try_pop_first(&mut self) -> Result<Option<(Vec<u8>, V)>, Refusal> {
+        let Some((key, value)) = self.first_key_value() else {
+            return Ok(None);
+        };
+        self.delete(&key)?;
+        Ok(Some((key, value)))
+    }
+
+    /// Has a key what `f` makes of its value, or of the lack of one: `Some` sets it, `None` takes it
+    /// out. The number rises as of `set` and `delete`. Refused, nothing has changed.
+    ///
+    /// ```
+    /// # use boltcomfrey::VersionedMap;
+    /// let mut counts = VersionedMap::new();
+    /// for word in ["tea", "milk", "tea"] {
+    ///     counts.update(word, |count| Some(count.unwrap_or(0) + 1))?;
+    /// }
+    /// assert_eq!(counts.get("tea"), Some(2));
+    /// # Ok::<(), boltcomfrey::Refusal>(())
+    /// ```
+    pub fn update<T: Given<V>>(
+        &mut self,
+        key: impl AsRef<[u8]>,
+        f: impl FnOnce(Option<V>) -> Option<T>,
+    ) -> Result<(), Refusal> {
+        match f(self.get(&key)) {
+            Some(value) => self.set(key, value)?,
+            None => self.delete(key)?,
+        };
+        Ok(())
+    }
+
+    /// Takes out each pair that is not to be kept, in order. It panics where it is refused;
+    /// `try_retain` answers.
+    ///
+    /// ```
+    /// # use boltcomfrey::VersionedMap;
+    /// let mut prices = VersionedMap::from([("tea", 300), ("milk", 100)]);
+    /// prices.retain(|_, price| *price > 200);
+    /// assert!(prices.contains_key("tea") && prices.len() == 1);
+    /// ```
+    pub fn retain(&mut self, keeps: impl FnMut(&[u8], &V) -> bool) {
+        unrefused(self.try_retain(keeps));
+    }
+
+    /// Takes out each pair that is not to be kept, in order. At a refusal those before it are out.
+    pub fn try_retain(&mut self, mut keeps: impl FnMut(&[u8], &V) -> bool) -> Result<(), Refusal> {
+        let out: Vec<_> = self
+            .iter()
+            .filter(|(key, value)| !keeps(key, value))
+            .collect();
+        for (key, _) in out {
+            self.delete(key)?;
+        }
+        Ok(())
+    }
+
+    /// Takes all keys out. The map is then as `new` makes it, its number 0 too.
+    ///
+    /// ```
+    /// # use boltcomfrey::VersionedMap;
+    /// let mut prices = VersionedMap::from([("tea", 300)]);
+    /// prices.clear();
+    /// assert_eq!(prices, VersionedMap::new());
+    /// ```
+    pub fn clear(&mut self) {
+        *self = Map::new();
+    }
+
+    /// Moves all pairs of another map here, where they take the place of what had their keys. The
+    /// other one is cleared. It panics where it is refused; `try_append` answers.
+    ///
+    /// ```
+    /// # use boltcomfrey::VersionedMap;
+    /// let mut prices = VersionedMap::from([("tea", 300)]);
+    /// prices.append(&mut VersionedMap::from([("milk", 100)]));
+    /// assert_eq!(prices.len(), 2);
+    /// ```
+    pub fn append(&mut self, other: &mut Map<V>)
+    where
+        V: Given<V>,
+    {
+        unrefused(self.try_append(other));
+    }
+
+    /// Moves all pairs of another map here, in order. At a refusal those before it are here, and the
+    /// other map is as it was.
+    pub fn try_append(&mut self, other: &mut Map<V>) -> Result<(), Refusal>
+    where
+        V: Given<V>,
+    {
+        self.try_extend(other.iter())?;
+        other.clear();
+        Ok(())
+    }
+
+    /// Splits off the pairs from a key on, which are then a map of their own, its number how many
+    /// they are. It panics where it is refused; `try_split_off` answers.
+    ///
+    /// ```
+    /// # use boltcomfrey::VersionedMap;
+    /// let mut prices = VersionedMap::from([("tea", 300), ("milk", 100)]);
+    /// let behind = prices.split_off("n");
+    /// assert!(prices.contains_key("milk") && behind.contains_key("tea"));
+    /// ```
+    pub fn split_off(&mut self, key: impl AsRef<[u8]>) -> Map<V>
+    where
+        V: Given<V>,
+    {
+        unrefused(self.try_split_off(key))
+    }
+
+    /// Splits off the pairs from a key on. At a refusal some of them may be out of this map.
+    pub fn try_split_off(&mut self, key: impl AsRef<[u8]>) -> Result<Map<V>, Refusal>
+    where
+        V: Given<V>,
+    {
+        let behind = Map::try_from_iter(self.range(key.as_ref()..))?;
+        for key in behind.keys() {
+            self.delete(key)?;
+        }
+        Ok(behind)
     }
 
     /// The same map once more, its number one greater. No node is copied before one of both
@@ -228,19 +565,19 @@ impl VersionedMap {
     ///
     /// ```
     /// # use boltcomfrey::VersionedMap;
-    /// let mut prices = VersionedMap::new();
-    /// prices.insert("tea", 300)?;
+    /// let mut prices = VersionedMap::from([("tea", 300)]);
     /// let yesterday = prices.snapshot()?;
     /// prices.insert("tea", 350)?;
     /// assert_eq!(yesterday.get("tea"), Some(300));
     /// # Ok::<(), boltcomfrey::Refusal>(())
     /// ```
-    pub fn snapshot(&self) -> Result<VersionedMap, Refusal> {
+    pub fn snapshot(&self) -> Result<Map<V>, Refusal> {
         let tree = self.tree.snapshot()?;
-        Ok(VersionedMap { tree })
+        Ok(Map { tree })
     }
 
-    /// The same map once more, its number too. It is no `Clone`, since memory can be refused.
+    /// The same map once more, its number too. `clone` does the same, and panics where it is
+    /// refused.
     ///
     /// ```
     /// # use boltcomfrey::VersionedMap;
@@ -248,12 +585,13 @@ impl VersionedMap {
     /// assert_eq!(prices.try_clone()?.version(), 7);
     /// # Ok::<(), boltcomfrey::Refusal>(())
     /// ```
-    pub fn try_clone(&self) -> Result<VersionedMap, Refusal> {
+    pub fn try_clone(&self) -> Result<Map<V>, Refusal> {
         let tree = self.tree.try_clone()?;
-        Ok(VersionedMap { tree })
+        Ok(Map { tree })
     }
 
     /// Sets each key to its value, in order. At a refusal those before it are set, and no other.
+    /// `extend` does the same, and panics where it is refused.
     ///
     /// ```
     /// # use boltcomfrey::VersionedMap;
@@ -262,57 +600,41 @@ impl VersionedMap {
     /// assert_eq!(prices.len(), 2);
     /// # Ok::<(), boltcomfrey::Refusal>(())
     /// ```
-    pub fn try_extend<K: AsRef<[u8]>>(
+    pub fn try_extend<K: AsRef<[u8]>, T: Given<V>>(
         &mut self,
-        pairs: impl IntoIterator<Item = (K, u64)>,
+        pairs: impl IntoIterator<Item = (K, T)>,
     ) -> Result<(), Refusal> {
         for (key, value) in pairs {
-            self.insert(key, value)?;
+            self.set(key, value)?;
         }
         Ok(())
     }
 }
 
-impl<'a> IntoIterator for &'a VersionedMap {
-    type Item = (Vec<u8>, u64);
-    type IntoIter = Iter<'a>;
-
-    fn into_iter(self) -> Iter<'a> {
-        self.iter()
+impl Map<Vec<u8>> {
+    /// How many bytes the value of a key has. It takes no memory.
+    ///
+    /// ```
+    /// # use boltcomfrey::VersionedBytes;
+    /// let names = VersionedBytes::from([("tea", "Tea")]);
+    /// assert_eq!(names.value_len("tea"), Some(3));
+    /// ```
+    #[must_use]
+    pub fn value_len(&self, key: impl AsRef<[u8]>) -> Option<usize> {
+        self.tree.value_len(key.as_ref())
     }
-}
 
-/// The same keys with the same values, whatever the numbers.
-///
-/// ```
-/// # use boltcomfrey::VersionedMap;
-/// let mut prices = VersionedMap::new();
-/// prices.insert("tea", 300)?;
-/// let before = prices.snapshot()?;
-/// assert_eq!(prices, before);
-/// prices.insert("tea", 350)?;
-/// assert_ne!(prices, before);
-/// # Ok::<(), boltcomfrey::Refusal>(())
-/// ```
-impl PartialEq for VersionedMap {
-    fn eq(&self, other: &VersionedMap) -> bool {
-        self.len() == other.len() && self.iter().eq(other)
-    }
-}
-
-impl Eq for VersionedMap {}
-
-/// The pairs, as std shows a map, each key as text with escapes.
-///
-/// ```
-/// # use boltcomfrey::VersionedMap;
-/// let mut prices = VersionedMap::new();
-/// prices.insert("tea", 300)?;
-/// assert_eq!(format!("{prices:?}"), r#"{"tea": 300}"#);
-/// # Ok::<(), boltcomfrey::Refusal>(())
-/// ```
-impl fmt::Debug for VersionedMap {
-    fn fmt(&self, f: &mut fmt::Formatter<'_>) -> fmt::Result {
-        self.iter().show(f, |value| value)
+    /// Reads the value of a key into a vector, in place of its content, and tells whether the key is
+    /// there. If not, the vector stays.
+    ///
+    /// ```
+    /// # use boltcomfrey::VersionedBytes;
+    /// let names = VersionedBytes::from([("tea", "Tea")]);
+    /// let mut name = Vec::new();
+    /// assert!(names.get_into("tea", &mut name));
+    /// assert_eq!(name, b"Tea");
+    /// ```
+    pub fn get_into(&self, key: impl AsRef<[u8]>, into: &mut Vec<u8>) -> bool {
+        self.tree.get_into(key.as_ref(), into)
     }
 }

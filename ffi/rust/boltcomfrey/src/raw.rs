@@ -1,52 +1,124 @@
 //! The proved calls as safe functions. All `unsafe` of this crate stands here and in `sys`.
 use crate::error::Refusal;
-use crate::iter::{Page, Pages};
 use crate::sys::{
     self, ABSENT, DONE, EXCLUDED, INCLUDED, NO_ROOM, RartBytes, RartEntry, RartTree, TOO_SMALL,
     UNBOUNDED,
 };
+use crate::walk::Page;
 use std::cell::UnsafeCell;
 use std::ops::Bound;
+use std::panic::RefUnwindSafe;
 use std::ptr::{eq, null_mut};
 
 // How many bytes of room there are for a key at first.
 const KEY_ROOM: usize = 32;
+
+/// A tree as C holds it, and the calls that are the same whatever its values.
+pub trait Handle: Sized {
+    const EMPTY: Self;
+    const NEW_AT: unsafe extern "C" fn(*mut Self, u64) -> u8;
+    const VERSION: unsafe extern "C" fn(*mut Self) -> u64;
+    const LEN: unsafe extern "C" fn(*mut Self) -> usize;
+    const COMMON: unsafe extern "C" fn(*mut Self, *mut Self) -> usize;
+    const SNAPSHOT: unsafe extern "C" fn(*mut Self, *mut Self) -> u8;
+    const CLONE: unsafe extern "C" fn(*mut Self, *mut Self) -> u8;
+    const CLEAR: unsafe extern "C" fn(*mut Self);
+}
+
+impl Handle for RartTree {
+    const EMPTY: RartTree = RartTree { at: null_mut() };
+    const NEW_AT: unsafe extern "C" fn(*mut RartTree, u64) -> u8 = sys::rart_new_at;
+    const VERSION: unsafe extern "C" fn(*mut RartTree) -> u64 = sys::rart_version;
+    const LEN: unsafe extern "C" fn(*mut RartTree) -> usize = sys::rart_len;
+    const COMMON: unsafe extern "C" fn(*mut RartTree, *mut RartTree) -> usize = sys::rart_common;
+    const SNAPSHOT: unsafe extern "C" fn(*mut RartTree, *mut RartTree) -> u8 = sys::rart_snapshot;
+    const CLONE: unsafe extern "C" fn(*mut RartTree, *mut RartTree) -> u8 = sys::rart_clone;
+    const CLEAR: unsafe extern "C" fn(*mut RartTree) = sys::rart_clear;
+}
+
+impl Handle for RartBytes {
+    const EMPTY: RartBytes = RartBytes { at: null_mut() };
+    const NEW_AT: unsafe extern "C" fn(*mut RartBytes, u64) -> u8 = sys::rart_bytes_new_at;
+    const VERSION: unsafe extern "C" fn(*mut RartBytes) -> u64 = sys::rart_bytes_version;
+    const LEN: unsafe extern "C" fn(*mut RartBytes) -> usize = sys::rart_bytes_len;
+    const COMMON: unsafe extern "C" fn(*mut RartBytes, *mut RartBytes) -> usize =
+        sys::rart_bytes_common;
+    const SNAPSHOT: unsafe extern "C" fn(*mut RartBytes, *mut RartBytes) -> u8 =
+        sys::rart_bytes_snapshot;
+    const CLONE: unsafe extern "C" fn(*mut RartBytes, *mut RartBytes) -> u8 = sys::rart_bytes_clone;
+    const CLEAR: unsafe extern "C" fn(*mut RartBytes) = sys::rart_bytes_clear;
+}
 
 /// A tree of the library, and its owner.
 ///
 /// The library takes a tree for writing even to read it: it takes the box out of the handle, and
 /// puts it back before it returns. The cell keeps the type from being `Sync`, so that no two calls
 /// meet. The pointer keeps it from being `Send`: trees share nodes, counted without atomics.
-pub struct Tree {
-    handle: UnsafeCell<RartTree>,
+pub struct Tree<H: Handle> {
+    handle: UnsafeCell<H>,
 }
+
+// (a read calls nothing back, so none is left half done by a panic)
+impl<H: Handle> RefUnwindSafe for Tree<H> {}
 
 // What each call below relies on: the handle is null or as a call left it, and is copied nowhere.
 // Nothing is called back, so no other call on it is on its way. A slice's pointer is never null.
-impl Tree {
-    pub const fn new() -> Tree {
+impl<H: Handle> Tree<H> {
+    pub const fn new() -> Tree<H> {
         Tree {
-            handle: UnsafeCell::new(RartTree { at: null_mut() }),
+            handle: UnsafeCell::new(H::EMPTY),
         }
     }
 
-    pub fn with_number(number: u64) -> Result<Tree, Refusal> {
+    pub fn with_number(number: u64) -> Result<Tree<H>, Refusal> {
         let tree = Tree::new();
         // SAFETY: as above.
-        done(unsafe { sys::rart_new_at(tree.handle.get(), number) })?;
+        done(unsafe { H::NEW_AT(tree.handle.get(), number) })?;
         Ok(tree)
     }
 
     pub fn version(&self) -> u64 {
         // SAFETY: as above.
-        unsafe { sys::rart_version(self.handle.get()) }
+        unsafe { H::VERSION(self.handle.get()) }
     }
 
     pub fn len(&self) -> usize {
         // SAFETY: as above.
-        unsafe { sys::rart_len(self.handle.get()) }
+        unsafe { H::LEN(self.handle.get()) }
     }
 
+    pub fn common_count(&self, other: &Tree<H>) -> usize {
+        if eq(self, other) {
+            return self.len(); // (two trees of one call may not be one)
+        }
+        // SAFETY: as above, and they are two.
+        unsafe { H::COMMON(self.handle.get(), other.handle.get()) }
+    }
+
+    pub fn snapshot(&self) -> Result<Tree<H>, Refusal> {
+        let copy = Tree::new();
+        // SAFETY: as above, and the copy is another tree.
+        done(unsafe { H::SNAPSHOT(self.handle.get(), copy.handle.get()) })?;
+        Ok(copy)
+    }
+
+    pub fn try_clone(&self) -> Result<Tree<H>, Refusal> {
+        let copy = Tree::new();
+        // SAFETY: as above, and the copy is another tree.
+        done(unsafe { H::CLONE(self.handle.get(), copy.handle.get()) })?;
+        Ok(copy)
+    }
+}
+
+impl<H: Handle> Drop for Tree<H> {
+    fn drop(&mut self) {
+        // SAFETY: as above.
+        unsafe { H::CLEAR(self.handle.get()) }
+    }
+}
+
+// What each call below relies on is as above.
+impl Tree<RartTree> {
     pub fn get(&self, key: &[u8]) -> Option<u64> {
         let mut value = 0;
         // SAFETY: as above; `value` is this call's own.
@@ -64,12 +136,36 @@ impl Tree {
         (answer == DONE).then_some((len, value))
     }
 
-    pub fn common_count(&self, other: &Tree) -> usize {
-        if eq(self, other) {
-            return self.len(); // (two trees of one call may not be one)
+    /// The first key that meets a bound, written to the front of `room`: its length, and its value.
+    pub fn first(&self, low: Bound<&[u8]>, room: &mut Vec<u8>) -> Option<(usize, u64)> {
+        let (from, kind) = parts_of(low);
+        let call = if kind == EXCLUDED {
+            sys::rart_next
+        } else {
+            sys::rart_seek
+        };
+        let (mut len, mut value) = (KEY_ROOM, 0);
+        loop {
+            make_room(room, len);
+            let (tree, at, end) = (self.handle.get(), room.as_mut_ptr(), room.len());
+            // SAFETY: as above; both numbers are this call's own, and `room` is borrowed to be
+            // written.
+            match unsafe {
+                call(
+                    tree,
+                    from.as_ptr(),
+                    from.len(),
+                    at,
+                    end,
+                    &mut len,
+                    &mut value,
+                )
+            } {
+                DONE => return Some((len, value)),
+                TOO_SMALL => (),
+                _ => return None,
+            }
         }
-        // SAFETY: as above, and they are two.
-        unsafe { sys::rart_common(self.handle.get(), other.handle.get()) }
     }
 
     pub fn insert(&mut self, key: &[u8], value: u64) -> Result<Option<u64>, Refusal> {
@@ -88,26 +184,11 @@ impl Tree {
         found(answer, value)
     }
 
-    pub fn snapshot(&self) -> Result<Tree, Refusal> {
-        let copy = Tree::new();
-        // SAFETY: as above, and the copy is another tree.
-        done(unsafe { sys::rart_snapshot(self.handle.get(), copy.handle.get()) })?;
-        Ok(copy)
-    }
-
-    pub fn try_clone(&self) -> Result<Tree, Refusal> {
-        let copy = Tree::new();
-        // SAFETY: as above, and the copy is another tree.
-        done(unsafe { sys::rart_clone(self.handle.get(), copy.handle.get()) })?;
-        Ok(copy)
-    }
-}
-
-impl Pages<u64> for Tree {
-    fn fill(
+    /// Fills a page without entries with the first pairs within two bounds, at most so many as are
+    /// asked for. Answers whether others may be left.
+    pub fn fill(
         &self,
-        low: Bound<&[u8]>,
-        high: Bound<&[u8]>,
+        (low, high): (Bound<&[u8]>, Bound<&[u8]>),
         asked: usize,
         page: &mut Page<u64>,
     ) -> bool {
@@ -147,49 +228,8 @@ impl Pages<u64> for Tree {
     }
 }
 
-impl Default for Tree {
-    fn default() -> Tree {
-        Tree::new()
-    }
-}
-
-impl Drop for Tree {
-    fn drop(&mut self) {
-        // SAFETY: as above.
-        unsafe { sys::rart_clear(self.handle.get()) }
-    }
-}
-
-/// The same of a tree whose values are byte strings.
-pub struct BytesTree {
-    handle: UnsafeCell<RartBytes>,
-}
-
 // What each call below relies on is as above.
-impl BytesTree {
-    pub const fn new() -> BytesTree {
-        BytesTree {
-            handle: UnsafeCell::new(RartBytes { at: null_mut() }),
-        }
-    }
-
-    pub fn with_number(number: u64) -> Result<BytesTree, Refusal> {
-        let tree = BytesTree::new();
-        // SAFETY: as above.
-        done(unsafe { sys::rart_bytes_new_at(tree.handle.get(), number) })?;
-        Ok(tree)
-    }
-
-    pub fn version(&self) -> u64 {
-        // SAFETY: as above.
-        unsafe { sys::rart_bytes_version(self.handle.get()) }
-    }
-
-    pub fn len(&self) -> usize {
-        // SAFETY: as above.
-        unsafe { sys::rart_bytes_len(self.handle.get()) }
-    }
-
+impl Tree<RartBytes> {
     /// Reads a value out where it fits into these bytes, and tells its length.
     fn read(&self, key: &[u8], into: &mut [u8], len: &mut usize) -> u8 {
         let (at, room) = (into.as_mut_ptr(), into.len());
@@ -199,6 +239,17 @@ impl BytesTree {
 
     pub fn get(&self, key: &[u8]) -> Option<Vec<u8>> {
         read_out(|into, len| self.read(key, into, len))
+    }
+
+    /// Reads a value into a vector, whose content it takes the place of. Without the key the vector
+    /// stays.
+    pub fn get_into(&self, key: &[u8], into: &mut Vec<u8>) -> bool {
+        let Some(mut len) = self.value_len(key) else {
+            return false;
+        };
+        into.resize(len, 0);
+        self.read(key, into, &mut len);
+        true
     }
 
     pub fn value_len(&self, key: &[u8]) -> Option<usize> {
@@ -219,12 +270,27 @@ impl BytesTree {
         Some((key_len, value))
     }
 
-    pub fn common_count(&self, other: &BytesTree) -> usize {
-        if eq(self, other) {
-            return self.len(); // (two trees of one call may not be one)
-        }
-        // SAFETY: as above, and they are two.
-        unsafe { sys::rart_bytes_common(self.handle.get(), other.handle.get()) }
+    /// The first key that meets a bound, written to the front of `room`: its length, and its value.
+    pub fn first(&self, low: Bound<&[u8]>, room: &mut Vec<u8>) -> Option<(usize, Vec<u8>)> {
+        let (from, kind) = parts_of(low);
+        let call = if kind == EXCLUDED {
+            sys::rart_bytes_next
+        } else {
+            sys::rart_bytes_seek
+        };
+        make_room(room, KEY_ROOM);
+        let (tree, key, mut key_len) = (self.handle.get(), (from.as_ptr(), from.len()), 0);
+        let value = read_out(|into, len| {
+            let (at, end) = (room.as_mut_ptr(), room.len());
+            let (start, size) = (into.as_mut_ptr(), into.len());
+            // SAFETY: as above; `key_len` is this call's own, and `room`, `into` and `len` are
+            // borrowed to be written, so no two overlap.
+            let answer =
+                unsafe { call(tree, key.0, key.1, at, end, &mut key_len, start, size, len) };
+            make_room(room, key_len); // (it fits when the call is made once more)
+            answer
+        })?;
+        Some((key_len, value))
     }
 
     pub fn insert(&mut self, key: &[u8], value: &[u8]) -> Result<bool, Refusal> {
@@ -239,77 +305,6 @@ impl BytesTree {
         // SAFETY: as above.
         let answer = unsafe { sys::rart_bytes_remove(self.handle.get(), key.as_ptr(), key.len()) };
         Ok(found(answer, ())?.is_some())
-    }
-
-    pub fn snapshot(&self) -> Result<BytesTree, Refusal> {
-        let copy = BytesTree::new();
-        // SAFETY: as above, and the copy is another tree.
-        done(unsafe { sys::rart_bytes_snapshot(self.handle.get(), copy.handle.get()) })?;
-        Ok(copy)
-    }
-
-    pub fn try_clone(&self) -> Result<BytesTree, Refusal> {
-        let copy = BytesTree::new();
-        // SAFETY: as above, and the copy is another tree.
-        done(unsafe { sys::rart_bytes_clone(self.handle.get(), copy.handle.get()) })?;
-        Ok(copy)
-    }
-}
-
-impl BytesTree {
-    /// The first key that meets a bound, written to the front of `room`: its length, and its value.
-    fn first(&self, low: Bound<&[u8]>, room: &mut Vec<u8>) -> Option<(usize, Vec<u8>)> {
-        let (from, kind) = parts_of(low);
-        let call = if kind == EXCLUDED {
-            sys::rart_bytes_next
-        } else {
-            sys::rart_bytes_seek
-        };
-        let (tree, key, mut key_len) = (self.handle.get(), (from.as_ptr(), from.len()), 0);
-        let value = read_out(|into, len| {
-            let (at, end) = (room.as_mut_ptr(), room.len());
-            let (start, size) = (into.as_mut_ptr(), into.len());
-            // SAFETY: as above; `key_len` is this call's own, and `room`, `into` and `len` are
-            // borrowed to be written, so no two overlap.
-            let answer =
-                unsafe { call(tree, key.0, key.1, at, end, &mut key_len, start, size, len) };
-            make_room(room, key_len); // (it fits when the call is made once more)
-            answer
-        })?;
-        Some((key_len, value))
-    }
-}
-
-// (its pages have one pair each: values have no greatest length)
-impl Pages<Vec<u8>> for BytesTree {
-    fn fill(
-        &self,
-        low: Bound<&[u8]>,
-        high: Bound<&[u8]>,
-        _asked: usize,
-        page: &mut Page<Vec<u8>>,
-    ) -> bool {
-        make_room(&mut page.bytes, KEY_ROOM);
-        match self.first(low, &mut page.bytes) {
-            Some((len, value)) if meets(&page.bytes[..len], high) => {
-                page.entries.push_back((len, value));
-                true
-            }
-            _ => false,
-        }
-    }
-}
-
-impl Default for BytesTree {
-    fn default() -> BytesTree {
-        BytesTree::new()
-    }
-}
-
-impl Drop for BytesTree {
-    fn drop(&mut self) {
-        // SAFETY: as above.
-        unsafe { sys::rart_bytes_clear(self.handle.get()) }
     }
 }
 
@@ -326,14 +321,6 @@ fn parts_of(bound: Bound<&[u8]>) -> (&[u8], u8) {
         Bound::Included(key) => (key, INCLUDED),
         Bound::Excluded(key) => (key, EXCLUDED),
         Bound::Unbounded => (&[], UNBOUNDED),
-    }
-}
-
-fn meets(key: &[u8], high: Bound<&[u8]>) -> bool {
-    match high {
-        Bound::Included(high) => key <= high,
-        Bound::Excluded(high) => key < high,
-        Bound::Unbounded => true,
     }
 }
 

@@ -11,13 +11,13 @@ fn prices() -> Result<VersionedMap, Refusal> {
 #[test]
 fn bounds_are_met_or_not() -> Result<(), Refusal> {
     let map = prices()?;
-    let values = |range| map.range::<str>(range).map(|it| it.1).collect::<Vec<_>>();
+    let values = |range| map.range(range).map(|it| it.1).collect::<Vec<_>>();
     assert_eq!(values((Included("milk"), Included("tea"))), [100, 50, 300]);
     assert_eq!(values((Excluded("milk"), Excluded("tea"))), [50]);
     assert_eq!(values((Excluded("milk"), Unbounded)), [50, 300]);
     assert_eq!(values((Unbounded, Excluded("tea"))), [100, 50]);
     assert_eq!(values((Unbounded, Unbounded)), [100, 50, 300]);
-    assert_eq!(map.range::<[u8]>(..).count(), 3);
+    assert_eq!(map.range(..).count(), 3);
     assert_eq!(map.range(&b"n"[..]..).count(), 2);
     assert_eq!(map.range(..String::from("n")).count(), 1);
     Ok(())
@@ -34,8 +34,8 @@ fn no_key_is_between_bounds_the_other_way_round() -> Result<(), Refusal> {
         (Included("salt"), Excluded("salt")),
         (Excluded("tea"), Excluded("milk")),
     ] {
-        assert_eq!(map.range::<str>((low, high)).count(), 0);
-        assert_eq!(bytes.range::<str>((low, high)).count(), 0);
+        assert_eq!(map.range((low, high)).count(), 0);
+        assert_eq!(bytes.range((low, high)).count(), 0);
     }
     Ok(())
 }

@@ -4,7 +4,7 @@
 mod common;
 
 use boltcomfrey::{Refusal, VersionedBytes, VersionedMap, refusals};
-use common::{Compared, bytes, calls};
+use common::{Compared, calls};
 
 /// Ends the refusals, of which there were some of each kind: each has refused one call.
 fn expect_refused(calls: u64) {
@@ -16,7 +16,7 @@ fn expect_refused(calls: u64) {
 
 #[test]
 fn refused_calls_change_nothing() {
-    let mut compared = Compared::new();
+    let mut compared = Compared::<u64>::new();
     refusals::set(40);
     (0..calls()).for_each(|_| compared.step());
     expect_refused(compared.refused);
@@ -26,7 +26,7 @@ fn refused_calls_change_nothing() {
 
 #[test]
 fn nor_do_those_on_byte_strings() {
-    let mut compared = bytes::Compared::new();
+    let mut compared = Compared::<Vec<u8>>::new();
     refusals::set(40);
     (0..calls()).for_each(|_| compared.step());
     expect_refused(compared.refused);

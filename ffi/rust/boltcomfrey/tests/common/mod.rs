@@ -1,18 +1,17 @@
 //! Random calls on a few versions, beside a model of std's maps.
-#![allow(dead_code)] // (each test takes one of the two)
+#![allow(dead_code)] // (each test takes some of it)
 
-use boltcomfrey::{Refusal, VersionedMap};
+use boltcomfrey::{Given, Map, Refusal, Value};
 use std::collections::BTreeMap;
-use std::ops::Bound::{Excluded, Unbounded};
+use std::fmt::Debug;
+use std::ops::Bound::{Excluded, Included, Unbounded};
 use std::ops::RangeBounds;
 
-pub mod bytes;
-
 /// The generator xorshift64.
-struct Random(u64);
+pub struct Random(u64);
 
 impl Random {
-    fn below(&mut self, most: u64) -> u64 {
+    pub fn below(&mut self, most: u64) -> u64 {
         self.0 ^= self.0 << 13;
         self.0 ^= self.0 >> 7;
         self.0 ^= self.0 << 17;
@@ -33,6 +32,26 @@ impl Random {
     }
 }
 
+/// A value drawn at random.
+pub trait Drawn: Value + Given<Self> + Debug {
+    fn drawn(random: &mut Random) -> Self;
+}
+
+impl Drawn for u64 {
+    fn drawn(random: &mut Random) -> u64 {
+        random.below(u64::MAX)
+    }
+}
+
+impl Drawn for Vec<u8> {
+    /// Short, or longer than what is read at once.
+    fn drawn(random: &mut Random) -> Vec<u8> {
+        let most = if random.below(8) == 0 { 400 } else { 20 };
+        let len = random.below(most);
+        (0..len).map(|_| random.below(256) as u8).collect()
+    }
+}
+
 /// What a version should be.
 #[derive(Clone, Default)]
 struct Model<V> {
@@ -40,7 +59,7 @@ struct Model<V> {
     number: u64,
 }
 
-impl<V: Clone> Model<V> {
+impl<V: Clone + PartialEq> Model<V> {
     fn longest_prefix(&self, probe: &[u8]) -> Option<(usize, V)> {
         let starts = (0..=probe.len()).rev();
         starts
@@ -67,6 +86,18 @@ impl<V: Clone> Model<V> {
             .count()
     }
 
+    /// The keys at which this model and a later one differ, with what either has there.
+    fn diff(&self, after: &Model<V>) -> Vec<(Vec<u8>, Option<V>, Option<V>)> {
+        let mut keys: Vec<_> = self.pairs.keys().chain(after.pairs.keys()).collect();
+        keys.sort();
+        keys.dedup();
+        let changes = keys.into_iter().map(|key| {
+            let (was, is) = (self.pairs.get(key), after.pairs.get(key));
+            (key.clone(), was.cloned(), is.cloned())
+        });
+        changes.filter(|(_, was, is)| was != is).collect()
+    }
+
     fn insert(&mut self, key: &[u8], value: V) -> Option<V> {
         self.number += 1;
         self.pairs.insert(key.to_vec(), value)
@@ -86,17 +117,21 @@ impl<V: Clone> Model<V> {
 }
 
 /// Versions, each beside its model, and how many calls were refused.
-pub struct Compared {
+pub struct Compared<V: Value> {
     random: Random,
-    versions: Vec<(VersionedMap, Model<u64>)>,
+    versions: Vec<(Map<V>, Model<V>)>,
     pub refused: u64,
 }
 
-impl Compared {
-    pub fn new() -> Compared {
+impl<V: Drawn> Compared<V> {
+    pub fn new() -> Compared<V> {
+        let model = Model {
+            pairs: BTreeMap::new(),
+            number: 0,
+        };
         Compared {
             random: Random(0x9e37_79b9_7f4a_7c15),
-            versions: vec![Default::default()],
+            versions: vec![(Map::new(), model)],
             refused: 0,
         }
     }
@@ -107,9 +142,11 @@ impl Compared {
         match self.random.below(2000) {
             0..20 => self.copy(at),
             20 => self.walk(at),
-            21..41 => self.count_common(at),
-            41..600 => self.read(at),
-            600..1300 => self.remove(at),
+            21 => self.compare_with_another(at),
+            22..42 => self.count_common(at),
+            42..600 => self.read(at),
+            600..1200 => self.remove(at),
+            1200..1300 => self.update(at),
             _ => self.insert(at),
         }
         let (map, model) = &self.versions[at];
@@ -121,21 +158,60 @@ impl Compared {
     }
 
     fn insert(&mut self, at: usize) {
-        let (key, value) = (self.random.key(), self.random.below(u64::MAX));
+        let (key, value) = (self.random.key(), V::drawn(&mut self.random));
+        let gives = self.random.below(2) == 0;
         let (map, model) = &mut self.versions[at];
-        match map.insert(&key, value) {
-            Ok(replaced) => assert_eq!(replaced, model.insert(&key, value)),
-            Err(refusal) => self.note(refusal),
-        }
+        let told = if gives {
+            map.insert(&key, value.clone())
+                .map(|was| assert_eq!(was, model.insert(&key, value)))
+        } else {
+            map.set(&key, value.clone())
+                .map(|was| assert_eq!(was, model.insert(&key, value).is_some()))
+        };
+        self.note(told);
     }
 
     fn remove(&mut self, at: usize) {
-        let key = self.random.key();
+        let (key, how) = (self.random.key(), self.random.below(4));
         let (map, model) = &mut self.versions[at];
-        match map.remove(&key) {
-            Ok(removed) => assert_eq!(removed, model.remove(&key)),
-            Err(refusal) => self.note(refusal),
-        }
+        let told = match how {
+            0 => map
+                .delete(&key)
+                .map(|was| assert_eq!(was, model.remove(&key).is_some())),
+            1 => map.try_pop_first().map(|first| {
+                let key = model.pairs.keys().next().cloned();
+                assert_eq!(first.is_some(), key.is_some());
+                if let (Some((key, value)), Some(wanted)) = (first, key) {
+                    assert_eq!(key, wanted);
+                    assert_eq!(Some(value), model.remove(&key));
+                }
+            }),
+            _ => map
+                .remove(&key)
+                .map(|was| assert_eq!(was, model.remove(&key))),
+        };
+        self.note(told);
+    }
+
+    fn update(&mut self, at: usize) {
+        let (key, value) = (self.random.key(), V::drawn(&mut self.random));
+        let sets = self.random.below(2) == 0;
+        let (map, model) = &mut self.versions[at];
+        let mut seen = None;
+        let told = map.update(&key, |was| {
+            seen = was;
+            sets.then(|| value.clone())
+        });
+        let was = model.pairs.get(&key).cloned();
+        assert_eq!(seen, was);
+        let told = told.map(|()| {
+            if sets {
+                model.insert(&key, value);
+            } else {
+                model.remove(&key);
+            }
+        });
+        self.note(told);
     }
 
     /// Takes a snapshot or a clone, in place of another version where there are eight.
@@ -150,22 +226,24 @@ impl Compared {
         match copied {
             Ok(pair) if self.versions.len() < 8 => self.versions.push(pair),
             Ok(pair) => self.versions[(at + 1) % 8] = pair,
-            Err(refusal) => self.note(refusal),
+            Err(refusal) => self.note(Err(refusal)),
         }
     }
 
     fn read(&mut self, at: usize) {
         let key = self.random.key();
         let (map, model) = &self.versions[at];
-        assert_eq!(map.get(&key), model.pairs.get(&key).copied());
+        assert_eq!(map.get(&key).as_ref(), model.pairs.get(&key));
         assert_eq!(map.contains_key(&key), model.pairs.contains_key(&key));
         assert_eq!(map.longest_prefix(&key), model.longest_prefix(&key));
-        assert_eq!(
-            map.range(key.clone()..).next(),
-            model.range(key.clone()..).next()
-        );
-        let behind = (Excluded(key), Unbounded);
-        assert_eq!(map.range(behind.clone()).next(), model.range(behind).next());
+        let from = model.range(key.clone()..).next();
+        assert_eq!(map.first_from(&key), from);
+        assert_eq!(map.range(key.clone()..).next(), from);
+        let behind = (Excluded(key.clone()), Unbounded);
+        let after = model.range(behind.clone()).next();
+        assert_eq!(map.first_after(&key), after);
+        assert_eq!(map.range(behind).next(), after);
+        assert_eq!(map.first_key_value(), model.range(..).next());
     }
 
     /// (As often as in C, since the model looks each key up.)
@@ -180,23 +258,42 @@ impl Compared {
         let (key, other) = (self.random.key(), self.random.key());
         let (map, model) = &self.versions[at];
         assert!(map.iter().eq(model.range(..)));
+        assert!(map.keys().eq(model.pairs.keys().cloned()));
+        assert!(map.values().eq(model.pairs.values().cloned()));
+        assert_eq!(map.iter().len(), model.pairs.len());
         assert!(map.prefix(&key).eq(model.prefix(&key)));
         let (low, high) = if key <= other {
             (key, other)
         } else {
             (other, key)
         };
-        assert!(
-            map.range(low.clone()..=high.clone())
-                .eq(model.range(low..=high))
-        );
-        let (other, others) = &self.versions[0];
-        assert_eq!(map == other, model.pairs == others.pairs);
+        let mut left = map.range(low.clone()..=high.clone());
+        assert!(left.clone().eq(model.range(low.clone()..=high.clone())));
+        left.next();
+        assert!(left.eq(model.range(low.clone()..=high.clone()).skip(1)));
+        let within = (Included(low.as_slice()), Excluded(high.as_slice()));
+        assert_eq!(map.range(within).count(), model.range(low..high).count());
     }
 
-    fn note(&mut self, refusal: Refusal) {
-        assert_eq!(refusal, Refusal::NoMemory);
-        self.refused += 1;
+    /// Compares two versions: what differs, what is common, and how they are ordered.
+    fn compare_with_another(&mut self, at: usize) {
+        let other = self.random.below(self.versions.len() as u64) as usize;
+        let ((map, model), (other, others)) = (&self.versions[at], &self.versions[other]);
+        assert_eq!(map == other, model.pairs == others.pairs);
+        assert_eq!(map.cmp(other), model.pairs.cmp(&others.pairs));
+        assert!(map.diff(other).eq(model.diff(others)));
+        let common = model.range(..).filter_map(|(key, value)| {
+            let theirs = others.pairs.get(&key)?.clone();
+            Some((key, value, theirs))
+        });
+        assert!(map.intersection(other).eq(common));
+    }
+
+    fn note(&mut self, told: Result<(), Refusal>) {
+        if let Err(refusal) = told {
+            assert_eq!(refusal, Refusal::NoMemory);
+            self.refused += 1;
+        }
     }
 }
 

@@ -1,0 +1,223 @@
+//! What a map may have as values, and the calls of the library on such maps.
+use crate::error::Refusal;
+use crate::raw::{Handle, Tree};
+use crate::sys::{RartBytes, RartTree};
+use crate::walk::Page;
+use std::fmt::Debug;
+use std::hash::Hash;
+use std::ops::Bound;
+
+/// What a map may have as values: numbers of 64 bits (`u64`) or byte strings (`Vec<u8>`).
+///
+/// It is for bounds of functions that take either map; no other type can meet it.
+///
+/// ```
+/// # use boltcomfrey::{Map, Value, VersionedBytes, VersionedMap};
+/// fn keys<V: Value>(map: &Map<V>) -> usize {
+///     map.len()
+/// }
+/// assert_eq!(keys(&VersionedMap::new()) + keys(&VersionedBytes::new()), 0);
+/// ```
+pub trait Value: Calls + Clone + Ord + Hash {}
+
+impl Value for u64 {}
+
+impl Value for Vec<u8> {}
+
+/// What can be put into a map with these values: a number, or what lends bytes.
+pub trait Given<V: Value> {
+    /// The value as a change takes it.
+    fn given(&self) -> &V::Lent;
+}
+
+impl Given<u64> for u64 {
+    fn given(&self) -> &u64 {
+        self
+    }
+}
+
+impl<T: AsRef<[u8]>> Given<Vec<u8>> for T {
+    fn given(&self) -> &[u8] {
+        self.as_ref()
+    }
+}
+
+/// The calls that differ by the type of the values. (Public, since `Value` names it, and in no
+/// public module, so that no other type can have it.)
+pub trait Calls: Sized {
+    type Handle: Handle;
+
+    /// As which a change takes a value.
+    type Lent: ?Sized;
+
+    /// As which a value is shown: a byte string as text.
+    type Shown: Debug;
+
+    fn shown(self) -> Self::Shown;
+
+    fn get(tree: &Tree<Self::Handle>, key: &[u8]) -> Option<Self>;
+
+    fn has(tree: &Tree<Self::Handle>, key: &[u8]) -> bool;
+
+    fn longest_prefix(tree: &Tree<Self::Handle>, probe: &[u8]) -> Option<(usize, Self)>;
+
+    /// Sets a key, and gives the value before.
+    fn insert(
+        tree: &mut Tree<Self::Handle>,
+        key: &[u8],
+        value: &Self::Lent,
+    ) -> Result<Option<Self>, Refusal>;
+
+    /// Sets a key, and tells whether it had a value before.
+    fn set(tree: &mut Tree<Self::Handle>, key: &[u8], value: &Self::Lent) -> Result<bool, Refusal>;
+
+    /// Takes a key out, and gives its value.
+    fn remove(tree: &mut Tree<Self::Handle>, key: &[u8]) -> Result<Option<Self>, Refusal>;
+
+    /// Takes a key out, and tells whether it was there.
+    fn delete(tree: &mut Tree<Self::Handle>, key: &[u8]) -> Result<bool, Refusal>;
+
+    /// The first key that meets a bound, written to the front of `room`, which is made longer where
+    /// it has to be: the key's length, and its value.
+    fn first(
+        tree: &Tree<Self::Handle>,
+        low: Bound<&[u8]>,
+        room: &mut Vec<u8>,
+    ) -> Option<(usize, Self)>;
+
+    /// Fills a page without entries with the first pairs within two bounds, at most so many as are
+    /// asked for, and one at least where there is one. Answers whether others may be left.
+    fn fill(
+        tree: &Tree<Self::Handle>,
+        within: (Bound<&[u8]>, Bound<&[u8]>),
+        asked: usize,
+        page: &mut Page<Self>,
+    ) -> bool;
+}
+
+impl Calls for u64 {
+    type Handle = RartTree;
+    type Lent = u64;
+    type Shown = u64;
+
+    fn shown(self) -> u64 {
+        self
+    }
+
+    fn get(tree: &Tree<RartTree>, key: &[u8]) -> Option<u64> {
+        tree.get(key)
+    }
+
+    fn has(tree: &Tree<RartTree>, key: &[u8]) -> bool {
+        tree.get(key).is_some()
+    }
+
+    fn longest_prefix(tree: &Tree<RartTree>, probe: &[u8]) -> Option<(usize, u64)> {
+        tree.longest_prefix(probe)
+    }
+
+    fn insert(tree: &mut Tree<RartTree>, key: &[u8], value: &u64) -> Result<Option<u64>, Refusal> {
+        tree.insert(key, *value)
+    }
+
+    fn set(tree: &mut Tree<RartTree>, key: &[u8], value: &u64) -> Result<bool, Refusal> {
+        Ok(tree.insert(key, *value)?.is_some())
+    }
+
+    fn remove(tree: &mut Tree<RartTree>, key: &[u8]) -> Result<Option<u64>, Refusal> {
+        tree.remove(key)
+    }
+
+    fn delete(tree: &mut Tree<RartTree>, key: &[u8]) -> Result<bool, Refusal> {
+        Ok(tree.remove(key)?.is_some())
+    }
+
+    fn first(tree: &Tree<RartTree>, low: Bound<&[u8]>, room: &mut Vec<u8>) -> Option<(usize, u64)> {
+        tree.first(low, room)
+    }
+
+    fn fill(
+        tree: &Tree<RartTree>,
+        within: (Bound<&[u8]>, Bound<&[u8]>),
+        asked: usize,
+        page: &mut Page<u64>,
+    ) -> bool {
+        if asked > 1 {
+            return tree.fill(within, asked, page);
+        }
+        page.fill_by_first(within, |low, room| tree.first(low, room))
+    }
+}
+
+impl Calls for Vec<u8> {
+    type Handle = RartBytes;
+    type Lent = [u8];
+    type Shown = Text;
+
+    fn shown(self) -> Text {
+        Text(self)
+    }
+
+    fn get(tree: &Tree<RartBytes>, key: &[u8]) -> Option<Vec<u8>> {
+        tree.get(key)
+    }
+
+    fn has(tree: &Tree<RartBytes>, key: &[u8]) -> bool {
+        tree.value_len(key).is_some()
+    }
+
+    fn longest_prefix(tree: &Tree<RartBytes>, probe: &[u8]) -> Option<(usize, Vec<u8>)> {
+        tree.longest_prefix(probe)
+    }
+
+    fn insert(
+        tree: &mut Tree<RartBytes>,
+        key: &[u8],
+        value: &[u8],
+    ) -> Result<Option<Vec<u8>>, Refusal> {
+        let was = tree.get(key);
+        tree.insert(key, value)?;
+        Ok(was)
+    }
+
+    fn set(tree: &mut Tree<RartBytes>, key: &[u8], value: &[u8]) -> Result<bool, Refusal> {
+        tree.insert(key, value)
+    }
+
+    fn remove(tree: &mut Tree<RartBytes>, key: &[u8]) -> Result<Option<Vec<u8>>, Refusal> {
+        let was = tree.get(key);
+        tree.remove(key)?;
+        Ok(was)
+    }
+
+    fn delete(tree: &mut Tree<RartBytes>, key: &[u8]) -> Result<bool, Refusal> {
+        tree.remove(key)
+    }
+
+    fn first(
+        tree: &Tree<RartBytes>,
+        low: Bound<&[u8]>,
+        room: &mut Vec<u8>,
+    ) -> Option<(usize, Vec<u8>)> {
+        tree.first(low, room)
+    }
+
+    // (its pages have one pair each: values have no greatest length)
+    fn fill(
+        tree: &Tree<RartBytes>,
+        within: (Bound<&[u8]>, Bound<&[u8]>),
+        _asked: usize,
+        page: &mut Page<Vec<u8>>,
+    ) -> bool {
+        page.fill_by_first(within, |low, room| tree.first(low, room))
+    }
+}
+
+/// A byte string that is shown as text with escapes.
+pub struct Text(pub Vec<u8>);
+
+impl Debug for Text {
+    fn fmt(&self, f: &mut std::fmt::Formatter<'_>) -> std::fmt::Result {
+        write!(f, "\"{}\"", self.0.escape_ascii())
+    }
+}

@@ -2,6 +2,7 @@
 import dataclasses
 import functools
 import os
+import pathlib
 import re
 import shutil
 import subprocess
@@ -54,27 +55,24 @@ def toolchain():
 def words_for(repository, built, crate):
     """The words by which the prover checks a crate over the libraries below it."""
     kit = toolchain()
-    found = ["--crate-name", crate.name, f"src/{'main' if crate.is_program else 'lib'}.rt"]
-    for it in ("std", *crate.of_toolchain):
-        found += ["--extern", f"{it}={kit}/rlibs/{it}.rlib"]
-    found += ["-L", f"dependency={kit}/rlibs"]
-    for it in crate.of_repository:
-        found += ["--extern", f"{it}={library(built, it)}"]
-    for it in repository.below(crate):
-        found += ["-L", f"dependency={os.path.dirname(library(built, it.name))}"]
+    listed = [f"{it}={kit}/rlibs/{it}.rlib" for it in ("std", *crate.of_toolchain)]
+    listed += [f"{it}={library(built, it)}" for it in crate.of_repository]
+    below = (os.path.dirname(library(built, it.name)) for it in repository.below(crate))
+    found = ["--crate-name", crate.name, f"src/{'main' if crate.has('src/main.rt') else 'lib'}.rt"]
+    found += [word for it in listed for word in ("--extern", it)]
+    found += [word for it in (f"{kit}/rlibs", *below) for word in ("-L", f"dependency={it}")]
     found += ["--antt-project", f"{kit}/rattle/logic/antt-project.json"]
-    if crate.is_static:
-        found += ["--crate-type", "staticlib"]
+    found += ["--crate-type", "staticlib"] if " staticlib:" in crate.line else []
     return [*found, "--logic-built", f"{kit}/logic_built", "--jobs", "1"]
 
 
-def run(words, folder):
+def run(words, folder, longest=LONGEST):
     """What a command says in a folder: its status, its lines, and the seconds of a processor that
     it took. It is ended where it takes too long."""
     with tempfile.TemporaryFile() as out:
         how = {"stdin": subprocess.DEVNULL, "stdout": out, "stderr": subprocess.STDOUT}
         ran = subprocess.Popen(words, cwd=folder, **how)
-        ends = threading.Timer(LONGEST, ran.kill)
+        ends = threading.Timer(longest, ran.kill)
         ends.start()
         _, status, used = os.wait4(ran.pid, 0)
         ends.cancel()
@@ -165,9 +163,9 @@ class Room(tempfile.TemporaryDirectory):
             self._write(file, text)
 
     def _write(self, file, text):
-        os.makedirs(os.path.dirname(f"{self.name}/{file}"), exist_ok=True)
-        with open(f"{self.name}/{file}", "w", encoding="utf-8") as it:
-            it.write(text)
+        path = pathlib.Path(self.name, file)
+        path.parent.mkdir(parents=True, exist_ok=True)
+        path.write_text(text, encoding="utf-8")
 
     def dig(self, functions):
         """Leaves one hole in place of the proofs of all these functions. What calls them is then
@@ -179,8 +177,7 @@ class Room(tempfile.TemporaryDirectory):
         for function in functions:
             path, short = function.replace("::", "/"), function.rpartition("::")[2]
             for file in ("Answers.antt", "Invariants.antt"):
-                if os.path.isfile(f"{self.name}/proofs/{path}/{file}"):
-                    os.remove(f"{self.name}/proofs/{path}/{file}")
+                pathlib.Path(self.name, "proofs", path, file).unlink(missing_ok=True)
             text = f"use {proofs}.Assumed.{{assumed}}\n"
             text += f"use {proofs}.{path.replace('/', '.')}.Statement.{{statement}}\n\n"
             text += f"pub {short}_spec : {{M : Type 1}} → statement M\n{short}_spec = assumed\n"

@@ -16,14 +16,6 @@ class Crate:
     of_repository: tuple
     of_toolchain: tuple
 
-    @property
-    def is_program(self):
-        return os.path.isfile(f"{self.folder}/src/main.rt")
-
-    @property
-    def is_static(self):
-        return "staticlib" in self.line.partition(":")[0].split()
-
     def has(self, file):
         return os.path.isfile(f"{self.folder}/{file}")
 

@@ -20,6 +20,8 @@ import re
 from .repository import PARTS
 
 HEAD = re.compile(r'( *)(pub(\([a-z:]+\))? )?(unsafe )?(extern "C" )?fn (\w+)')
+# A file, where it is another one, a text of it, and the text in its place.
+PAIR = re.compile(r"(?:([^-+\s]\S*)\n)?- (.*)\n\+(?: (.*))?(?:\n|$)")
 Spot = collections.namedtuple("Spot", "file start end new")
 
 
@@ -116,9 +118,9 @@ def _of_table(crate):
         return
     text = re.sub(r"(?m)^#.*\n", "", crate.text("edits.txt"))
     for block in re.split(r"\n\n+", text.strip("\n")):
-        head, *lines = block.split("\n")
+        head, _, pairs = block.partition("\n")
         name, _, function = head.partition(": ")
-        yield name, function.strip(), _pairs(lines, "", "- ", "+ ")
+        yield name, function.strip(), _pairs(pairs)
 
 
 def _of_folder(crate):
@@ -126,22 +128,17 @@ def _of_folder(crate):
     for file in sorted(os.listdir(folder)) if os.path.isdir(folder) else ():
         text = crate.text(f"must-fail/{file}")
         function = re.search(r"(?m)^# refused at: (.*)$", text)
-        lines = [it for it in text.split("\n") if it and not it.startswith("#")]
-        pairs = _pairs(lines, "file: ", "old: ", "new: ")
-        yield file.removesuffix(".edit"), function[1] if function else "", pairs
+        for words, ours in (("#.*\n", ""), ("file: ", ""), ("old: ", "- "), ("new:", "+")):
+            text = re.sub(f"(?m)^{words}", ours, text)
+        yield file.removesuffix(".edit"), function[1] if function else "", _pairs(text.strip("\n"))
 
 
-def _pairs(lines, of_file, of_old, of_new):
+def _pairs(text):
     """The files and texts of an edit; none where its lines are not as they should be."""
-    found, file, old, is_named = [], "", None, False
-    for line in lines:
-        if line.startswith(of_old) and old is None:
-            old, is_named = line.removeprefix(of_old), False
-        elif line.startswith(of_new.rstrip()) and old is not None:
-            found.append((file, old, line.removeprefix(of_new.rstrip()).removeprefix(" ")))
-            old = None
-        elif line.startswith(of_file) and old is None and not is_named:
-            file, is_named = line.removeprefix(of_file).strip(), True
-        else:
+    found, file, end = [], "", 0
+    for it in PAIR.finditer(text):
+        if it.start() != end:
             return []
-    return [] if old is not None or is_named else found
+        end, file = it.end(), it[1] or file
+        found.append((file, it[2], it[3] or ""))
+    return found if end == len(text) else []

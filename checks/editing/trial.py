@@ -20,14 +20,15 @@ import time
 import traceback
 
 from .prover import (
-    NAMES, NOTED, PLACE, Room, is_unread, is_well, own_pages, own_reason, run, toolchain, words_for,
+    NAMES, NOTED, PLACE, Room, functions_of, is_unread, is_well, own_pages, own_reason, run,
+    toolchain, words_for,
 )  # fmt: skip
 from .tables import edits_of, function_around
 
 BEGAN = time.monotonic()
 PRINTING = threading.Lock()
-# The most edits that go into one check: with more of them one processor is at it for too long.
-MOST = 32
+# The most edits that one processor tries in turn, and as how many of them one that goes alone counts.
+MOST, ALONE = 40, 3
 # The end of an edit's trial, and what shows it.
 Result = collections.namedtuple("Result", "label outcome why")
 
@@ -51,18 +52,22 @@ class Edits:
     """The trials of the edits of crates, and what came of each."""
 
     def __init__(self):
-        self.results, self.known, self.taken = [], [], []
+        self.results, self.known = [], []
+        # The seconds of a processor that the edits of each crate took.
+        self.seconds = collections.Counter()
 
     def trials(self, repository, built, name, functions):
         """Calls that try the edits of a crate that was proved as it stands, over the libraries
         below it, and that may go side by side."""
-        crate, groups = repository.crates[name], [[]]
+        crate, groups, room = repository.crates[name], [], 0
         edits = self._edits_of(crate)
         functions = functions or sorted({it.function for it in edits})
         for batch in batches_of(edits):
-            if groups[-1] and sum(map(len, groups[-1])) + len(batch) > MOST:
-                groups.append([])
+            wanted = len(batch) if batch[0].bodies else ALONE
+            if room < wanted:
+                groups, room = [*groups, []], MOST
             groups[-1].append(batch)
+            room -= wanted
         made = (CrateTrial(repository, built, crate, functions) for _ in groups)
         return [functools.partial(self._try, *it) for it in zip(made, groups)]
 
@@ -74,11 +79,20 @@ class Edits:
         except Exception:  # (one trial that breaks off ends no other)
             traceback.print_exc()
         trial.forget()
-        self.taken.append((trial.crate.name, trial.seconds))
+        self.seconds[trial.crate.name] += trial.seconds
 
-    def seconds(self, name=None):
-        """The seconds of a processor that the edits took, or those of a crate."""
-        return sum(seconds for crate, seconds in self.taken if name in (None, crate))
+    def try_all(self, repository, name):
+        """Tries the edits of a crate, one after another, over the libraries in `out/`: it is checked
+        as it stands first, which proves what is not proved yet of it and of those below it."""
+        crate = repository.crates[name]
+        said = run(["rt", "check", "--jobs", "1"], crate.folder, longest=None)
+        if said.status:
+            print("\n".join(said.lines))
+            return self.leave_out(crate)
+        say(f"{name} is proved")
+        functions = functions_of("\n".join(said.lines), name)
+        for trial in self.trials(repository, repository.root, name, functions):
+            trial()
 
     def leave_out(self, crate):
         """Tells of the edits of a crate that is not proved as it stands."""
@@ -176,8 +190,8 @@ class CrateTrial:
     def _controls(self, batch):
         """Functions that no edit of the batch names: the first that was checked, which calls
         nothing, and the last, which nothing calls."""
-        functions = {it.function for it in batch}
-        found = [it for it in self.functions if self._may_be_control(it, functions)]
+        named = {it.function for it in batch}
+        found = [it for it in self.functions if it not in named and self._may_be_control(it)]
         return {*found[:1], *found[-1:]}
 
     def _check(self, batch, texts, controls):
@@ -193,9 +207,8 @@ class CrateTrial:
         self.seconds += said.seconds
         return said
 
-    def _may_be_control(self, name, functions):
-        is_plain = self._has_proof(name) and "+" not in name and not self._is_by_hand(name)
-        return is_plain and name not in functions
+    def _may_be_control(self, name):
+        return self._has_proof(name) and "+" not in name and not self._is_by_hand(name)
 
     def _has_proof(self, name):
         """Whether a file can stand in for the proof of a function: not of a closure, which is

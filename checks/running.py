@@ -13,8 +13,10 @@ from editing.trial import BEGAN, say
 
 
 class Build:
-    """A run of `rt ci` in a copy of the crates without edits. `repository` is a copy with them: of
-    the crates what is tried is what stood there when it began."""
+    """A run of `rt ci` in a copy of the crates without edits, which takes nothing from earlier runs
+    on this machine, where the toolchain can be told so: of a crate that it keeps it tells no
+    functions, and an edit needs another one beside it. `repository` is a copy with them: of the
+    crates what is tried is what stood there when it began."""
 
     def __init__(self, root, room, names=()):
         self.folder, self.log = f"{room}/copy", f"{room}/log"
@@ -24,9 +26,10 @@ class Build:
         copy_crates(self.repository, self.folder, leave=("must-fail", "edits.txt"))
 
     def __enter__(self):
+        anew = ["--anew"] if any("--anew" in it for it in run(["rt", "help"], self.folder).lines) else []
         with open(self.log, "wb") as log:
             how = {"cwd": self.folder, "stdin": subprocess.DEVNULL, "stdout": log, "stderr": log}
-            self.process = subprocess.Popen(["rt", "ci"], **how)
+            self.process = subprocess.Popen(["rt", "ci", *anew], **how)
         self.waiter = threading.Thread(target=self._wait)
         self.waiter.start()
         return self

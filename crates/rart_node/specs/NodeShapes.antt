@@ -1,5 +1,5 @@
--- How a node is seen by what it holds. Among the specs only this file, Contents and Lent know what
--- a node keeps its children in.
+-- How a node is seen by what it holds. Among the specs only this file, Contents, Depths and Lent
+-- know what a node keeps its children in.
 use Rattle.std.specs.Prelude.{◌≡◌, ℕ, suc, max, List, [], ◌∷◌, Option, None, Some, Bool, cond}
 use Rattle.std.specs.Borrow.{Bor}
 use Rattle.rart_node.specs.Shape.{Shape, node_of, bare, node}

@@ -1,5 +1,5 @@
 //! The index: one versioned tree, whose keys are those of the tuples.
-ghost use Rattle.std.specs.Prelude.{◌≡◌, ◌+◌, ◌≤◌, ◌++◌, ◌∷◌, [], length, filter, map, IsOk, IfOk, OnOk, OnErr, if◌then◌else◌};
+ghost use Rattle.std.specs.Prelude.{◌≡◌, ◌+◌, ◌≤◌, ◌++◌, ◌∷◌, [], length, filter, map, IsOk, IfOk, IsTrue, OnOk, OnErr, if◌then◌else◌};
 ghost use Rattle.rart_maps.specs.Pairs.{common, under};
 ghost use Rattle.tuple_index.specs.Decoding.{tuple_at};
 ghost use Rattle.tuple_index.specs.Tuples.{HasRoom, has_columns, has_tuple, key_of, listed, no_tuple, with_tuple, without_tuple};
@@ -78,7 +78,8 @@ impl TupleIndex {
     }
 
     /// Takes a tuple out, and answers whether it was there: the number is then one greater. Where
-    /// it wasn't, set and number stay. Refused for memory, they are as before.
+    /// it wasn't, set and number stay, and no memory is taken. Refused for memory, they are as
+    /// before.
     pub fn take(&mut self, tuple: Tuple) -> Result<bool, AllocError>
         requires room { HasRoom self.old 1 }
         ensures answer { IfOk result (λ there. there ≡ has_tuple self.old.tuples tuple) }
@@ -86,14 +87,16 @@ impl TupleIndex {
         ensures number { IfOk result (λ there. self.new.number
             ≡ (if there then self.old.number + 1 else self.old.number)) }
         ensures refused { OnErr result (self.new ≡ self.old) }
+        ensures present { OnErr result (IsTrue (has_tuple self.old.tuples tuple)) }
     {
         let key = key_with(self.alloc, &tuple.key())?;
         self.tree.delete(key)
     }
 
-    /// Whether a tuple is in the set, unless memory is refused.
+    /// Whether a tuple is in the set. No memory is taken, so the answer is always `Ok`.
     pub fn has(&self, tuple: Tuple) -> Result<bool, AllocError>
-        ensures { IfOk result (λ there. there ≡ has_tuple self.now.tuples tuple) }
+        ensures answered { IsOk result }
+        ensures there { IfOk result (λ there. there ≡ has_tuple self.now.tuples tuple) }
     {
         let key = key_with(self.alloc, &tuple.key())?;
         Ok(self.tree.get(key).is_some())
@@ -122,7 +125,8 @@ impl TupleIndex {
 
 fn key_with(alloc: Global, bytes: &[u8]) -> Result<ArrayKey<16>, AllocError>
     requires { length bytes.now ≤ 16 }
-    ensures { IfOk result (λ key. key.bytes.items ≡ bytes.now) }
+    ensures made { IsOk result }
+    ensures bytes { IfOk result (λ key. key.bytes.items ≡ bytes.now) }
 {
     ArrayKey::new_from_slice(alloc, bytes)
 }

@@ -47,7 +47,7 @@ impl<K: KeyTrait, V: Clone + Drop> VersionedAdaptiveRadixTree<K, V> {
         self.value_mut_k(&key)
     }
 
-    /// As `value_mut_k`, as rart has it: an absent key is no failure, and the answer is `None` then.
+    /// As `value_mut_k`, as rart has it: an absent key is no failure, and is answered by `None`.
     pub fn get_mut_k(&mut self, key: &K) -> Result<Option<&mut V>, AllocError>
         requires clones { ClonesEqual V.is_clone }
         requires room { HasRoom self.old 1 }

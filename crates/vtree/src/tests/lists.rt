@@ -32,8 +32,8 @@ fn listed(alloc: Global, shows_keys: bool, values: usize) -> Result<String, Allo
     Ok(list)
 }
 
-/// Each line that lists all of them: the word of its reply, whether it has keys, and how many values
-/// of each.
+/// Each line that lists all of them: the word of its reply, whether it has keys, and how many
+/// values of each.
 const LISTS: [(&str, &str, bool, usize); 15] = [
     ("iter 0\n", "entries", true, 1),
     ("values 0\n", "values", false, 1),

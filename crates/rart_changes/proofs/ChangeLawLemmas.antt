@@ -10,8 +10,9 @@ use Rattle.rart_maps.specs.Versions.{Map}
 use Rattle.rart_maps.proofs.ElementLemmas.{Contains-filter_map}
 use Rattle.rart_maps.proofs.FoundLemmas.{ascending_lists_are_fixed}
 use Rattle.rart_maps.proofs.OrderLemmas.{byte_order-IsAntisymmetric}
-use Rattle.rart_changes.specs.ChangeLists.{Change, reversed, patched, differ, changes}
-use Rattle.rart_changes.specs.ChangeLaws.{Decides, IsReflexive, IsSymmetric, ChangesAscend, ChangesAreFound, NothingChanges, NoChangeIsTheSame, ChangesReverse, PatchesSetWhatChanged, PatchesGiveTheNew}
+use Rattle.std.proofs.lemmas.List.Sums.{count_by-le-length}
+use Rattle.rart_changes.specs.ChangeLists.{Change, reversed, patched, takes_effect, differ, changes}
+use Rattle.rart_changes.specs.ChangeLaws.{Decides, IsReflexive, IsSymmetric, ChangesAscend, ChangesAreFound, NothingChanges, NoChangeIsTheSame, ChangesReverse, PatchesSetWhatChanged, PatchesGiveTheNew, PatchesLeaveNoChange, PatchesAreUndone, EffectsAreFew}
 use Rattle.rart_changes.proofs.ChangeLemmas.{KeysAscend-kept, filter_map-all, nothing-in, patched-elsewhere, patched-there, changes-ascend, changes-from, changes-to}
 
 not-false : (b : Bool) → not b ≡ false → b ≡ true
@@ -23,11 +24,22 @@ module _ {V : Type 0} (same : V → V → Bool) where
   differ-itself reflexive None = refl
   differ-itself reflexive (Some x) = ap not (reflexive x)
 
-  differ-reversed : IsSymmetric same → (x y : Option V) → differ same y x ≡ differ same x y
+  pub differ-reversed : IsSymmetric same → (x y : Option V) → differ same y x ≡ differ same x y
   differ-reversed symmetric None None = refl
   differ-reversed symmetric None (Some y) = refl
   differ-reversed symmetric (Some x) None = refl
   differ-reversed symmetric (Some x) (Some y) = ap not (symmetric y x)
+
+  pub symmetric-if-decided : Decides same → IsSymmetric same
+  symmetric-if-decided decides x y =
+      elim (same x y) as (λ s. same x y ≡ s → s ≡ same y x) [
+        | true ↦ λ is. sym ((decides y x).1 (sym ((decides x y).0 is)))
+        | false ↦ λ is. elim (same y x) as (λ t. same y x ≡ t → false ≡ t) [
+          | true ↦ λ back. absurd (false≢true (sym is
+              ∙ (decides x y).1 (sym ((decides y x).0 back))))
+          | false ↦ λ _. refl
+        ] refl
+      ] refl
 
   -- What does not differ is the same.
   pub alike : Decides same → (x y : Option V) → differ same x y ≡ false → x ≡ y
@@ -116,3 +128,28 @@ module _ {V : Type 0} (same : V → V → Bool) where
   pub no_change_is_the_same : NoChangeIsTheSame same
   no_change_is_the_same decides old new none =
       ap (patched old) (sym none) ∙ patches_give_the_new decides old new
+
+  pub patches_leave_no_change : PatchesLeaveNoChange same
+  patches_leave_no_change reflexive old new =
+      nothing-in (changes same (patched old (changes same old new)) new) (λ c there.
+      let found = changes-from same (patched old (changes same old new)) new c there in
+      let x = finite.get old c.0 in let y = finite.get new c.0 in
+      elim (differ same x y) as (λ d. differ same x y ≡ d → ⊥) [
+        | true ↦ λ is. false≢true (sym (differ-itself reflexive y)
+            ∙ (λ i. differ same ((sym (patched-by_key old new old c.0 true is) ∙ found.0) i)
+            (found.1 i))
+            ∙ found.2)
+        | false ↦ λ is. false≢true (sym is
+            ∙ (λ i. differ same ((sym (patched-by_key old new old c.0 false is) ∙ found.0) i)
+            (found.1 i))
+            ∙ found.2)
+      ] refl)
+
+  pub patches_are_undone : PatchesAreUndone same
+  patches_are_undone decides old new =
+      (λ i. patched (patches_give_the_new decides old new i)
+      (sym (changes_reverse (symmetric-if-decided decides) old new) i))
+      ∙ patches_give_the_new decides new old
+
+pub effects_are_few : (V : Type 0) → EffectsAreFew V
+effects_are_few V m some = count_by-le-length (takes_effect m) some

@@ -10,12 +10,13 @@ use Rattle.rart_maps.specs.FoundLaws.{KeysAscend}
 use Rattle.rart_maps.specs.Versions.{Map}
 use Rattle.rart_maps.proofs.ElementLemmas.{Contains-nil, Contains-filter_map}
 use Rattle.rart_maps.proofs.OrderLemmas.{byte_order-IsAntisymmetric}
-use Rattle.rart_changes.specs.ChangeLaws.{Decides}
+use Rattle.rart_maps.proofs.FoundLemmas.{ascending_lists_are_fixed}
+use Rattle.rart_changes.specs.ChangeLaws.{Decides, IsReflexive, IsSymmetric}
 use Rattle.rart_changes.specs.ChangeLists.{Change, patched, differ, changes}
-use Rattle.rart_changes.specs.Merges.{Conflict, Answers, answered, in_conflict, conflict_of, conflicts}
-use Rattle.rart_changes.specs.MergeLaws.{ConflictsAscend, ConflictsAreFound, MergesAreByKey, SidesAgree}
+use Rattle.rart_changes.specs.Merges.{Conflict, Answers, exchanged, answered, in_conflict, conflict_of, conflicts, merged}
+use Rattle.rart_changes.specs.MergeLaws.{ConflictsAscend, ConflictsAreFound, MergesAreByKey, SidesAgree, ConflictsExchange, MergesExchange, BaseGivesWay, merged_at}
 use Rattle.rart_changes.proofs.ChangeLemmas.{KeysAscend-kept, filter_map-all, patched-elsewhere, patched-there, changes-ascend, changes-from, changes-to}
-use Rattle.rart_changes.proofs.ChangeLawLemmas.{alike, patched-by_key}
+use Rattle.rart_changes.proofs.ChangeLawLemmas.{alike, differ-itself, differ-reversed, patched-by_key, symmetric-if-decided}
 
 module _ {V : Type 0} (same : V → V → Bool) where
   conflict_of-is : (c : Change V) (theirs : Option V) (conflict : Conflict V)
@@ -185,3 +186,112 @@ module _ {V : Type 0} (same : V → V → Bool) where
       (differ same (finite.get base q) (finite.get theirs q)) refl refl
       ∙ sym (patched-by_key same base ours theirs q
       (differ same (finite.get base q) (finite.get ours q)) refl))
+
+  -- ---- the sides exchanged
+
+  and-exchanged : (p q r s : Bool) → s ≡ r → (q && (p && s)) ≡ (p && (q && r))
+  and-exchanged true true r s is = is
+  and-exchanged true false r s is = refl
+  and-exchanged false true r s is = refl
+  and-exchanged false false r s is = refl
+
+  in_conflict-exchanged : IsSymmetric same → (b x y : Option V)
+      → in_conflict same b y x ≡ in_conflict same b x y
+  in_conflict-exchanged symmetric b x y =
+      and-exchanged (differ same b x) (differ same b y) (differ same x y) (differ same y x)
+      (differ-reversed same symmetric x y)
+
+  -- A conflict stands among those of the other side, exchanged.
+  exchanged-there : IsSymmetric same → (base ours theirs : Map V) (c : Conflict V)
+      → Contains (conflicts same base ours theirs) c
+      → Contains (conflicts same base theirs ours) (exchanged c)
+  exchanged-there symmetric base ours theirs c there =
+      let found = conflicts-from base ours theirs c there in
+      conflicts-to base theirs ours c.0 c.1 c.3 c.2
+      (found.0, found.2, found.1, in_conflict-exchanged symmetric c.1 c.2 c.3 ∙ found.3)
+
+  pub conflicts_exchange : ConflictsExchange same
+  conflicts_exchange symmetric base ours theirs =
+      ascending_lists_are_fixed (Conflict V) (λ c. c.0) (conflicts same base theirs ours)
+      (filter_map (λ c. Some (exchanged c)) (conflicts same base ours theirs))
+      (conflicts-ascend base theirs ours)
+      (KeysAscend-kept (λ (c : Conflict V). c.0) (λ (c : Conflict V). c.0)
+      (λ c. Some (exchanged c)) (λ c d is. sym (ap (λ o. (unwrap_or o d).0) is))
+      (conflicts same base ours theirs) (conflicts-ascend base ours theirs))
+      (λ c. (
+        λ there. (Contains-filter_map (λ d. Some (exchanged d)) (conflicts same base ours theirs)
+            c).1 (exchanged c, exchanged-there symmetric base theirs ours c there, refl),
+        λ there.
+            let found = (Contains-filter_map (λ d. Some (exchanged d))
+            (conflicts same base ours theirs) c).0 there in
+            subst (Contains (conflicts same base theirs ours)) (ap (λ o. unwrap_or o c) found.2)
+            (exchanged-there symmetric base ours theirs found.0 found.1),
+      ))
+      ∙ filter_map-all exchanged (conflicts same base ours theirs)
+
+  module _ (decides : Decides same) (b x y : Option V) where
+    -- Where there is no conflict both sides have the same.
+    settled : (left right apart : Bool) → differ same b x ≡ left → differ same b y ≡ right
+        → differ same x y ≡ apart → (left && (right && apart)) ≡ false
+        → cond left x y ≡ cond right y x
+    settled true true true a b c none = absurd (false≢true (sym none))
+    settled true true false a b c none = alike same decides x y c
+    settled true false apart a b c none = refl
+    settled false true apart a b c none = refl
+    settled false false apart a b c none =
+        sym (alike same decides _ y b) ∙ alike same decides _ x a
+
+    exchanged-at : (answers : Answers V) (q : List ℕ) → merged_at same answers q b y x
+        ≡ merged_at same (λ key b x y. answers key b y x) q b x y
+    exchanged-at answers q =
+        ap (λ t. cond t (answers q b y x) (cond (differ same b x) x y))
+        (in_conflict-exchanged (symmetric-if-decided same decides) b x y)
+        ∙ elim (in_conflict same b x y) as (λ t. in_conflict same b x y ≡ t
+        → cond t (answers q b y x) (cond (differ same b x) x y)
+        ≡ cond t (answers q b y x) (cond (differ same b y) y x)) [
+          | true ↦ λ _. refl
+          | false ↦ λ none. settled (differ same b x) (differ same b y) (differ same x y)
+              refl refl refl none
+        ] refl
+
+  pub merges_exchange : MergesExchange same
+  merges_exchange decides answers base ours theirs =
+      finite.same_map nat_list_cmp_total byte_order-IsAntisymmetric _ _ (λ q.
+      merges_are_by_key answers base theirs ours q
+      ∙ exchanged-at decides (finite.get base q) (finite.get ours q) (finite.get theirs q)
+      answers q
+      ∙ sym (merges_are_by_key (λ key b x y. answers key b y x) base ours theirs q))
+
+  -- ---- one side as the base has it
+
+  module _ (decides : Decides same) (answers : Answers V) (q : List ℕ) (b x : Option V) where
+    no-change : differ same b b ≡ false
+    no-change = differ-itself same (λ value. (decides value value).1 refl) b
+
+    theirs-at : merged_at same answers q b b x ≡ x
+    theirs-at =
+        ap (λ t. cond (t && (differ same b x && differ same b x)) (answers q b b x)
+        (cond (differ same b x) x b)) no-change
+        ∙ elim (differ same b x) as (λ d. differ same b x ≡ d → cond d x b ≡ x) [
+          | true ↦ λ _. refl
+          | false ↦ λ is. alike same decides b x is
+        ] refl
+
+    ours-at : merged_at same answers q b x b ≡ x
+    ours-at =
+        ap (λ t. cond (differ same b x && (t && differ same x b)) (answers q b x b)
+        (cond t b x)) no-change
+        ∙ elim (differ same b x) as (λ d. cond (d && false) (answers q b x b) x ≡ x) [
+          | true ↦ refl
+          | false ↦ refl
+        ]
+
+  pub base_gives_way : BaseGivesWay same
+  base_gives_way decides answers base side = (
+    finite.same_map nat_list_cmp_total byte_order-IsAntisymmetric _ _ (λ q.
+        merges_are_by_key answers base base side q
+        ∙ theirs-at decides answers q (finite.get base q) (finite.get side q)),
+    finite.same_map nat_list_cmp_total byte_order-IsAntisymmetric _ _ (λ q.
+        merges_are_by_key answers base side base q
+        ∙ ours-at decides answers q (finite.get base q) (finite.get side q)),
+  )

@@ -1,10 +1,10 @@
 -- The worked values of changes and conflicts, by computation.
 use Rattle.std.proofs.Common.{refl, ap, ◌∙◌}
-use Rattle.std.specs.Prelude.{codes}
+use Rattle.std.specs.Prelude.{codes, map}
 use Rattle.std.specs.FinMap as finite
 use Rattle.rart_maps.proofs.MapLemmas.{maps}
-use Rattle.rart_changes.specs.ChangeLists.{effects, patched}
-use Rattle.rart_changes.specs.WorkedChanges.{after, other, ChangesOfFour, PatchOfAnother, EffectsOnTwo, ConflictOfOne}
+use Rattle.rart_changes.specs.ChangeLists.{effects, patched, reversed}
+use Rattle.rart_changes.specs.WorkedChanges.{after, other, ChangesOfFour, PatchOfAnother, EffectsOnTwo, ConflictOfOne, ConflictOfTheOther, UndoneFromAfter}
 
 pub changes_of_four : ChangesOfFour
 changes_of_four = simp maps refl
@@ -29,3 +29,18 @@ effects_on_two = (
 
 pub conflict_of_one : ConflictOfOne
 conflict_of_one = simp maps refl
+
+pub conflict_of_the_other : ConflictOfTheOther
+conflict_of_the_other = simp maps refl
+
+pub undone_from_after : UndoneFromAfter
+undone_from_after = (
+  ap (λ cs. finite.get (patched after (map reversed cs)) (codes "a")) changes_of_four
+      ∙ simp (maps, finite.get-remove) refl,
+  ap (λ cs. finite.get (patched after (map reversed cs)) (codes "b")) changes_of_four
+      ∙ simp (maps, finite.get-remove) refl,
+  ap (λ cs. finite.get (patched after (map reversed cs)) (codes "bc")) changes_of_four
+      ∙ simp (maps, finite.get-remove) refl,
+  ap (λ cs. finite.get (patched after (map reversed cs)) (codes "c")) changes_of_four
+      ∙ simp (maps, finite.get-remove) refl,
+)

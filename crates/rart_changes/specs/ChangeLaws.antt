@@ -1,9 +1,9 @@
 -- Laws that show what changes are, and what they make of a map.
-use Rattle.std.specs.Prelude.{◌≡◌, ◌↔◌, ℕ, List, [], Option, Bool, Contains, IsTrue, map, if◌then◌else◌}
+use Rattle.std.specs.Prelude.{◌≡◌, ◌≤◌, ◌↔◌, ℕ, List, [], Option, Bool, Contains, IsTrue, length, map, if◌then◌else◌}
 use Rattle.std.specs.FinMap as finite
 use Rattle.rart_maps.specs.FoundLaws.{KeysAscend}
 use Rattle.rart_maps.specs.Versions.{Map}
-use Rattle.rart_changes.specs.ChangeLists.{reversed, patched, differ, changes}
+use Rattle.rart_changes.specs.ChangeLists.{Change, reversed, patched, effects, differ, changes}
 
 module _ {V : Type 0} (same : V → V → Bool) where
   -- What `same` says is so, or at least of each value and itself, and either way round.
@@ -50,3 +50,17 @@ module _ {V : Type 0} (same : V → V → Bool) where
   -- Made on the old map, they give the new one.
   abbrev pub PatchesGiveTheNew : Type 0
   PatchesGiveTheNew = Decides → (old new : Map V) → patched old (changes same old new) ≡ new
+
+  -- Between the old map with them made, and the new one, nothing changes.
+  abbrev pub PatchesLeaveNoChange : Type 0
+  PatchesLeaveNoChange = IsReflexive → (old new : Map V) →
+      changes same (patched old (changes same old new)) new ≡ []
+
+  -- Reversed, they undo what they made of the old map.
+  abbrev pub PatchesAreUndone : Type 0
+  PatchesAreUndone = Decides → (old new : Map V) →
+      patched (patched old (changes same old new)) (map reversed (changes same old new)) ≡ old
+
+-- Of some changes at most all take effect.
+abbrev pub EffectsAreFew : Type 0 → Type 0
+EffectsAreFew V = (m : Map V) (some : List (Change V)) → effects m some ≤ length some

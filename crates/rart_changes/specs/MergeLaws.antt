@@ -1,11 +1,11 @@
 -- Laws that show what conflicts are, and what a merge has at each key.
-use Rattle.std.specs.Prelude.{◌≡◌, ◌↔◌, ℕ, List, [], Option, Bool, Contains, IsTrue, if◌then◌else◌}
+use Rattle.std.specs.Prelude.{◌≡◌, ◌↔◌, ℕ, List, [], Option, Bool, Contains, IsTrue, map, if◌then◌else◌}
 use Rattle.std.specs.FinMap as finite
 use Rattle.rart_maps.specs.FoundLaws.{KeysAscend}
 use Rattle.rart_maps.specs.Versions.{Map}
-use Rattle.rart_changes.specs.ChangeLaws.{Decides}
+use Rattle.rart_changes.specs.ChangeLaws.{Decides, IsSymmetric}
 use Rattle.rart_changes.specs.ChangeLists.{patched, differ, changes}
-use Rattle.rart_changes.specs.Merges.{Answers, in_conflict, conflicts, merged}
+use Rattle.rart_changes.specs.Merges.{Answers, exchanged, in_conflict, conflicts, merged}
 
 module _ {V : Type 0} (same : V → V → Bool) where
   -- The keys ascend strictly.
@@ -36,3 +36,19 @@ module _ {V : Type 0} (same : V → V → Bool) where
   abbrev pub SidesAgree : Type 0
   SidesAgree = Decides same → (base ours theirs : Map V) → conflicts same base ours theirs ≡ []
       → patched ours (changes same base theirs) ≡ patched theirs (changes same base ours)
+
+  -- Both sides see the same conflicts, each from its side.
+  abbrev pub ConflictsExchange : Type 0
+  ConflictsExchange = IsSymmetric same → (base ours theirs : Map V) →
+      conflicts same base theirs ours ≡ map exchanged (conflicts same base ours theirs)
+
+  -- Where both give a conflict the same answer they get the same merge.
+  abbrev pub MergesExchange : Type 0
+  MergesExchange = Decides same → (answers : Answers V) (base ours theirs : Map V) →
+      merged same answers base theirs ours
+      ≡ merged same (λ key b x y. answers key b y x) base ours theirs
+
+  -- Where one side changed nothing the merge is the other side.
+  abbrev pub BaseGivesWay : Type 0
+  BaseGivesWay = Decides same → (answers : Answers V) (base side : Map V) →
+      (merged same answers base base side ≡ side) × (merged same answers base side base ≡ side)

@@ -15,6 +15,10 @@ abbrev pub Answers : Type 0 → Type 0
 Answers V = List ℕ → Option V → Option V → Option V → Option V
 
 module _ {V : Type 0} where
+  -- the conflict as the other side sees it
+  abbrev pub exchanged : Conflict V → Conflict V
+  exchanged conflict = (conflict.0, conflict.1, conflict.3, conflict.2)
+
   -- the change of our side that gives a key in conflict its answer
   abbrev pub answered : Answers V → Conflict V → Change V
   answered answers conflict =

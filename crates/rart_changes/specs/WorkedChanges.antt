@@ -1,8 +1,8 @@
 -- Worked values of changes and conflicts, found by hand.
-use Rattle.std.specs.Prelude.{◌≡◌, ◌==◌, ℕ, [], ◌∷◌, Some, None, codes}
+use Rattle.std.specs.Prelude.{◌≡◌, ◌==◌, ℕ, [], ◌∷◌, Some, None, codes, map}
 use Rattle.std.specs.FinMap as finite
 use Rattle.rart_maps.specs.Versions.{Map}
-use Rattle.rart_changes.specs.ChangeLists.{changes, effects, patched}
+use Rattle.rart_changes.specs.ChangeLists.{changes, effects, patched, reversed}
 use Rattle.rart_changes.specs.Merges.{conflicts}
 
 abbrev pub before : Map ℕ
@@ -36,3 +36,16 @@ EffectsOnTwo = (effects other (changes (λ x y. x == y) before after) ≡ 3)
 abbrev pub ConflictOfOne : Type 0
 ConflictOfOne = conflicts (λ x y. x == y) before after other
     ≡ (codes "bc", Some 3, Some 4, Some 7) ∷ []
+
+-- From the other side it has theirs first.
+abbrev pub ConflictOfTheOther : Type 0
+ConflictOfTheOther = conflicts (λ x y. x == y) before other after
+    ≡ (codes "bc", Some 3, Some 7, Some 4) ∷ []
+
+-- Reversed, the changes bring "a" back, the old value of "bc", and take "c" out.
+abbrev pub undone : Map ℕ
+undone = patched after (map reversed (changes (λ x y. x == y) before after))
+
+abbrev pub UndoneFromAfter : Type 0
+UndoneFromAfter = (finite.get undone (codes "a") ≡ Some 1) × (finite.get undone (codes "b") ≡ Some 2)
+    × (finite.get undone (codes "bc") ≡ Some 3) × (finite.get undone (codes "c") ≡ None)

@@ -2,6 +2,7 @@
 ghost use Rattle.rart_changes.specs.ChangeLaws.{ChangesAscend, ChangesAreFound, NothingChanges};
 ghost use Rattle.rart_changes.specs.ChangeLaws.{ChangesReverse, NoChangeIsTheSame};
 ghost use Rattle.rart_changes.specs.ChangeLaws.{PatchesSetWhatChanged, PatchesGiveTheNew};
+ghost use Rattle.rart_changes.specs.ChangeLaws.{PatchesLeaveNoChange, PatchesAreUndone, EffectsAreFew};
 
 /// The changes ascend strictly by key, and a change stands among them exactly where it should. So
 /// no other list is theirs.
@@ -23,4 +24,16 @@ pub fn changes_reverse<V: Eq>()
 pub fn patches_set_what_changed<V: Eq>()
     ensures any { PatchesSetWhatChanged V.eq }
     ensures old { PatchesGiveTheNew V.eq }
+{}
+
+/// Made on the old map, they leave nothing that differs from the new one; reversed, they undo what
+/// they made.
+pub fn patches_are_undone<V: Eq>()
+    ensures none_left { PatchesLeaveNoChange V.eq }
+    ensures undone { PatchesAreUndone V.eq }
+{}
+
+/// At most as many changes take effect as there are.
+pub fn effects_are_few<V>()
+    ensures { EffectsAreFew V }
 {}

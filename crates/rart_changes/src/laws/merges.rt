@@ -1,6 +1,7 @@
 //! Where two sides that began with one map are in conflict, and what a merge of them is.
 ghost use Rattle.rart_changes.specs.MergeLaws.{ConflictsAscend, ConflictsAreFound};
 ghost use Rattle.rart_changes.specs.MergeLaws.{MergesAreByKey, SidesAgree};
+ghost use Rattle.rart_changes.specs.MergeLaws.{ConflictsExchange, MergesExchange, BaseGivesWay};
 
 /// The conflicts ascend strictly by key, and stand exactly where both sides changed a key, and not
 /// to the same.
@@ -14,4 +15,12 @@ pub fn conflicts_are_found<V: Eq>()
 pub fn merges_are_by_key<V: Eq>()
     ensures by_key { MergesAreByKey V.eq }
     ensures agree { SidesAgree V.eq }
+{}
+
+/// Both sides see the same conflicts, and get the same merge where they answer them alike. Where
+/// one side changed nothing it is the other side.
+pub fn merges_exchange<V: Eq>()
+    ensures conflicts { ConflictsExchange V.eq }
+    ensures merges { MergesExchange V.eq }
+    ensures base { BaseGivesWay V.eq }
 {}

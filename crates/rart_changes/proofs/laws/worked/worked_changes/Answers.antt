@@ -1,5 +1,5 @@
 use Rattle.rart_changes.proofs.laws.worked.worked_changes.Goals as goal
-use Rattle.rart_changes.proofs.WorkedChangeLemmas.{changes_of_four, patch_of_another, effects_on_two, conflict_of_one}
+use Rattle.rart_changes.proofs.WorkedChangeLemmas.{changes_of_four, patch_of_another, effects_on_two, conflict_of_one, conflict_of_the_other, undone_from_after}
 
 pub returns-clause-changes : goal.returns-clause-changes
 returns-clause-changes c = changes_of_four
@@ -12,3 +12,9 @@ returns-clause-effects c = effects_on_two
 
 pub returns-clause-conflicts : goal.returns-clause-conflicts
 returns-clause-conflicts c = conflict_of_one
+
+pub returns-clause-other_side : goal.returns-clause-other_side
+returns-clause-other_side c = conflict_of_the_other
+
+pub returns-clause-undone : goal.returns-clause-undone
+returns-clause-undone c = undone_from_after

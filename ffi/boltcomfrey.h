@@ -87,8 +87,8 @@ enum {
 //   old place all zeros;
 // - no pointer is null, also of no bytes, and no two of one call overlap: two trees of it are two,
 //   and no key that is handed in lies in the room that the call writes to;
-// - trees that come from one tree, also through others, stay on one thread, as a call that reads
-//   uses its tree as a change does; trees that have nothing to do with each other may be on two;
+// - trees that come from one tree, also through others, stay on one thread, as their nodes count
+//   who shares them; trees that have nothing to do with each other may be on two;
 // - no call is made in a signal handler, nor in a forked child;
 // - rattle_alloc, rattle_realloc and rattle_dealloc are one allocator, safe on each thread that has
 //   trees, and a block is aligned as it is asked for, which is to 16 bytes at most;

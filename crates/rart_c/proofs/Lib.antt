@@ -1,3 +1,4 @@
+pub mod AnswerLawLemmas
 pub mod EmptyLemmas
 pub mod Handles
 pub mod LengthLemmas

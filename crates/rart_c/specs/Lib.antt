@@ -1,5 +1,7 @@
+pub mod AnswerLaws
 pub mod Answers
 pub mod Firsts
+pub mod Lends
 pub mod Longest
 pub mod Owned
 pub mod Pages

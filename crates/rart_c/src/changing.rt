@@ -34,10 +34,7 @@ pub extern "C" fn rart_insert(
         → (tree.new.shows ≡ tree.old.shows) × (replaced.new ≡ replaced.old) }
     ensures room { (result ≡ NO_ROOM) ↔ ¬ (HasRoom tree.old.shows 1) }
 {
-    let mut map = tree.take_map(alloc);
-    let told = map.insert(alloc, key, value);
-    *tree = RartTree::of_map(alloc, map);
-    match told {
+    match tree.insert(alloc, key, value) {
         Ok(was) => tell(was, replaced),
         Err(refusal) => refusal.number(),
     }
@@ -47,7 +44,7 @@ pub extern "C" fn rart_insert(
 /// `ABSENT`, and then nothing changed. `NO_ROOM` says that the key is there and the number can't be
 /// raised, `NO_MEMORY` that it is there and memory was refused: nothing changed then.
 #[unsafe(no_mangle)]
-pub extern "C" fn rart_remove(alloc: Global, tree: &mut RartTree, key: &[u8], value: &mut u64) -> u8
+pub extern "C" fn rart_remove(tree: &mut RartTree, key: &[u8], value: &mut u64) -> u8
     ensures done { IsRefused result ⊎ ((tree.new.shows ≡ after_removal tree.old.shows key.now)
         × Tells (value_at tree.old.shows key.now) result value.old value.new) }
     ensures refused { IsRefused result
@@ -56,10 +53,7 @@ pub extern "C" fn rart_remove(alloc: Global, tree: &mut RartTree, key: &[u8], va
     ensures room { (result ≡ NO_ROOM)
         ↔ (IsTrue (has_key tree.old.shows key.now) × ¬ (HasRoom tree.old.shows 1)) }
 {
-    let mut map = tree.take_map(alloc);
-    let told = map.remove(key);
-    *tree = RartTree::of_map(alloc, map);
-    match told {
+    match tree.remove(key) {
         Ok(was) => tell(was, value),
         Err(refusal) => refusal.number(),
     }

@@ -5,12 +5,11 @@ ghost use Rattle.std.specs.Coded.{coded_ℕ};
 ghost use Rattle.rart_c.specs.Owned.{held};
 ghost use Rattle.rart_maps.specs.Versions.{Version, empty_at, version_code};
 
-use crate::map::Map;
+use crate::answer::Refusal;
 use crate::table::Table;
 use crate::unboxed::Unboxed;
 use std::alloc::Global;
 use std::marker::Model;
-use std::mem::replace;
 use std::ptr::null_mut;
 
 /// A tree as C holds it, its values numbers. Contracts see the version that it shows.
@@ -34,6 +33,14 @@ impl Drop for RartTree {
 }
 
 impl RartTree {
+    ghost use Rattle.std.specs.Prelude.{◌≡◌, IsSome, IsTrue, MatchOption, MatchResult, OnErr};
+    ghost use Rattle.std.specs.Borrow.{sem};
+    ghost use Rattle.rart_c.specs.Answers.{Explains};
+    ghost use Rattle.rart_c.specs.Lends.{lends, rests};
+    ghost use Rattle.rart_c.specs.Shown.{shown};
+    ghost use Rattle.rart_maps.specs.Changes.{Changes, removal, replacement};
+    ghost use Rattle.rart_maps.specs.Versions.{HasRoom, empty_at, has_key};
+
     pub(crate) fn empty(alloc: Global) -> RartTree
         ensures { result.shows ≡ empty_at 0 }
     {
@@ -84,31 +91,65 @@ impl RartTree {
         }
     }
 
-    /// The table, if there is one. The handle shows no key and number 0 then.
-    pub(crate) fn take(&mut self, alloc: Global) -> Option<Box<Table<u64>>>
+    /// Lends the table, if there is one. What is then stored there the handle shows.
+    pub(crate) fn table_mut(&mut self) -> Option<&mut Table<u64>>
+        ensures* lends { sem 𝓛 (lends self.entry result) }
         ensures table { MatchOption result (self.old.shows ≡ empty_at 0)
-            (λ table. table.value ≡ self.old.shows) }
-        ensures left { self.new.shows ≡ empty_at 0 }
+            (λ table. table.now ≡ self.old.shows) }
     {
-        replace(self, RartTree::empty(alloc)).into_box()
+        let at = self.at;
+        if at.is_null() {
+            return None;
+        }
+        let at: *mut Table<u64> = at.cast();
+        Some(unsafe { &mut *at })
     }
 
-    /// The map. The handle shows no key and number 0 then.
-    pub(crate) fn take_map(&mut self, alloc: Global) -> Map<u64>
-        ensures map { result ≡ self.old.shows }
-        ensures left { self.new.shows ≡ empty_at 0 }
+    /// Lends the table to a read, if there is one. Nothing is stored in the handle.
+    pub(crate) fn table(&mut self) -> Option<&Table<u64>>
+        ensures* same { sem 𝓛 (rests self.entry) }
+        ensures table { shown result ≡ self.old.shows }
     {
-        Map {
-            table: self.take(alloc),
+        match self.table_mut() {
+            None => None,
+            Some(table) => Some(table),
         }
     }
 
-    pub(crate) fn of_map(alloc: Global, map: Map<u64>) -> RartTree
-        ensures { result.shows ≡ map }
+    /// Sets a key to a value, and gives the value that was replaced.
+    pub(crate) fn insert(
+        &mut self,
+        alloc: Global,
+        key: &[u8],
+        value: u64,
+    ) -> Result<Option<u64>, Refusal>
+        ensures changes { Changes result self.old.shows self.new.shows
+            (replacement self.old.shows key.now value) }
+        ensures room { MatchResult result (λ _. HasRoom self.old.shows 1)
+            (Explains self.old.shows) }
     {
-        match map.table {
-            None => RartTree::empty(alloc),
-            Some(table) => RartTree::of(table),
+        if let Some(table) = self.table_mut() {
+            return table.insert(key, value);
+        }
+        let Ok(mut table) = Box::new(alloc, Table::new_at(alloc, 0)) else {
+            return Err(Refusal::NoMemory);
+        };
+        let told = table.insert(key, value);
+        *self = RartTree::of(table);
+        told
+    }
+
+    /// Takes a key out, and gives its value. Without the key nothing changes, and it isn't refused.
+    pub(crate) fn remove(&mut self, key: &[u8]) -> Result<Option<u64>, Refusal>
+        ensures changes { Changes result self.old.shows self.new.shows
+            (removal self.old.shows key.now) }
+        ensures room { MatchResult result
+            (λ found. IsSome found → HasRoom self.old.shows 1) (Explains self.old.shows) }
+        ensures present { OnErr result (IsTrue (has_key self.old.shows key.now)) }
+    {
+        match self.table_mut() {
+            None => Ok(None),
+            Some(table) => table.remove(key),
         }
     }
 }

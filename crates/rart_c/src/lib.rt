@@ -10,7 +10,7 @@ mod bytes;
 mod changing;
 mod handle;
 mod laws;
-mod map;
+mod lent;
 mod paging;
 mod reading;
 mod table;

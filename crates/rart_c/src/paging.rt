@@ -5,12 +5,13 @@ ghost use Rattle.std.specs.Ordering.{as_partial_cmp};
 ghost use Rattle.std.specs.Range.Bound.{bound_map, is_up_to_end};
 ghost use Rattle.rart_below.specs.Bytes.{byte_order};
 ghost use Rattle.rart_c.specs.Pages.{FindsFirst, TellsLeft, WritesPage, bound_behind, bound_of, first_length};
+ghost use Rattle.rart_c.specs.Shown.{shown};
 ghost use Rattle.rart_maps.specs.Pairs.{within};
 
 use crate::answer::{ABSENT, DONE, TOO_SMALL};
 use crate::handle::RartTree;
-use crate::map::Map;
-use std::alloc::Global;
+use crate::lent;
+use crate::table::Table;
 use std::ops::Bound;
 
 /// The bound is a key that meets it.
@@ -39,7 +40,6 @@ pub struct RartEntry {
 /// `EXCLUDED` or `UNBOUNDED`. It takes no memory.
 #[unsafe(no_mangle)]
 pub extern "C" fn rart_page(
-    alloc: Global,
     tree: &mut RartTree,
     low: &[u8],
     low_kind: u8,
@@ -56,10 +56,8 @@ pub extern "C" fn rart_page(
         × TellsLeft left count.new result needed.old needed.new }
     ensures same { tree.new.shows ≡ tree.old.shows }
 {
-    let map = tree.take_map(alloc);
     let (low, high) = (bound_of(low_kind, low), bound_of(high_kind, high));
-    let (written, next) = write_page(&map, low, high, bytes, entries);
-    *tree = RartTree::of_map(alloc, map);
+    let (written, next) = write_page(tree.table(), low, high, bytes, entries);
     *count = written;
     tell_left(written, next, needed)
 }
@@ -95,14 +93,14 @@ fn tell_left(count: usize, next: Option<usize>, needed: &mut usize) -> u8
 /// Writes the first pairs within two bounds. Gives how many have room, and how long the key is of
 /// the next, if there is one.
 fn write_page(
-    map: &Map<u64>,
+    table: Option<&Table<u64>>,
     low: Bound<&[u8]>,
     high: Bound<&[u8]>,
     bytes: &mut [u8],
     entries: &mut [RartEntry],
 ) -> (usize, Option<usize>)
     ensures { (left : List (List ℕ × ℕ))
-        × WritesPage (within map.now.content (bound_map (λ low. low.now) low.entry)
+        × WritesPage (within (shown table.entry).content (bound_map (λ low. low.now) low.entry)
         (bound_map (λ high. high.now) high.entry)) left result.0 bytes.new entries.old entries.new
         × (result.1 ≡ first_length left) }
 {
@@ -110,7 +108,7 @@ fn write_page(
     let mut end = 0;
     let mut count = 0;
     loop {
-        let Some((len, value)) = next_pair(map, low, high, bytes, last, end) else {
+        let Some((len, value)) = next_pair(table, low, high, bytes, last, end) else {
             return (count, None);
         };
         if bytes.len() - end < len || count == entries.len() {
@@ -126,7 +124,7 @@ fn write_page(
 /// The first of the pairs within two bounds behind the last key that was written, which begins
 /// here; or from the lower bound on, where none was. Its key is written from `end` on, if it fits.
 fn next_pair(
-    map: &Map<u64>,
+    table: Option<&Table<u64>>,
     low: Bound<&[u8]>,
     high: Bound<&[u8]>,
     bytes: &mut [u8],
@@ -136,18 +134,18 @@ fn next_pair(
     requires end { end ≤ length bytes.old }
     requires last { ForSome last (λ start. start ≤ end) }
     ensures kept { take end bytes.new ≡ take end bytes.old }
-    ensures first { FindsFirst (within map.now.content
+    ensures first { FindsFirst (within (shown table.entry).content
         (bound_behind last (bound_map (λ low. low.now) low.entry) (take end bytes.old))
         (bound_map (λ high. high.now) high.entry)) result
         (drop end bytes.old) (drop end bytes.new) }
 {
     let (written, room) = bytes.split_at_mut(end);
-    first_behind(map, low, high, written, last, room)
+    first_behind(table, low, high, written, last, room)
 }
 
 /// The same, what is written apart from the room behind it.
 fn first_behind(
-    map: &Map<u64>,
+    table: Option<&Table<u64>>,
     low: Bound<&[u8]>,
     high: Bound<&[u8]>,
     written: &[u8],
@@ -155,34 +153,34 @@ fn first_behind(
     room: &mut [u8],
 ) -> Option<(usize, u64)>
     requires { ForSome last (λ start. start ≤ length written.now) }
-    ensures { FindsFirst (within map.now.content
+    ensures { FindsFirst (within (shown table.entry).content
         (bound_behind last (bound_map (λ low. low.now) low.entry) written.now)
         (bound_map (λ high. high.now) high.entry)) result room.old room.new }
 {
     match last {
-        None => first_within(map, low, high, room),
-        Some(start) => first_within(map, Bound::Excluded(&written[start..]), high, room),
+        None => first_within(table, low, high, room),
+        Some(start) => first_within(table, Bound::Excluded(&written[start..]), high, room),
     }
 }
 
 /// The first of the pairs within two bounds, if there is one. Where its key doesn't fit, whether it
-/// meets the upper bound is asked of the map.
+/// meets the upper bound is asked of the table.
 fn first_within(
-    map: &Map<u64>,
+    table: Option<&Table<u64>>,
     low: Bound<&[u8]>,
     high: Bound<&[u8]>,
     room: &mut [u8],
 ) -> Option<(usize, u64)>
-    ensures { FindsFirst (within map.now.content (bound_map (λ low. low.now) low.entry)
+    ensures { FindsFirst (within (shown table.entry).content (bound_map (λ low. low.now) low.entry)
         (bound_map (λ high. high.now) high.entry)) result room.old room.new }
 {
-    let Some((len, value)) = map.first(low, room) else {
+    let Some((len, value)) = lent::first(table, low, room) else {
         return None;
     };
     let is_within = if len <= room.len() {
         meets(&room[..len], high)
     } else {
-        map.has_within(low, high)
+        lent::has_within(table, low, high)
     };
     if is_within { Some((len, *value)) } else { None }
 }

@@ -1,28 +1,20 @@
 //! The tree that a handle leads to, and how many keys it has.
-ghost use Rattle.std.specs.Prelude.{◌≡◌, ◌==◌, length, not, IfOk, OnErr, IsSome, IsTrue, MatchResult};
-ghost use Rattle.std.specs.FinMap as finite;
-ghost use Rattle.std.specs.Option.{option_copied};
-ghost use Rattle.std.specs.Range.Bound.{bound_map};
-ghost use Rattle.std.specs.declared.ops.Bound.TheVariants.{Unbounded};
+ghost use Rattle.std.specs.Prelude.{◌≡◌, IfOk, OnErr, IsSome, IsTrue, MatchResult};
 ghost use Rattle.rart_below.specs.Clones.{ClonesEqual};
 ghost use Rattle.rart_c.specs.Answers.{Explains};
-ghost use Rattle.rart_c.specs.Longest.{length_found, longest_length};
 ghost use Rattle.rart_maps.specs.Changes.{Changes, removal, replacement};
-ghost use Rattle.rart_maps.specs.Pairs.{common, within};
-ghost use Rattle.rart_maps.specs.Versions.{HasRoom, empty_at, has_key, value_at, with_rise};
-ghost use Rattle.rart_seeking.specs.Firsts.{Finds};
+ghost use Rattle.rart_maps.specs.Versions.{HasRoom, empty_at, has_key, with_rise};
 
 use crate::answer::Refusal;
 use rart_versioned::{VectorKey, VersionedAdaptiveRadixTree};
 use std::alloc::{AllocError, Global};
 use std::marker::Model;
-use std::ops::Bound;
 
 /// A tree, and how many keys it has. Contracts see the version that the tree is.
 #[derive(Drop)]
 pub(crate) struct Table<V: Clone> {
-    tree: VersionedAdaptiveRadixTree<VectorKey, V>,
-    len: usize,
+    pub(crate) tree: VersionedAdaptiveRadixTree<VectorKey, V>,
+    pub(crate) len: usize,
 }
 
 impl<V: Clone> Model for Table<V> {
@@ -48,57 +40,6 @@ impl<V: Clone + Drop> Table<V> {
             tree: VersionedAdaptiveRadixTree::new_at(alloc, number),
             len: 0,
         }
-    }
-
-    pub(crate) fn version(&self) -> u64
-        ensures { result ≡ self.now.number }
-    {
-        self.tree.version()
-    }
-
-    pub(crate) fn len(&self) -> usize
-        ensures { result ≡ finite.len self.now.content }
-    {
-        self.len
-    }
-
-    /// The value of a key, if it is there.
-    pub(crate) fn get(&self, key: &[u8]) -> Option<&V>
-        ensures { option_copied result ≡ value_at self.now key.now }
-    {
-        self.tree.get_slice(key)
-    }
-
-    /// How long the longest key is that begins the probe, and its value, if there is one.
-    pub(crate) fn longest(&self, probe: &[u8]) -> Option<(usize, &V)>
-        ensures { length_found result ≡ longest_length self.now probe.now }
-    {
-        self.tree.longest_slice(probe)
-    }
-
-    /// The first of the pairs from a bound on, if there is one: how long its key is, which is
-    /// written to the front of `room`, if it fits there; and its value.
-    pub(crate) fn first(&self, low: Bound<&[u8]>, room: &mut [u8]) -> Option<(usize, &V)>
-        ensures { Finds (within self.now.content (bound_map (λ low. low.now) low.entry)
-            Unbounded) result room.old room.new }
-    {
-        self.tree.first_slice(low, room)
-    }
-
-    /// Whether there is a pair within two bounds.
-    pub(crate) fn has_within(&self, low: Bound<&[u8]>, high: Bound<&[u8]>) -> bool
-        ensures { result ≡ not (length (within self.now.content
-            (bound_map (λ low. low.now) low.entry) (bound_map (λ high. high.now) high.entry))
-            == 0) }
-    {
-        self.tree.has_within(low, high)
-    }
-
-    /// How many keys both have.
-    pub(crate) fn common(&self, other: &Table<V>) -> usize
-        ensures { result ≡ length (common self.now.content other.now.content) }
-    {
-        self.tree.intersect_count(&other.tree)
     }
 
     /// Sets a key to a value, and gives the value that was replaced.

@@ -25,12 +25,12 @@ fn changes_are_answered(rt: HostRuntime) {
     let mut value = 0;
     let inserted = rart_insert(alloc, &mut tree, b"tea", 350, &mut value);
     assert_eq!(rt; (inserted, value), (DONE, 300));
-    let removed = rart_remove(alloc, &mut tree, b"tea", &mut value);
+    let removed = rart_remove(&mut tree, b"tea", &mut value);
     assert_eq!(rt; (removed, value), (DONE, 350));
-    assert_eq!(rt; rart_len(alloc, &mut tree), 1);
-    assert_eq!(rt; rart_version(alloc, &mut tree), 4);
+    assert_eq!(rt; rart_len(&mut tree), 1);
+    assert_eq!(rt; rart_version(&mut tree), 4);
     rart_clear(alloc, &mut tree);
-    assert!(rt; rart_is_empty(alloc, &mut tree));
+    assert!(rt; rart_is_empty(&mut tree));
 }
 
 #[test]
@@ -38,9 +38,9 @@ fn reads_are_answered(rt: HostRuntime) {
     let alloc = rt.alloc();
     let mut tree = tree_of(alloc, &[(b"ab", 7), (b"abcd", 8)]);
     let (mut value, mut len) = (0, 0);
-    let found = rart_get(alloc, &mut tree, b"ab", &mut value);
+    let found = rart_get(&mut tree, b"ab", &mut value);
     assert_eq!(rt; (found, value), (DONE, 7));
-    let found = rart_longest(alloc, &mut tree, b"abcde", &mut len, &mut value);
+    let found = rart_longest(&mut tree, b"abcde", &mut len, &mut value);
     assert_eq!(rt; (found, len, value), (DONE, 4, 8));
 }
 
@@ -50,9 +50,9 @@ fn keys_are_found_in_order(rt: HostRuntime) {
     let mut tree = tree_of(alloc, &[(b"ab", 7), (b"abcde", 8), (b"b", 9)]);
     let mut room = *b"....";
     let (mut value, mut len) = (0, 0);
-    let found = rart_seek(alloc, &mut tree, b"ab", &mut room, &mut len, &mut value);
+    let found = rart_seek(&mut tree, b"ab", &mut room, &mut len, &mut value);
     assert_eq!(rt; (found, &room, len, value), (DONE, b"ab..", 2, 7));
-    let found = rart_next(alloc, &mut tree, b"ab", &mut room, &mut len, &mut value);
+    let found = rart_next(&mut tree, b"ab", &mut room, &mut len, &mut value);
     assert_eq!(rt; (found, len, value), (TOO_SMALL, 5, 7));
 }
 
@@ -63,7 +63,6 @@ fn pages_are_read(rt: HostRuntime) {
     let (mut bytes, mut entries) = (*b"....", [RartEntry { end: 9, value: 9 }; 3]);
     let (mut count, mut needed) = (7, 7);
     let page = rart_page(
-        alloc,
         &mut tree,
         b"ab",
         EXCLUDED,
@@ -80,7 +79,6 @@ fn pages_are_read(rt: HostRuntime) {
         (3, 4, 3)
     );
     let page = rart_page(
-        alloc,
         &mut tree,
         b"ab",
         EXCLUDED,
@@ -102,11 +100,11 @@ fn versions_are_apart(rt: HostRuntime) {
     let mut value = 0;
     assert_eq!(rt; rart_snapshot(alloc, &mut tree, &mut copy), DONE);
     assert_eq!(rt; rart_insert(alloc, &mut tree, b"b", 2, &mut value), ABSENT);
-    assert_eq!(rt; rart_common(alloc, &mut tree, &mut copy), 1);
-    assert_eq!(rt; rart_version(alloc, &mut copy), 2);
+    assert_eq!(rt; rart_common(&mut tree, &mut copy), 1);
+    assert_eq!(rt; rart_version(&mut copy), 2);
     assert_eq!(rt; rart_clone(alloc, &mut tree, &mut copy), DONE);
-    assert_eq!(rt; rart_len(alloc, &mut copy), 2);
+    assert_eq!(rt; rart_len(&mut copy), 2);
     assert_eq!(rt; rart_new_at(alloc, &mut tree, u64::MAX - 1), DONE);
     assert_eq!(rt; rart_insert(alloc, &mut tree, b"a", 1, &mut value), ABSENT);
-    assert_eq!(rt; rart_version(alloc, &mut tree), u64::MAX);
+    assert_eq!(rt; rart_version(&mut tree), u64::MAX);
 }

@@ -6,7 +6,8 @@ ghost use Rattle.rart_maps.specs.Versions.{HasRoom, empty_at, with_rise};
 
 use crate::answer::{DONE, NO_MEMORY};
 use crate::handle::RartTree;
-use crate::map::Map;
+use crate::lent;
+use crate::table::Table;
 use std::alloc::Global;
 
 /// Makes `copy` the same map, its number one greater, and frees what `copy` was. `NO_ROOM` says
@@ -19,12 +20,9 @@ pub extern "C" fn rart_snapshot(alloc: Global, tree: &mut RartTree, copy: &mut R
     ensures room { (result ≡ NO_ROOM) ↔ ¬ (HasRoom tree.old.shows 1) }
     ensures same { tree.new.shows ≡ tree.old.shows }
 {
-    let map = tree.take_map(alloc);
-    let made = map.snapshot(alloc);
-    *tree = RartTree::of_map(alloc, map);
-    match made {
+    match lent::snapshot(alloc, tree.table()) {
         Ok(made) => {
-            *copy = RartTree::of_map(alloc, made);
+            *copy = RartTree::of(made);
             DONE
         }
         Err(refusal) => refusal.number(),
@@ -40,16 +38,14 @@ pub extern "C" fn rart_clone(alloc: Global, tree: &mut RartTree, copy: &mut Rart
     ensures refused { result ≡ NO_MEMORY → copy.new.shows ≡ copy.old.shows }
     ensures same { tree.new.shows ≡ tree.old.shows }
 {
-    let map = tree.take_map(alloc);
-    let made = map.clone(alloc);
-    *tree = RartTree::of_map(alloc, map);
-    match made {
-        Ok(made) => {
-            *copy = RartTree::of_map(alloc, made);
-            DONE
-        }
-        Err(_) => NO_MEMORY,
-    }
+    let Ok(made) = lent::clone(alloc, tree.table()) else {
+        return NO_MEMORY;
+    };
+    *copy = match made {
+        None => RartTree::empty(alloc),
+        Some(made) => RartTree::of(made),
+    };
+    DONE
 }
 
 /// Frees what the tree leads to, and leaves it without a key, its number so great. `NO_MEMORY` says
@@ -60,9 +56,9 @@ pub extern "C" fn rart_new_at(alloc: Global, tree: &mut RartTree, number: u64) -
         ⊎ ((result ≡ DONE) × (tree.new.shows ≡ empty_at number)) }
     ensures refused { result ≡ NO_MEMORY → tree.new.shows ≡ tree.old.shows }
 {
-    match Map::new_at(alloc, number) {
-        Ok(map) => {
-            *tree = RartTree::of_map(alloc, map);
+    match Box::new(alloc, Table::new_at(alloc, number)) {
+        Ok(table) => {
+            *tree = RartTree::of(table);
             DONE
         }
         Err(_) => NO_MEMORY,

@@ -6,7 +6,7 @@ ghost use Rattle.rart_maps.specs.Pairs.{within};
 
 use crate::answer::tell_first;
 use crate::handle::RartTree;
-use std::alloc::Global;
+use crate::lent;
 use std::ops::Bound;
 
 /// Answers `DONE` and writes the first key that is not before this one to the front of `room`, its
@@ -15,7 +15,6 @@ use std::ops::Bound;
 /// Where there is none it answers `ABSENT` and writes nothing. It takes no memory.
 #[unsafe(no_mangle)]
 pub extern "C" fn rart_seek(
-    alloc: Global,
     tree: &mut RartTree,
     from: &[u8],
     room: &mut [u8],
@@ -26,17 +25,14 @@ pub extern "C" fn rart_seek(
         (room.old, len.old) (room.new, len.new) value.old value.new }
     ensures same { tree.new.shows ≡ tree.old.shows }
 {
-    let map = tree.take_map(alloc);
     let size = room.len();
-    let told = tell_first(map.first(Bound::Included(from), room), size, len, value);
-    *tree = RartTree::of_map(alloc, map);
-    told
+    let found = lent::first(tree.table(), Bound::Included(from), room);
+    tell_first(found, size, len, value)
 }
 
 /// As `rart_seek`, of the keys behind this one.
 #[unsafe(no_mangle)]
 pub extern "C" fn rart_next(
-    alloc: Global,
     tree: &mut RartTree,
     after: &[u8],
     room: &mut [u8],
@@ -47,9 +43,7 @@ pub extern "C" fn rart_next(
         (room.old, len.old) (room.new, len.new) value.old value.new }
     ensures same { tree.new.shows ≡ tree.old.shows }
 {
-    let map = tree.take_map(alloc);
     let size = room.len();
-    let told = tell_first(map.first(Bound::Excluded(after), room), size, len, value);
-    *tree = RartTree::of_map(alloc, map);
-    told
+    let found = lent::first(tree.table(), Bound::Excluded(after), room);
+    tell_first(found, size, len, value)
 }

@@ -8,7 +8,7 @@ ghost use Rattle.rart_maps.specs.Versions.{HasRoom, empty_at, has_key, with_key}
 use crate::answer::{Refusal, tell_there};
 use crate::bytes::handle::RartBytes;
 use crate::bytes::value::Bytes;
-use crate::map::Map;
+use crate::lent;
 use std::alloc::Global;
 
 /// Frees what the tree leads to: it has no key then, and number 0.
@@ -35,10 +35,7 @@ pub extern "C" fn rart_bytes_insert(
     ensures refused { IsRefused result → tree.new.shows ≡ tree.old.shows }
     ensures room { (result ≡ NO_ROOM) ↔ ¬ (HasRoom tree.old.shows 1) }
 {
-    let mut map = tree.take_map(alloc);
-    let told = set(alloc, &mut map, key, value);
-    *tree = RartBytes::of_map(alloc, map);
-    match told {
+    match set(alloc, tree, key, value) {
         Ok(was) => tell_there(was.is_some()),
         Err(refusal) => refusal.number(),
     }
@@ -48,7 +45,7 @@ pub extern "C" fn rart_bytes_insert(
 /// key, and then nothing changed. `NO_ROOM` says that the key is there and the number can't be
 /// raised, `NO_MEMORY` that it is there and memory was refused: nothing changed then.
 #[unsafe(no_mangle)]
-pub extern "C" fn rart_bytes_remove(alloc: Global, tree: &mut RartBytes, key: &[u8]) -> u8
+pub extern "C" fn rart_bytes_remove(tree: &mut RartBytes, key: &[u8]) -> u8
     ensures done { IsRefused result ⊎ ((tree.new.shows ≡ after_removal tree.old.shows key.now)
         × (result ≡ told_there (has_key tree.old.shows key.now))) }
     ensures refused { IsRefused result
@@ -56,10 +53,7 @@ pub extern "C" fn rart_bytes_remove(alloc: Global, tree: &mut RartBytes, key: &[
     ensures room { (result ≡ NO_ROOM)
         ↔ (IsTrue (has_key tree.old.shows key.now) × ¬ (HasRoom tree.old.shows 1)) }
 {
-    let mut map = tree.take_map(alloc);
-    let told = map.remove(key);
-    *tree = RartBytes::of_map(alloc, map);
-    match told {
+    match tree.remove(key) {
         Ok(was) => tell_there(was.is_some()),
         Err(refusal) => refusal.number(),
     }
@@ -69,18 +63,19 @@ pub extern "C" fn rart_bytes_remove(alloc: Global, tree: &mut RartBytes, key: &[
 /// is told before memory is asked for.
 fn set(
     alloc: Global,
-    map: &mut Map<Bytes>,
+    tree: &mut RartBytes,
     key: &[u8],
     value: &[u8],
 ) -> Result<Option<Bytes>, Refusal>
-    ensures changes { Changes result map.old map.new (replacement map.old key.now value.now) }
-    ensures room { MatchResult result (λ _. HasRoom map.old 1) (Explains map.old) }
+    ensures changes { Changes result tree.old.shows tree.new.shows
+        (replacement tree.old.shows key.now value.now) }
+    ensures room { MatchResult result (λ _. HasRoom tree.old.shows 1) (Explains tree.old.shows) }
 {
-    if map.version() == u64::MAX {
+    if lent::version(tree.table()) == u64::MAX {
         return Err(Refusal::NoRoom);
     }
     let Ok(value) = Bytes::new(alloc, value) else {
         return Err(Refusal::NoMemory);
     };
-    map.insert(alloc, key, value)
+    tree.insert(alloc, key, value)
 }

@@ -5,13 +5,12 @@ ghost use Rattle.rart_c.specs.Owned.{held};
 ghost use Rattle.rart_c.specs.contracts.bytes.value.Bytes.{the_row};
 ghost use Rattle.rart_maps.specs.Versions.{Version, empty_at, version_code};
 
+use crate::answer::Refusal;
 use crate::bytes::value::Bytes;
-use crate::map::Map;
 use crate::table::Table;
 use crate::unboxed::Unboxed;
 use std::alloc::Global;
 use std::marker::Model;
-use std::mem::replace;
 use std::ptr::null_mut;
 
 /// A tree as C holds it, its values byte strings. Contracts see the version that it shows.
@@ -35,6 +34,14 @@ impl Drop for RartBytes {
 }
 
 impl RartBytes {
+    ghost use Rattle.std.specs.Prelude.{◌≡◌, IsSome, IsTrue, MatchOption, MatchResult, OnErr};
+    ghost use Rattle.std.specs.Borrow.{sem};
+    ghost use Rattle.rart_c.specs.Answers.{Explains};
+    ghost use Rattle.rart_c.specs.Lends.{lends_bytes, rests_bytes};
+    ghost use Rattle.rart_c.specs.Shown.{shown};
+    ghost use Rattle.rart_maps.specs.Changes.{Changes, removal, replacement};
+    ghost use Rattle.rart_maps.specs.Versions.{HasRoom, empty_at, has_key};
+
     pub(crate) fn empty(alloc: Global) -> RartBytes
         ensures { result.shows ≡ empty_at 0 }
     {
@@ -85,31 +92,65 @@ impl RartBytes {
         }
     }
 
-    /// The table, if there is one. The handle shows no key and number 0 then.
-    pub(crate) fn take(&mut self, alloc: Global) -> Option<Box<Table<Bytes>>>
+    /// Lends the table, if there is one. What is then stored there the handle shows.
+    pub(crate) fn table_mut(&mut self) -> Option<&mut Table<Bytes>>
+        ensures* lends { sem 𝓛 (lends_bytes self.entry result) }
         ensures table { MatchOption result (self.old.shows ≡ empty_at 0)
-            (λ table. table.value ≡ self.old.shows) }
-        ensures left { self.new.shows ≡ empty_at 0 }
+            (λ table. table.now ≡ self.old.shows) }
     {
-        replace(self, RartBytes::empty(alloc)).into_box()
+        let at = self.at;
+        if at.is_null() {
+            return None;
+        }
+        let at: *mut Table<Bytes> = at.cast();
+        Some(unsafe { &mut *at })
     }
 
-    /// The map. The handle shows no key and number 0 then.
-    pub(crate) fn take_map(&mut self, alloc: Global) -> Map<Bytes>
-        ensures map { result ≡ self.old.shows }
-        ensures left { self.new.shows ≡ empty_at 0 }
+    /// Lends the table to a read, if there is one. Nothing is stored in the handle.
+    pub(crate) fn table(&mut self) -> Option<&Table<Bytes>>
+        ensures* same { sem 𝓛 (rests_bytes self.entry) }
+        ensures table { shown result ≡ self.old.shows }
     {
-        Map {
-            table: self.take(alloc),
+        match self.table_mut() {
+            None => None,
+            Some(table) => Some(table),
         }
     }
 
-    pub(crate) fn of_map(alloc: Global, map: Map<Bytes>) -> RartBytes
-        ensures { result.shows ≡ map }
+    /// Sets a key to a value, and gives the value that was replaced.
+    pub(crate) fn insert(
+        &mut self,
+        alloc: Global,
+        key: &[u8],
+        value: Bytes,
+    ) -> Result<Option<Bytes>, Refusal>
+        ensures changes { Changes result self.old.shows self.new.shows
+            (replacement self.old.shows key.now value) }
+        ensures room { MatchResult result (λ _. HasRoom self.old.shows 1)
+            (Explains self.old.shows) }
     {
-        match map.table {
-            None => RartBytes::empty(alloc),
-            Some(table) => RartBytes::of(table),
+        if let Some(table) = self.table_mut() {
+            return table.insert(key, value);
+        }
+        let Ok(mut table) = Box::new(alloc, Table::new_at(alloc, 0)) else {
+            return Err(Refusal::NoMemory);
+        };
+        let told = table.insert(key, value);
+        *self = RartBytes::of(table);
+        told
+    }
+
+    /// Takes a key out, and gives its value. Without the key nothing changes, and it isn't refused.
+    pub(crate) fn remove(&mut self, key: &[u8]) -> Result<Option<Bytes>, Refusal>
+        ensures changes { Changes result self.old.shows self.new.shows
+            (removal self.old.shows key.now) }
+        ensures room { MatchResult result
+            (λ found. IsSome found → HasRoom self.old.shows 1) (Explains self.old.shows) }
+        ensures present { OnErr result (IsTrue (has_key self.old.shows key.now)) }
+    {
+        match self.table_mut() {
+            None => Ok(None),
+            Some(table) => table.remove(key),
         }
     }
 }

@@ -10,39 +10,33 @@ ghost use Rattle.rart_maps.specs.Versions.{has_no_key, value_at};
 use crate::answer::{ABSENT, DONE, TOO_SMALL};
 use crate::bytes::handle::RartBytes;
 use crate::bytes::value::Bytes;
-use std::alloc::Global;
+use crate::lent;
 
 /// The number.
 #[unsafe(no_mangle)]
-pub extern "C" fn rart_bytes_version(alloc: Global, tree: &mut RartBytes) -> u64
+pub extern "C" fn rart_bytes_version(tree: &mut RartBytes) -> u64
     ensures number { result ≡ tree.old.shows.number }
     ensures same { tree.new.shows ≡ tree.old.shows }
 {
-    let map = tree.take_map(alloc);
-    let number = map.version();
-    *tree = RartBytes::of_map(alloc, map);
-    number
+    lent::version(tree.table())
 }
 
 /// How many keys there are.
 #[unsafe(no_mangle)]
-pub extern "C" fn rart_bytes_len(alloc: Global, tree: &mut RartBytes) -> usize
+pub extern "C" fn rart_bytes_len(tree: &mut RartBytes) -> usize
     ensures count { result ≡ finite.len tree.old.shows.content }
     ensures same { tree.new.shows ≡ tree.old.shows }
 {
-    let map = tree.take_map(alloc);
-    let len = map.len();
-    *tree = RartBytes::of_map(alloc, map);
-    len
+    lent::len(tree.table())
 }
 
 /// Whether there is no key.
 #[unsafe(no_mangle)]
-pub extern "C" fn rart_bytes_is_empty(alloc: Global, tree: &mut RartBytes) -> bool
+pub extern "C" fn rart_bytes_is_empty(tree: &mut RartBytes) -> bool
     ensures answer { result ≡ has_no_key tree.old.shows }
     ensures same { tree.new.shows ≡ tree.old.shows }
 {
-    rart_bytes_len(alloc, tree) == 0
+    rart_bytes_len(tree) == 0
 }
 
 /// Answers `DONE`, writes the value of a key to the first bytes of `into`, and its length to `len`.
@@ -50,7 +44,6 @@ pub extern "C" fn rart_bytes_is_empty(alloc: Global, tree: &mut RartBytes) -> bo
 /// else. Answers `ABSENT` where there is no such key. It takes no memory.
 #[unsafe(no_mangle)]
 pub extern "C" fn rart_bytes_get(
-    alloc: Global,
     tree: &mut RartBytes,
     key: &[u8],
     into: &mut [u8],
@@ -60,10 +53,7 @@ pub extern "C" fn rart_bytes_get(
         (into.old, len.old) (into.new, len.new) }
     ensures same { tree.new.shows ≡ tree.old.shows }
 {
-    let map = tree.take_map(alloc);
-    let told = read(map.get(key), into, len);
-    *tree = RartBytes::of_map(alloc, map);
-    told
+    read(lent::get(tree.table(), key), into, len)
 }
 
 /// Of the longest key that begins the probe: answers as `rart_bytes_get` of that key does, and
@@ -71,7 +61,6 @@ pub extern "C" fn rart_bytes_get(
 /// no memory.
 #[unsafe(no_mangle)]
 pub extern "C" fn rart_bytes_longest(
-    alloc: Global,
     tree: &mut RartBytes,
     probe: &[u8],
     key_len: &mut usize,
@@ -84,29 +73,17 @@ pub extern "C" fn rart_bytes_longest(
         (option_map (λ pair. pair.0) (longest_length tree.old.shows probe.now)) key_len.old }
     ensures same { tree.new.shows ≡ tree.old.shows }
 {
-    let map = tree.take_map(alloc);
-    let told = read_longest(map.longest(probe), key_len, into, len);
-    *tree = RartBytes::of_map(alloc, map);
-    told
+    read_longest(lent::longest(tree.table(), probe), key_len, into, len)
 }
 
 /// How many keys both trees have. It takes no memory.
 #[unsafe(no_mangle)]
-pub extern "C" fn rart_bytes_common(
-    alloc: Global,
-    tree: &mut RartBytes,
-    other: &mut RartBytes,
-) -> usize
+pub extern "C" fn rart_bytes_common(tree: &mut RartBytes, other: &mut RartBytes) -> usize
     ensures count { result ≡ length (common tree.old.shows.content other.old.shows.content) }
     ensures same { tree.new.shows ≡ tree.old.shows }
     ensures other_same { other.new.shows ≡ other.old.shows }
 {
-    let map = tree.take_map(alloc);
-    let others = other.take_map(alloc);
-    let count = map.common(&others);
-    *tree = RartBytes::of_map(alloc, map);
-    *other = RartBytes::of_map(alloc, others);
-    count
+    lent::common(tree.table(), other.table())
 }
 
 /// Reads a value out, if there is one.

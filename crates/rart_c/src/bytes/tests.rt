@@ -24,11 +24,11 @@ fn changes_are_answered(rt: HostRuntime) {
     let alloc = rt.alloc();
     let mut tree = tree_of(alloc, &[(b"tea", b"green"), (b"te", b"")]);
     assert_eq!(rt; rart_bytes_insert(alloc, &mut tree, b"tea", b"black"), DONE);
-    assert_eq!(rt; rart_bytes_remove(alloc, &mut tree, b"tea"), DONE);
-    assert_eq!(rt; rart_bytes_len(alloc, &mut tree), 1);
-    assert_eq!(rt; rart_bytes_version(alloc, &mut tree), 4);
+    assert_eq!(rt; rart_bytes_remove(&mut tree, b"tea"), DONE);
+    assert_eq!(rt; rart_bytes_len(&mut tree), 1);
+    assert_eq!(rt; rart_bytes_version(&mut tree), 4);
     rart_bytes_clear(alloc, &mut tree);
-    assert!(rt; rart_bytes_is_empty(alloc, &mut tree));
+    assert!(rt; rart_bytes_is_empty(&mut tree));
 }
 
 #[test]
@@ -37,9 +37,9 @@ fn values_are_read(rt: HostRuntime) {
     let mut tree = tree_of(alloc, &[(b"a", b"one"), (b"ab", b"xyz")]);
     let mut into = [9; 4];
     let (mut key_len, mut len) = (7, 0);
-    let found = rart_bytes_get(alloc, &mut tree, b"ab", &mut into, &mut len);
+    let found = rart_bytes_get(&mut tree, b"ab", &mut into, &mut len);
     assert_eq!(rt; (found, into, len), (DONE, [120, 121, 122, 9], 3));
-    let found = rart_bytes_longest(alloc, &mut tree, b"aa", &mut key_len, &mut into, &mut len);
+    let found = rart_bytes_longest(&mut tree, b"aa", &mut key_len, &mut into, &mut len);
     assert_eq!(rt;
         (found, key_len, into, len),
         (DONE, 1, [111, 110, 101, 9], 3)
@@ -56,7 +56,6 @@ fn keys_are_found_in_order(rt: HostRuntime) {
     let (mut room, mut into) = (*b"....", *b"----");
     let (mut key_len, mut len) = (7, 7);
     let found = rart_bytes_seek(
-        alloc,
         &mut tree,
         b"ab",
         &mut room,
@@ -69,7 +68,6 @@ fn keys_are_found_in_order(rt: HostRuntime) {
         (DONE, b"ab..", 2, b"one-", 3)
     );
     let found = rart_bytes_next(
-        alloc,
         &mut tree,
         b"ab",
         &mut room,
@@ -88,10 +86,10 @@ fn versions_are_apart(rt: HostRuntime) {
     assert_eq!(rt; rart_bytes_snapshot(alloc, &mut tree, &mut copy), DONE);
     assert_eq!(rt; rart_bytes_insert(alloc, &mut tree, b"a", b"2"), DONE);
     assert_eq!(rt; rart_bytes_insert(alloc, &mut tree, b"b", b"3"), ABSENT);
-    assert_eq!(rt; rart_bytes_common(alloc, &mut tree, &mut copy), 1);
-    assert_eq!(rt; rart_bytes_version(alloc, &mut copy), 2);
+    assert_eq!(rt; rart_bytes_common(&mut tree, &mut copy), 1);
+    assert_eq!(rt; rart_bytes_version(&mut copy), 2);
     assert_eq!(rt; rart_bytes_clone(alloc, &mut tree, &mut copy), DONE);
-    assert_eq!(rt; rart_bytes_len(alloc, &mut copy), 2);
+    assert_eq!(rt; rart_bytes_len(&mut copy), 2);
     assert_eq!(rt; rart_bytes_new_at(alloc, &mut tree, u64::MAX - 1), DONE);
-    assert_eq!(rt; rart_bytes_version(alloc, &mut tree), u64::MAX - 1);
+    assert_eq!(rt; rart_bytes_version(&mut tree), u64::MAX - 1);
 }

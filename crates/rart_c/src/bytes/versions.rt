@@ -6,7 +6,8 @@ ghost use Rattle.rart_maps.specs.Versions.{HasRoom, empty_at, with_rise};
 
 use crate::answer::{DONE, NO_MEMORY};
 use crate::bytes::handle::RartBytes;
-use crate::map::Map;
+use crate::lent;
+use crate::table::Table;
 use std::alloc::Global;
 
 /// Makes `copy` the same map, its number one greater, and frees what `copy` was. `NO_ROOM` says
@@ -23,12 +24,9 @@ pub extern "C" fn rart_bytes_snapshot(
     ensures room { (result ≡ NO_ROOM) ↔ ¬ (HasRoom tree.old.shows 1) }
     ensures same { tree.new.shows ≡ tree.old.shows }
 {
-    let map = tree.take_map(alloc);
-    let made = map.snapshot(alloc);
-    *tree = RartBytes::of_map(alloc, map);
-    match made {
+    match lent::snapshot(alloc, tree.table()) {
         Ok(made) => {
-            *copy = RartBytes::of_map(alloc, made);
+            *copy = RartBytes::of(made);
             DONE
         }
         Err(refusal) => refusal.number(),
@@ -44,16 +42,14 @@ pub extern "C" fn rart_bytes_clone(alloc: Global, tree: &mut RartBytes, copy: &m
     ensures refused { result ≡ NO_MEMORY → copy.new.shows ≡ copy.old.shows }
     ensures same { tree.new.shows ≡ tree.old.shows }
 {
-    let map = tree.take_map(alloc);
-    let made = map.clone(alloc);
-    *tree = RartBytes::of_map(alloc, map);
-    match made {
-        Ok(made) => {
-            *copy = RartBytes::of_map(alloc, made);
-            DONE
-        }
-        Err(_) => NO_MEMORY,
-    }
+    let Ok(made) = lent::clone(alloc, tree.table()) else {
+        return NO_MEMORY;
+    };
+    *copy = match made {
+        None => RartBytes::empty(alloc),
+        Some(made) => RartBytes::of(made),
+    };
+    DONE
 }
 
 /// Frees what the tree leads to, and leaves it without a key, its number so great. `NO_MEMORY` says
@@ -64,9 +60,9 @@ pub extern "C" fn rart_bytes_new_at(alloc: Global, tree: &mut RartBytes, number:
         ⊎ ((result ≡ DONE) × (tree.new.shows ≡ empty_at number)) }
     ensures refused { result ≡ NO_MEMORY → tree.new.shows ≡ tree.old.shows }
 {
-    match Map::new_at(alloc, number) {
-        Ok(map) => {
-            *tree = RartBytes::of_map(alloc, map);
+    match Box::new(alloc, Table::new_at(alloc, number)) {
+        Ok(table) => {
+            *tree = RartBytes::of(table);
             DONE
         }
         Err(_) => NO_MEMORY,

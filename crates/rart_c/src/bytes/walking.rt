@@ -9,7 +9,7 @@ use crate::answer::{ABSENT, TOO_SMALL};
 use crate::bytes::handle::RartBytes;
 use crate::bytes::reading::read;
 use crate::bytes::value::Bytes;
-use std::alloc::Global;
+use crate::lent;
 use std::ops::Bound;
 
 /// Answers `DONE`, writes the first key that is not before this one to the front of `room`, its
@@ -20,7 +20,6 @@ use std::ops::Bound;
 /// memory.
 #[unsafe(no_mangle)]
 pub extern "C" fn rart_bytes_seek(
-    alloc: Global,
     tree: &mut RartBytes,
     from: &[u8],
     room: &mut [u8],
@@ -32,23 +31,14 @@ pub extern "C" fn rart_bytes_seek(
         (room.old, key_len.old) (room.new, key_len.new) (into.old, len.old) (into.new, len.new) }
     ensures same { tree.new.shows ≡ tree.old.shows }
 {
-    let map = tree.take_map(alloc);
     let size = room.len();
-    let told = read_first(
-        map.first(Bound::Included(from), room),
-        size,
-        key_len,
-        into,
-        len,
-    );
-    *tree = RartBytes::of_map(alloc, map);
-    told
+    let found = lent::first(tree.table(), Bound::Included(from), room);
+    read_first(found, size, key_len, into, len)
 }
 
 /// As `rart_bytes_seek`, of the keys behind this one.
 #[unsafe(no_mangle)]
 pub extern "C" fn rart_bytes_next(
-    alloc: Global,
     tree: &mut RartBytes,
     after: &[u8],
     room: &mut [u8],
@@ -60,17 +50,9 @@ pub extern "C" fn rart_bytes_next(
         (room.old, key_len.old) (room.new, key_len.new) (into.old, len.old) (into.new, len.new) }
     ensures same { tree.new.shows ≡ tree.old.shows }
 {
-    let map = tree.take_map(alloc);
     let size = room.len();
-    let told = read_first(
-        map.first(Bound::Excluded(after), room),
-        size,
-        key_len,
-        into,
-        len,
-    );
-    *tree = RartBytes::of_map(alloc, map);
-    told
+    let found = lent::first(tree.table(), Bound::Excluded(after), room);
+    read_first(found, size, key_len, into, len)
 }
 
 /// Reads the first of some pairs out, as it was found with so much room for its key, if there is

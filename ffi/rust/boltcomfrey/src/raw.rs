@@ -51,9 +51,9 @@ impl Handle for RartBytes {
 
 /// A tree of the library, and its owner.
 ///
-/// The library takes a tree for writing even to read it: it takes the box out of the handle, and
-/// puts it back before it returns. The cell keeps the type from being `Sync`, so that no two calls
-/// meet. The pointer keeps it from being `Send`: trees share nodes, counted without atomics.
+/// The library takes a tree for writing even to read it, though a read stores nothing in the handle.
+/// The cell keeps the type from being `Sync`, so that no two calls meet. The pointer keeps it from
+/// being `Send`: trees share nodes, counted without atomics.
 pub struct Tree<H: Handle> {
     handle: UnsafeCell<H>,
 }

@@ -5,12 +5,13 @@ use Rattle.std.specs.declared.ops.Bound.TheVariants.{Excluded}
 use Rattle.rart_maps.specs.Pairs.{within}
 use Rattle.rart_c.specs.Pages.{bound_behind, keys_of}
 use Rattle.rart_c.proofs.PageLemmas.{entries-set, keys-more, keys-written, within-behind}
+use Rattle.rart_c.specs.Shown.{shown}
 use Rattle.rart_c.proofs.paging.write_page.Goals as goal
 
 pub loop-len-init : goal.loop-len-init
 loop-len-init c = record {
   page = [];
-  left = within c.args.map.now.content (bound_map (λ low. low.now) c.args.low)
+  left = within (shown c.args.table).content (bound_map (λ low. low.now) c.args.low)
       (bound_map (λ high. high.now) c.args.high);
   range_is = refl;
   many = refl;
@@ -25,7 +26,7 @@ loop-len-init c = record {
 
 pub loop-len-preserved : goal.loop-len-preserved
 loop-len-preserved c =
-    let content = c.args.map.now.content in
+    let content = (shown c.args.table).content in
     let low = bound_map (λ low. low.now) c.args.low in
     let high = bound_map (λ high. high.now) c.args.high in
     let i = c.loop-len.invariant in

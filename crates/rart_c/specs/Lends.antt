@@ -1,0 +1,35 @@
+-- What a handle shows once the table that it lends has come back.
+use Rattle.std.specs.Prelude.{◌≡◌, ℕ, ⊤, List, Option}
+use Rattle.std.specs.Borrow.{Fml, MutBor, LendsIf, follows_so}
+use mathlib.Core.Option.{none}
+use denote.Builtin.{u64}
+use Rattle.core.specs.contracts.clone.U64Clone.TheImpl as number
+use Rattle.rart_c.specs.contracts.bytes.handle.RartBytes as bytes_handle
+use Rattle.rart_c.specs.contracts.bytes.value.Bytes as bytes
+use Rattle.rart_c.specs.contracts.bytes.value.BytesClone.TheImpl as bytes_clone
+use Rattle.rart_c.specs.contracts.handle.RartTree as handle
+use Rattle.rart_c.specs.contracts.table.Table as table
+use Rattle.rart_c.specs.declared.bytes.handle.RartBytes.{RartBytes}
+use Rattle.rart_c.specs.declared.handle.RartTree.{RartTree}
+use Rattle.rart_maps.specs.Versions.{Version}
+
+-- the last version of the table; what it showed before, where it has none
+abbrev pub lends : MutBor RartTree → Option (MutBor (Version ℕ)) → Fml
+lends tree lent =
+    LendsIf handle.the_row (table.the_row u64 number.ghosts) tree lent
+    (λ version. record tree.now { shows = version }) tree.now
+
+abbrev pub lends_bytes : MutBor RartBytes → Option (MutBor (Version (List ℕ))) → Fml
+lends_bytes tree lent =
+    LendsIf bytes_handle.the_row (table.the_row bytes.the_row bytes_clone.ghosts) tree lent
+    (λ version. record tree.now { shows = version }) tree.now
+
+-- what it showed before
+abbrev pub rests : MutBor RartTree → Fml
+rests tree =
+    follows_so handle.the_row handle.the_row tree.ghost_name none (λ _ _. ⊤) (λ left. left ≡ tree.now)
+
+abbrev pub rests_bytes : MutBor RartBytes → Fml
+rests_bytes tree =
+    follows_so bytes_handle.the_row bytes_handle.the_row tree.ghost_name none (λ _ _. ⊤)
+    (λ left. left ≡ tree.now)

@@ -1,0 +1,132 @@
+//! What is read of a table that a handle lends, or of none: the map without a key and number 0.
+ghost use Rattle.std.specs.Prelude.{◌≡◌, ◌==◌, length, not, IfOk, MatchOption, MatchResult};
+ghost use Rattle.std.specs.FinMap as finite;
+ghost use Rattle.std.specs.Option.{option_copied};
+ghost use Rattle.std.specs.Range.Bound.{bound_map};
+ghost use Rattle.std.specs.declared.ops.Bound.TheVariants.{Unbounded};
+ghost use Rattle.rart_c.specs.Answers.{Explains};
+ghost use Rattle.rart_c.specs.Longest.{length_found, longest_length};
+ghost use Rattle.rart_c.specs.Shown.{shown};
+ghost use Rattle.rart_maps.specs.Pairs.{common, within};
+ghost use Rattle.rart_maps.specs.Versions.{HasRoom, empty_at, value_at, with_rise};
+ghost use Rattle.rart_seeking.specs.Firsts.{Finds};
+
+use crate::answer::Refusal;
+use crate::table::Table;
+use std::alloc::{AllocError, Global};
+use std::ops::Bound;
+
+pub(crate) fn version<V: Clone + Drop>(table: Option<&Table<V>>) -> u64
+    ensures { result ≡ (shown table.entry).number }
+{
+    match table {
+        None => 0,
+        Some(table) => table.tree.version(),
+    }
+}
+
+pub(crate) fn len<V: Clone + Drop>(table: Option<&Table<V>>) -> usize
+    ensures { result ≡ finite.len (shown table.entry).content }
+{
+    match table {
+        None => 0,
+        Some(table) => table.len,
+    }
+}
+
+/// The value of a key, if it is there.
+pub(crate) fn get<'a, V: Clone + Drop>(table: Option<&'a Table<V>>, key: &[u8]) -> Option<&'a V>
+    ensures { option_copied result ≡ value_at (shown table.entry) key.now }
+{
+    match table {
+        None => None,
+        Some(table) => table.tree.get_slice(key),
+    }
+}
+
+/// How long the longest key is that begins the probe, and its value, if there is one.
+pub(crate) fn longest<'a, V: Clone + Drop>(
+    table: Option<&'a Table<V>>,
+    probe: &[u8],
+) -> Option<(usize, &'a V)>
+    ensures { length_found result ≡ longest_length (shown table.entry) probe.now }
+{
+    match table {
+        None => None,
+        Some(table) => table.tree.longest_slice(probe),
+    }
+}
+
+/// The first of the pairs from a bound on, if there is one: how long its key is, which is written
+/// to the front of `room`, if it fits there; and its value.
+pub(crate) fn first<'a, V: Clone + Drop>(
+    table: Option<&'a Table<V>>,
+    low: Bound<&[u8]>,
+    room: &mut [u8],
+) -> Option<(usize, &'a V)>
+    ensures { Finds (within (shown table.entry).content (bound_map (λ low. low.now) low.entry)
+        Unbounded) result room.old room.new }
+{
+    match table {
+        None => None,
+        Some(table) => table.tree.first_slice(low, room),
+    }
+}
+
+/// Whether there is a pair within two bounds.
+pub(crate) fn has_within<V: Clone + Drop>(
+    table: Option<&Table<V>>,
+    low: Bound<&[u8]>,
+    high: Bound<&[u8]>,
+) -> bool
+    ensures { result ≡ not (length (within (shown table.entry).content
+        (bound_map (λ low. low.now) low.entry) (bound_map (λ high. high.now) high.entry)) == 0) }
+{
+    match table {
+        None => false,
+        Some(table) => table.tree.has_within(low, high),
+    }
+}
+
+/// How many keys both have.
+pub(crate) fn common<V: Clone + Drop>(table: Option<&Table<V>>, other: Option<&Table<V>>) -> usize
+    ensures { result ≡ length (common (shown table.entry).content (shown other.entry).content) }
+{
+    match (table, other) {
+        (Some(table), Some(other)) => table.tree.intersect_count(&other.tree),
+        _ => 0,
+    }
+}
+
+/// The same map once more, its number one greater.
+pub(crate) fn snapshot<V: Clone + Drop>(
+    alloc: Global,
+    table: Option<&Table<V>>,
+) -> Result<Box<Table<V>>, Refusal>
+    ensures copy { IfOk result (λ copy. copy.value ≡ with_rise (shown table.entry) 1) }
+    ensures room { MatchResult result (λ _. HasRoom (shown table.entry) 1)
+        (Explains (shown table.entry)) }
+{
+    let copy = match table {
+        None => Table::new_at(alloc, 1),
+        Some(table) => table.snapshot()?,
+    };
+    match Box::new(alloc, copy) {
+        Ok(copy) => Ok(copy),
+        Err(_) => Err(Refusal::NoMemory),
+    }
+}
+
+/// The same map once more, its number too. Of none there is none.
+pub(crate) fn clone<V: Clone + Drop>(
+    alloc: Global,
+    table: Option<&Table<V>>,
+) -> Result<Option<Box<Table<V>>>, AllocError>
+    ensures { IfOk result (λ copy. MatchOption copy (shown table.entry ≡ empty_at 0)
+        (λ copy. copy.value ≡ shown table.entry)) }
+{
+    let Some(table) = table else {
+        return Ok(None);
+    };
+    Ok(Some(Box::new(alloc, table.clone()?)?))
+}

@@ -1,6 +1,6 @@
 -- A step along a key: what is found, which keys begin it, and what is counted, by what the key
 -- finds at a node.
-use Rattle.std.proofs.Common.{◌≡◌, ◌+◌, ◌<◌, ◌≤◌, ◌==◌, true, IfSome, ℕ, List, [], ◌∷◌, ◌++◌, Option, Some, None, slice_get, length, take, refl, arith, sym, ap, ◌∙◌, append_assoc, append-nil}
+use Rattle.std.proofs.Common.{◌≡◌, ◌+◌, ◌<◌, ◌≤◌, ◌==◌, true, IfSome, ℕ, suc, List, [], ◌∷◌, ◌++◌, Option, Some, None, slice_get, length, take, refl, arith, sym, ap, ◌∙◌, append_assoc, append-nil}
 use Rattle.std.specs.List.{last_or}
 use Rattle.std.proofs.lemmas.List.{length-append, nil_from_length}
 use Rattle.std.proofs.lemmas.Bool.{eqb-true}
@@ -8,6 +8,7 @@ use Rattle.std.proofs.lemmas.Option.{none-some}
 use Rattle.rart_below.specs.Children.{child_at}
 use Rattle.rart_node.specs.Counts.{Counts, CountsUpTo}
 use Rattle.rart_node.specs.Shape.{Shape, height, prefix_of, value_of, children_of}
+use Rattle.rart_search.specs.Searches.{EntersEach}
 use Rattle.rart_search.specs.Steps.{child_under}
 use Rattle.rart_shape.specs.Trees.{strip_prefix, found, IsTree, own_pair, path_bound}
 use Rattle.rart_shape.proofs.PrefixLemmas.{strip_prefix-is}
@@ -183,6 +184,69 @@ module _ {V : Type 0} where
                   ∙ ap (λ o. (passed ++ pending_pair (take end probe) value)
                   ++ behind_path key (matches_at left o)) (sym is);
             }
+
+  -- ---- each key that begins a probe ends at a node of its own on the way
+  one-pending : (key : List ℕ) (value : Option V) → length (pending_pair key value) ≤ 1
+  one-pending key None = omega arith
+  one-pending key (Some value) = omega arith
+
+  behind-length : (path : List ℕ) (list : List (List ℕ × V))
+      → length (behind_path path list) ≡ length list
+  behind-length path [] = refl
+  behind-length path (pair ∷ list) = ap suc (behind-length path list)
+
+  -- The way along a probe has come to a node with this rest of it, and has entered one for each key
+  -- that begins the probe and does not end below.
+  pub record EntersAbove (root : Shape V) (probe : List ℕ) (start : Counts) (s : Shape V)
+      (rest : List ℕ) (now : Counts) : Type 0 where
+    pub enough : start.entered + length (matches_of probe root)
+        ≤ now.entered + length (matches_of rest s)
+
+  pub above-start : (root : Shape V) (probe : List ℕ) (start : Counts)
+      → EntersAbove root probe start root probe start
+  above-start root probe start = record { enough = omega arith }
+
+  module _ (root : Shape V) (probe : List ℕ) (start : Counts) (s : Shape V) (rest : List ℕ)
+      (now after : Counts) (above : EntersAbove root probe start s rest now)
+      (opens : after ≡ record now { entered = now.entered + 1 }) where
+    pub each-left : None ≡ strip_prefix (prefix_of s) rest
+        → EntersEach (matches_of probe root) start after
+    each-left strips =
+        let none = ap length (matches_of-left s rest (sym strips)) in
+        let one = ap (λ z. z.entered) opens in
+        let enough = above.enough in
+        omega (arith, none, one, enough)
+
+    module _ (tree : IsTree s) (left : List ℕ)
+        (strips : Some left ≡ strip_prefix (prefix_of s) rest) where
+      few : length (matches_of rest s) ≤ 1 + length (matches_at left (child_under left s))
+      few =
+          let own = pending_pair (prefix_of s) (value_of s) in
+          let below = matches_at left (child_under left s) in
+          let parts = ap length (own-first [] s rest left tree (sym strips))
+          ∙ length-append own (behind_path (prefix_of s) below) in
+          omega (
+            arith,
+            parts,
+            behind-length [] (matches_of rest s),
+            behind-length (prefix_of s) below,
+            one-pending (prefix_of s) (value_of s),
+          )
+
+      pub each-last : None ≡ child_under left s → EntersEach (matches_of probe root) start after
+      each-last none =
+          let last = ap (λ o. length (matches_at left o)) none in
+          let one = ap (λ z. z.entered) opens in
+          let enough = above.enough in
+          omega (arith, few, last, one, enough)
+
+      pub each-child : (child : Shape V) → Some child ≡ child_under left s
+          → EntersAbove root probe start child left after
+      each-child child is =
+          let next = ap (λ o. length (matches_at left o)) is in
+          let one = ap (λ z. z.entered) opens in
+          let enough = above.enough in
+          record { enough = omega (arith, few, next, one, enough) }
 
   pub match-start : (root : Shape V) (probe : List ℕ) → IsMatchAt root probe [] root probe
   match-start root probe =

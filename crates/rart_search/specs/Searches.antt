@@ -1,5 +1,5 @@
--- What a search along a key finds below a node. It enters at least that node, each on the way at
--- most once, and makes none.
+-- What a search along a key finds below a node. It enters at least that node, and one for each key
+-- that begins the one it looks for; each on the way at most once. It makes none.
 use Rattle.std.specs.Prelude.{◌≡◌, ℕ, ◌+◌, ◌<◌, ◌≤◌, List, Option, None, IfSome, filter, length}
 use Rattle.std.specs.Borrow.{Bor}
 use Rattle.std.specs.Fn.{Mut}
@@ -14,12 +14,17 @@ use Rattle.rart_search.specs.Paths.{Arrives}
 use Rattle.rart_shape.specs.Trees.{found, pairs_of, path_bound}
 
 module _ {V : Type 0} where
+  -- One node at least was entered for each of these pairs.
+  abbrev pub EntersEach : List (List ℕ × V) → Counts → Counts → Type 0
+  EntersEach pairs start now = start.entered + length pairs ≤ now.entered
+
   -- The value of the key is found.
   pub record FindsValue (result : Option (Bor V)) (key : List ℕ) (s : Shape V)
       (start now : Counts) : Type 0 where
     pub value : option_copied result ≡ found s key
     pub counted : CountsUpTo (path_bound s key) 0 start now
     pub entered : start.entered < now.entered
+    pub least : EntersEach (filter (λ pair. begins pair.0 key) (pairs_of s)) start now
 
   -- How many nodes down the key ends is found, or nothing where it has no value.
   pub record FindsDepth (result : Option ℕ) (key : List ℕ) (s : Shape V) (start now : Counts)
@@ -38,6 +43,7 @@ module _ {V : Type 0} where
     pub within : IfSome result (λ found. found.0 ≤ length probe)
     pub counted : CountsUpTo (path_bound s probe) 0 start now
     pub entered : start.entered < now.entered
+    pub least : EntersEach (filter (λ pair. begins pair.0 probe) (pairs_of s)) start now
 
   -- f is called on each pair whose key begins the probe.
   pub record VisitsMatches {F : Type 0} (g : Mut F (Bor (List ℕ) × (Bor V × Unit {0})) (Unit {0}))
@@ -45,3 +51,4 @@ module _ {V : Type 0} where
     pub visits : Visit g BySlice f (filter (λ pair. begins pair.0 probe) (pairs_of s)) f'
     pub counted : CountsUpTo (path_bound s probe) 0 start now
     pub entered : start.entered < now.entered
+    pub least : EntersEach (filter (λ pair. begins pair.0 probe) (pairs_of s)) start now

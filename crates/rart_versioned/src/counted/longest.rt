@@ -1,8 +1,8 @@
 // Ported from rart 0.11.0 (Apache-2.0), and rewritten.
 //! The longest of the keys that begin a probe.
-ghost use Rattle.std.specs.Prelude.{◌≡◌, ◌<◌, ◌≤◌, false, length, IfOk, IfSome, IsSome, OnErr};
+ghost use Rattle.std.specs.Prelude.{◌≡◌, ◌+◌, ◌<◌, ◌≤◌, false, length, IfOk, IfSome, IsSome, OnErr};
 ghost use Rattle.rart_maps.specs.Bounds.{lookup_bound};
-ghost use Rattle.rart_maps.specs.Pairs.{longest_prefix_match};
+ghost use Rattle.rart_maps.specs.Pairs.{longest_prefix_match, prefix_matches};
 ghost use Rattle.rart_maps.specs.Versions.{has_no_key};
 ghost use Rattle.rart_node.specs.Counts.{CountsUpTo};
 ghost use Rattle.rart_versioned.specs.Longest.{entry_found, prefix_found};
@@ -15,7 +15,8 @@ use std::alloc::AllocError;
 
 impl<K: KeyTrait, V: Clone + Drop> VersionedAdaptiveRadixTree<K, V> {
     /// As `longest_prefix_match_k`, with the nodes entered counted into `work`: at most one more
-    /// than the probe has bytes, and at least one where there is a key in the map.
+    /// than the probe has bytes, and at least one where there is a key in the map, and one for each
+    /// key that begins the probe.
     pub fn longest_prefix_match_k_counted(
         &self,
         probe: &K,
@@ -27,6 +28,8 @@ impl<K: KeyTrait, V: Clone + Drop> VersionedAdaptiveRadixTree<K, V> {
             (IsSome (longest_prefix_match self.now.content (K.bytes probe.now))) }
         ensures counted { CountsUpTo (lookup_bound (K.bytes probe.now)) 0 work.old work.new }
         ensures entered { has_no_key self.now ≡ false → work.old.entered < work.new.entered }
+        ensures each { work.old.entered
+            + length (prefix_matches self.now.content (K.bytes probe.now)) ≤ work.new.entered }
     {
         let bytes = probe.as_ref();
         let Some((length, value)) = self.longest_slice_counted(bytes, work) else {
@@ -43,6 +46,8 @@ impl<K: KeyTrait, V: Clone + Drop> VersionedAdaptiveRadixTree<K, V> {
         ensures within { IfSome result (λ found. found.0 ≤ length probe.now) }
         ensures counted { CountsUpTo (lookup_bound probe.now) 0 work.old work.new }
         ensures entered { has_no_key self.now ≡ false → work.old.entered < work.new.entered }
+        ensures each { work.old.entered
+            + length (prefix_matches self.now.content probe.now) ≤ work.new.entered }
     {
         match &self.root {
             None => None,

@@ -178,7 +178,8 @@ impl<K: KeyTrait, V: Clone + Drop> VersionedAdaptiveRadixTree<K, V> {
     }
 
     /// As `prefix_match_for_each_k`, with the nodes entered counted into `work`: at most one more
-    /// than the probe has bytes, and at least one where there is a key in the map.
+    /// than the probe has bytes, and at least one where there is a key in the map, and one for each
+    /// pair.
     pub fn prefix_match_for_each_k_counted<F: FnMut(&[u8], &V)>(
         &self,
         probe: &K,
@@ -191,6 +192,8 @@ impl<K: KeyTrait, V: Clone + Drop> VersionedAdaptiveRadixTree<K, V> {
             (prefix_matches self.now.content (K.bytes probe.now)) f.new }
         ensures counted { CountsUpTo (lookup_bound (K.bytes probe.now)) 0 work.old work.new }
         ensures entered { has_no_key self.now ≡ false → work.old.entered < work.new.entered }
+        ensures each { work.old.entered
+            + length (prefix_matches self.now.content (K.bytes probe.now)) ≤ work.new.entered }
     {
         match &self.root {
             None => {}

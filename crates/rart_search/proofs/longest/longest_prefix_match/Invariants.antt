@@ -3,7 +3,7 @@ use Rattle.std.specs.List.{last_or}
 use Rattle.rart_node.specs.Shape.{height}
 use Rattle.rart_shape.proofs.SearchLemmas.{IsSearchAt}
 use Rattle.rart_search.specs.Longest.{pair_found}
-use Rattle.rart_search.proofs.StepLemmas.{IsMatchAt}
+use Rattle.rart_search.proofs.StepLemmas.{IsMatchAt, EntersAbove}
 use Rattle.rart_search.proofs.longest.longest_prefix_match.Given as goal
 
 abbrev pub invariant-down : goal.invariant-down
@@ -12,6 +12,7 @@ invariant-down g l =
     let s = l.at.shape in
     record {
       search : IsSearchAt root l.fn.probe l.fn.work s l.rest l.work;
+      above : EntersAbove root l.fn.probe l.fn.work s l.rest l.work;
       passed : List (List ℕ × g.row.V.Denot);
       match : IsMatchAt root l.fn.probe passed s l.rest;
       last : pair_found l.fn.probe l.longest ≡ last_or None passed;

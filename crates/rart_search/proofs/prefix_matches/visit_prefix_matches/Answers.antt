@@ -6,7 +6,7 @@ use Rattle.rart_maps.proofs.VisitLemmas.{answers-append, callable-part}
 use Rattle.rart_node.specs.Shape.{value_of}
 use Rattle.rart_shape.proofs.SearchLemmas.{search-start}
 use Rattle.rart_search.specs.Steps.{child_under}
-use Rattle.rart_search.proofs.StepLemmas.{step-counted, step-entered, step-lower, step-child, match-start, match-left, match-fits, match-own, match-last, match-next}
+use Rattle.rart_search.proofs.StepLemmas.{step-counted, step-entered, step-lower, step-child, match-start, match-left, match-fits, match-own, match-last, match-next, each-left, each-last, each-child, above-start}
 use Rattle.rart_search.proofs.prefix_matches.visit_prefix_matches.Goals as goal
 use Rattle.rart_walks.specs.Frames.{pending_pair}
 
@@ -15,6 +15,7 @@ down-init g c =
     let root = c.args.root.now.shape in
     record {
       search = search-start root c.args.probe.now c.args.work.now c.requires.tree;
+      above = above-start root c.args.probe.now c.args.work.now;
       passed = [];
       match = match-start root c.args.probe.now;
       visits = refl;
@@ -30,6 +31,7 @@ returns-in_default g c =
           c.down.invariant.visits;
       counted = step-counted _ _ _ _ _ _ _ at opens;
       entered = step-entered _ _ _ _ _ _ _ at opens;
+      least = each-left _ _ _ _ _ _ _ c.down.invariant.above opens c.in_default.ensures.rest;
     }
 
 pub overflow_sub-end : goal.overflow_sub-end
@@ -52,12 +54,11 @@ returns-in_default-child g c =
     let at = c.down.invariant.search in
     let opens = c.in-Some.ensures.work in
     let fits = match-fits _ _ _ _ _ c.down.invariant.match _ c.in-Some.ensures.rest in
+    let none = sym (ap (option_map (λ child. child.now.shape)) c.in_default-child.is)
+    ∙ c.child.ensures ∙ ap (child_under c.in-Some.passed.rest.now) c.in-Some.ensures.node in
     let last = match-last _ _ _ _ _ c.down.invariant.match _ c.in-Some.ensures.rest
     at.tree (length c.args.probe.now - length c.in-Some.passed.rest.now)
-    (omega (arith, fits)) _ (c.value.ensures ∙ ap value_of c.in-Some.ensures.node)
-    (sym (ap (option_map (λ child. child.now.shape))
-    c.in_default-child.is) ∙ c.child.ensures
-    ∙ ap (child_under c.in-Some.passed.rest.now) c.in-Some.ensures.node) in
+    (omega (arith, fits)) _ (c.value.ensures ∙ ap value_of c.in-Some.ensures.node) none in
     record {
       visits = subst (λ list. Visit g.F.FnMut BySlice c.args.f.now list c.visit_own.new.f)
           (sym last)
@@ -65,6 +66,8 @@ returns-in_default-child g c =
           c.visit_own.new.f c.down.invariant.visits c.visit_own.ensures);
       counted = step-counted _ _ _ _ _ _ _ at opens;
       entered = step-entered _ _ _ _ _ _ _ at opens;
+      least = each-last _ _ _ _ _ _ _ c.down.invariant.above opens at.tree _
+          c.in-Some.ensures.rest none;
     }
 
 pub down-smaller : goal.down-smaller
@@ -83,6 +86,8 @@ down-preserved g c =
     record {
       search = step-child _ _ _ _ _ _ _ c.down.invariant.search c.in-Some.ensures.work _
           c.in-Some.ensures.rest _ here;
+      above = each-child _ _ _ _ _ _ _ c.down.invariant.above c.in-Some.ensures.work
+          c.down.invariant.search.tree _ c.in-Some.ensures.rest _ here;
       passed = c.down.invariant.passed
           ++ pending_pair (take (length c.args.probe.now - length c.in-Some.passed.rest.now)
           c.args.probe.now) (option_copied c.value.result);

@@ -2,7 +2,7 @@ use Rattle.std.proofs.Common.{List, ℕ}
 use Rattle.rart_maps.specs.Visits.{BySlice, Visit}
 use Rattle.rart_node.specs.Shape.{height}
 use Rattle.rart_shape.proofs.SearchLemmas.{IsSearchAt}
-use Rattle.rart_search.proofs.StepLemmas.{IsMatchAt}
+use Rattle.rart_search.proofs.StepLemmas.{IsMatchAt, EntersAbove}
 use Rattle.rart_search.proofs.prefix_matches.visit_prefix_matches.Given as goal
 
 abbrev pub invariant-down : goal.invariant-down
@@ -11,6 +11,7 @@ invariant-down g l =
     let s = l.at.shape in
     record {
       search : IsSearchAt root l.fn.probe l.fn.work s l.rest l.work;
+      above : EntersAbove root l.fn.probe l.fn.work s l.rest l.work;
       passed : List (List ℕ × g.row.V.Denot);
       match : IsMatchAt root l.fn.probe passed s l.rest;
       visits : Visit g.F.FnMut BySlice l.fn.f passed l.f;

@@ -1,4 +1,4 @@
-use Rattle.std.proofs.Common.{◌≡◌, None, true, sym, ap, ◌∙◌, arith}
+use Rattle.std.proofs.Common.{◌≡◌, None, true, length, refl, sym, ap, ◌∙◌, arith}
 use Rattle.std.proofs.lemmas.Bool.{true≢false}
 use Rattle.std.specs.Option.{option_map}
 use Rattle.rart_node.specs.Seen.{shape_of}
@@ -7,6 +7,7 @@ use Rattle.rart_maps.specs.Versions.{has_no_key}
 use Rattle.rart_shape.proofs.CountingLemmas.{counts-most, path-most}
 use Rattle.rart_versioned.proofs.VersionMapLemmas.{get-found}
 use Rattle.rart_versioned.proofs.SoundLemmas.{value-in, no-key}
+use Rattle.rart_versioned.proofs.VersionVisitLemmas.{none-prefix_matches, root-prefix_matches}
 use Rattle.rart_versioned.proofs.counted.tree.VersionedAdaptiveRadixTree.get_slice_counted.Goals as goal
 
 pub returns-in-None-clause-value : goal.returns-in-None-clause-value
@@ -33,3 +34,18 @@ pub returns-in-Some-clause-counted : goal.returns-in-Some-clause-counted
 returns-in-Some-clause-counted g c =
     let s = c.in-Some.root.shape in
     counts-most c.get_below.ensures.counted (path-most s c.args.key.now) (omega arith)
+
+pub returns-in-None-clause-each : goal.returns-in-None-clause-each
+returns-in-None-clause-each g c =
+    let none = ap length (none-prefix_matches shape_of g.K.KeyTrait.MAXIMUM_SIZE
+    c.self.inside.version c.self.inside.root c.args.self.now c.self.invariant c.self.view_is
+    c.args.key.now c.in-None.is) in
+    omega (arith, none)
+
+pub returns-in-Some-clause-each : goal.returns-in-Some-clause-each
+returns-in-Some-clause-each g c =
+    let all = ap length (root-prefix_matches shape_of g.K.KeyTrait.MAXIMUM_SIZE
+    c.self.inside.version c.self.inside.root c.args.self.now c.self.invariant c.self.view_is
+    c.in-Some.root c.in-Some.is c.args.key.now c.args.key.now refl) in
+    let least = c.get_below.ensures.least in
+    omega (arith, all, least)

@@ -1,4 +1,4 @@
-use Rattle.std.proofs.Common.{None, refl, sym, ap, ◌∙◌, arith}
+use Rattle.std.proofs.Common.{None, length, refl, sym, ap, ◌∙◌, arith}
 use Rattle.std.specs.List.{last_or}
 use Rattle.rart_node.specs.Seen.{shape_of}
 use Rattle.rart_shape.proofs.CountingLemmas.{counts-most, path-most}
@@ -30,3 +30,18 @@ returns-in-Some-clause-counted g c =
     let s = c.in-Some.root.shape in
     counts-most c.longest_prefix_match.ensures.counted (path-most s c.args.probe.now)
     (omega arith)
+
+pub returns-in-None-clause-each : goal.returns-in-None-clause-each
+returns-in-None-clause-each g c =
+    let none = ap length (none-prefix_matches shape_of g.K.KeyTrait.MAXIMUM_SIZE
+    c.self.inside.version c.self.inside.root c.args.self.now c.self.invariant c.self.view_is
+    c.args.probe.now c.in-None.is) in
+    omega (arith, none)
+
+pub returns-in-Some-clause-each : goal.returns-in-Some-clause-each
+returns-in-Some-clause-each g c =
+    let all = ap length (root-prefix_matches shape_of g.K.KeyTrait.MAXIMUM_SIZE
+    c.self.inside.version c.self.inside.root c.args.self.now c.self.invariant c.self.view_is
+    c.in-Some.root c.in-Some.is c.args.probe.now c.args.probe.now refl) in
+    let least = c.longest_prefix_match.ensures.least in
+    omega (arith, all, least)

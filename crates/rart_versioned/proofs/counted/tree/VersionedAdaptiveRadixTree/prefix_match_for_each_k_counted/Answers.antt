@@ -1,4 +1,4 @@
-use Rattle.std.proofs.Common.{◌+◌, ◌≤◌, ℕ, List, length, sym, subst, arith}
+use Rattle.std.proofs.Common.{◌+◌, ◌≤◌, ℕ, List, length, ap, sym, subst, arith}
 use Rattle.rart_node.specs.Seen.{shape_of}
 use Rattle.rart_maps.specs.Visits.{BySlice, Visit, Visitable}
 use Rattle.rart_maps.proofs.VisitLemmas.{up_to-over, up_to-start}
@@ -52,3 +52,18 @@ returns-in-Some-clause-counted g c =
     let most = subst (λ (k : List ℕ). path_bound s probe ≤ length k + 1) c.as_ref.ensures
     (path-most s probe) in
     counts-most c.visit_prefix_matches.ensures.counted most (omega arith)
+
+pub returns-in-None-clause-each : goal.returns-in-None-clause-each
+returns-in-None-clause-each g c =
+    let none = ap length (none-prefix_matches shape_of g.K.KeyTrait.MAXIMUM_SIZE
+    c.self.inside.version c.self.inside.root c.args.self.now c.self.invariant c.self.view_is
+    (g.K.KeyTrait.bytes c.args.probe.now) c.in-None.is) in
+    omega (arith, none)
+
+pub returns-in-Some-clause-each : goal.returns-in-Some-clause-each
+returns-in-Some-clause-each g c =
+    let all = ap length (root-prefix_matches shape_of g.K.KeyTrait.MAXIMUM_SIZE
+    c.self.inside.version c.self.inside.root c.args.self.now c.self.invariant c.self.view_is
+    c.in-Some.root c.in-Some.is (g.K.KeyTrait.bytes c.args.probe.now) _ c.as_ref.ensures) in
+    let least = c.visit_prefix_matches.ensures.least in
+    omega (arith, all, least)

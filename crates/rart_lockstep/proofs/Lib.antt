@@ -4,6 +4,7 @@ pub mod ChildLemmas
 pub mod CommonLemmas
 pub mod EnterLemmas
 pub mod PairLeafLemmas
+pub mod LeastLemmas
 pub mod LockstepLemmas
 pub mod IntersectionLemmas
 pub mod SharedLemmas

@@ -25,6 +25,8 @@ pub fn count_common<P: Partial, V: Drop>(
     ensures counted { CountsUpTo (2 * set.len (shared_of left.now.shape
         right.now.shape)) 0 work.old work.new }
     ensures entered { work.old.entered + 2 ≤ work.new.entered }
+    ensures least { work.old.entered
+        + 2 * length (common_pairs left.now.shape right.now.shape) ≤ work.new.entered }
 {
     let mut count = 0usize;
     visit_common_values(

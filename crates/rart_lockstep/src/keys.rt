@@ -1,6 +1,6 @@
 // Ported from rart 0.11.0 (Apache-2.0), and rewritten.
 //! Visits of the keys of two trees, each made anew.
-ghost use Rattle.std.specs.Prelude.{◌+◌, ◌*◌, ◌≤◌, true};
+ghost use Rattle.std.specs.Prelude.{◌+◌, ◌*◌, ◌≤◌, length, true, OnOk};
 ghost use Rattle.std.specs.FinSet as set;
 ghost use Rattle.rart_lockstep.specs.CommonPairs.{common_pairs, shared_of};
 ghost use Rattle.rart_maps.specs.Visits.{ByKeyPair, Visits, Visitable};
@@ -21,7 +21,8 @@ use std::marker::PhantomData;
 /// tree has there.
 ///
 /// Refused for memory, it has called it on a prefix of them. Two nodes are entered for each
-/// string that begins keys of both at most, and the two that the pointers show at least.
+/// string that begins keys of both at most, and the two that the pointers show at least; not
+/// refused, two for each of the keys.
 pub fn visit_common_keys<'a, K: KeyTrait, P: Partial, V: Drop, F: FnMut(K, &'a V, &'a V)>(
     alloc: Global,
     left: &'a NodeRef<P, V>,
@@ -39,6 +40,8 @@ pub fn visit_common_keys<'a, K: KeyTrait, P: Partial, V: Drop, F: FnMut(K, &'a V
     ensures counted { CountsUpTo (2 * set.len (shared_of left.now.shape
         right.now.shape)) 0 work.old work.new }
     ensures entered { work.old.entered + 2 ≤ work.new.entered }
+    ensures least { OnOk result (work.old.entered
+        + 2 * length (common_pairs left.now.shape right.now.shape) ≤ work.new.entered) }
 {
     let mut key_path: KeyMaker<'a, K, V> = KeyMaker::new(alloc);
     let at = TreeCursors::open(left, right, work);

@@ -1,7 +1,8 @@
 // Ported from rart 0.11.0 (Apache-2.0), and rewritten.
 //! The way down two trees at once.
-ghost use Rattle.std.specs.Prelude.{IsTrue, OnErr};
+ghost use Rattle.std.specs.Prelude.{◌+◌, ◌*◌, ◌≤◌, length, IsTrue, OnErr, OnOk};
 ghost use Rattle.rart_shape.specs.Trees.{IsTree};
+ghost use Rattle.rart_lockstep.specs.CommonPairs.{common_pairs};
 ghost use Rattle.rart_lockstep.specs.Intersections.{CanIntersect, HasIntersected};
 ghost use Rattle.rart_lockstep.specs.Steps.{EntersBelow};
 
@@ -29,6 +30,9 @@ pub(crate) fn intersect_below<V, T, F, J: OnCommonKey<V, T, F>>(
         (J.left at) (J.right at) key_path.new f.new }
     ensures refused { OnErr result (IsTrue J.can_refuse) }
     ensures enters { EntersBelow (J.left at) (J.right at) work.old work.new }
+    // (the two nodes there were entered before)
+    ensures least { OnOk result (work.old.entered
+        + 2 * length (common_pairs (J.left at) (J.right at)) ≤ work.new.entered + 2) }
 {
     let Some(common) = at.common() else {
         return Ok(());

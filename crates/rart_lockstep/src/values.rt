@@ -1,6 +1,6 @@
 // Ported from rart 0.11.0 (Apache-2.0), and rewritten.
 //! Visits of the values of the keys of two trees.
-ghost use Rattle.std.specs.Prelude.{◌+◌, ◌*◌, ◌≤◌, false, None, map};
+ghost use Rattle.std.specs.Prelude.{◌+◌, ◌*◌, ◌≤◌, false, length, None, map};
 ghost use Rattle.std.specs.FinSet as set;
 ghost use Rattle.rart_lockstep.specs.CommonPairs.{common_pairs, shared_of};
 ghost use Rattle.rart_maps.specs.Visits.{ByValuePair, Visit, Visitable};
@@ -19,7 +19,7 @@ use std::marker::PhantomData;
 /// there.
 ///
 /// Two nodes are entered for each string that begins keys of both at most, and the two that the
-/// pointers show at least. It takes no memory.
+/// pointers show at least, and two for each of the keys. It takes no memory.
 pub fn visit_common_values<'a, P: Partial, V: Drop, F: FnMut(&'a V, &'a V)>(
     left: &'a NodeRef<P, V>,
     right: &'a NodeRef<P, V>,
@@ -35,6 +35,8 @@ pub fn visit_common_values<'a, P: Partial, V: Drop, F: FnMut(&'a V, &'a V)>(
     ensures counted { CountsUpTo (2 * set.len (shared_of left.now.shape
         right.now.shape)) 0 work.old work.new }
     ensures entered { work.old.entered + 2 ≤ work.new.entered }
+    ensures least { work.old.entered
+        + 2 * length (common_pairs left.now.shape right.now.shape) ≤ work.new.entered }
 {
     // (a key path that keeps nothing refuses nothing)
     let key_path = ValuesPath { lent: PhantomData };

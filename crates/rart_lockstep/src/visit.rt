@@ -1,6 +1,6 @@
 // Ported from rart 0.11.0 (Apache-2.0), and rewritten.
 //! A visit of the keys of two trees.
-ghost use Rattle.std.specs.Prelude.{◌+◌, ◌*◌, ◌≤◌, [], IsTrue, OnErr};
+ghost use Rattle.std.specs.Prelude.{◌+◌, ◌*◌, ◌≤◌, [], length, IsTrue, OnErr, OnOk};
 ghost use Rattle.std.specs.FinSet as set;
 ghost use Rattle.rart_lockstep.specs.CommonPairs.{common_pairs, shared_of};
 ghost use Rattle.rart_maps.specs.Visits.{Visits, Visitable};
@@ -20,8 +20,8 @@ use std::alloc::AllocError;
 /// way.
 ///
 /// Refused for memory, it has called it on a prefix of them. Two nodes are entered for each
-/// string that begins keys of both at most, and the two that the pointers show at least. It takes
-/// no memory but what the key path does.
+/// string that begins keys of both at most, and the two that the pointers show at least; not
+/// refused, two for each of the keys. It takes no memory but what the key path does.
 ///
 /// Its bounds name no closure, since a closure that may keep what it is lent can't be handed to
 /// another crate by itself.
@@ -44,6 +44,8 @@ pub fn visit_common<'a, P: Partial, V: Drop, F, T: IntersectionPath<'a, V, F>>(
     ensures counted { CountsUpTo (2 * set.len (shared_of left.now.shape
         right.now.shape)) 0 work.old work.new }
     ensures entered { work.old.entered + 2 ≤ work.new.entered }
+    ensures least { OnOk result (work.old.entered
+        + 2 * length (common_pairs left.now.shape right.now.shape) ≤ work.new.entered) }
 {
     let at = TreeCursors::open(left, right, work);
     intersect_below(at, &mut key_path, f, work)

@@ -1,6 +1,6 @@
 // Ported from rart 0.11.0 (Apache-2.0), and rewritten.
 //! Intersections of two trees, and their counts.
-ghost use Rattle.std.specs.Prelude.{◌≡◌, ◌+◌, ◌≤◌, false, length, map, IfNone, IfSome};
+ghost use Rattle.std.specs.Prelude.{◌≡◌, ◌+◌, ◌*◌, ◌≤◌, false, length, map, IfNone, IfSome, OnOk};
 ghost use Rattle.rart_maps.specs.Bounds.{meet_bound};
 ghost use Rattle.rart_maps.specs.Pairs.{common};
 ghost use Rattle.rart_maps.specs.Versions.{has_no_key};
@@ -19,8 +19,8 @@ use std::alloc::AllocError;
 
 impl<K: KeyTrait, V: Clone + Drop> VersionedAdaptiveRadixTree<K, V> {
     /// As `intersect_with`, with the nodes entered counted into `work`: at most two for each string
-    /// that begins a key of both, so none where either map has no key, and at least two where both
-    /// have one.
+    /// that begins a key of both, so none where either map has no key; at least two where both have
+    /// one, and, where it isn't refused, two for each common key.
     pub fn intersect_with_counted<'a, F: FnMut(K, &'a V, &'a V)>(
         &'a self,
         other: &'a VersionedAdaptiveRadixTree<K, V>,
@@ -35,6 +35,8 @@ impl<K: KeyTrait, V: Clone + Drop> VersionedAdaptiveRadixTree<K, V> {
             work.old work.new }
         ensures entered { has_no_key self.now ≡ false → has_no_key other.now ≡ false
             → work.old.entered + 2 ≤ work.new.entered }
+        ensures each { OnOk result (work.old.entered
+            + 2 * length (common self.now.content other.now.content) ≤ work.new.entered) }
     {
         match self.both_roots(other) {
             None => Ok(()),
@@ -58,6 +60,8 @@ impl<K: KeyTrait, V: Clone + Drop> VersionedAdaptiveRadixTree<K, V> {
             work.old work.new }
         ensures entered { has_no_key self.now ≡ false → has_no_key other.now ≡ false
             → work.old.entered + 2 ≤ work.new.entered }
+        ensures each { OnOk result (work.old.entered
+            + 2 * length (common self.now.content other.now.content) ≤ work.new.entered) }
     {
         match self.both_roots(other) {
             None => Ok(()),
@@ -84,6 +88,8 @@ impl<K: KeyTrait, V: Clone + Drop> VersionedAdaptiveRadixTree<K, V> {
             work.old work.new }
         ensures entered { has_no_key self.now ≡ false → has_no_key other.now ≡ false
             → work.old.entered + 2 ≤ work.new.entered }
+        ensures each { work.old.entered
+            + 2 * length (common self.now.content other.now.content) ≤ work.new.entered }
     {
         match self.both_roots(other) {
             None => {}
@@ -103,6 +109,8 @@ impl<K: KeyTrait, V: Clone + Drop> VersionedAdaptiveRadixTree<K, V> {
             work.old work.new }
         ensures entered { has_no_key self.now ≡ false → has_no_key other.now ≡ false
             → work.old.entered + 2 ≤ work.new.entered }
+        ensures each { work.old.entered
+            + 2 * length (common self.now.content other.now.content) ≤ work.new.entered }
     {
         match self.both_roots(other) {
             None => 0,

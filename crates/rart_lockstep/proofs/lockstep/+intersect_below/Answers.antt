@@ -5,10 +5,11 @@ use Rattle.rart_maps.proofs.VisitLemmas.{up_to-start}
 use Rattle.rart_node.specs.Shape.{IsAscending, prefix_of}
 use Rattle.rart_lockstep.specs.Children.{common_children}
 use Rattle.rart_lockstep.specs.Entries.{entry_here}
-use Rattle.rart_lockstep.specs.TreeCursors.{behind_bytes, next_children}
+use Rattle.rart_lockstep.specs.TreeCursors.{behind_bytes, next_children, children_next}
 use Rattle.rart_lockstep.proofs.EnterLemmas.{EntersUpTo, enters-none, enters-start, enters-next, enters-past, enters-end}
 use Rattle.rart_lockstep.proofs.LockstepLemmas.{IsIntersection, here-visitable, here-refused, on_common_key-start, next-may, on_common_key-next, on_common_key-refused, visits-apart, push-admits, step-lower, enters-still, tree-ascending}
 use Rattle.rart_lockstep.proofs.IntersectionLemmas.{have-refused}
+use Rattle.rart_lockstep.proofs.LeastLemmas.{EntersLeast, least-start, least-next, least-end, least-apart, least-leaves, least-refused}
 use Rattle.rart_lockstep.proofs.PairStepLemmas.{count-left, count-right, one-ends, tree-with}
 use Rattle.rart_lockstep.proofs.lockstep.+intersect_below.Goals as goal
 
@@ -155,6 +156,10 @@ branches-init g t c =
           c.args.work.now c.args.work.now) (sym left)
           (enters-start x y (common_children (next_children x) (next_children y)) c.args.work.now);
       common = c.in-Some.ensures;
+      nodes = c.branches-branches.ensures.nodes
+          ∙ (λ i. children_next (prefix_of (next.left i)) (prefix_of (next.right i)));
+      least = subst (λ left. EntersLeast s t count left c.args.work.now c.args.work.now) (sym left)
+          (least-start s t count c.in-Some.ensures c.requires.left c.args.work.now);
     }
 
 pub branches-preserved-then-parts_early : goal.branches-preserved-then-parts_early
@@ -190,6 +195,12 @@ branches-preserved-then-parts_early g t c =
           c.args.work.now c.branches.work c.next.new.work so_far here.pairs.0.0 here.pairs.0.1
           c.in-Some-next.ensures.counted;
       common = c.in-Some.ensures;
+      nodes = c.in-Some-next.ensures.nodes ∙ c.branches.invariant.nodes;
+      least = least-next s t count takes.0 x y rest _ c.args.work.now c.branches.work
+          c.next.new.work c.next.new.work c.branches.invariant.nodes
+          (subst (λ left. EntersLeast s t count left c.args.work.now c.branches.work) takes.1
+          c.branches.invariant.least) c.in-Some-next.ensures.entered
+          (least-apart x y apart c.next.new.work);
     }
 
 pub intersect_leaves-requires-clause-meets : goal.intersect_leaves-requires-clause-meets
@@ -242,6 +253,12 @@ branches-preserved-then-are_leaves g t c =
           c.args.work.now c.branches.work c.next.new.work so_far here.pairs.0.0 here.pairs.0.1
           c.in-Some-next.ensures.counted;
       common = c.in-Some.ensures;
+      nodes = c.in-Some-next.ensures.nodes ∙ c.branches.invariant.nodes;
+      least = least-next s t count takes.0 x y rest _ c.args.work.now c.branches.work
+          c.next.new.work c.next.new.work c.branches.invariant.nodes
+          (subst (λ left. EntersLeast s t count left c.args.work.now c.branches.work) takes.1
+          c.branches.invariant.least) c.in-Some-next.ensures.entered
+          (least-leaves x y (c.are_leaves.ensures.left c.if-are_leaves.true) c.next.new.work);
     }
 
 pub returns-in_err-intersect_leaves-clause-met : goal.returns-in_err-intersect_leaves-clause-met
@@ -367,6 +384,12 @@ branches-preserved g t c =
           here.pairs.0.0 here.pairs.0.1 c.in-Some-next.ensures.counted
           c.in_ok-intersect_below.ensures.enters;
       common = c.in-Some.ensures;
+      nodes = c.in-Some-next.ensures.nodes ∙ c.branches.invariant.nodes;
+      least = least-next s t count takes.0 x y rest _ c.args.work.now c.branches.work
+          c.next.new.work c.intersect_below.new.work c.branches.invariant.nodes
+          (subst (λ left. EntersLeast s t count left c.args.work.now c.branches.work) takes.1
+          c.branches.invariant.least) c.in-Some-next.ensures.entered
+          (c.in_ok-intersect_below.ensures.least);
     }
 
 pub returns-in_err-intersect_below-clause-met : goal.returns-in_err-intersect_below-clause-met
@@ -436,3 +459,33 @@ returns-clause-enters g t c =
     c.in-Some.ensures.0
     (enters-still (behind_bytes count s) (behind_bytes count t) all rest c.args.work.now
     c.branches.work c.next.new.work c.branches.invariant.entered c.in_default-next.ensures.counted)
+
+pub returns-in_default-clause-least : goal.returns-in_default-clause-least
+returns-in_default-clause-least g t c =
+    least-apart (g.J.PairCursor.left c.args.at) (g.J.PairCursor.right c.args.at) c.in_default.ensures
+    c.args.work.now
+
+pub returns-in_err-push-clause-least : goal.returns-in_err-push-clause-least
+returns-in_err-push-clause-least g t c =
+    least-refused _ c.from_residual.result c.from_residual.ensures.0
+
+pub returns-in_err-meet-clause-least : goal.returns-in_err-meet-clause-least
+returns-in_err-meet-clause-least g t c =
+    least-refused _ c.from_residual-in_err-meet.result c.from_residual-in_err-meet.ensures.0
+
+pub returns-in_err-intersect_leaves-clause-least :
+    goal.returns-in_err-intersect_leaves-clause-least
+returns-in_err-intersect_leaves-clause-least g t c =
+    least-refused _ c.from_residual-in_err-intersect_leaves.result
+    c.from_residual-in_err-intersect_leaves.ensures.0
+
+pub returns-in_err-intersect_below-clause-least : goal.returns-in_err-intersect_below-clause-least
+returns-in_err-intersect_below-clause-least g t c =
+    least-refused _ c.from_residual-in_err-intersect_below.result
+    c.from_residual-in_err-intersect_below.ensures.0
+
+pub returns-clause-least : goal.returns-clause-least
+returns-clause-least g t c =
+    least-end (g.J.PairCursor.left c.args.at) (g.J.PairCursor.right c.args.at) c.in-Some.common
+    _ c.args.work.now c.branches.work c.next.new.work c.branches.invariant.least
+    c.in_default-next.ensures.takes c.in_default-next.ensures.entered

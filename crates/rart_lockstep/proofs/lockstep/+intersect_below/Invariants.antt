@@ -1,9 +1,10 @@
-use Rattle.std.proofs.Common.{◌+◌, length, Some}
-use Rattle.rart_node.specs.Shape.{height}
+use Rattle.std.proofs.Common.{◌≡◌, ◌+◌, length, Some}
+use Rattle.rart_node.specs.Shape.{height, prefix_of}
 use Rattle.rart_lockstep.specs.Children.{common_children}
 use Rattle.rart_lockstep.specs.PairCursors.{CommonBytes}
-use Rattle.rart_lockstep.specs.TreeCursors.{behind_bytes, next_children}
+use Rattle.rart_lockstep.specs.TreeCursors.{behind_bytes, next_children, children_next}
 use Rattle.rart_lockstep.proofs.EnterLemmas.{EntersUpTo}
+use Rattle.rart_lockstep.proofs.LeastLemmas.{EntersLeast}
 use Rattle.rart_lockstep.proofs.LockstepLemmas.{IsIntersection}
 use Rattle.rart_lockstep.proofs.lockstep.+intersect_below.Given as goal
 
@@ -26,6 +27,9 @@ invariant-branches g l =
           (next_children (behind_bytes l.common t))) left
           l.fn.work l.work;
       common : CommonBytes s t (Some l.common);
+      nodes : g.J.PairCursor.nodes_a_step l.branches
+          ≡ children_next (prefix_of (behind_bytes l.common s)) (prefix_of (behind_bytes l.common t));
+      least : EntersLeast s t l.common left l.fn.work l.work;
     }
 
 abbrev pub decreases-branches : goal.decreases-branches

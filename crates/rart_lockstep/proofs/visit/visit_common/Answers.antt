@@ -1,4 +1,5 @@
 use Rattle.rart_lockstep.proofs.IntersectionLemmas.{may-start, met-end, counted-roots}
+use Rattle.rart_lockstep.proofs.LeastLemmas.{least-roots}
 use Rattle.rart_lockstep.proofs.visit.visit_common.Goals as goal
 
 pub intersect_below-requires-clause-meets : goal.intersect_below-requires-clause-meets
@@ -28,3 +29,11 @@ returns-clause-counted g c =
     let opened = c.open-at.ensures in
     counted-roots s t _ _ opened.left opened.right c.args.work.now _ _ opened.work
     c.intersect_below.ensures.enters
+
+pub returns-clause-least : goal.returns-clause-least
+returns-clause-least g c =
+    let s = c.args.left.now.shape in
+    let t = c.args.right.now.shape in
+    let opened = c.open-at.ensures in
+    least-roots s t _ _ opened.left opened.right c.args.work.now _ c.intersect_below.new.work _
+    opened.work c.intersect_below.ensures.least

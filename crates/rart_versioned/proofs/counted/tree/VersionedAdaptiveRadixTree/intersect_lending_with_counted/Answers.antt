@@ -1,5 +1,6 @@
-use Rattle.std.proofs.Common.{refl, sym, subst}
+use Rattle.std.proofs.Common.{refl, sym, subst, ap, arith, length}
 use Rattle.rart_maps.specs.Visits.{ByViewPair, Visitable}
+use Rattle.rart_versioned.proofs.VersionVisitLemmas.{OnOk-weaker}
 use Rattle.rart_versioned.proofs.counted.tree.VersionedAdaptiveRadixTree.intersect_lending_with_counted.Goals as goal
 
 pub visit_common-requires : goal.visit_common-requires
@@ -22,3 +23,12 @@ visit_common-requires g c κs =
         ),
       ),
     )
+
+pub returns-in-Some-clause-each : goal.returns-in-Some-clause-each
+returns-in-Some-clause-each g c =
+    let all = ap length c.in-Some.ensures.both.common_pairs_are in
+    OnOk-weaker c.visit_common.result (λ least. omega (arith, all, least)) c.visit_common.ensures.least
+
+pub returns-in-None-clause-each : goal.returns-in-None-clause-each
+returns-in-None-clause-each g c =
+    let none = ap length c.in-None.ensures.lacking.none in omega (arith, none)

@@ -29,11 +29,12 @@ module _ {P V : Type 0} {partial : _} where
     pub before : IsSide walk.before
     pub after : IsSide walk.after
 
-  -- The next key of either side was taken, with what both have there, or there was none.
+  -- The next key of either side was taken, with what both have there, or there was none, and all
+  -- nodes are entered.
   abbrev pub TakesKey : ChangeWalk P V partial → ChangeWalk P V partial →
       Option (Option (Bor V) × Option (Bor V)) → Type 0
   TakesKey start next None =
-      (pairs_left start.before ≡ []) × (pairs_left start.after ≡ [])
+      (pairs_left start.before ≡ []) × (pairs_left start.after ≡ []) × (nodes_to_enter next ≡ 0)
   TakesKey start next (Some values) =
       Leads (key_given next) (option_copied values.0)
       (pairs_left start.before) (pairs_left next.before)
@@ -41,10 +42,11 @@ module _ {P V : Type 0} {partial : _} where
       (pairs_left start.after) (pairs_left next.after)
       × (IsSome values.0 ⊎ IsSome values.1)
 
-  -- The first change was given, or there was none.
+  -- The first change was given, or there was none, and all nodes are entered.
   abbrev pub GivesChange : (V → V → Bool) → ChangeWalk P V partial → ChangeWalk P V partial →
       Option (Option (Bor V) × Option (Bor V)) → Type 0
-  GivesChange same start next None = changes_left same start ≡ []
+  GivesChange same start next None =
+      (changes_left same start ≡ []) × (nodes_to_enter next ≡ 0)
   GivesChange same start next (Some values) = changes_left same start
       ≡ (key_given next, option_copied values.0, option_copied values.1)
       ∷ changes_left same next

@@ -37,12 +37,18 @@ module _ {P V : Type 0} {partial : _} where
   abbrev pub IsAtKey : Side P V partial → Type 0
   IsAtKey side = side.value ≡ None → (cursor side.walk).pairs ≡ []
 
+  -- Where it stands at no key, it has entered all nodes.
+  abbrev pub IsThrough : Side P V partial → Type 0
+  IsThrough side = side.value ≡ None → nodes_left side ≡ 0
+
   -- Both are sides, and stand at the first of what they have left.
   pub record AreAtKeys (old new : Side P V partial) : Type 0 where
     pub before : IsSide old
     pub after : IsSide new
     pub before_at_key : IsAtKey old
     pub after_at_key : IsAtKey new
+    pub before_through : IsThrough old
+    pub after_through : IsThrough new
 
   -- Which side has the first key: the old one, both, or the new one; or there is none.
   abbrev pub ComesFirst : Side P V partial → Side P V partial → Option Ordering → Type 0
@@ -65,6 +71,7 @@ module _ {P V : Type 0} {partial : _} where
     pub side : OnOk result (IsSide new)
     pub pairs : OnOk result (pairs_left new ≡ pairs_left old)
     pub at_key : OnOk result (IsAtKey new)
+    pub through : OnOk result (IsThrough new)
     pub entered : OnOk result (now.entered + nodes_left new ≡ start.entered + nodes_left old)
     pub counted : CountsUpTo (nodes_left old) 0 start now
 

@@ -1,5 +1,5 @@
 //! How many changes there are, and whether there are any.
-ghost use Rattle.std.specs.Prelude.{◌≡◌, ◌↔◌, ◌<◌, ◌^◌, [], length, IfOk, IsTrue};
+ghost use Rattle.std.specs.Prelude.{◌≡◌, ◌↔◌, ◌+◌, ◌<◌, ◌^◌, [], length, IfOk, IsTrue, OnOk};
 ghost use Rattle.rart_node.specs.Counts.{CountsUpTo};
 ghost use Rattle.rart_diff.specs.TwoWalks.{GoTogether, changes_ahead, nodes_ahead};
 
@@ -21,6 +21,8 @@ pub fn count_changes<'a, P: Partial, V: Drop + Eq>(
     requires fits { length (changes_ahead V.eq old new) < 2 ^ 128 }
     ensures count { IfOk result (λ count. count ≡ length (changes_ahead V.eq old.entry new.entry)) }
     ensures counted { CountsUpTo (nodes_ahead old.entry new.entry) 0 work.old work.new }
+    ensures exact { OnOk result
+        (work.new.entered ≡ work.old.entered + nodes_ahead old.entry new.entry) }
 {
     let mut changes = ChangeWalk::new(old, new);
     let mut count = 0u128;
@@ -43,6 +45,8 @@ pub fn are_equal<'a, P: Partial, V: Drop + Eq>(
     ensures equal { IfOk result (λ equal. IsTrue equal
         ↔ (changes_ahead V.eq old.entry new.entry ≡ [])) }
     ensures counted { CountsUpTo (nodes_ahead old.entry new.entry) 0 work.old work.new }
+    ensures exact { IfOk result (λ equal. IsTrue equal
+        → work.new.entered ≡ work.old.entered + nodes_ahead old.entry new.entry) }
 {
     let mut changes = ChangeWalk::new(old, new);
     Ok(changes.next(work)?.is_none())

@@ -1,4 +1,5 @@
 //! Visits of the changes, each with a key of its own.
+ghost use Rattle.std.specs.Prelude.{◌≡◌, ◌+◌, OnOk};
 ghost use Rattle.rart_changes.specs.ChangeVisits.{ByKeyChange};
 ghost use Rattle.rart_maps.specs.Visits.{Visits, Visitable};
 ghost use Rattle.rart_node.specs.Counts.{CountsUpTo};
@@ -13,8 +14,8 @@ use std::alloc::{AllocError, Global};
 /// Calls the closure on each key at which what two walks have left differs, in order: with the key,
 /// and references to the value before and after, where there are any.
 ///
-/// Refused for memory, it has called it on a prefix of them. It enters no node but those that
-/// the walks have left, each at most once.
+/// It enters the nodes that the walks have left, each once. Refused for memory, it has called the
+/// closure on a prefix of the keys, and may not have entered all of them.
 pub fn visit_changed_keys<
     'a,
     K: KeyTrait,
@@ -35,6 +36,8 @@ pub fn visit_changed_keys<
     ensures visits { Visits F.FnMut (ByKeyChange K.bytes) result f.old
         (changes_ahead V.eq old.entry new.entry) f.new }
     ensures counted { CountsUpTo (nodes_ahead old.entry new.entry) 0 work.old work.new }
+    ensures exact { OnOk result
+        (work.new.entered ≡ work.old.entered + nodes_ahead old.entry new.entry) }
 {
     let mut changes = ChangeWalk::new(old, new);
     'visiting: while let Some((before, after)) = changes.next(work)? {

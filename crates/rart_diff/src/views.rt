@@ -1,4 +1,5 @@
 //! Visits of the changes, their keys lent as views.
+ghost use Rattle.std.specs.Prelude.{◌≡◌, ◌+◌, OnOk};
 ghost use Rattle.std.specs.Option.{option_copied};
 ghost use Rattle.rart_changes.specs.ChangeVisits.{ByViewChange};
 ghost use Rattle.rart_maps.specs.Visits.{CallableOn, CalledOn, Visits, Visitable, VisitsUntil, VisitableUntil};
@@ -28,6 +29,8 @@ pub fn visit_changed_views<
     ensures visits { Visits F.FnMut ByViewChange result f.old
         (changes_ahead V.eq old.entry new.entry) f.new }
     ensures counted { CountsUpTo (nodes_ahead old.entry new.entry) 0 work.old work.new }
+    ensures exact { OnOk result
+        (work.new.entered ≡ work.old.entered + nodes_ahead old.entry new.entry) }
 {
     let mut changes = ChangeWalk::new(old, new);
     'visiting: while let Some((before, after)) = changes.next(work)? {

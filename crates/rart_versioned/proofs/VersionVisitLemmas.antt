@@ -1,5 +1,5 @@
 -- What a visitor over a tree goes over and enters, in the words of the version that is shown.
-use Rattle.std.proofs.Common.{◌≡◌, ◌+◌, ◌*◌, ◌≤◌, ◌++◌, ◌&&◌, ⊎_elim, ℕ, Bool, true, false, cond, List, [], Option, None, Some, Result, Ok, Err, OnOk, length, filter, map, arith, refl, sym, ap, subst, ◌∙◌}
+use Rattle.std.proofs.Common.{◌≡◌, ◌+◌, ◌*◌, ◌≤◌, ◌++◌, ◌&&◌, ⊎_elim, ℕ, Bool, true, false, cond, List, [], Option, None, Some, Result, Ok, Err, OnOk, OnErr, length, filter, map, arith, refl, sym, ap, subst, ◌∙◌}
 use Rattle.std.specs.Prelude.{count_by}
 use Rattle.std.specs.Option.{option_map}
 use Rattle.std.specs.Ordering.{is_lt}
@@ -32,6 +32,11 @@ use Rattle.rart_versioned.proofs.SoundLemmas.{no-key}
 pub OnOk-weaker : {A E P Q : Type 0} (result : Result A E) → (P → Q) → OnOk result P → OnOk result Q
 OnOk-weaker (Ok value) follows holds = follows holds
 OnOk-weaker (Err error) follows holds = tt
+
+-- What holds anyway holds where a call is refused.
+pub OnErr-always : {A E P : Type 0} (result : Result A E) → P → OnErr result P
+OnErr-always (Ok value) holds = tt
+OnErr-always (Err error) holds = holds
 
 -- What a walk has left to enter, and what was entered for it, are all nodes: so many are entered in
 -- all.

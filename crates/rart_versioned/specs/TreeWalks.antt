@@ -1,5 +1,5 @@
 -- What a call that makes a walk over a tree tells: what the walk has left, and the nodes entered.
-use Rattle.std.specs.Prelude.{◌≡◌, ◌+◌, ◌*◌, ◌<◌, ◌≤◌, ◌^◌, ℕ, Bool, false, All, List, Option, None, Result, IfOk, count_by, filter, length}
+use Rattle.std.specs.Prelude.{◌≡◌, ◌+◌, ◌*◌, ◌<◌, ◌≤◌, ◌^◌, ℕ, Bool, false, All, List, Option, None, Result, IfOk, OnErr, count_by, filter, length}
 use Rattle.std.specs.Ordering.{as_partial_cmp}
 use Rattle.std.specs.Range.Bound.{is_from_start, is_up_to_end}
 use Rattle.std.specs.declared.ops.Bound.{Bound}
@@ -39,6 +39,7 @@ module _ {P V T E : Type 0} {partial : _} (holds : T → List (List ℕ) → Typ
     pub counted : CountsUpTo (node_count v.content) 0 start now
     pub one : CountsUpTo 1 0 start now
     pub entered : has_no_key v ≡ false → start.entered < now.entered
+    pub refused : OnErr result (start.entered < now.entered)
 
   -- A walk over the pairs whose key a prefix begins: the nodes down to the prefix are entered, and
   -- the walk has left those below it, of which those up to a bound are few.

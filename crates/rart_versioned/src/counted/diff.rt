@@ -1,6 +1,6 @@
 // Ported from rart 0.11.0 (Apache-2.0), and rewritten.
 //! What changed from one tree to another, and its counts.
-ghost use Rattle.std.specs.Prelude.{◌≡◌, ◌↔◌, ◌+◌, ◌<◌, [], false, length, IfOk, IsTrue};
+ghost use Rattle.std.specs.Prelude.{◌≡◌, ◌↔◌, ◌+◌, ◌<◌, [], false, length, IfOk, IsTrue, OnOk};
 ghost use Rattle.rart_changes.specs.ChangeLists.{changes};
 ghost use Rattle.rart_changes.specs.ChangeVisits.{ByKeyChange, ByViewChange};
 ghost use Rattle.rart_maps.specs.Bounds.{node_count};
@@ -20,9 +20,9 @@ use rart_walks::{BytesPath, Walk};
 use std::alloc::AllocError;
 
 impl<K: KeyTrait, V: Clone + Drop + Eq> VersionedAdaptiveRadixTree<K, V> {
-    /// As `diff_with`, with the nodes entered counted into `work`: at most one for each key of
-    /// either map, and one for each other string at which keys of it part. One at least where there
-    /// is a key in this map.
+    /// As `diff_with`, with the nodes entered counted into `work`: one for each key of either map,
+    /// and one for each other string at which keys of it part. Refused for memory, it has entered no
+    /// more, and one at least where there is a key in either map.
     pub fn diff_with_counted<F: FnMut(K, Option<&V>, Option<&V>)>(
         &self,
         other: &VersionedAdaptiveRadixTree<K, V>,
@@ -36,6 +36,9 @@ impl<K: KeyTrait, V: Clone + Drop + Eq> VersionedAdaptiveRadixTree<K, V> {
         ensures counted { CountsUpTo (node_count self.now.content + node_count other.now.content) 0
             work.old work.new }
         ensures entered { has_no_key self.now ≡ false → work.old.entered < work.new.entered }
+        ensures entered_other { has_no_key other.now ≡ false → work.old.entered < work.new.entered }
+        ensures exact { OnOk result (work.new.entered ≡ work.old.entered
+            + (node_count self.now.content + node_count other.now.content)) }
     {
         let (old, new) = self.both_walks(other, work)?;
         visit_changed_keys(self.alloc, old, new, f, work)
@@ -56,13 +59,16 @@ impl<K: KeyTrait, V: Clone + Drop + Eq> VersionedAdaptiveRadixTree<K, V> {
         ensures counted { CountsUpTo (node_count self.now.content + node_count other.now.content) 0
             work.old work.new }
         ensures entered { has_no_key self.now ≡ false → work.old.entered < work.new.entered }
+        ensures entered_other { has_no_key other.now ≡ false → work.old.entered < work.new.entered }
+        ensures exact { OnOk result (work.new.entered ≡ work.old.entered
+            + (node_count self.now.content + node_count other.now.content)) }
     {
         let (old, new) = self.both_walks(other, work)?;
         visit_changed_views(old, new, f, work)
     }
 
-    /// As `try_diff_lending_with`, with the nodes entered counted into `work`: at most, and at
-    /// least, as many as in `diff_with_counted`.
+    /// As `try_diff_lending_with`, with the nodes entered counted into `work`: at most as many as in
+    /// `diff_with_counted`, and one at least where there is a key in either map.
     pub fn try_diff_lending_with_counted<
         E: Drop,
         F: FnMut(LendingKeyView<'_, '_>, Option<&V>, Option<&V>) -> Result<VisitControl, E>,
@@ -79,6 +85,7 @@ impl<K: KeyTrait, V: Clone + Drop + Eq> VersionedAdaptiveRadixTree<K, V> {
         ensures counted { CountsUpTo (node_count self.now.content + node_count other.now.content) 0
             work.old work.new }
         ensures entered { has_no_key self.now ≡ false → work.old.entered < work.new.entered }
+        ensures entered_other { has_no_key other.now ≡ false → work.old.entered < work.new.entered }
     {
         match self.both_walks(other, work) {
             Ok((old, new)) => visit_changed_views_until(old, new, f, work),
@@ -98,6 +105,9 @@ impl<K: KeyTrait, V: Clone + Drop + Eq> VersionedAdaptiveRadixTree<K, V> {
         ensures counted { CountsUpTo (node_count self.now.content + node_count other.now.content) 0
             work.old work.new }
         ensures entered { has_no_key self.now ≡ false → work.old.entered < work.new.entered }
+        ensures entered_other { has_no_key other.now ≡ false → work.old.entered < work.new.entered }
+        ensures exact { OnOk result (work.new.entered ≡ work.old.entered
+            + (node_count self.now.content + node_count other.now.content)) }
     {
         // (either map has at most as many keys as its number says, so the count fits)
         self.know_keys_for_proof();
@@ -106,8 +116,8 @@ impl<K: KeyTrait, V: Clone + Drop + Eq> VersionedAdaptiveRadixTree<K, V> {
         count_changes(old, new, work)
     }
 
-    /// As `equals`, with the nodes entered counted into `work`: at most, and at least, as many as
-    /// in `diff_with_counted`.
+    /// As `equals`, with the nodes entered counted into `work`: as many as in `diff_with_counted`
+    /// where the maps are equal, and else no more. One at least where there is a key in either.
     pub fn equals_counted(
         &self,
         other: &VersionedAdaptiveRadixTree<K, V>,
@@ -118,6 +128,9 @@ impl<K: KeyTrait, V: Clone + Drop + Eq> VersionedAdaptiveRadixTree<K, V> {
         ensures counted { CountsUpTo (node_count self.now.content + node_count other.now.content) 0
             work.old work.new }
         ensures entered { has_no_key self.now ≡ false → work.old.entered < work.new.entered }
+        ensures entered_other { has_no_key other.now ≡ false → work.old.entered < work.new.entered }
+        ensures exact { IfOk result (λ equal. IsTrue equal → work.new.entered ≡ work.old.entered
+            + (node_count self.now.content + node_count other.now.content)) }
     {
         let (old, new) = self.both_walks(other, work)?;
         are_equal(old, new, work)
@@ -144,6 +157,7 @@ impl<K: KeyTrait, V: Clone + Drop + Eq> VersionedAdaptiveRadixTree<K, V> {
         ensures counted { CountsUpTo (node_count self.now.content + node_count other.now.content) 0
             work.old work.new }
         ensures entered { has_no_key self.now ≡ false → work.old.entered < work.new.entered }
+        ensures entered_other { has_no_key other.now ≡ false → work.old.entered < work.new.entered }
     {
         let old = self.whole_walk(work)?;
         let new = other.whole_walk(work)?;

@@ -37,8 +37,11 @@ returns g c =
     let counted = counted-next _ c.merging.invariant.counted next.entered next.counted in
     record {
       walk = next.walk;
-      gives = c.merging.invariant.changes ∙ no-changes g.V.PartialEq.eq
-          (pairs_left walk.before) (pairs_left walk.after) none.0 none.1;
+      gives = (
+        c.merging.invariant.changes ∙ no-changes g.V.PartialEq.eq
+            (pairs_left walk.before) (pairs_left walk.after) none.0 none.1,
+        none.2,
+      );
       entered = counted.same;
       counted = counted-now counted;
     }

@@ -19,6 +19,17 @@ returns-in_err-new-clause-entered g c =
     let other = c.whole_walk-2.ensures in
     λ keyed. entered-then c.args.work.now (one.entered keyed) other.counted
 
+pub returns-in_err-old-clause-entered_other : goal.returns-in_err-old-clause-entered_other
+returns-in_err-old-clause-entered_other g c = λ keyed. c.in_err-old.ensures.refused
+
+pub returns-in_err-new-clause-entered_other : goal.returns-in_err-new-clause-entered_other
+returns-in_err-new-clause-entered_other g c =
+    let grows = c.whole_walk.ensures.counted.entered_grows in
+    let other = c.whole_walk-2.ensures in
+    λ keyed.
+    let more = other.entered keyed in
+    omega (arith, grows, more)
+
 pub returns : goal.returns
 returns g c =
     let one = c.in_ok-old.ensures in
@@ -32,4 +43,8 @@ returns g c =
       nodes = omega (arith, first, second);
       counted = counts-then one.counted other.counted (omega arith) (omega arith);
       entered = λ keyed. entered-then c.args.work.now (one.entered keyed) other.counted;
+      entered_other = λ keyed.
+          let grows = one.counted.entered_grows in
+          let more = other.entered keyed in
+          omega (arith, grows, more);
     }

@@ -2,7 +2,7 @@ use Rattle.std.proofs.Common.{◌∙◌, length, arith, ap}
 use Rattle.rart_versioned.proofs.VersionDiffLemmas.{changes-few}
 use Rattle.std.proofs.lemmas.Result.{IfOk-weaker}
 use Rattle.rart_shape.proofs.CountingLemmas.{entered-then}
-use Rattle.rart_versioned.proofs.VersionVisitLemmas.{counts-through}
+use Rattle.rart_versioned.proofs.VersionVisitLemmas.{OnOk-weaker, counts-through}
 use Rattle.rart_versioned.proofs.counted.tree.VersionedAdaptiveRadixTree.diff_count_counted.Goals as goal
 
 pub count_changes-requires-clause-fits : goal.count_changes-requires-clause-fits
@@ -20,4 +20,8 @@ returns g c =
           (λ count is. is ∙ ap length both.walks.changes_are) told.count;
       counted = counts-through both.counted both.nodes told.counted;
       entered = λ keyed. entered-then c.args.work.now (both.entered keyed) told.counted;
+      entered_other = λ keyed.
+          entered-then c.args.work.now (both.entered_other keyed) told.counted;
+      exact = let nodes = both.nodes in
+          OnOk-weaker c.count_changes.result (λ through. omega (arith, through, nodes)) told.exact;
     }

@@ -1,9 +1,9 @@
-use Rattle.std.proofs.Common.{sym, subst}
+use Rattle.std.proofs.Common.{arith, sym, subst}
 use Rattle.rart_changes.specs.ChangeVisits.{ByViewChange}
 use Rattle.rart_maps.specs.Visits.{Visitable, Visits}
 use Rattle.rart_maps.proofs.VisitLemmas.{up_to-start, visits-refused}
 use Rattle.rart_shape.proofs.CountingLemmas.{entered-then}
-use Rattle.rart_versioned.proofs.VersionVisitLemmas.{counts-through}
+use Rattle.rart_versioned.proofs.VersionVisitLemmas.{OnOk-weaker, counts-through}
 use Rattle.rart_versioned.proofs.counted.tree.VersionedAdaptiveRadixTree.diff_lending_with_counted.Goals as goal
 
 pub visit_changed_views-requires-clause-visitable :
@@ -28,4 +28,8 @@ returns g c =
           c.args.f.now list c.visit_changed_views.new.f) both.walks.changes_are visit.visits;
       counted = counts-through both.counted both.nodes visit.counted;
       entered = λ keyed. entered-then c.args.work.now (both.entered keyed) visit.counted;
+      entered_other = λ keyed.
+          entered-then c.args.work.now (both.entered_other keyed) visit.counted;
+      exact = let nodes = both.nodes in
+          OnOk-weaker c.visit_changed_views.result (λ through. omega (arith, through, nodes)) visit.exact;
     }

@@ -1,9 +1,9 @@
-use Rattle.std.proofs.Common.{sym, subst}
+use Rattle.std.proofs.Common.{arith, sym, subst}
 use Rattle.rart_changes.specs.ChangeVisits.{ByKeyChange}
 use Rattle.rart_maps.specs.Visits.{Visitable, Visits}
 use Rattle.rart_maps.proofs.VisitLemmas.{up_to-start, visits-refused}
 use Rattle.rart_shape.proofs.CountingLemmas.{entered-then}
-use Rattle.rart_versioned.proofs.VersionVisitLemmas.{counts-through}
+use Rattle.rart_versioned.proofs.VersionVisitLemmas.{OnOk-weaker, counts-through}
 use Rattle.rart_versioned.proofs.counted.tree.VersionedAdaptiveRadixTree.diff_with_counted.Goals as goal
 
 pub visit_changed_keys-requires-clause-visitable :
@@ -29,4 +29,8 @@ returns g c =
           c.args.f.now list c.visit_changed_keys.new.f) both.walks.changes_are visit.visits;
       counted = counts-through both.counted both.nodes visit.counted;
       entered = λ keyed. entered-then c.args.work.now (both.entered keyed) visit.counted;
+      entered_other = λ keyed.
+          entered-then c.args.work.now (both.entered_other keyed) visit.counted;
+      exact = let nodes = both.nodes in
+          OnOk-weaker c.visit_changed_keys.result (λ through. omega (arith, through, nodes)) visit.exact;
     }

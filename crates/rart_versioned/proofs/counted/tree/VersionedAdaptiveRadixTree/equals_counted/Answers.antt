@@ -1,4 +1,4 @@
-use Rattle.std.proofs.Common.{◌≡◌, ◌↔◌, [], IsTrue, subst}
+use Rattle.std.proofs.Common.{arith, ◌≡◌, ◌↔◌, [], IsTrue, subst}
 use Rattle.std.proofs.lemmas.Result.{IfOk-weaker}
 use Rattle.rart_shape.proofs.CountingLemmas.{entered-then}
 use Rattle.rart_versioned.proofs.VersionVisitLemmas.{counts-through}
@@ -14,4 +14,9 @@ returns g c =
           told.equal;
       counted = counts-through both.counted both.nodes told.counted;
       entered = λ keyed. entered-then c.args.work.now (both.entered keyed) told.counted;
+      entered_other = λ keyed.
+          entered-then c.args.work.now (both.entered_other keyed) told.counted;
+      exact = let nodes = both.nodes in
+          IfOk-weaker c.are_equal.result _ _
+          (λ equal exact is. let through = exact is in omega (arith, through, nodes)) told.exact;
     }

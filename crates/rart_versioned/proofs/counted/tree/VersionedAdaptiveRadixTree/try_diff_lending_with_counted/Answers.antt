@@ -26,4 +26,6 @@ returns-in-Ok g c =
           c.args.f.now list c.visit_changed_views_until.new.f) both.walks.changes_are visit.visits;
       counted = counts-through both.counted both.nodes visit.counted;
       entered = λ keyed. entered-then c.args.work.now (both.entered keyed) visit.counted;
+      entered_other = λ keyed.
+          entered-then c.args.work.now (both.entered_other keyed) visit.counted;
     }

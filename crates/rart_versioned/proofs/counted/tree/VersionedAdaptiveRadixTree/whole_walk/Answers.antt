@@ -3,7 +3,7 @@ use Rattle.std.proofs.lemmas.Result.{IfOk-weaker}
 use Rattle.rart_node.specs.Seen.{shape_of}
 use Rattle.rart_versioned.specs.TreeWalks.{AreAdmitted}
 use Rattle.rart_versioned.proofs.VersionIterationLemmas.{content-admitted, no-pairs, root-sound, root-pairs, root-short}
-use Rattle.rart_versioned.proofs.VersionVisitLemmas.{none-keyed, none-walk, root-walk, some-node}
+use Rattle.rart_versioned.proofs.VersionVisitLemmas.{OnErr-always, none-keyed, none-walk, root-walk, some-node}
 use Rattle.rart_versioned.proofs.counted.tree.VersionedAdaptiveRadixTree.whole_walk.Goals as goal
 
 pub whole-requires : goal.whole-requires
@@ -39,6 +39,7 @@ returns-in-None g c =
           absurd (none-keyed shape_of g.K.KeyTrait.MAXIMUM_SIZE
           c.self.inside.version c.self.inside.root c.args.self.now c.self.invariant c.self.view_is
           c.in-None.is keyed);
+      refused = tt;
     }
 
 pub returns-in-Some : goal.returns-in-Some
@@ -95,4 +96,6 @@ returns-in-Some g c =
       entered = λ keyed.
           let entered = ap (λ counts. counts.entered) c.whole.ensures.work in
           omega (arith, entered);
+      refused = let entered = ap (λ counts. counts.entered) c.whole.ensures.work in
+          OnErr-always c.whole.result (omega (arith, entered));
     }

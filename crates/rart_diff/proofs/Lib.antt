@@ -1,3 +1,5 @@
 pub mod DiffCountLemmas
+pub mod DiffEndLemmas
 pub mod DiffLemmas
+pub mod PassLemmas
 pub mod SideLemmas

@@ -1,13 +1,15 @@
 -- What the fields of a walk from change to change mean, and what it gives.
-use Rattle.std.specs.Prelude.{◌≡◌, ◌⊎◌, ℕ, ◌+◌, Bool, List, [], ◌∷◌, Option, Some, None, IsSome, Result, IfOk, OnOk, if◌then◌else◌}
+use Rattle.std.specs.Prelude.{◌≡◌, ◌⊎◌, ℕ, ◌+◌, Bool, List, [], ◌∷◌, Option, Some, None, IsSome, Result, IfOk, OnOk, if◌then◌else◌, ⊤}
 use Rattle.std.specs.Borrow.{Bor}
 use Rattle.std.specs.Option.{option_copied}
 use Rattle.rart_changes.specs.ChangeLists.{Change}
 use Rattle.rart_node.specs.Counts.{Counts, CountsUpTo}
+use Rattle.rart_walks.specs.WalkFields.{cursor, at_hand}
 use Rattle.rart_walks.specs.declared.walk.Walk.{Walk}
 use Rattle.rart_diff.specs.declared.changes.ChangeWalk.{ChangeWalk}
 use Rattle.rart_diff.specs.Diffs.{Leads, changes_between}
-use Rattle.rart_diff.specs.SideFields.{IsSide, key_at, pairs_left, nodes_left}
+use Rattle.rart_diff.specs.Passes.{GoesTo, HasGone, HasCome}
+use Rattle.rart_diff.specs.SideFields.{IsSide, key_at, pairs_left, paths_left, nodes_left, pairs_at_hand}
 use Rattle.rart_diff.specs.TwoWalks.{changes_ahead, nodes_ahead}
 
 -- `partial` is what is known of prefixes, which the types take for a ghost field
@@ -24,6 +26,10 @@ module _ {P V : Type 0} {partial : _} where
   -- how many nodes are left to enter
   abbrev pub nodes_to_enter : ChangeWalk P V partial → ℕ
   nodes_to_enter walk = nodes_left walk.before + nodes_left walk.after
+
+  -- how many pairs of both are given before a node is entered
+  abbrev pub hands : ChangeWalk P V partial → ℕ
+  hands walk = pairs_at_hand walk.before + pairs_at_hand walk.after
 
   pub record IsChangeWalk (walk : ChangeWalk P V partial) : Type 0 where
     pub before : IsSide walk.before
@@ -57,6 +63,33 @@ module _ {P V : Type 0} {partial : _} where
     pub walk : IsChangeWalk made
     pub changes : changes_left same made ≡ changes_ahead same old new
     pub nodes : nodes_to_enter made ≡ nodes_ahead old new
+    pub before_pairs : pairs_left made.before ≡ (cursor old).pairs
+    pub before_paths : paths_left made.before ≡ (cursor old).paths
+    pub after_pairs : pairs_left made.after ≡ (cursor new).pairs
+    pub after_paths : paths_left made.after ≡ (cursor new).paths
+    pub hands : hands made ≡ at_hand old + at_hand new
+
+  -- On either side no node was entered that is behind the first of the pairs that were left.
+  pub record StepsTo (old new : ChangeWalk P V partial) : Type 0 where
+    pub before : GoesTo (pairs_left old.before) (paths_left old.before) (paths_left new.before)
+    pub after : GoesTo (pairs_left old.after) (paths_left old.after) (paths_left new.after)
+
+  -- It has gone on, and what is left from a key on is what was.
+  abbrev pub GoesFurther : ChangeWalk P V partial → ChangeWalk P V partial → Type 0
+  GoesFurther old new =
+      HasGone (pairs_left old.before) (pairs_left old.after) (paths_left old.before)
+      (paths_left old.after) (pairs_left new.before) (pairs_left new.after)
+      (paths_left new.before) (paths_left new.after)
+
+  -- It has gone on, to the key of the change that it gave, if it gave one.
+  abbrev pub ComesToChange : ChangeWalk P V partial → ChangeWalk P V partial →
+      Option (Option (Bor V) × Option (Bor V)) → Type 0
+  ComesToChange old new None = ⊤
+  ComesToChange old new (Some values) =
+      GoesFurther old new
+      × HasCome (key_given new) (pairs_left old.before) (pairs_left old.after)
+      (paths_left old.before) (paths_left old.after) (paths_left new.before)
+      (paths_left new.after)
 
   -- It gave what is told, and has entered the nodes that it has no more left to enter. Refused, it
   -- has entered no other.

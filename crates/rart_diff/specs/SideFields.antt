@@ -1,14 +1,14 @@
 -- What the fields of a side mean, what its calls do, and which of two comes first.
-use Rattle.std.specs.Prelude.{◌≡◌, ℕ, ◌+◌, List, [], ◌++◌, Option, Some, None, IsSome, Result, OnOk, length}
+use Rattle.std.specs.Prelude.{◌≡◌, ℕ, ◌+◌, List, [], ◌++◌, Option, Some, None, IsSome, Result, OnOk, length, if◌then◌else◌}
 use Rattle.std.specs.Borrow.{Bor}
-use Rattle.std.specs.Option.{option_copied}
+use Rattle.std.specs.Option.{is_some, option_copied}
 use Rattle.std.specs.declared.cmp.Ordering.{Ordering}
 use Rattle.std.specs.declared.cmp.Ordering.TheVariants.{Less, Equal, Greater}
 use Rattle.rart_maps.specs.FoundLaws.{KeysAscend}
 use Rattle.rart_node.specs.Counts.{Counts, CountsUpTo}
 use Rattle.rart_walks.specs.KeyPaths.{HoldsBytes}
 use Rattle.rart_walks.specs.Walks.{pending_pair}
-use Rattle.rart_walks.specs.WalkFields.{IsWalk, path_to, cursor}
+use Rattle.rart_walks.specs.WalkFields.{IsWalk, path_to, cursor, at_hand}
 use Rattle.rart_walks.specs.declared.walk.Walk.{Walk}
 use Rattle.rart_diff.specs.declared.side.Side.{Side}
 use Rattle.rart_diff.specs.Diffs.{AreBehind, Leads}
@@ -24,9 +24,17 @@ module _ {P V : Type 0} {partial : _} where
   pairs_left side =
       pending_pair (key_at side) (option_copied side.value) ++ (cursor side.walk).pairs
 
+  -- the paths of the nodes that are left to enter
+  abbrev pub paths_left : Side P V partial → List (List ℕ)
+  paths_left side = (cursor side.walk).paths
+
   -- how many nodes are left to enter
   abbrev pub nodes_left : Side P V partial → ℕ
-  nodes_left side = length (cursor side.walk).paths
+  nodes_left side = length (paths_left side)
+
+  -- how many pairs are given before a node is entered
+  abbrev pub pairs_at_hand : Side P V partial → ℕ
+  pairs_at_hand side = (if is_some side.value then 1 else 0) + at_hand side.walk
 
   -- Its walk keeps the bytes of its key, and the keys that are left ascend.
   pub record IsSide (side : Side P V partial) : Type 0 where
@@ -62,7 +70,9 @@ module _ {P V : Type 0} {partial : _} where
   pub record HasLeft (walk : Walk P V (List ℕ) partial) (made : Side P V partial) : Type 0 where
     pub side : IsSide made
     pub pairs : pairs_left made ≡ (cursor walk).pairs
+    pub paths : paths_left made ≡ (cursor walk).paths
     pub nodes : nodes_left made ≡ length (cursor walk).paths
+    pub hand : pairs_at_hand made ≡ at_hand walk
 
   -- It has come to the first of the pairs that it had left, and has entered the nodes that it has
   -- no more left to enter. Refused, it has entered no other.
@@ -82,4 +92,6 @@ module _ {P V : Type 0} {partial : _} where
     pub key : key_at new ≡ key_at old
     pub leads : IsSome given → Leads (key_at old) (option_copied given) (pairs_left old)
         (pairs_left new)
+    pub paths : paths_left new ≡ paths_left old
     pub nodes : nodes_left new ≡ nodes_left old
+    pub hand : IsSome old.value → pairs_at_hand new + 1 ≡ pairs_at_hand old

@@ -1,5 +1,5 @@
 //! The walk from change to change.
-ghost use Rattle.std.specs.Prelude.{◌≡◌};
+ghost use Rattle.std.specs.Prelude.{◌≡◌, ◌+◌, ◌≤◌, IfOk, OnOk, is_some, if◌then◌else◌};
 ghost use Rattle.rart_diff.specs.SideFields.{AreAtKeys};
 ghost use Rattle.rart_diff.specs.TwoWalks.{GoTogether};
 
@@ -25,7 +25,8 @@ pub(crate) struct ChangeWalk<'a, P: Partial, V> {
 }
 
 impl<'a, P: Partial, V: Drop + Eq> ChangeWalk<'a, P, V> {
-    ghost use Rattle.rart_diff.specs.ChangeFields.{IsChangeWalk, GoesOver, GoesOn, GivesChange, TakesKey, TakesFirst, key_given};
+    ghost use Rattle.rart_diff.specs.ChangeFields.{IsChangeWalk, GoesOver, GoesOn, GivesChange, ComesToChange, TakesKey, TakesFirst, StepsTo, key_given, hands};
+    ghost use Rattle.rart_diff.specs.SideFields.{paths_left};
 
     /// The changes from the pairs that the one walk has left to those of the other. It enters no
     /// node.
@@ -56,14 +57,18 @@ impl<'a, P: Partial, V: Drop + Eq> ChangeWalk<'a, P, V> {
     }
 
     /// Goes on to the next change, and gives the values before and after, where there are any, or
-    /// `None` where no change is left.
+    /// `None` where no change is left. Of either tree it enters no node behind the first key from
+    /// that of the change on.
     pub(crate) fn next(
         &mut self,
         work: &mut Work,
     ) -> Result<Option<(Option<&'a V>, Option<&'a V>)>, AllocError>
         requires { IsChangeWalk self.old }
-        ensures { GoesOn result (GivesChange V.eq self.old self.new) self.old
+        ensures told { GoesOn result (GivesChange V.eq self.old self.new) self.old
             self.new work.old work.new }
+        ensures come { IfOk result (ComesToChange self.old self.new) }
+        ensures each { IfOk result (λ given. work.old.entered + (if is_some given then 1 else 0)
+            + hands self.new ≤ work.new.entered + hands self.old) }
     {
         'merging: while let Some((before, after)) = self.next_key(work)? {
             if do_differ(before, after) {
@@ -79,7 +84,11 @@ impl<'a, P: Partial, V: Drop + Eq> ChangeWalk<'a, P, V> {
         work: &mut Work,
     ) -> Result<Option<(Option<&'a V>, Option<&'a V>)>, AllocError>
         requires { IsChangeWalk self.old }
-        ensures { GoesOn result (TakesKey self.old self.new) self.old self.new work.old work.new }
+        ensures told { GoesOn result (TakesKey self.old self.new) self.old self.new
+            work.old work.new }
+        ensures steps { OnOk result (StepsTo self.old self.new) }
+        ensures each { IfOk result (λ given. work.old.entered + (if is_some given then 1 else 0)
+            + hands self.new ≤ work.new.entered + hands self.old) }
     {
         self.before.advance(work)?;
         self.after.advance(work)?;
@@ -89,7 +98,10 @@ impl<'a, P: Partial, V: Drop + Eq> ChangeWalk<'a, P, V> {
     // Takes the values of the first of the keys that both stand at.
     fn take_first(&mut self) -> Option<(Option<&'a V>, Option<&'a V>)>
         requires { AreAtKeys self.old.before self.old.after }
-        ensures { TakesFirst self.old self.new result }
+        ensures takes { TakesFirst self.old self.new result }
+        ensures before { paths_left self.new.before ≡ paths_left self.old.before }
+        ensures after { paths_left self.new.after ≡ paths_left self.old.after }
+        ensures each { (if is_some result then 1 else 0) + hands self.new ≤ hands self.old }
     {
         match order_of(&self.before, &self.after)? {
             Ordering::Less => {

@@ -1,6 +1,7 @@
 //! How many changes there are, and whether there are any.
 ghost use Rattle.std.specs.Prelude.{◌≡◌, ◌↔◌, ◌+◌, ◌<◌, ◌^◌, [], length, IfOk, IsTrue, OnOk};
 ghost use Rattle.rart_node.specs.Counts.{CountsUpTo};
+ghost use Rattle.rart_diff.specs.Ends.{EntersToFirst};
 ghost use Rattle.rart_diff.specs.TwoWalks.{GoTogether, changes_ahead, nodes_ahead};
 
 use crate::changes::ChangeWalk;
@@ -34,8 +35,8 @@ pub fn count_changes<'a, P: Partial, V: Drop + Eq>(
 
 /// Whether what two walks have left differs at no key.
 ///
-/// It enters no node behind the first key at which it does but one that either walk was about to
-/// enter. Refused for memory, there is no answer.
+/// It enters no node that is behind the first key of its tree from the one on at which it does.
+/// Refused for memory, there is no answer.
 pub fn are_equal<'a, P: Partial, V: Drop + Eq>(
     old: Walk<'a, P, V, BytesPath>,
     new: Walk<'a, P, V, BytesPath>,
@@ -45,8 +46,8 @@ pub fn are_equal<'a, P: Partial, V: Drop + Eq>(
     ensures equal { IfOk result (λ equal. IsTrue equal
         ↔ (changes_ahead V.eq old.entry new.entry ≡ [])) }
     ensures counted { CountsUpTo (nodes_ahead old.entry new.entry) 0 work.old work.new }
-    ensures exact { IfOk result (λ equal. IsTrue equal
-        → work.new.entered ≡ work.old.entered + nodes_ahead old.entry new.entry) }
+    ensures ends { OnOk result (EntersToFirst old.entry new.entry work.old work.new
+        (changes_ahead V.eq old.entry new.entry)) }
 {
     let mut changes = ChangeWalk::new(old, new);
     Ok(changes.next(work)?.is_none())

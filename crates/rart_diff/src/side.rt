@@ -1,5 +1,5 @@
 //! One of the two trees whose keys are merged.
-ghost use Rattle.std.specs.Prelude.{◌≡◌, is_some};
+ghost use Rattle.std.specs.Prelude.{◌≡◌, ◌+◌, ◌≤◌, OnOk, is_some};
 ghost use Rattle.rart_diff.specs.TwoWalks.{Ascends};
 
 use rart_below::Partial;
@@ -18,7 +18,8 @@ pub(crate) struct Side<'a, P: Partial, V> {
 }
 
 impl<'a, P: Partial, V: Drop> Side<'a, P, V> {
-    ghost use Rattle.rart_diff.specs.SideFields.{IsSide, HasLeft, ComesToKey, GivesValue, key_at};
+    ghost use Rattle.rart_diff.specs.Passes.{GoesTo};
+    ghost use Rattle.rart_diff.specs.SideFields.{IsSide, HasLeft, ComesToKey, GivesValue, key_at, pairs_left, paths_left, pairs_at_hand};
 
     /// The tree as far as the walk has it left. It enters no node.
     pub(crate) fn new(walk: Walk<'a, P, V, BytesPath>) -> Side<'a, P, V>
@@ -28,10 +29,15 @@ impl<'a, P: Partial, V: Drop> Side<'a, P, V> {
         Side { walk, value: None }
     }
 
-    /// Goes on to the next key, where the value of the last one was taken.
+    /// Goes on to the next key, where the value of the last one was taken. It enters the nodes on
+    /// the way to that, and so one at least, but for a key that was at hand.
     pub(crate) fn advance(&mut self, work: &mut Work) -> Result<(), AllocError>
         requires { IsSide self.old }
-        ensures { ComesToKey result self.old self.new work.old work.new }
+        ensures comes { ComesToKey result self.old self.new work.old work.new }
+        ensures way { OnOk result (GoesTo (pairs_left self.old) (paths_left self.old)
+            (paths_left self.new)) }
+        ensures each { OnOk result (work.old.entered + pairs_at_hand self.new
+            ≤ work.new.entered + pairs_at_hand self.old) }
     {
         if self.value.is_none() {
             self.value = self.walk.next_value(work)?;

@@ -4,6 +4,7 @@ ghost use Rattle.std.specs.Option.{option_copied};
 ghost use Rattle.rart_changes.specs.ChangeVisits.{ByViewChange};
 ghost use Rattle.rart_maps.specs.Visits.{CallableOn, CalledOn, Visits, Visitable, VisitsUntil, VisitableUntil};
 ghost use Rattle.rart_node.specs.Counts.{CountsUpTo};
+ghost use Rattle.rart_diff.specs.Ends.{Ends, EntersTo};
 ghost use Rattle.rart_diff.specs.TwoWalks.{GoTogether, changes_ahead, nodes_ahead};
 
 use crate::changes::ChangeWalk;
@@ -40,8 +41,8 @@ pub fn visit_changed_views<
 }
 
 /// As `visit_changed_views`, up to the first key on which the closure answers `Stop` or an error.
-/// Its error is answered as `Refusal::Callback`. No node is entered behind that key but one that
-/// either walk was about to enter.
+/// Its error is answered as `Refusal::Callback`. No node is entered then that is behind the first
+/// key of its tree from that one on.
 ///
 /// Refused for memory, the answer is `Refusal::Memory`: it has called the closure on a prefix of
 /// them, and each time the closure answered `Continue`.
@@ -62,6 +63,10 @@ pub fn visit_changed_views_until<
     ensures visits { VisitsUntil F.FnMut ByViewChange result f.old
         (changes_ahead V.eq old.entry new.entry) f.new }
     ensures counted { CountsUpTo (nodes_ahead old.entry new.entry) 0 work.old work.new }
+    ensures ends { Ends F.FnMut ByViewChange
+        (work.new.entered ≡ work.old.entered + nodes_ahead old.entry new.entry)
+        (EntersTo old.entry new.entry work.old work.new)
+        result f.old (changes_ahead V.eq old.entry new.entry) f.new }
 {
     let mut changes = ChangeWalk::new(old, new);
     'visiting: loop {

@@ -15,8 +15,8 @@ use rart_node::{NodeRef, Work};
 /// The longest key below a pointer that begins the probe, if there is one: how many bytes it has,
 /// and a reference to its value.
 ///
-/// Each node along the probe is entered once: at least the first, and no more than one for each
-/// byte of the probe beside it. It takes no memory.
+/// Each node along the probe is entered once: at least the first and one for each key that begins
+/// the probe, and no more than one for each byte of the probe beside the first. It takes no memory.
 pub fn longest_prefix_match<'a, P: Partial, V: Drop>(
     root: &'a NodeRef<P, V>,
     probe: &[u8],

@@ -9,8 +9,8 @@ use rart_node::{NodeRef, Work};
 
 /// The value of a key below a pointer, if the key is there.
 ///
-/// Each node on the way is entered once: at least the first, and no more than one for each byte of
-/// the key beside it. It takes no memory.
+/// Each node on the way is entered once: at least the first and one for each key that begins this
+/// one, and no more than one for each byte of the key beside the first. It takes no memory.
 pub fn get_below<'a, P: Partial, V: Drop>(
     root: &'a NodeRef<P, V>,
     key: &[u8],

@@ -15,8 +15,8 @@ use rart_node::{NodeRef, Work};
 /// Calls the closure on each pair below a pointer whose key begins the probe, the shortest first:
 /// with the slice of the probe that the key is, and a reference to the value.
 ///
-/// Each node along the probe is entered once: at least the first, and no more than one for each
-/// byte of the probe beside it. It takes no memory.
+/// Each node along the probe is entered once: at least the first and one for each key that begins
+/// the probe, and no more than one for each byte of the probe beside the first. It takes no memory.
 pub fn visit_prefix_matches<P: Partial, V: Drop, F: FnMut(&[u8], &V)>(
     root: &NodeRef<P, V>,
     probe: &[u8],

@@ -5,6 +5,7 @@ pub mod VersionMapLemmas
 pub mod MeetLemmas
 pub mod VersionKeyLemmas
 pub mod VersionIterationLemmas
+pub mod DiffEndLemmas
 pub mod KeyLengthLemmas
 pub mod LendingLemmas
 pub mod VersionFoundLemmas

@@ -4,7 +4,7 @@ use Rattle.std.specs.Prelude.{◌==◌, ◌↔◌, ◌*◌, IsTrue, Contains, co
 use Rattle.std.specs.Option.{option_and_then, option_map}
 use Rattle.std.specs.declared.ops.Bound.{Bound}
 use Rattle.std.specs.declared.ops.Bound.TheVariants.{Included}
-use Rattle.std.proofs.lemmas.Bool.{and_parts, eq-eqb, ne_eqb, false≢true, cases_eq}
+use Rattle.std.proofs.lemmas.Bool.{and_parts, and_from, eq-eqb, ne_eqb, false≢true, cases_eq}
 use Rattle.std.proofs.lemmas.Option.{same_Some}
 use Rattle.rart_node.specs.Shape.{Shape, Forest, node, bare, grown, prefix_of, entries_of}
 use Rattle.rart_shape.specs.Trees.{strip_prefix, at_end, found, found_below, is_key_or_fork, BeginsWith, IsTree, AreBranches, pairs_of, pairs_below}
@@ -23,6 +23,7 @@ use Rattle.rart_maps.proofs.FoundLemmas.{Contains-pairs, KeysAscend-sorted, unde
 use Rattle.rart_maps.proofs.OrderLemmas.{byte_order-IsAntisymmetric}
 use Rattle.rart_maps.proofs.RangeLemmas.{is_below}
 use Rattle.rart_maps.proofs.RangePointLemmas.{range-points-few}
+use Rattle.rart_maps.proofs.SetLemmas.{contains-kept}
 use Rattle.rart_maps.proofs.StartLemmas.{sum_by-map}
 use Rattle.std.specs.Cmp.Lexicographic.{nat_list_cmp_total}
 use Rattle.std.specs.FinMap as finite
@@ -37,6 +38,11 @@ use Rattle.rart_walks.specs.Walks.{paths_of, paths_below}
 use Rattle.rart_versioned.proofs.PrefixEndLemmas.{behind-prefix}
 use Rattle.rart_maps.specs.Points.{parting, points}
 use Rattle.rart_maps.proofs.PointLemmas.{head_of, tail_of, parting-cons, parting-same, parting-other, IsPointOf, points-is, points-counted, under-point, key-pair, in-list, len-ascending, map-contains}
+
+same-truth : (a b : Bool) → (a ≡ true → b ≡ true) → (b ≡ true → a ≡ true) → a ≡ b
+same-truth true b to from = sym (to refl)
+same-truth false true to from = from refl
+same-truth false false to from = refl
 
 -- The tree's nodes, each with a value: so its pairs are its paths.
 abbrev mutual
@@ -457,6 +463,40 @@ module _ {V : Type 0} where
     nodes-points =
         ap set.len paths-points ∙ len-ascending (nodes_at s) (nodes-ascend s tree)
         ∙ ap length (marked-pairs s) ∙ length-map (paths_of s) place
+
+    -- As many of them pass a test as points do.
+    pub nodes-kept : (test : List ℕ → Bool)
+        → count_by test (paths_of s) ≡ set.len (set.retain (points m) test)
+    nodes-kept test =
+        let key = λ (at : List ℕ × Unit {0}). at.0 in
+        let kept = λ (at : List ℕ × Unit {0}). test at.0 in
+        let nodes = filter kept (nodes_at s) in
+        let many = length-filter kept (nodes_at s) ∙ ap (count_by kept) (marked-pairs s)
+        ∙ sum_by-map (λ (at : List ℕ × Unit {0}). cond (kept at) 1 0) place (paths_of s) in
+        let long = len-ascending nodes
+        (AllPairs-filter (λ a b. IsBefore a.0 b.0) kept (nodes_at s) (nodes-ascend s tree)) in
+        let shown = set.same_set nat_list_cmp_total byte_order-IsAntisymmetric
+        (set.retain (points m) test) (set.from_list (map key nodes)) (λ q.
+        contains-kept nat_list_cmp_total byte_order-IsAntisymmetric (points m) test q
+        ∙ same-truth (set.contains (points m) q && test q)
+        (set.contains (set.from_list {R = byte_order} (map key nodes)) q)
+        (λ both.
+        let parts = and_parts (set.contains (points m) q) (test q) both in
+        let at = map-contains key (nodes_at s) q ((in-list (map key (nodes_at s)) q).0
+        (subst (λ points. set.contains points q ≡ true) paths-points parts.0)) in
+        (in-list (map key nodes) q).1 (subst (Contains (map key nodes)) at.2
+        (Contains-map key nodes at.0 ((Contains-filter kept (nodes_at s) at.0).1
+        (at.1, subst (λ k. test k ≡ true) (sym at.2) parts.1)))))
+        (λ there.
+        let at = map-contains key nodes q ((in-list (map key nodes) q).0 there) in
+        let both = (Contains-filter kept (nodes_at s) at.0).0 at.1 in
+        and_from (set.contains (points m) q) (test q)
+        (subst (λ points. set.contains points q ≡ true) (sym paths-points)
+        ((in-list (map key (nodes_at s)) q).1 (subst (Contains (map key (nodes_at s))) at.2
+        (Contains-map key (nodes_at s) at.0 both.0))))
+        (subst (λ k. test k ≡ true) at.2 both.1))) in
+        let all = ap set.len shown in
+        omega (arith, many, long, all)
 
     -- Those whose path begins with p are at most twice as many as the pairs under p.
     pub nodes-under : (p : List ℕ) → count_by (begins p) (paths_of s) ≤ 2 * length (under m p)

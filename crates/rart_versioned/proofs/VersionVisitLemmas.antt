@@ -127,7 +127,7 @@ module _ {A V : Type 0} (shape : A → Shape V) (most : Option ℕ) (count : ℕ
     content-is = ap (λ root. map_of (option_map shape root)) (sym is)
         ∙ ap (λ (z : Version V). z.content) shows
 
-    content-found : (q : List ℕ) → finite.get v.content q ≡ found (shape root) q
+    pub content-found : (q : List ℕ) → finite.get v.content q ≡ found (shape root) q
     content-found q =
         ap (λ m. finite.get m q) (sym content-is)
         ∙ get-found (Some (shape root)) q

@@ -7,11 +7,13 @@ use Rattle.std.specs.declared.ops.Bound.TheVariants.{Included}
 use Rattle.rart_below.specs.Bytes.{IsAdmitted, byte_order}
 use Rattle.rart_changes.specs.ChangeLists.{changes}
 use Rattle.rart_diff.specs.Diffs.{changes_between}
+use Rattle.rart_diff.specs.Ends.{pairs_from, is_up_to_first}
 use Rattle.rart_maps.specs.Bounds.{bound_length, reach_bound, reach_by_pairs, node_count}
 use Rattle.rart_maps.specs.FoundLaws.{KeysAscend}
 use Rattle.rart_maps.specs.Pairs.{pairs, under, within}
 use Rattle.rart_maps.specs.Versions.{Version, has_no_key}
 use Rattle.rart_node.specs.Counts.{Counts, CountsUpTo}
+use Rattle.rart_versioned.specs.VisitCounts.{node_count_to}
 use Rattle.rart_walks.specs.KeyPaths.{HoldsBytes}
 use Rattle.rart_walks.specs.WalkFields.{IsWalk, cursor, at_hand}
 use Rattle.rart_walks.specs.declared.walk.Walk.{Walk}
@@ -37,8 +39,12 @@ module _ {P V T E : Type 0} {partial : _} (holds : T → List (List ℕ) → Typ
     pub nodes : IfOk result (λ walk. now.entered + length (cursor walk).paths
         ≡ start.entered + node_count v.content)
     pub counted : CountsUpTo (node_count v.content) 0 start now
+    pub to : IfOk result (λ walk. (key : List ℕ) → now.entered
+        + count_by (is_up_to_first (pairs_from key (cursor walk).pairs)) (cursor walk).paths
+        ≤ start.entered + node_count_to v.content key)
     pub one : CountsUpTo 1 0 start now
     pub entered : has_no_key v ≡ false → start.entered < now.entered
+    pub at_hand : IfOk result (λ walk. start.entered + at_hand walk ≤ now.entered)
     pub refused : OnErr result (start.entered < now.entered)
 
   -- A walk over the pairs whose key a prefix begins: the nodes down to the prefix are entered, and

@@ -1,5 +1,12 @@
--- How a visit under a prefix raises the counts that its closure ends.
-use Rattle.std.specs.Prelude.{ℕ, ◌+◌, ◌*◌, ◌≤◌, List, length}
+-- How a visit that its closure ends raises the counts: under a prefix, and of changes.
+use Rattle.std.specs.Prelude.{◌≡◌, ℕ, ◌+◌, ◌*◌, ◌≤◌, List, [], ◌∷◌, length}
+use Rattle.std.specs.FinSet as set
+use Rattle.rart_changes.specs.ChangeLists.{Change}
+use Rattle.rart_diff.specs.Ends.{pairs_from, is_up_to_first}
+use Rattle.rart_maps.specs.Bounds.{node_count}
+use Rattle.rart_maps.specs.Pairs.{pairs}
+use Rattle.rart_maps.specs.Points.{points}
+use Rattle.rart_maps.specs.Versions.{Map}
 use Rattle.rart_node.specs.Counts.{Counts, CountsUpTo}
 
 -- the most nodes that are entered under p up to the key k, where a number of values are visited
@@ -12,3 +19,24 @@ pub record EndsSoon {V : Type 0} (p : List ℕ) (before after : Counts)
     (front : List (List ℕ × V)) (last : List ℕ × V) : Type 0 where
   pub at_most : CountsUpTo (end_bound p last.0 (length front + 1)) 0 before after
   pub at_least : before.entered + (length front + 1) ≤ after.entered
+
+module _ {V : Type 0} where
+  -- how many points of a map are not behind its first key from k on; all, where there is none
+  abbrev pub node_count_to : Map V → List ℕ → ℕ
+  node_count_to m k =
+      set.len (set.retain (points m) (is_up_to_first (pairs_from k (pairs m))))
+
+  -- A diff ends on the last of these changes, behind those in front: of either tree no node is
+  -- entered that is behind its first key from there on, and one at least is for each of them.
+  pub record DiffEndsSoon (old new : Map V) (before after : Counts) (front : List (Change V))
+      (last : Change V) : Type 0 where
+    pub at_most : CountsUpTo (node_count_to old last.0 + node_count_to new last.0) 0 before after
+    pub at_least : before.entered + (length front + 1) ≤ after.entered
+
+  -- The first of these changes was looked for: it ends there, and where there is none, each node of
+  -- either tree is entered.
+  abbrev pub EndsAtFirst : Map V → Map V → Counts → Counts → List (Change V) → Type 0
+  EndsAtFirst old new before after [] =
+      after.entered ≡ before.entered + (node_count old + node_count new)
+  EndsAtFirst old new before after (first ∷ changes) =
+      DiffEndsSoon old new before after [] first

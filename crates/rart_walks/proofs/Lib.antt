@@ -5,6 +5,7 @@ pub mod GatherLemmas
 pub mod LastLemmas
 pub mod LeafLemmas
 pub mod PartLemmas
+pub mod PassLemmas
 pub mod CursorLemmas
 pub mod SkipLemmas
 pub mod WalkStepLemmas

@@ -15,7 +15,7 @@ short-none V None = tt
 short-none V (Some most) = All-nil (λ (pair : List ℕ × V). length pair.0 ≤ most)
 
 -- ---- paths behind a path
-under-none : (paths : List (List ℕ)) → under_path [] paths ≡ paths
+pub under-none : (paths : List (List ℕ)) → under_path [] paths ≡ paths
 under-none [] = refl
 under-none (path ∷ paths) = ap (λ rest. path ∷ rest) (under-none paths)
 

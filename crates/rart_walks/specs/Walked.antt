@@ -1,11 +1,11 @@
 -- What the calls of a walk do: where it starts, how it goes on, and where it ends.
-use Rattle.std.specs.Prelude.{◌≡◌, ◌+◌, ◌<◌, ◌≤◌, ℕ, Bool, List, [], Option, None, Result, IfOk, OnOk, OnErr, count_by, filter, length}
+use Rattle.std.specs.Prelude.{◌≡◌, ◌+◌, ◌<◌, ◌≤◌, ℕ, Bool, List, [], Option, None, IsSome, Result, IfOk, OnOk, OnErr, count_by, filter, length}
 use Rattle.std.specs.Borrow.{Bor}
 use Rattle.rart_node.specs.Counts.{Counts, CountsUpTo}
 use Rattle.rart_node.specs.Shape.{Shape}
 use Rattle.rart_shape.specs.Trees.{pairs_of}
-use Rattle.rart_walks.specs.WalkFields.{open_nodes, cursor, at_hand, IsWalk, EntersForEach}
-use Rattle.rart_walks.specs.Walks.{Gives, IsEndOf, Steps, nodes_of, paths_of, walk_end}
+use Rattle.rart_walks.specs.WalkFields.{open_nodes, cursor, at_hand, IsWalk, EntersForEach, path_to}
+use Rattle.rart_walks.specs.Walks.{Gives, IsEndOf, PassesTo, Steps, nodes_of, paths_of, walk_end}
 use Rattle.rart_walks.specs.declared.walk.Walk.{Walk}
 
 -- `partial` is what is known of prefixes, which the type takes for a ghost field
@@ -25,6 +25,7 @@ module _ {P V T : Type 0} {partial : _} (holds : T → List (List ℕ) → Type 
     pub walk : IfOk result (IsWalk holds greatest)
     pub pairs : IfOk result (λ it. (cursor it).pairs ≡ pairs_of s)
     pub nodes : IfOk result (λ it. length (cursor it).paths + 1 ≡ nodes_of s)
+    pub paths : IfOk result (λ it. IsEndOf (cursor it).paths (paths_of s))
     pub work : now ≡ record start { entered = start.entered + 1 }
 
   -- A walk over the pairs of a tree whose keys pass a test: the nodes that are left have paths that
@@ -54,8 +55,8 @@ module _ {P V T : Type 0} {partial : _} (holds : T → List (List ℕ) → Type 
     pub one : CountsUpTo 1 0 start now
     pub each : OnOk result (EntersForEach before start after now)
 
-  -- The walk gives the next value. What it enters is what the nodes that are left fall by. Refused,
-  -- it has ended.
+  -- The walk gives the next value. What it enters is what the nodes that are left fall by: each is
+  -- on the way to the key. Refused, it has ended.
   pub record GivesNext {E : Type 0} (before : Walk P V T partial)
       (result : Result (Option (Bor V)) E) (after : Walk P V T partial) (start now : Counts)
       : Type 0 where
@@ -66,3 +67,5 @@ module _ {P V T : Type 0} {partial : _} (holds : T → List (List ℕ) → Type 
         ≡ start.entered + length (cursor before).paths)
     pub counted : CountsUpTo (length (cursor before).paths) 0 start now
     pub each : OnOk result (EntersForEach before start after now)
+    pub on_way : IfOk result (λ value. IsSome value → PassesTo (path_to after)
+        (cursor before).paths (cursor after).paths)

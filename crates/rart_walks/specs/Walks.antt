@@ -1,8 +1,9 @@
 -- What a walk over a tree has left, and how long the keys of what it goes over may be.
-use Rattle.std.specs.Prelude.{◌≡◌, ◌≤◌, ◌⊎◌, ℕ, List, [], ◌∷◌, ◌++◌, map, Option, Some, None, IsSome, All, length, ⊤}
+use Rattle.std.specs.Prelude.{◌≡◌, ◌≤◌, ◌⊎◌, ℕ, true, List, [], ◌∷◌, ◌++◌, map, Option, Some, None, IsSome, All, length, ⊤}
 use Rattle.std.specs.Option.{option_copied}
 use Rattle.std.specs.List.{concat}
 use Rattle.std.specs.Borrow.{Bor}
+use Rattle.rart_below.specs.Bytes.{begins}
 use Rattle.rart_node.specs.Shape.{Shape, Forest, node, bare, grown}
 pub use Rattle.rart_shape.specs.Nodes.{nodes_of, nodes_below}
 
@@ -71,3 +72,9 @@ module _ {V : Type 0} where
 -- The list is the other one, or what that has behind its first.
 abbrev pub IsEndOf : {A : Type 0} → List A → List A → Type 0
 IsEndOf {A} end whole = (whole ≡ end) ⊎ ((first : A) × (whole ≡ first ∷ end))
+
+-- Of the paths before, those after are left: the others begin the key.
+pub record PassesTo (key : List ℕ) (before after : List (List ℕ)) : Type 0 where
+  pub passed : List (List ℕ)
+  pub is : before ≡ passed ++ after
+  pub begin : All (λ path. begins path key ≡ true) passed

@@ -1,14 +1,16 @@
 // Ported from rart 0.11.0 (Apache-2.0), and rewritten.
 //! What changed from one tree to another, and its counts.
-ghost use Rattle.std.specs.Prelude.{◌≡◌, ◌↔◌, ◌+◌, ◌<◌, [], false, length, IfOk, IsTrue, OnOk};
+ghost use Rattle.std.specs.Prelude.{◌≡◌, ◌↔◌, ◌+◌, ◌<◌, ◌≤◌, ℕ, List, [], false, length, IfOk, IsTrue, OnOk};
 ghost use Rattle.rart_changes.specs.ChangeLists.{changes};
 ghost use Rattle.rart_changes.specs.ChangeVisits.{ByKeyChange, ByViewChange};
+ghost use Rattle.rart_diff.specs.Ends.{Ends, nodes_to};
 ghost use Rattle.rart_maps.specs.Bounds.{node_count};
 ghost use Rattle.rart_maps.specs.Versions.{has_no_key};
 ghost use Rattle.rart_maps.specs.Visits.{Visits, Visitable, VisitsUntil, VisitableUntil};
 ghost use Rattle.rart_node.specs.Counts.{CountsUpTo};
 ghost use Rattle.rart_versioned.specs.TreeWalks.{AreWalks};
-ghost use Rattle.rart_walks.specs.WalkFields.{cursor};
+ghost use Rattle.rart_versioned.specs.VisitCounts.{DiffEndsSoon, EndsAtFirst, node_count_to};
+ghost use Rattle.rart_walks.specs.WalkFields.{at_hand, cursor};
 
 use crate::counted::tree::VersionedAdaptiveRadixTree;
 use rart_below::{KeyTrait, LendingKeyView, Partial, Refusal, VisitControl};
@@ -21,8 +23,8 @@ use std::alloc::AllocError;
 
 impl<K: KeyTrait, V: Clone + Drop + Eq> VersionedAdaptiveRadixTree<K, V> {
     /// As `diff_with`, with the nodes entered counted into `work`: one for each key of either map,
-    /// and one for each other string at which keys of it part. Refused for memory, it has entered no
-    /// more, and one at least where there is a key in either map.
+    /// and one for each other string at which keys of it part. Refused for memory, it has entered
+    /// no more, and one at least where there is a key in either map.
     pub fn diff_with_counted<F: FnMut(K, Option<&V>, Option<&V>)>(
         &self,
         other: &VersionedAdaptiveRadixTree<K, V>,
@@ -67,8 +69,10 @@ impl<K: KeyTrait, V: Clone + Drop + Eq> VersionedAdaptiveRadixTree<K, V> {
         visit_changed_views(old, new, f, work)
     }
 
-    /// As `try_diff_lending_with`, with the nodes entered counted into `work`: at most as many as in
-    /// `diff_with_counted`, and one at least where there is a key in either map.
+    /// As `try_diff_lending_with`, with the nodes entered counted into `work`: as many as in
+    /// `diff_with_counted`, and no more where it is refused. Where the closure ends it, none is
+    /// entered of either tree that is behind its first key from that of the change on, and one at
+    /// least for each change.
     pub fn try_diff_lending_with_counted<
         E: Drop,
         F: FnMut(LendingKeyView<'_, '_>, Option<&V>, Option<&V>) -> Result<VisitControl, E>,
@@ -86,6 +90,10 @@ impl<K: KeyTrait, V: Clone + Drop + Eq> VersionedAdaptiveRadixTree<K, V> {
             work.old work.new }
         ensures entered { has_no_key self.now ≡ false → work.old.entered < work.new.entered }
         ensures entered_other { has_no_key other.now ≡ false → work.old.entered < work.new.entered }
+        ensures ends { Ends F.FnMut ByViewChange (work.new.entered ≡ work.old.entered
+            + (node_count self.now.content + node_count other.now.content))
+            (DiffEndsSoon self.now.content other.now.content work.old work.new)
+            result f.old (changes V.eq self.now.content other.now.content) f.new }
     {
         match self.both_walks(other, work) {
             Ok((old, new)) => visit_changed_views_until(old, new, f, work),
@@ -116,8 +124,8 @@ impl<K: KeyTrait, V: Clone + Drop + Eq> VersionedAdaptiveRadixTree<K, V> {
         count_changes(old, new, work)
     }
 
-    /// As `equals`, with the nodes entered counted into `work`: as many as in `diff_with_counted`
-    /// where the maps are equal, and else no more. One at least where there is a key in either.
+    /// As `equals`, with the nodes entered counted into `work`: as many as in
+    /// `try_diff_lending_with_counted` of a closure that ends it at the first change.
     pub fn equals_counted(
         &self,
         other: &VersionedAdaptiveRadixTree<K, V>,
@@ -129,8 +137,8 @@ impl<K: KeyTrait, V: Clone + Drop + Eq> VersionedAdaptiveRadixTree<K, V> {
             work.old work.new }
         ensures entered { has_no_key self.now ≡ false → work.old.entered < work.new.entered }
         ensures entered_other { has_no_key other.now ≡ false → work.old.entered < work.new.entered }
-        ensures exact { IfOk result (λ equal. IsTrue equal → work.new.entered ≡ work.old.entered
-            + (node_count self.now.content + node_count other.now.content)) }
+        ensures ends { OnOk result (EndsAtFirst self.now.content other.now.content
+            work.old work.new (changes V.eq self.now.content other.now.content)) }
     {
         let (old, new) = self.both_walks(other, work)?;
         are_equal(old, new, work)
@@ -154,6 +162,11 @@ impl<K: KeyTrait, V: Clone + Drop + Eq> VersionedAdaptiveRadixTree<K, V> {
         ensures nodes { IfOk result (λ walks. work.new.entered
             + (length (cursor walks.0).paths + length (cursor walks.1).paths)
             ≡ work.old.entered + (node_count self.now.content + node_count other.now.content)) }
+        ensures to { IfOk result (λ walks. (key : List ℕ) → work.new.entered
+            + (nodes_to key walks.0 + nodes_to key walks.1) ≤ work.old.entered
+            + (node_count_to self.now.content key + node_count_to other.now.content key)) }
+        ensures held { IfOk result (λ walks. work.old.entered
+            + (at_hand walks.0 + at_hand walks.1) ≤ work.new.entered) }
         ensures counted { CountsUpTo (node_count self.now.content + node_count other.now.content) 0
             work.old work.new }
         ensures entered { has_no_key self.now ≡ false → work.old.entered < work.new.entered }

@@ -19,7 +19,7 @@ visiting-init g c =
 pub new_from_slice-requires : goal.new_from_slice-requires
 new_from_slice-requires g c =
     let most = g.K.KeyTrait.MAXIMUM_SIZE in
-    let gives = rw c.in-Some.is at c.in_ok-before.ensures.gives in
+    let gives = rw c.in-Some.is at c.in_ok-before.ensures.told.gives in
     let calls = c.visiting.invariant.calls in
     subst (λ k. IsAdmitted most (length k)) (sym c.key.ensures)
     (next-admitted g.V.PartialEq.eq most (cursor c.args.old).pairs
@@ -29,7 +29,7 @@ new_from_slice-requires g c =
 pub f-requires : goal.f-requires
 f-requires g c =
     let shows = ByKeyChange g.K.KeyTrait.bytes in
-    let gives = rw c.in-Some.is at c.in_ok-before.ensures.gives in
+    let gives = rw c.in-Some.is at c.in_ok-before.ensures.told.gives in
     let calls = c.visiting.invariant.calls in
     let here = callable-next g.F.FnMut shows tt _ _ gives c.requires.visitable calls in
     let key = c.in_ok-key.ensures ∙ c.key.ensures in
@@ -40,9 +40,9 @@ f-requires g c =
 pub visiting-preserved : goal.visiting-preserved
 visiting-preserved g c =
     let shows = ByKeyChange g.K.KeyTrait.bytes in
-    let gives = rw c.in-Some.is at c.in_ok-before.ensures.gives in
+    let gives = rw c.in-Some.is at c.in_ok-before.ensures.told.gives in
     let before = c.visiting.invariant in
-    let next = c.in_ok-before.ensures in
+    let next = c.in_ok-before.ensures.told in
     let key = c.in_ok-key.ensures ∙ c.key.ensures in
     record {
       walk = next.walk;

@@ -8,7 +8,7 @@ use Rattle.rart_diff.proofs.views.visit_changed_views.Goals as goal
 
 pub show-requires : goal.show-requires
 show-requires g c =
-    let gives = rw c.in-Some.is at c.in_ok-before.ensures.gives in
+    let gives = rw c.in-Some.is at c.in_ok-before.ensures.told.gives in
     let calls = c.visiting.invariant.calls in
     subst (λ key. CallableOn g.F.FnMut ByViewChange c.visiting.f
     (key, option_copied c.in-Some.before, option_copied c.in-Some.after)) (sym c.key.ensures)
@@ -16,9 +16,9 @@ show-requires g c =
 
 pub visiting-preserved : goal.visiting-preserved
 visiting-preserved g c =
-    let gives = rw c.in-Some.is at c.in_ok-before.ensures.gives in
+    let gives = rw c.in-Some.is at c.in_ok-before.ensures.told.gives in
     let before = c.visiting.invariant in
-    let next = c.in_ok-before.ensures in
+    let next = c.in_ok-before.ensures.told in
     let called = subst (λ key. CalledOn g.F.FnMut ByViewChange c.visiting.f
     (key, option_copied c.in-Some.before, option_copied c.in-Some.after) tt c.show.new.f)
     c.key.ensures c.show.ensures in

@@ -1,8 +1,8 @@
-use Rattle.std.proofs.Common.{length, Ok}
+use Rattle.std.proofs.Common.{◌+◌, ◌≤◌, length, Ok}
 use Rattle.rart_below.specs.declared.visit.VisitControl.TheVariants.{Continue}
 use Rattle.rart_changes.specs.ChangeVisits.{ByViewChange}
 use Rattle.rart_maps.specs.Visits.{AnswersUpTo}
-use Rattle.rart_diff.specs.ChangeFields.{IsChangeWalk, changes_left, nodes_to_enter}
+use Rattle.rart_diff.specs.ChangeFields.{IsChangeWalk, GoesFurther, changes_left, nodes_to_enter, hands}
 use Rattle.rart_diff.specs.TwoWalks.{changes_ahead, nodes_ahead}
 use Rattle.rart_diff.proofs.DiffCountLemmas.{IsCounted}
 use Rattle.rart_diff.proofs.views.visit_changed_views_until.Given as goal
@@ -16,6 +16,9 @@ invariant-visiting g l =
           (changes_ahead same l.fn.old l.fn.new) (changes_left same l.changes) l.f;
       counted : IsCounted (nodes_ahead l.fn.old l.fn.new) l.fn.work
           (nodes_to_enter l.changes) l.work;
+      gone : GoesFurther l.initial.changes l.changes;
+      each : l.fn.work.entered + length (changes_ahead same l.fn.old l.fn.new) + hands l.changes
+          ≤ l.work.entered + length (changes_left same l.changes) + hands l.initial.changes;
     }
 
 abbrev pub decreases-visiting : goal.decreases-visiting

@@ -1,5 +1,5 @@
-use Rattle.std.proofs.Common.{◌≡◌, ◌+◌, length}
-use Rattle.rart_diff.specs.ChangeFields.{IsChangeWalk, changes_left, nodes_to_enter}
+use Rattle.std.proofs.Common.{◌≡◌, ◌+◌, ◌≤◌, length}
+use Rattle.rart_diff.specs.ChangeFields.{IsChangeWalk, GoesFurther, changes_left, nodes_to_enter, hands}
 use Rattle.rart_diff.specs.SideFields.{pairs_left}
 use Rattle.rart_diff.proofs.DiffCountLemmas.{IsCounted}
 use Rattle.rart_diff.proofs.changes.ChangeWalk.next.Given as goal
@@ -12,6 +12,8 @@ invariant-merging g l =
       changes : changes_left same l.initial.self ≡ changes_left same l.self;
       counted : IsCounted (nodes_to_enter l.initial.self) l.initial.work
           (nodes_to_enter l.self) l.work;
+      gone : GoesFurther l.initial.self l.self;
+      each : l.initial.work.entered + hands l.self ≤ l.work.entered + hands l.initial.self;
     }
 
 abbrev pub decreases-merging : goal.decreases-merging

@@ -1,5 +1,5 @@
-use Rattle.std.proofs.Common.{refl, ap}
-use Rattle.std.specs.Option.{option_copied}
+use Rattle.std.proofs.Common.{ℕ, cond, arith, refl, ap}
+use Rattle.std.specs.Option.{is_some, option_copied}
 use Rattle.rart_walks.specs.WalkFields.{cursor}
 use Rattle.rart_diff.specs.SideFields.{key_at}
 use Rattle.rart_diff.proofs.SideLemmas.{rest-ascends, taken-leads}
@@ -17,5 +17,10 @@ returns g c =
       leads = λ some. taken-leads (key_at side) side.value c.take.result c.take.new.self
           (cursor side.walk).pairs c.take.ensures.value c.take.ensures.after
           c.requires.ascends some;
+      paths = refl;
       nodes = refl;
+      hand = λ some.
+          let held = ap {B = ℕ} (λ b. cond b 1 0) some in
+          let none = ap {B = ℕ} (λ v. cond (is_some v) 1 0) c.take.ensures.after in
+          omega (arith, held, none);
     }

@@ -1,5 +1,18 @@
-use Rattle.std.proofs.Common.{arith, sym, ◌∙◌}
+use Rattle.std.proofs.Common.{arith, refl, sym, ◌∙◌}
+use Rattle.rart_walks.proofs.PassLemmas.{passes-start, passes-next, passes-to}
 use Rattle.rart_walks.proofs.walk.Walk.next_value.Goals as goal
+
+pub node-init : goal.node-init
+node-init g c =
+    record {
+      walk = c.requires.walk;
+      pairs = refl;
+      counted = refl;
+      grows = omega arith;
+      made = refl;
+      passes = passes-start _ _;
+      each = omega arith;
+    }
 
 pub returns-in-Some-value : goal.returns-in-Some-value
 returns-in-Some-value g c =
@@ -25,4 +38,31 @@ returns-in-Some-value g c =
         made_at_most = omega (arith, made, made_most);
       };
       each = let each = before.each in let also = next.each in omega (arith, each, also);
+      on_way = λ some.
+          passes-to _ _ _ _ _ _ (sym before.pairs ∙ (rw c.in-Some-value.is at comes.pairs))
+          (passes-next _ _ before.passes before.pairs comes);
+    }
+
+pub node-preserved : goal.node-preserved
+node-preserved g c =
+    let before = c.node.invariant in
+    let next = c.in_ok-value.ensures in
+    let comes = rw c.in-Some.is at next.steps in
+    let grows = before.grows in
+    let same = before.counted in
+    let made = before.made in
+    let fall = next.entered in
+    let more = next.counted.entered_grows in
+    let made_more = next.counted.made_grows in
+    let made_most = next.counted.made_at_most in
+    let each = before.each in
+    let also = next.each in
+    record {
+      walk = next.walk;
+      pairs = sym (rw c.in_default-value.is at comes.pairs) ∙ before.pairs;
+      counted = omega (arith, same, fall);
+      grows = omega (arith, grows, more);
+      made = omega (arith, made, made_more, made_most);
+      passes = passes-next _ _ before.passes before.pairs comes;
+      each = omega (arith, each, also);
     }

@@ -1,5 +1,6 @@
 use Rattle.std.proofs.Common.{◌≡◌, ◌+◌, ◌≤◌, length}
 use Rattle.rart_walks.specs.WalkFields.{IsWalk, cursor, EntersForEach}
+use Rattle.rart_walks.proofs.PassLemmas.{PassesFirst}
 use Rattle.rart_walks.proofs.walk.Walk.next_value.Given as goal
 
 abbrev pub invariant-node : goal.invariant-node
@@ -11,6 +12,8 @@ invariant-node g l =
           ≡ l.initial.work.entered + length (cursor l.initial.self).paths;
       grows : l.initial.work.entered ≤ l.work.entered;
       made : l.work.made ≡ l.initial.work.made;
+      passes : PassesFirst (cursor l.initial.self).pairs (cursor l.initial.self).paths
+          (cursor l.self).paths;
       each : EntersForEach l.initial.self l.initial.work l.self l.work;
     }
 

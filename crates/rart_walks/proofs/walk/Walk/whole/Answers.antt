@@ -1,11 +1,11 @@
-use Rattle.std.proofs.Common.{◌++◌, [], length, arith, refl, ap, ◌∙◌}
+use Rattle.std.proofs.Common.{◌++◌, [], inr, length, arith, refl, sym, ap, ◌∙◌}
 use Rattle.std.proofs.lemmas.List.{append-nil, length-map}
 use Rattle.std.specs.List.{concat}
 use Rattle.rart_shape.specs.Trees.{pairs_of}
 use Rattle.rart_walks.specs.Frames.{behind_path, under_path}
 use Rattle.rart_walks.specs.Walks.{Cursor, paths_of}
 use Rattle.rart_walks.proofs.CursorLemmas.{nodes-paths}
-use Rattle.rart_walks.proofs.WalkLemmas.{behind-none}
+use Rattle.rart_walks.proofs.WalkLemmas.{behind-none, under-none}
 use Rattle.rart_walks.proofs.walk.Walk.whole.Goals as goal
 
 pub enter_whole-requires : goal.enter_whole-requires
@@ -47,5 +47,11 @@ returns g c =
           let paths = length-map (paths_of s) (λ path. [] ++ path) in
           let nodes = nodes-paths s in
           omega (arith, long, paths, nodes);
+      paths =
+          let paths = c.in_ok-enter_whole.ensures.paths
+          ∙ ap (λ (at : Cursor g.row.V.Denot). under_path (concat at.segments)
+          (paths_of c.open.result.now.shape) ++ at.paths) start
+          ∙ append-nil _ ∙ ap (λ z. under_path [] (paths_of z)) c.open.ensures.shown in
+          inr (_, sym (under-none (paths_of s)) ∙ sym paths);
       work = c.open.ensures.work;
     }

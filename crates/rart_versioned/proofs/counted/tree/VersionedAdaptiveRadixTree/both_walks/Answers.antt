@@ -41,6 +41,13 @@ returns g c =
           c.args.self.now c.args.other.now c.in_ok-old.old c.in_ok-new.new
           one.walk other.walk one.pairs other.pairs one.admitted other.admitted;
       nodes = omega (arith, first, second);
+      to = λ key.
+          let left = one.to key in
+          let right = other.to key in
+          omega (arith, left, right);
+      held = let left = one.at_hand in
+          let right = other.at_hand in
+          omega (arith, left, right);
       counted = counts-then one.counted other.counted (omega arith) (omega arith);
       entered = λ keyed. entered-then c.args.work.now (one.entered keyed) other.counted;
       entered_other = λ keyed.

@@ -1,9 +1,13 @@
-use Rattle.std.proofs.Common.{Ok, sym, subst}
+use Rattle.std.proofs.Common.{◌≡◌, ◌+◌, arith, Ok, sym, subst}
 use Rattle.rart_below.specs.declared.visit.VisitControl.TheVariants.{Continue}
 use Rattle.rart_changes.specs.ChangeVisits.{ByViewChange}
+use Rattle.rart_changes.specs.ChangeLists.{changes}
+use Rattle.rart_diff.specs.Ends.{Ends, EntersTo}
+use Rattle.rart_diff.specs.TwoWalks.{nodes_ahead}
 use Rattle.rart_maps.specs.Visits.{VisitableUntil, VisitsUntil}
 use Rattle.rart_maps.proofs.VisitLemmas.{up_to-start}
 use Rattle.rart_shape.proofs.CountingLemmas.{entered-then}
+use Rattle.rart_versioned.proofs.DiffEndLemmas.{diff-ends-weaker, diff-soon}
 use Rattle.rart_versioned.proofs.VersionVisitLemmas.{counts-through}
 use Rattle.rart_versioned.proofs.counted.tree.VersionedAdaptiveRadixTree.try_diff_lending_with_counted.Goals as goal
 
@@ -28,4 +32,22 @@ returns-in-Ok g c =
       entered = λ keyed. entered-then c.args.work.now (both.entered keyed) visit.counted;
       entered_other = λ keyed.
           entered-then c.args.work.now (both.entered_other keyed) visit.counted;
+      ends =
+          let m = c.args.self.now.content in
+          let n = c.args.other.now.content in
+          let old = c.in-Ok.old in
+          let new = c.in-Ok.new in
+          let between = c.both_walks.new.work in
+          let after = c.visit_changed_views_until.new.work in
+          let state = c.visit_changed_views_until.new.f in
+          let result = c.visit_changed_views_until.result in
+          let nodes = both.nodes in
+          diff-ends-weaker g.F.FnMut ByViewChange (changes g.V.PartialEq.eq m n)
+          (λ through. omega (arith, nodes, through))
+          (λ front last enters. diff-soon m n old new c.args.work.now between after _ both.counted
+          both.to both.held front last enters) c.args.f.now state result
+          (subst (λ list. Ends g.F.FnMut ByViewChange
+          (after.entered ≡ between.entered + nodes_ahead old new)
+          (EntersTo old new between after) result c.args.f.now list state)
+          both.walks.changes_are visit.ends);
     }

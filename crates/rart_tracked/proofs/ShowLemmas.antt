@@ -1,5 +1,5 @@
 -- Showing the changes at some keys, one after the other: the calls, and the counts.
-use Rattle.std.proofs.Common.{◌≡◌, ◌+◌, ◌*◌, ◌≤◌, ℕ, Bool, true, List, [], ◌∷◌, ◌++◌, Option, length, refl, sym, ap, subst, ◌∙◌, cond, arith}
+use Rattle.std.proofs.Common.{◌≡◌, ◌+◌, ◌*◌, ◌≤◌, ◌<◌, ℕ, Bool, true, List, [], ◌∷◌, ◌++◌, Option, length, refl, sym, ap, subst, ◌∙◌, cond, arith}
 use Rattle.std.specs.Prelude.{Some, None}
 use Rattle.std.specs.Fn.{Mut}
 use Rattle.std.specs.List.{cons_option}
@@ -12,7 +12,7 @@ use Rattle.rart_maps.specs.Visits.{AnswersUpTo}
 use Rattle.rart_maps.proofs.VisitLemmas.{up_to-start}
 use Rattle.rart_changes.specs.ChangeLists.{change_of, differ}
 use Rattle.rart_versioned.specs.Counts.{Counts, CountsUpTo}
-use Rattle.rart_tracked.specs.ChangeVisits.{lookups_bound, changes_at}
+use Rattle.rart_tracked.specs.ChangeVisits.{changes_at, lookups_bound, lookups_least}
 
 module _ {V : Type 0} (same : V → V → Bool) (old new : Map V) where
   -- Of one key there is a change where the maps differ.
@@ -60,32 +60,45 @@ counts-both first later entered made =
       made_at_most = omega (arith, d, h, made);
     }
 
--- With these keys left of all, how many nodes were entered at most.
-pub record AreCounted (maps : ℕ) (all left : List (List ℕ)) (start now : Counts) : Type 0 where
+-- What is entered before a call is entered after it.
+pub entered-then : {entered made : ℕ} {between now : Counts} (start : Counts)
+    → start.entered < between.entered → CountsUpTo entered made between now
+    → start.entered < now.entered
+entered-then start some later = let grows = later.entered_grows in omega (arith, some, grows)
+
+-- With these keys left of all, how many nodes were entered at most, and at least.
+pub record AreCounted (maps least : ℕ) (all left : List (List ℕ)) (start now : Counts)
+    : Type 0 where
   pub most : now.entered + lookups_bound maps left ≤ start.entered + lookups_bound maps all
+  pub few : start.entered + lookups_least least all ≤ now.entered + lookups_least least left
   pub grows : start.entered ≤ now.entered
   pub made : now.made ≡ start.made
 
-pub counted-next : {maps : ℕ} {all left : List (List ℕ)} {start now after : Counts} (w : List ℕ)
-    (rest : List (List ℕ)) → left ≡ w ∷ rest → AreCounted maps all left start now
-    → CountsUpTo (maps * lookup_bound w) 0 now after → AreCounted maps all rest start after
-counted-next {maps} w rest comes before counted =
+pub counted-next : {maps least : ℕ} {all left : List (List ℕ)} {start now after : Counts}
+    (w : List ℕ) (rest : List (List ℕ)) → left ≡ w ∷ rest
+    → AreCounted maps least all left start now
+    → CountsUpTo (maps * lookup_bound w) 0 now after → now.entered + least ≤ after.entered
+    → AreCounted maps least all rest start after
+counted-next {maps} {least} w rest comes before counted more_entered =
     let bound = ap (lookups_bound maps) comes ∙ sum_by-cons (λ v. maps * lookup_bound v) w rest in
+    let fewest = ap (lookups_least least) comes ∙ sum_by-cons (λ v. least) w rest in
     let most = before.most in
+    let few = before.few in
     let grows = before.grows in
     let made = before.made in
     let more = counted.entered_grows in
-    let few = counted.entered_at_most in
+    let at_most = counted.entered_at_most in
     let kept = counted.made_grows in
     let none = counted.made_at_most in
     record {
-      most = omega (arith, bound, most, few);
+      most = omega (arith, bound, most, at_most);
+      few = omega (arith, fewest, few, more_entered);
       grows = omega (arith, grows, more);
       made = omega (arith, made, kept, none);
     }
 
-pub counted-end : {maps : ℕ} {all left : List (List ℕ)} {start now : Counts}
-    → AreCounted maps all left start now → CountsUpTo (lookups_bound maps all) 0 start now
+pub counted-end : {maps least : ℕ} {all left : List (List ℕ)} {start now : Counts}
+    → AreCounted maps least all left start now → CountsUpTo (lookups_bound maps all) 0 start now
 counted-end before =
     let most = before.most in
     let grows = before.grows in
@@ -97,12 +110,22 @@ counted-end before =
       made_at_most = omega (arith, made);
     }
 
-pub counted-start : (maps : ℕ) {all left : List (List ℕ)} {start : Counts} → left ≡ all
-    → AreCounted maps all left start start
-counted-start maps {all} {left} {start} is =
+pub counted-least : {maps least : ℕ} {all left : List (List ℕ)} {start now : Counts} → left ≡ []
+    → AreCounted maps least all left start now
+    → start.entered + lookups_least least all ≤ now.entered
+counted-least {least = least} none before =
+    let over = ap (lookups_least least) none in
+    let few = before.few in
+    omega (arith, over, few)
+
+pub counted-start : (maps least : ℕ) {all left : List (List ℕ)} {start : Counts} → left ≡ all
+    → AreCounted maps least all left start start
+counted-start maps least {all} {left} {start} is =
     let bound = ap (lookups_bound maps) is in
+    let fewest = ap (lookups_least least) is in
     record {
       most = omega (arith, bound);
+      few = omega (arith, fewest);
       grows = omega arith;
       made = refl;
     }

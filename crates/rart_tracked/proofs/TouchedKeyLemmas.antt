@@ -1,21 +1,27 @@
 -- Collecting the keys of a set: what is called on each, what is kept, and what it takes.
-use Rattle.std.proofs.Common.{◌≡◌, ◌*◌, ℕ, List, [], ◌∷◌, ◌++◌, map, Option, Result, Ok, Err, refl, sym, ap, subst, ◌∙◌, append_assoc, append-nil, arith}
+use Rattle.std.proofs.Common.{◌≡◌, ◌≤◌, ◌+◌, ◌*◌, ◌&&◌, Bool, true, false, ℕ, List, [], ◌∷◌, ◌++◌, map, Option, Result, Ok, Err, refl, sym, ap, subst, ◌∙◌, append_assoc, append-nil, arith}
 use Rattle.std.specs.Prelude.{IfOk, IsTrue, Contains, length}
 use Rattle.std.specs.Fn.{Mut}
 use Rattle.std.specs.Global.{Vec}
 use Rattle.std.specs.FinMap as finite
+use Rattle.std.specs.FinSet as set
 use Rattle.std.specs.declared.alloc.AllocError.{AllocError}
-use Rattle.rart_below.specs.Bytes.{IsAdmitted}
+use Rattle.std.proofs.lemmas.Cmp.{nat_list_cmp_total}
+use Rattle.rart_below.specs.Bytes.{IsAdmitted, byte_order}
 use Rattle.rart_maps.specs.Bounds.{node_count}
 use Rattle.rart_maps.specs.Pairs.{Strings, pairs}
+use Rattle.rart_maps.specs.Points.{points}
 use Rattle.rart_maps.specs.Versions.{Version, has_key}
 use Rattle.rart_maps.specs.Visits.{CalledOn, CallableOn, CallableInTurn, Visit}
 use Rattle.rart_maps.proofs.ElementLemmas.{Contains-here, Contains-later}
-use Rattle.rart_maps.proofs.FoundLemmas.{Contains-pairs}
-use Rattle.rart_maps.proofs.PointLemmas.{points_are_few}
+use Rattle.rart_maps.proofs.FoundLemmas.{Contains-pairs, pairs_ascend_by_key}
+use Rattle.rart_maps.proofs.PointLemmas.{in-list, keys_are_points, len-ascending, points_are_few}
+use Rattle.rart_maps.proofs.OrderLemmas.{byte_order-IsAntisymmetric}
+use Rattle.rart_maps.proofs.SetLemmas.{contains-kept, len-retain-weaker}
 use Rattle.rart_versioned.specs.Counts.{Counts, CountsUpTo}
 use Rattle.rart_versioned.specs.Keys.{IsKeyLength}
 use Rattle.rart_tracked.specs.KeptKeys.{Kept}
+use Rattle.rart_tracked.proofs.RebaseLemmas.{listed-in}
 
 Contains-mid : {A : Type 0} (front : List A) (x : A) (rest : List A) →
     Contains (front ++ x ∷ rest) x
@@ -91,3 +97,37 @@ counted-keys keys counted =
       made_grows = counted.made_grows;
       made_at_most = counted.made_at_most;
     }
+
+both-met : (b c : Bool) → (c ≡ true → b ≡ true) → (b && c) ≡ c
+both-met true c within = refl
+both-met false true within = within refl
+both-met false false within = refl
+
+and-true : (b : Bool) → (b && true) ≡ b
+and-true true = refl
+and-true false = refl
+
+-- A set within another one has no more elements.
+subset-len : (s t : Strings) → ((q : List ℕ) → set.contains t q ≡ true → set.contains s q ≡ true)
+    → set.len t ≤ set.len s
+subset-len s t within =
+    let o = nat_list_cmp_total in
+    let anti = byte_order-IsAntisymmetric in
+    let less = len-retain-weaker o anti s (set.contains t) (λ q. true) (λ q is. refl) in
+    let kept = ap set.len (set.same_set o anti (set.retain s (set.contains t)) t (λ q.
+    contains-kept o anti s (set.contains t) q
+    ∙ both-met (set.contains s q) (set.contains t q) (within q))) in
+    let whole = ap set.len (set.same_set o anti (set.retain s (λ q. true)) s (λ q.
+    contains-kept o anti s (λ q. true) q ∙ and-true (set.contains s q))) in
+    omega (arith, less, kept, whole)
+
+-- Each key is a node of such a walk, which so enters at least one for each.
+pub all-entered : (keys : Strings) (start now : Counts)
+    → now.entered ≡ start.entered + node_count keys → start.entered + finite.len keys ≤ now.entered
+all-entered keys start now is =
+    let list = map (λ (pair : List ℕ × Unit {0}). pair.0) (pairs keys) in
+    let few = subset-len (points keys) (set.from_list {R = byte_order} list)
+    (λ q there. keys_are_points (Unit {0}) keys q (listed-in keys q ((in-list list q).0 there))) in
+    let count = len-ascending (pairs keys) (pairs_ascend_by_key (Unit {0}) keys) in
+    let all = finite.len-entries keys in
+    omega (arith, is, few, count, all)

@@ -118,10 +118,11 @@ module _ {V : Type 0} where
 
   -- One more key is touched, and the version stays.
   pub keeps-more : {base now : Version V} {touched marked : Version (Unit {0})} (w : List ℕ)
-      → Keeps base now touched → IsMarked now touched w marked → Keeps base now marked
-  keeps-more {base} {now} {touched} {marked} w keeps is = record {
+      → Keeps base now touched → IsMarked touched w marked → marked.number ≤ now.number
+      → Keeps base now marked
+  keeps-more {base} {now} {touched} {marked} w keeps is few = record {
     tracked = λ q not. keeps.tracked q (not-in-with touched.content w q
         (ap (λ (s : Strings). is_in s q) (sym is.keys) ∙ not)).1;
-    few = is.few;
+    few = few;
     counted = is.counted;
   }

@@ -1,13 +1,15 @@
 -- What an update makes of a tracked version.
-use Rattle.std.proofs.Common.{◌≡◌, ◌+◌, ◌≤◌, ℕ, List, Bool, true, cond, Option, Some, None, Result, Ok, Err, ap, subst, sym, ◌∙◌, arith}
+use Rattle.std.proofs.Common.{◌≡◌, ◌+◌, ◌≤◌, ℕ, List, Bool, true, cond, Option, Some, None, is_some, Result, Ok, Err, ap, subst, sym, ◌∙◌, arith}
 use Rattle.std.specs.Borrow.{MutBor}
 use Rattle.std.specs.FinMap as finite
 use Rattle.std.specs.Fn.{Once}
+use Rattle.std.specs.Result.{result_unwrap_or}
+use Rattle.std.proofs.lemmas.Bool.{false≢true}
 use Rattle.rart_below.specs.declared.slot.Slot.{Slot}
 use Rattle.rart_below.specs.declared.slot.SlotUpdate.{SlotUpdate}
 use Rattle.rart_below.specs.declared.slot.SlotUpdate.TheVariants.{Keep, Insert, Remove}
 use Rattle.rart_maps.specs.Changes.{slot_update_from, slot_attempt_from}
-use Rattle.rart_maps.specs.Versions.{Version, value_at}
+use Rattle.rart_maps.specs.Versions.{Version, has_key, value_at}
 use Rattle.rart_maps.proofs.LookupLemmas.{updated-sets, tried-sets}
 use Rattle.rart_maps.specs.Pairs.{Strings}
 use Rattle.rart_tracked.specs.Tracking.{Keeps, Tracking, updated, with_string}
@@ -47,6 +49,44 @@ module _ {V : Type 0} (before after : Version V) (w : List ℕ) where
     attempt-raises-from (Some old) left (Ok Remove) is =
         let number = ap (λ p. p.1.number) is in omega (arith, number)
     attempt-raises-from (Some old) left (Err e) is = absurd (cc (ap (λ p. p.0) is))
+
+  -- Of a key that is there the answer is that it is.
+  there-answers-from : (was : Option V) → is_some was ≡ true → (left : Slot V)
+      (told : SlotUpdate V) (answer : Bool)
+      → (answer, after) ≡ slot_update_from before w was left told → answer ≡ true
+  there-answers-from None there left told answer is = absurd (false≢true there)
+  there-answers-from (Some old) there left Keep answer is = ap (λ p. p.0) is
+  there-answers-from (Some old) there left (Insert x) answer is = ap (λ p. p.0) is
+  there-answers-from (Some old) there left Remove answer is = ap (λ p. p.0) is
+
+  module _ {E : Type 0} where
+    there-tried-from : (was : Option V) → is_some was ≡ true → (left : Slot V)
+        (told : Result (SlotUpdate V) E) (answer : Bool)
+        → (Ok answer, after) ≡ slot_attempt_from before w was left told → answer ≡ true
+    there-tried-from None there left told answer is = absurd (false≢true there)
+    there-tried-from (Some old) there left (Ok Keep) answer is =
+        ap (λ p. result_unwrap_or p.0 true) is
+    there-tried-from (Some old) there left (Ok (Insert x)) answer is =
+        ap (λ p. result_unwrap_or p.0 true) is
+    there-tried-from (Some old) there left (Ok Remove) answer is =
+        ap (λ p. result_unwrap_or p.0 true) is
+    there-tried-from (Some old) there left (Err e) answer is = absurd (cc (ap (λ p. p.0) is))
+
+module _ {F V : Type 0} (callback : Once F (MutBor (Slot V) × Unit {0})
+    (SlotUpdate V × (MutBor (Slot V) × Unit {0}))) (f : F) (v after : Version V)
+    (w : List ℕ) where
+  pub there-answers : (answer : Bool) → has_key v w ≡ true
+      → Updates callback f v w answer after → answer ≡ true
+  there-answers answer there updates =
+      there-answers-from v after w (value_at v w) there updates.0 updates.1 answer updates.3
+
+module _ {F E V : Type 0} (callback : Once F (MutBor (Slot V) × Unit {0})
+    (Result (SlotUpdate V) E × (MutBor (Slot V) × Unit {0}))) (f : F) (v after : Version V)
+    (w : List ℕ) where
+  pub there-tried : (answer : Bool) → has_key v w ≡ true
+      → Answers callback f v w (Ok answer) after → answer ≡ true
+  there-tried answer there answers =
+      there-tried-from v after w (value_at v w) there answers.0 answers.1 answer answers.3
 
 module _ {V : Type 0} {base now after : Version V} {touched marked : Version (Unit {0})}
     (w : List ℕ) (keeps : Keeps base now touched) where

@@ -11,13 +11,6 @@ pub record CanMark (touched : Version (Unit {0})) : Type 0 where
   pub counted : touched.number ≡ finite.len touched.content
 
 module _ {V : Type 0} (is_clone : V → V → Type 0) where
-  -- A value of the current version can be lent, and its key be put among the touched ones.
-  pub record CanTouch (current : Version V) (touched : Version (Unit {0})) : Type 0 where
-    pub clones : ClonesEqual is_clone
-    pub room : HasRoom current 1
-    pub touchable : HasRoom touched 1
-    pub few : touched.number ≡ finite.len touched.content
-
   -- The changes at these keys, which ascend, can be made, one for each.
   pub record CanReplay {K : Type 0} (bytes : K → List ℕ) (current : Version V) (keys : List K)
       : Type 0 where

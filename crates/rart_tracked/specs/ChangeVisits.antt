@@ -1,13 +1,14 @@
--- How a closure is shown a change, and how many nodes it takes to find the changes.
-use Rattle.std.specs.Prelude.{◌≡◌, ℕ, ◌+◌, ◌*◌, Bool, List, Option, sum_by, filter_map}
+-- How a closure is shown a change, and how many nodes it takes to find the changes, at most and at
+-- least.
+use Rattle.std.specs.Prelude.{◌≡◌, ℕ, ◌+◌, ◌*◌, Bool, List, Option, sum_by, filter_map, if◌then◌else◌}
 use Rattle.std.specs.Borrow.{Bor}
 use Rattle.std.specs.Option.{option_copied}
 use Rattle.std.specs.FinMap as finite
 use Rattle.rart_maps.specs.Bounds.{lookup_bound}
 use Rattle.rart_maps.specs.Pairs.{Strings}
-use Rattle.rart_maps.specs.Versions.{Map}
+use Rattle.rart_maps.specs.Versions.{Map, Version, has_no_key}
 use Rattle.rart_changes.specs.ChangeLists.{Change, change_of}
-use Rattle.rart_tracked.specs.Tracking.{listed}
+use Rattle.rart_tracked.specs.Tracking.{Tracking, listed}
 
 -- a change, by a key with these bytes, and references to the values before and after where there
 -- are any
@@ -29,3 +30,17 @@ lookups_bound maps keys = sum_by (λ w. maps * lookup_bound w) keys
 -- and finding the changes at these keys, whatever the maps
 abbrev pub changes_bound : Strings → ℕ
 changes_bound keys = 2 * finite.len keys + lookups_bound 2 (listed keys)
+
+-- the fewest nodes that a lookup in a version enters
+abbrev pub lookup_least : {V : Type 0} → Version V → ℕ
+lookup_least v = if has_no_key v then 0 else 1
+
+-- the same for each of these keys, where that is so much for one
+abbrev pub lookups_least : ℕ → List (List ℕ) → ℕ
+lookups_least one keys = sum_by (λ w. one) keys
+
+-- the fewest that finding the changes enters: one for each touched key, and one more for each in
+-- each of the two maps that has a key
+abbrev pub changes_least : {V : Type 0} → Tracking V → ℕ
+changes_least t = finite.len t.touched
+    + lookups_least (lookup_least t.base + lookup_least t.current) (listed t.touched)

@@ -1,13 +1,14 @@
--- How a closure is shown a conflict, and how many nodes it takes to find the conflicts.
+-- How a closure is shown a conflict, and how many nodes it takes to find the conflicts, at most and
+-- at least.
 use Rattle.std.specs.Prelude.{◌≡◌, ℕ, ◌+◌, ◌*◌, Bool, List, Option, Some, None, filter_map, if◌then◌else◌}
 use Rattle.std.specs.Borrow.{Bor}
 use Rattle.std.specs.Option.{option_copied}
 use Rattle.std.specs.FinMap as finite
 use Rattle.rart_maps.specs.Pairs.{Strings}
-use Rattle.rart_maps.specs.Versions.{Map}
+use Rattle.rart_maps.specs.Versions.{Map, Version}
 use Rattle.rart_changes.specs.Merges.{Conflict, in_conflict}
-use Rattle.rart_tracked.specs.ChangeVisits.{lookups_bound}
-use Rattle.rart_tracked.specs.Tracking.{listed}
+use Rattle.rart_tracked.specs.ChangeVisits.{lookup_least, lookups_bound, lookups_least}
+use Rattle.rart_tracked.specs.Tracking.{Tracking, listed}
 
 -- a conflict, by a key with these bytes, and references to the values of the base, ours and theirs
 -- where there are any
@@ -32,3 +33,10 @@ module _ {V : Type 0} (same : V → V → Bool) where
 -- the most nodes that finding the conflicts at these keys enters, whatever the maps
 abbrev pub conflicts_bound : Strings → ℕ
 conflicts_bound keys = 2 * finite.len keys + lookups_bound 3 (listed keys)
+
+-- the fewest: one for each touched key, and one more for each in each of the three maps that has a
+-- key
+abbrev pub conflicts_least : {V : Type 0} → Tracking V → Version V → ℕ
+conflicts_least t theirs = finite.len t.touched
+    + lookups_least (lookup_least t.base + lookup_least t.current + lookup_least theirs)
+    (listed t.touched)

@@ -2,13 +2,13 @@
 use Rattle.std.specs.declared.cmp.Ordering.{Ordering}
 use Rattle.std.specs.Prelude.{◌≡◌, ℕ, Bool, List, Option, Result}
 use Rattle.std.specs.Result.{IsOk, OnErr}
-use Rattle.std.specs.Borrow.{Fml, MutBor, RattleType, LendsIfOk, follows_if, follows_so, name_if_ok}
+use Rattle.std.specs.Borrow.{Fml, MutBor, RattleType, LendsIfOk, follows_so, name_if_ok}
 use Rattle.std.specs.declared.clone.Clone.{Ghosts as Clones}
 use Rattle.rart_below.specs.declared.partial.Partial.{Ghosts as Prefixes}
 use Rattle.rart_tracked.specs.Tracking.{Tracking, after_insertion}
 use Rattle.rart_tracked.specs.contracts.tracked.TrackedTree.{the_row}
 use Rattle.rart_maps.specs.Versions.{Version, with_key}
-use Rattle.rart_versioned.specs.Lent.{found_name, tree_row}
+use Rattle.rart_versioned.specs.Lent.{tree_row}
 
 -- Over the rows of keys, values and prefixes, and the ghosts of their traits.
 module _ (K V P : RattleType) (most : Option ℕ) (bytes : K.Denot → List ℕ)
@@ -27,13 +27,6 @@ module _ (K V P : RattleType) (most : Option ℕ) (bytes : K.Denot → List ℕ)
       → Result (MutBor V.Denot) E → Fml
   LendsTouched tracked w result =
       LendsIfOk tracked_row V tracked result (after_insertion tracked.now w) tracked.now
-
-  -- the same where an absent key is no failure
-  abbrev pub LendsFound : {E : Type 0} → MutBor (Tracking V.Denot) → List ℕ
-      → Result (Option (MutBor V.Denot)) E → Fml
-  LendsFound tracked w result =
-      follows_if tracked_row V tracked.ghost_name (found_name result)
-      (after_insertion tracked.now w) tracked.now
 
   -- A version has the key set to the value as it was left behind the reference, and its number is
   -- one greater. Refused it stays, whatever would be left.

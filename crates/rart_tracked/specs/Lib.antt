@@ -2,13 +2,8 @@ pub mod Asks
 pub mod ChangeVisits
 pub mod ConflictVisits
 pub mod KeptKeys
-pub mod KeyChanges
-pub mod KeyUpdates
 pub mod Lending
-pub mod Missing
 pub mod Rebasing
 pub mod Shown
-pub mod Touching
 pub mod Tracking
-pub mod Updating
 pub mod WorkedBounds

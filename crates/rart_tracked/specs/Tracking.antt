@@ -1,6 +1,6 @@
 -- A tracked version: the version that it began with, the current one, and the keys that were
 -- touched in between. What a change makes of it.
-use Rattle.std.specs.Prelude.{◌≡◌, ◌+◌, ℕ, ◌≤◌, Bool, false, List, Option, Result, Ok, Err, IfOk, refl, if◌then◌else◌}
+use Rattle.std.specs.Prelude.{◌≡◌, ◌+◌, ℕ, ◌≤◌, Bool, false, List, refl, if◌then◌else◌}
 use Rattle.std.specs.Coded.{Coded, code_by, coded×, coded_ℕ, coded_list}
 use Rattle.std.specs.FinMap as finite
 use Rattle.std.specs.FinSet as set
@@ -56,49 +56,20 @@ module _ {V : Type 0} where
         touched = if is_touched then with_string t.touched w else t.touched;
       }
 
-  -- The call answers so and leaves the tracked version so. Refused, it leaves it as it was.
-  abbrev pub Leaves : {A E : Type 0} → Result A E → Tracking V → Tracking V → A × Tracking V
-      → Type 0
-  Leaves (Ok answer) before after outcome = (answer ≡ outcome.0) × (after ≡ outcome.1)
-  Leaves (Err refusal) before after outcome = after ≡ before
-
-  -- Setting a key to a value: whether a value was replaced, or which one, and what is after.
+  -- with a key set to a value, and touched
   abbrev pub after_insertion : Tracking V → List ℕ → V → Tracking V
   after_insertion t w x = touching t w (with_key t.current w x 1)
 
-  abbrev pub insertion : Tracking V → List ℕ → V → Bool × Tracking V
-  insertion t w x = (has_key t.current w, after_insertion t w x)
-
-  abbrev pub replacement : Tracking V → List ℕ → V → Option V × Tracking V
-  replacement t w x = (value_at t.current w, after_insertion t w x)
-
-  -- Taking a key out, which touches it where it is there: its value, or whether it was there, and
-  -- what is after.
+  -- with a key taken out and touched, where it was there
   abbrev pub after_removal : Tracking V → List ℕ → Tracking V
   after_removal t w = if has_key t.current w then touching t w (without_key t.current w 1) else t
 
-  abbrev pub removal : Tracking V → List ℕ → Option V × Tracking V
-  removal t w = (value_at t.current w, after_removal t w)
-
-  abbrev pub deletion : Tracking V → List ℕ → Bool × Tracking V
-  deletion t w = (has_key t.current w, after_removal t w)
-
--- The tree of touched keys with one more, where its number is how many there are, and no greater
--- than the current number.
-pub record IsMarked {V : Type 0} (now : Version V) (before : Version (Unit {0})) (w : List ℕ)
-    (after : Version (Unit {0})) : Type 0 where
+-- The tree of touched keys with one more. Its number is how many there are.
+pub record IsMarked (before : Version (Unit {0})) (w : List ℕ) (after : Version (Unit {0}))
+    : Type 0 where
   pub keys : after.content ≡ with_string before.content w
   pub number : after.number ≤ before.number + 1
   pub counted : after.number ≡ finite.len after.content
-  pub few : after.number ≤ now.number
-
--- The answer is the tree with one key more, unless memory is refused: its number is how many there
--- are.
-pub record Marks {E : Type 0} (result : Result (Version (Unit {0})) E)
-    (before : Version (Unit {0})) (w : List ℕ) : Type 0 where
-  pub keys : IfOk result (λ marked. marked.content ≡ with_string before.content w)
-  pub number : IfOk result (λ marked. marked.number ≤ before.number + 1)
-  pub counted : IfOk result (λ marked. marked.number ≡ finite.len marked.content)
 
 -- The trees inside: a key that was not touched is as in the base. The number of the tree of touched
 -- keys is how many there are, and no greater than the current number.

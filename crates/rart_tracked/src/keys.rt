@@ -1,5 +1,5 @@
 //! The keys of a set of keys, collected into a list.
-ghost use Rattle.std.specs.Prelude.{◌≡◌, ◌*◌, ◌++◌, ◌∷◌, [], length, map, IfOk, OnOk};
+ghost use Rattle.std.specs.Prelude.{◌≡◌, ◌≤◌, ◌+◌, ◌*◌, ◌++◌, ◌∷◌, [], length, map, IfOk, OnOk};
 ghost use Rattle.std.specs.FinMap as finite;
 ghost use Rattle.rart_below.specs.Bytes.{IsAdmitted};
 ghost use Rattle.rart_versioned.specs.Counts.{CountsUpTo};
@@ -10,8 +10,8 @@ use rart_below::{KeyTrait, LendingKeyView};
 use rart_versioned::{VersionedAdaptiveRadixTree, Work};
 use std::alloc::{AllocError, Global};
 
-/// The keys of a set, in order. It enters at most two nodes for each. Refused for memory, there is
-/// no list.
+/// The keys of a set, in order. It enters at most two nodes for each, and where it isn't refused at
+/// least one. Refused for memory, there is no list.
 pub(crate) fn keys_of<K: KeyTrait>(
     alloc: Global,
     set: &VersionedAdaptiveRadixTree<K, ()>,
@@ -19,6 +19,7 @@ pub(crate) fn keys_of<K: KeyTrait>(
 ) -> Result<Vec<K>, AllocError>
     ensures keys { IfOk result (λ keys. map K.bytes keys.items ≡ listed set.now.content) }
     ensures counted { CountsUpTo (2 * finite.len set.now.content) 0 work.old work.new }
+    ensures each { OnOk result (work.old.entered + finite.len set.now.content ≤ work.new.entered) }
 {
     // (each key has a length that keys may have)
     set.know_keys_for_proof();

@@ -2,18 +2,16 @@
 //! is found in the time of the touched keys, whatever the size of the map.
 #![tactic(auto)]
 
-mod changing;
 mod conflicts;
 mod counting;
 mod keys;
 pub mod laws;
 mod lending;
-mod listing;
-mod rebasing;
+mod plain;
 mod showing;
 mod tracked;
-mod trying;
+mod try_updating;
 mod updating;
 
-pub use listing::KeyChange;
+pub use plain::KeyChange;
 pub use tracked::TrackedTree;

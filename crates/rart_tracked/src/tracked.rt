@@ -1,11 +1,11 @@
 //! The tracked version itself: how it begins, and what is read off it.
-ghost use Rattle.std.specs.Prelude.{◌≡◌, ◌*◌, false, IfOk};
+ghost use Rattle.std.specs.Prelude.{◌≡◌, ◌<◌, ◌*◌, false, IfOk};
 ghost use Rattle.std.specs.FinMap as finite;
 ghost use Rattle.std.specs.Option.{option_copied};
 ghost use Rattle.rart_maps.specs.Bounds.{change_bound, lookup_bound};
-ghost use Rattle.rart_maps.specs.Versions.{empty_at, value_at};
+ghost use Rattle.rart_maps.specs.Versions.{empty_at, has_no_key, value_at};
 ghost use Rattle.rart_tracked.specs.Asks.{CanMark};
-ghost use Rattle.rart_tracked.specs.Tracking.{IsTracked, Marks, is_in, tracking_from};
+ghost use Rattle.rart_tracked.specs.Tracking.{IsMarked, IsTracked, tracking_from};
 ghost use Rattle.rart_versioned.specs.Counts.{CountsUpTo};
 
 use rart_below::KeyTrait;
@@ -80,27 +80,15 @@ impl<K: KeyTrait, V: Clone + Drop> TrackedTree<K, V> {
         &self.base
     }
 
-    /// The value of a key, if the key is there. It takes no memory.
-    pub fn get_k(&self, key: &K) -> Option<&V>
-        ensures { option_copied result ≡ value_at self.now.current (K.bytes key.now) }
-    {
-        self.current.get_k(key)
-    }
-
     /// As `get_k`, with the nodes entered counted into `work`: at most one more than the key has
-    /// bytes.
+    /// bytes, and at least one where there is a key in the current version.
     pub fn get_k_counted(&self, key: &K, work: &mut Work) -> Option<&V>
         ensures value { option_copied result ≡ value_at self.now.current (K.bytes key.now) }
         ensures counted { CountsUpTo (lookup_bound (K.bytes key.now)) 0 work.old work.new }
+        ensures entered { has_no_key self.now.current ≡ false
+            → work.old.entered < work.new.entered }
     {
         self.current.get_k_counted(key, work)
-    }
-
-    /// As `get_k`, the key by value.
-    pub fn get(&self, key: K) -> Option<&V>
-        ensures { option_copied result ≡ value_at self.now.current (K.bytes key) }
-    {
-        self.get_k(&key)
     }
 
     /// How many keys were touched.
@@ -108,15 +96,6 @@ impl<K: KeyTrait, V: Clone + Drop> TrackedTree<K, V> {
         ensures { result ≡ finite.len self.now.touched }
     {
         self.touched.version()
-    }
-
-    /// Whether a key was touched. It takes no memory.
-    pub fn is_touched(&self, key: &K) -> bool
-        ensures touched { result ≡ is_in self.now.touched (K.bytes key.now) }
-        ensures tracked { result ≡ false → value_at self.now.current (K.bytes key.now)
-            ≡ value_at self.now.base (K.bytes key.now) }
-    {
-        self.touched.get_k(key).is_some()
     }
 }
 
@@ -136,8 +115,8 @@ pub(crate) fn marked<K: KeyTrait>(
     work: &mut Work,
 ) -> Result<VersionedAdaptiveRadixTree<K, ()>, AllocError>
     requires { CanMark touched.now }
-    ensures marks { Marks result touched.now (K.bytes key.now) }
-    ensures work { CountsUpTo (2 * lookup_bound (K.bytes key.now)) (change_bound (K.bytes key.now))
+    ensures marked { IfOk result (IsMarked touched.now (K.bytes key.now)) }
+    ensures counted { CountsUpTo (2 * lookup_bound (K.bytes key.now)) (change_bound (K.bytes key.now))
         work.old work.new }
 {
     let mut marked = touched.clone()?;

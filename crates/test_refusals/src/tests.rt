@@ -6,6 +6,7 @@ mod begun;
 mod examples;
 mod families;
 mod fragile;
+mod loans;
 mod memoryless;
 mod merges;
 mod readings;

@@ -3,6 +3,7 @@
 use super::begun::{Begun, Version, has_room, key_of};
 use super::fragile::{Fragile, Fuse};
 use rart_family::{Slot, SlotUpdate, VectorKey, Work};
+use rart_versioned::Missing;
 use std::alloc::{AllocError, Global};
 use std::ops::Bound;
 use std::process::Abort;
@@ -18,14 +19,17 @@ fn make_calls(rt: &impl Abort, begun: &mut Begun, present: &VectorKey, absent: &
     assert!(rt; has_room(tracked.current()));
     assert!(rt;
         matches!(
-            tracked.get_mut_k_counted(absent, &mut Work::new()),
-            Ok(None)
+            tracked.value_mut_k_counted(absent, &mut Work::new()),
+            Err(Missing::Absent)
         )
     );
     assert!(rt; has_room(tracked.current()));
     assert!(rt; matches!(tracked.remove_k_counted(absent, &mut Work::new()), Ok(None)));
     assert!(rt; has_room(tracked.current()));
     assert!(rt; tracked.delete_k_counted(absent, &mut Work::new()) == Ok(false));
+    let keep = |_slot: &mut Slot<Fragile>| SlotUpdate::Keep;
+    assert!(rt; has_room(tracked.current()));
+    assert!(rt; tracked.update_k_counted(absent, keep, &mut Work::new()) == Ok(false));
 }
 
 fn read(

@@ -4,6 +4,7 @@ ghost use Rattle.rart_maps.specs.Versions.{HasRoom};
 use super::begun::{Begun, Tracked, Version, has_room, key_of, number_of};
 use super::fragile::{Fragile, Fuse};
 use rart_family::{Slot, SlotUpdate, VectorKey, Work};
+use rart_versioned::Missing;
 use std::alloc::{AllocError, Global};
 use std::rc::Rc;
 
@@ -150,16 +151,17 @@ fn write(
     requires { HasRoom tracked.old.current 2 }
 {
     let lent = match form {
-        Form::ByValue => tracked.get_mut(key)?,
-        Form::ByReference => tracked.get_mut_k(&key)?,
-        Form::WithWork => tracked.get_mut_k_counted(&key, &mut Work::new())?,
+        Form::ByValue => tracked.value_mut(key),
+        Form::ByReference => tracked.value_mut_k(&key),
+        Form::WithWork => tracked.value_mut_k_counted(&key, &mut Work::new()),
     };
     match lent {
-        Some(old) => {
+        Ok(old) => {
             *old = value;
             Ok(true)
         }
-        None => Ok(false),
+        Err(Missing::Absent) => Ok(false),
+        Err(Missing::Memory(refused)) => Err(refused),
     }
 }
 

@@ -29,7 +29,7 @@ const TRACKED: &[(Call, &str, u64)] = &[
     (Call::TryInsert, "try_insert_k", 1),
     (Call::Remove, "remove_k_counted", 2),
     (Call::Delete, "delete_k_counted", 2),
-    (Call::Lend, "get_mut_k_counted", 1),
+    (Call::Lend, "value_mut_k_counted", 1),
     (Call::Update, "update_k_counted", 2),
     (Call::TryUpdate, "try_update_k_counted", 2),
     (Call::Undo, "undo", 0),

@@ -3,7 +3,7 @@ use Rattle.std.specs.Vec.Iter.{into_iter_items}
 use Rattle.rart_maps.proofs.VisitLemmas.{callable-part, up_to-part, up_to-over}
 use Rattle.rart_tracked.specs.ConflictVisits.{ByConflict, conflicts_at}
 use Rattle.rart_tracked.proofs.ConflictLemmas.{conflicts_at-cons}
-use Rattle.rart_tracked.proofs.ShowLemmas.{counted-start, counted-next, counted-end, up_to-all, nothing-left}
+use Rattle.rart_tracked.proofs.ShowLemmas.{counted-start, counted-next, counted-end, counted-least, up_to-all, nothing-left}
 use Rattle.rart_tracked.proofs.conflicts.show_conflicts.Goals as goal
 
 pub loop-key-init : goal.loop-key-init
@@ -16,7 +16,7 @@ loop-key-init g c =
     record {
       length = search rules;
       calls = up_to-all g.F.FnMut (ByConflict {V = g.row.V.Denot} bytes) _ _ _ (ap at same);
-      counted = counted-start 3 same;
+      counted = counted-start 3 _ same;
     }
 
 pub show_conflict-requires : goal.show_conflict-requires
@@ -54,7 +54,8 @@ loop-key-preserved g c =
       length = omega (arith, more, count, counts);
       calls = up_to-part g.F.FnMut (ByConflict {V = g.row.V.Denot} bytes) tt _ (at rest) comes
           before.calls c.show_conflict.ensures.visits;
-      counted = counted-next w rest keys before.counted c.show_conflict.ensures.counted;
+      counted = counted-next w rest keys before.counted c.show_conflict.ensures.counted
+          c.show_conflict.ensures.entered;
     }
 
 pub returns-clause-visits : goal.returns-clause-visits
@@ -69,3 +70,9 @@ returns-clause-visits g c =
 
 pub returns-clause-counted : goal.returns-clause-counted
 returns-clause-counted g c = counted-end c.loop-key.invariant.counted
+
+pub returns-clause-each : goal.returns-clause-each
+returns-clause-each g c =
+    let before = c.loop-key.invariant in
+    let none = nothing-left _ (sym before.length ∙ c.in-None.ensures.steps.0) in
+    counted-least (ap (map g.K.KeyTrait.bytes) none) before.counted

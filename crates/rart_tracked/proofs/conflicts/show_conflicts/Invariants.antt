@@ -1,7 +1,8 @@
-use Rattle.std.proofs.Common.{◌≡◌, length, map}
+use Rattle.std.proofs.Common.{◌≡◌, ◌+◌, length, map}
 use Rattle.std.specs.Vec.Iter.{into_iter_items, into_iter_len}
 use Rattle.rart_maps.specs.Visits.{AnswersUpTo}
 use Rattle.rart_tracked.specs.ConflictVisits.{ByConflict, conflicts_at}
+use Rattle.rart_tracked.specs.ChangeVisits.{lookup_least}
 use Rattle.rart_tracked.proofs.ShowLemmas.{AreCounted}
 use Rattle.rart_tracked.proofs.conflicts.show_conflicts.Given as goal
 
@@ -14,5 +15,6 @@ invariant-loop-key g l =
     record {
       length : into_iter_len l.key-iterator ≡ length (into_iter_items l.key-iterator);
       calls : AnswersUpTo g.F.FnMut (ByConflict bytes) tt l.fn.f (at all) (at left) l.f;
-      counted : AreCounted 3 all left l.fn.work l.work;
+      counted : AreCounted 3 (lookup_least l.base + lookup_least l.ours + lookup_least l.theirs)
+          all left l.fn.work l.work;
     }

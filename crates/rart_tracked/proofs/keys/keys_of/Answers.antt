@@ -2,7 +2,7 @@ use Rattle.std.proofs.Common.{◌≡◌, refl, sym, subst, length, rules, of_cal
 use Rattle.rart_below.specs.Bytes.{IsAdmitted}
 use Rattle.rart_maps.specs.Pairs.{pairs}
 use Rattle.rart_maps.proofs.VisitLemmas.{answers-keep}
-use Rattle.rart_tracked.proofs.TouchedKeyLemmas.{key-admitted, callable-each, visit-keeps, kept-all, counted-keys}
+use Rattle.rart_tracked.proofs.TouchedKeyLemmas.{key-admitted, callable-each, visit-keeps, kept-all, counted-keys, all-entered}
 use Rattle.rart_tracked.proofs.keys.keys_of.Goals as goal
 
 pub for_each_view_counted-requires : goal.for_each_view_counted-requires
@@ -36,3 +36,9 @@ returns-clause-keys g c =
 pub returns-clause-counted : goal.returns-clause-counted
 returns-clause-counted g c =
     counted-keys c.args.set.now.content c.for_each_view_counted.ensures.counted
+
+pub returns-clause-each : goal.returns-clause-each
+returns-clause-each g c =
+    let all = all-entered c.args.set.now.content c.args.work.now c.for_each_view_counted.new.work
+    c.in_ok-for_each_view_counted.ensures.exact in
+    search (rules, all)

@@ -2,7 +2,7 @@ use Rattle.std.proofs.Common.{map, sym, ap, ◌∙◌, arith, length, rules}
 use Rattle.std.specs.Vec.Iter.{into_iter_items}
 use Rattle.rart_maps.proofs.VisitLemmas.{callable-part, up_to-part, up_to-over}
 use Rattle.rart_tracked.specs.ChangeVisits.{ByChange, changes_at}
-use Rattle.rart_tracked.proofs.ShowLemmas.{changes_at-cons, counted-start, counted-next, counted-end, up_to-all, nothing-left}
+use Rattle.rart_tracked.proofs.ShowLemmas.{changes_at-cons, counted-start, counted-next, counted-end, counted-least, up_to-all, nothing-left}
 use Rattle.rart_tracked.proofs.showing.show_changes.Goals as goal
 
 pub loop-key-init : goal.loop-key-init
@@ -14,7 +14,7 @@ loop-key-init g c =
     record {
       length = search rules;
       calls = up_to-all g.F.FnMut (ByChange {V = g.row.V.Denot} bytes) _ _ _ (ap at same);
-      counted = counted-start 2 same;
+      counted = counted-start 2 _ same;
     }
 
 pub show_change-requires : goal.show_change-requires
@@ -48,7 +48,8 @@ loop-key-preserved g c =
       length = omega (arith, more, count, counts);
       calls = up_to-part g.F.FnMut (ByChange {V = g.row.V.Denot} bytes) tt _ (at rest) comes
           before.calls c.show_change.ensures.visits;
-      counted = counted-next w rest keys before.counted c.show_change.ensures.counted;
+      counted = counted-next w rest keys before.counted c.show_change.ensures.counted
+          c.show_change.ensures.entered;
     }
 
 pub returns-clause-visits : goal.returns-clause-visits
@@ -62,3 +63,9 @@ returns-clause-visits g c =
 
 pub returns-clause-counted : goal.returns-clause-counted
 returns-clause-counted g c = counted-end c.loop-key.invariant.counted
+
+pub returns-clause-each : goal.returns-clause-each
+returns-clause-each g c =
+    let before = c.loop-key.invariant in
+    let none = nothing-left _ (sym before.length ∙ c.in-None.ensures.steps.0) in
+    counted-least (ap (map g.K.KeyTrait.bytes) none) before.counted

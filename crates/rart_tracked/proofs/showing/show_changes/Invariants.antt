@@ -1,7 +1,7 @@
-use Rattle.std.proofs.Common.{◌≡◌, length, map}
+use Rattle.std.proofs.Common.{◌≡◌, ◌+◌, length, map}
 use Rattle.std.specs.Vec.Iter.{into_iter_items, into_iter_len}
 use Rattle.rart_maps.specs.Visits.{AnswersUpTo}
-use Rattle.rart_tracked.specs.ChangeVisits.{ByChange, changes_at}
+use Rattle.rart_tracked.specs.ChangeVisits.{ByChange, changes_at, lookup_least}
 use Rattle.rart_tracked.proofs.ShowLemmas.{AreCounted}
 use Rattle.rart_tracked.proofs.showing.show_changes.Given as goal
 
@@ -14,5 +14,5 @@ invariant-loop-key g l =
     record {
       length : into_iter_len l.key-iterator ≡ length (into_iter_items l.key-iterator);
       calls : AnswersUpTo g.F.FnMut (ByChange bytes) tt l.fn.f (at all) (at left) l.f;
-      counted : AreCounted 2 all left l.fn.work l.work;
+      counted : AreCounted 2 (lookup_least l.old + lookup_least l.new) all left l.fn.work l.work;
     }

@@ -5,8 +5,8 @@ use Rattle.rart_tracked.proofs.TrackingLemmas.{copied-some, one-more, with-again
 use Rattle.rart_tracked.proofs.tracked.marked.Goals as goal
 use Rattle.rart_tracked.proofs.tracked.marked.Goals.{then-is_none+in_ok-insert_k_counted, else-is_none}
 
-pub returns-clause-marks : goal.returns-clause-marks
-returns-clause-marks g c =
+pub returns-clause-marked : goal.returns-clause-marked
+returns-clause-marked g c =
     let w = g.K.KeyTrait.bytes c.args.key.now in
     let counted = ap (λ (v : Version (Unit {0})). v.number) c.in_ok-marked.ensures
     ∙ c.requires.counted

@@ -10,7 +10,7 @@ invariant_of-self-2 g c =
     let removed = c.in_ok-removed.ensures in
     let there = sym (ap is_some c.get_k_counted.ensures.value)
     ∙ sym (copied-some c.get_k_counted.result) ∙ c.if-is_none.ensures in
-    let marked = c.in_ok-touched.ensures.marks in
+    let marked = c.in_ok-touched.ensures.marked in
     keeps-touched w _ c.self.invariant
     (removal-sets _ _ w {E = AllocError} (Ok _) (removed.answer, removed.removed))
     marked.keys marked.number marked.counted

@@ -1,52 +1,70 @@
-use Rattle.std.proofs.Common.{true, false, Ok, ap, arith, refl}
+use Rattle.std.proofs.Common.{◌≡◌, Ok, false, true, sym, ap, ◌∙◌, is_some, refl}
 use Rattle.std.specs.declared.alloc.AllocError.{AllocError}
+use Rattle.rart_maps.specs.Changes.{slot_of}
+use Rattle.rart_maps.specs.Versions.{has_key, value_at}
+use Rattle.rart_tracked.specs.Tracking.{Tracking}
+use Rattle.rart_versioned.proofs.SlotChangeLemmas.{asked-memory, none, tells, updates-absent}
 use Rattle.rart_versioned.proofs.UpdateLookupLemmas.{update-sets}
-use Rattle.rart_tracked.proofs.ShowLemmas.{counts-both}
-use Rattle.rart_tracked.proofs.UpdateLemmas.{keeps-update, same-update, updated-view}
+use Rattle.rart_tracked.proofs.TrackingLemmas.{copied-some}
+use Rattle.rart_tracked.proofs.UpdateLemmas.{keeps-update, same-update, there-answers}
 use Rattle.rart_tracked.proofs.tracked.TrackedTree.update_k_counted.Goals as goal
 
-pub returns-then-not-branch : goal.returns-then-not-branch
-returns-then-not-branch g c =
+pub returns-then-is_none-clause-updates : goal.returns-then-is_none-clause-updates
+returns-then-is_none-clause-updates g c =
+    let v = c.args.self.now.current in
     let w = g.K.KeyTrait.bytes c.args.key.now in
-    let updates = same-update g.F.FnOnce c.args.f c.self.inside.current
-    c.args.self.now.current c.update_k_counted.new.self w _ false
-    (ap (λ t. t.current) c.self.view_is) c.if-not-branch.true
-    c.in_ok-update_k_counted.ensures.updates in
-    record {
-      tracks = (
-        updates,
-        updated-view _ c.args.self.now w c.update_k_counted.new.self _ false c.self.view_is refl,
-      );
-      sets = update-sets g.F.FnOnce c.args.f {E = AllocError} c.args.self.now.current
-          c.update_k_counted.new.self w (Ok false) updates;
-      refused = tt;
-      counted = counts-both c.marked.ensures.work c.update_k_counted.ensures.counted
-          (omega arith) (omega arith);
-    }
+    let absent : has_key v w ≡ false =
+    ap (λ (t : Tracking g.row.V.Denot). has_key t.current w) (sym c.self.view_is)
+    ∙ sym (ap is_some c.get_k_counted.ensures.value)
+    ∙ sym (copied-some c.get_k_counted.result) ∙ c.if-is_none.ensures in
+    let tell = tells g.F.FnOnce c.args.f v w _ _ _
+    (sym (ap slot_of (none v w absent (value_at v w) refl))) c.f-told.ensures in
+    updates-absent g.F.FnOnce c.args.f v w _ _ c.settle_absent.result tell _ absent
+    c.settle_absent.ensures.done
+
+pub returns-then-is_none-clause-lookups : goal.returns-then-is_none-clause-lookups
+returns-then-is_none-clause-lookups g c =
+    let v = c.args.self.now.current in
+    let w = g.K.KeyTrait.bytes c.args.key.now in
+    let absent : has_key v w ≡ false =
+    ap (λ (t : Tracking g.row.V.Denot). has_key t.current w) (sym c.self.view_is)
+    ∙ sym (ap is_some c.get_k_counted.ensures.value)
+    ∙ sym (copied-some c.get_k_counted.result) ∙ c.if-is_none.ensures in
+    let tell = tells g.F.FnOnce c.args.f v w _ _ _
+    (sym (ap slot_of (none v w absent (value_at v w) refl))) c.f-told.ensures in
+    update-sets g.F.FnOnce c.args.f v _ w c.settle_absent.result
+    (updates-absent g.F.FnOnce c.args.f v w _ _ c.settle_absent.result tell _ absent
+    c.settle_absent.ensures.done)
+
+pub returns-then-is_none-clause-memory : goal.returns-then-is_none-clause-memory
+returns-then-is_none-clause-memory g c =
+    let v = c.args.self.now.current in
+    let w = g.K.KeyTrait.bytes c.args.key.now in
+    let absent : has_key v w ≡ false =
+    ap (λ (t : Tracking g.row.V.Denot). has_key t.current w) (sym c.self.view_is)
+    ∙ sym (ap is_some c.get_k_counted.ensures.value)
+    ∙ sym (copied-some c.get_k_counted.result) ∙ c.if-is_none.ensures in
+    let tell = tells g.F.FnOnce c.args.f v w _ _ _
+    (sym (ap slot_of (none v w absent (value_at v w) refl))) c.f-told.ensures in
+    asked-memory g.F.FnOnce c.args.f v w _ _ c.settle_absent.result tell
+    c.settle_absent.ensures.memory
 
 pub invariant_of-self-2 : goal.invariant_of-self-2
 invariant_of-self-2 g c =
-    let marked = c.in_ok-touched.ensures.marks in
-    keeps-update (g.K.KeyTrait.bytes c.args.key.now) c.self.invariant marked.keys marked.number
-    marked.counted g.F.FnOnce c.args.f _ c.if-not-branch.false
-    c.in_ok-update_k_counted.ensures.updates
-
-pub returns : goal.returns
-returns g c =
+    let v = c.self.inside.current in
     let w = g.K.KeyTrait.bytes c.args.key.now in
-    let updates = same-update g.F.FnOnce c.args.f c.self.inside.current
-    c.args.self.now.current c.update_k_counted.new.self w _ true
-    (ap (λ t. t.current) c.self.view_is) c.if-not-branch.false
-    c.in_ok-update_k_counted.ensures.updates in
-    record {
-      tracks = (
-        updates,
-        updated-view _ c.args.self.now w c.update_k_counted.new.self _ true c.self.view_is
-            c.in_ok-touched.ensures.marks.keys,
-      );
-      sets = update-sets g.F.FnOnce c.args.f {E = AllocError} c.args.self.now.current
-          c.update_k_counted.new.self w (Ok true) updates;
-      refused = tt;
-      counted = counts-both c.marked.ensures.work c.update_k_counted.ensures.counted
-          (omega arith) (omega arith);
-    }
+    let marked = c.in_ok-touched.ensures.marked in
+    let updates = c.in_ok-is_there.ensures.updates in
+    let there : has_key v w ≡ true = sym (ap is_some c.get_k_counted.ensures.value)
+    ∙ sym (copied-some c.get_k_counted.result) ∙ c.if-is_none.ensures in
+    keeps-update w c.self.invariant marked.keys marked.number marked.counted g.F.FnOnce c.args.f _
+    (there-answers g.F.FnOnce c.args.f v _ w _ there updates) updates
+
+pub returns-clause-lookups : goal.returns-clause-lookups
+returns-clause-lookups g c =
+    let v = c.args.self.now.current in
+    let w = g.K.KeyTrait.bytes c.args.key.now in
+    update-sets g.F.FnOnce c.args.f {E = AllocError} v c.update_k_counted.new.self w (Ok _)
+    (same-update g.F.FnOnce c.args.f c.self.inside.current v c.update_k_counted.new.self w _ _
+    (ap (λ (t : Tracking g.row.V.Denot). t.current) c.self.view_is) refl
+    c.in_ok-is_there.ensures.updates)

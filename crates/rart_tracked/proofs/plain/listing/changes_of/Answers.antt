@@ -3,7 +3,7 @@ use Rattle.std.specs.Vec.Iter.{into_iter_items}
 use Rattle.rart_tracked.specs.ChangeVisits.{changes_at}
 use Rattle.rart_tracked.specs.Shown.{shown_change}
 use Rattle.rart_tracked.proofs.ShowLemmas.{changes_at-cons, nothing-left}
-use Rattle.rart_tracked.proofs.listing.changes_of.Goals as goal
+use Rattle.rart_tracked.proofs.plain.listing.changes_of.Goals as goal
 
 pub loop-key-init : goal.loop-key-init
 loop-key-init g c =

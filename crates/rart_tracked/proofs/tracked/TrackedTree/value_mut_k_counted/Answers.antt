@@ -1,20 +1,20 @@
 use Rattle.std.proofs.Common.{◌≡◌, sym, ap, subst, ◌∙◌}
 use Rattle.std.proofs.lemmas.Result.{IfOk-weaker, IfErr-weaker}
-use Rattle.rart_maps.specs.Versions.{has_key, value_at}
+use Rattle.rart_maps.specs.Versions.{has_key, has_no_key, value_at}
 use Rattle.rart_versioned.proofs.LendingLemmas.{same-ends, at-ok}
-use Rattle.rart_tracked.specs.Missing.{Explains}
+use Rattle.rart_versioned.specs.Missing.{Explains}
 use Rattle.rart_tracked.specs.Tracking.{Tracking}
-use Rattle.rart_tracked.proofs.TrackedLendingLemmas.{keeps-lent, keeps-stayed, lent-view, stayed-view}
-use Rattle.rart_tracked.proofs.tracked.TrackedTree.lent_k_counted.Goals as goal
+use Rattle.rart_tracked.proofs.TrackedLendingLemmas.{keeps-lent, keeps-unlent, lent-view, unlent-view}
+use Rattle.rart_tracked.proofs.tracked.TrackedTree.value_mut_k_counted.Goals as goal
 
 pub invariant_of-self-lent : goal.invariant_of-self-lent
 invariant_of-self-lent g c =
     let w = g.K.KeyTrait.bytes c.args.key.now in
-    let told = c.lend_in.ensures.touches in
+    let told = c.lend_in.ensures in
     λ result. (
       (λ value. keeps-lent w c.lend_in.result value c.self.invariant told.marked told.kept
           (c.lend_in.follows.holds value)),
-      keeps-stayed w c.lend_in.result c.self.invariant told.marked told.kept
+      keeps-unlent w c.lend_in.result c.self.invariant told.marked told.few told.kept
           c.lend_in.follows.holds-at-none,
     )
 
@@ -22,7 +22,7 @@ pub returns : goal.returns
 returns g c =
     let w = g.K.KeyTrait.bytes c.args.key.now in
     let seen = c.args.self.now in
-    let told = c.lend_in.ensures.touches in
+    let told = c.lend_in.ensures in
     let touched = c.self.inside.touched in
     let marked = c.lend_in.new.touched in
     let here : value_at seen.current w ≡ value_at c.self.inside.current w =
@@ -30,7 +30,7 @@ returns g c =
       same-ends _ c.lend_in.result _ _ _ _
           (λ ok value. lent-view touched marked seen c.self.view_is w value
           ((c.lend_in.follows.holds value).0 ok) (at-ok c.lend_in.result ok told.marked).keys)
-          (stayed-view touched marked seen c.self.view_is c.lend_in.result told.kept
+          (unlent-view touched marked seen c.self.view_is c.lend_in.result told.kept
           c.lend_in.follows.holds-at-none),
       record {
         writes_back = tt;
@@ -42,5 +42,8 @@ returns g c =
         absent =
             λ absent. told.absent
             (ap (λ (t : Tracking g.row.V.Denot). has_key t.current w) c.self.view_is ∙ absent);
+        entered =
+            λ keyed. told.entered
+            (ap (λ (t : Tracking g.row.V.Denot). has_no_key t.current) c.self.view_is ∙ keyed);
       },
     )

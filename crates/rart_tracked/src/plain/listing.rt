@@ -8,9 +8,9 @@ ghost use Rattle.rart_tracked.specs.ChangeVisits.{changes_at};
 ghost use Rattle.rart_tracked.specs.Shown.{shown_change};
 
 use crate::keys::keys_of;
-use crate::showing::do_differ;
 use crate::tracked::TrackedTree;
 use rart_below::KeyTrait;
+use rart_changes::do_differ;
 use rart_versioned::{VersionedAdaptiveRadixTree, Work};
 use std::alloc::{AllocError, Global};
 

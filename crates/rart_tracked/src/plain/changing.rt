@@ -1,8 +1,8 @@
 //! Changes of one key: the current version is changed as a tree is, and the key is touched.
+ghost use Rattle.std.specs.Prelude.{◌≡◌, IfOk, IsTrue, OnErr, OnOk};
 ghost use Rattle.rart_below.specs.Clones.{ClonesEqual};
-ghost use Rattle.rart_maps.specs.Versions.{HasRoom};
-ghost use Rattle.rart_tracked.specs.KeyChanges.{RemovesKey};
-ghost use Rattle.rart_tracked.specs.Tracking.{Leaves, insertion, replacement, removal, deletion, tracking_from};
+ghost use Rattle.rart_maps.specs.Versions.{HasRoom, has_key, value_at};
+ghost use Rattle.rart_tracked.specs.Tracking.{after_insertion, after_removal, tracking_from};
 
 use crate::tracked::{TrackedTree, no_keys};
 use rart_below::KeyTrait;
@@ -15,7 +15,10 @@ impl<K: KeyTrait, V: Clone + Drop> TrackedTree<K, V> {
     pub fn insert_k(&mut self, key: &K, value: V) -> Result<bool, AllocError>
         requires clones { ClonesEqual V.is_clone }
         requires room { HasRoom self.old.current 1 }
-        ensures { Leaves result self.old self.new (insertion self.old (K.bytes key.now) value) }
+        ensures answer { IfOk result
+            (λ replaced. replaced ≡ has_key self.old.current (K.bytes key.now)) }
+        ensures set { OnOk result (self.new ≡ after_insertion self.old (K.bytes key.now) value) }
+        ensures refused { OnErr result (self.new ≡ self.old) }
     {
         Ok(self.insert_and_replace_k(key, value)?.is_some())
     }
@@ -24,7 +27,10 @@ impl<K: KeyTrait, V: Clone + Drop> TrackedTree<K, V> {
     pub fn insert(&mut self, key: K, value: V) -> Result<bool, AllocError>
         requires clones { ClonesEqual V.is_clone }
         requires room { HasRoom self.old.current 1 }
-        ensures { Leaves result self.old self.new (insertion self.old (K.bytes key) value) }
+        ensures answer { IfOk result
+            (λ replaced. replaced ≡ has_key self.old.current (K.bytes key)) }
+        ensures set { OnOk result (self.new ≡ after_insertion self.old (K.bytes key) value) }
+        ensures refused { OnErr result (self.new ≡ self.old) }
     {
         self.insert_k(&key, value)
     }
@@ -33,7 +39,10 @@ impl<K: KeyTrait, V: Clone + Drop> TrackedTree<K, V> {
     pub fn insert_and_replace_k(&mut self, key: &K, value: V) -> Result<Option<V>, AllocError>
         requires clones { ClonesEqual V.is_clone }
         requires room { HasRoom self.old.current 1 }
-        ensures { Leaves result self.old self.new (replacement self.old (K.bytes key.now) value) }
+        ensures answer { IfOk result
+            (λ replaced. replaced ≡ value_at self.old.current (K.bytes key.now)) }
+        ensures set { OnOk result (self.new ≡ after_insertion self.old (K.bytes key.now) value) }
+        ensures refused { OnErr result (self.new ≡ self.old) }
     {
         self.insert_and_replace_k_counted(key, value, &mut Work::new())
     }
@@ -42,7 +51,10 @@ impl<K: KeyTrait, V: Clone + Drop> TrackedTree<K, V> {
     pub fn insert_and_replace(&mut self, key: K, value: V) -> Result<Option<V>, AllocError>
         requires clones { ClonesEqual V.is_clone }
         requires room { HasRoom self.old.current 1 }
-        ensures { Leaves result self.old self.new (replacement self.old (K.bytes key) value) }
+        ensures answer { IfOk result
+            (λ replaced. replaced ≡ value_at self.old.current (K.bytes key)) }
+        ensures set { OnOk result (self.new ≡ after_insertion self.old (K.bytes key) value) }
+        ensures refused { OnErr result (self.new ≡ self.old) }
     {
         self.insert_and_replace_k(&key, value)
     }
@@ -53,8 +65,11 @@ impl<K: KeyTrait, V: Clone + Drop> TrackedTree<K, V> {
     pub fn remove_k(&mut self, key: &K) -> Result<Option<V>, AllocError>
         requires clones { ClonesEqual V.is_clone }
         requires room { HasRoom self.old.current 1 }
-        ensures { RemovesKey result self.old self.new (removal self.old (K.bytes key.now))
-            (K.bytes key.now) }
+        ensures answer { IfOk result
+            (λ removed. removed ≡ value_at self.old.current (K.bytes key.now)) }
+        ensures removed { OnOk result (self.new ≡ after_removal self.old (K.bytes key.now)) }
+        ensures refused { OnErr result (self.new ≡ self.old) }
+        ensures present { OnErr result (IsTrue (has_key self.old.current (K.bytes key.now))) }
     {
         self.remove_k_counted(key, &mut Work::new())
     }
@@ -63,8 +78,11 @@ impl<K: KeyTrait, V: Clone + Drop> TrackedTree<K, V> {
     pub fn remove(&mut self, key: K) -> Result<Option<V>, AllocError>
         requires clones { ClonesEqual V.is_clone }
         requires room { HasRoom self.old.current 1 }
-        ensures { RemovesKey result self.old self.new (removal self.old (K.bytes key))
-            (K.bytes key) }
+        ensures answer { IfOk result
+            (λ removed. removed ≡ value_at self.old.current (K.bytes key)) }
+        ensures removed { OnOk result (self.new ≡ after_removal self.old (K.bytes key)) }
+        ensures refused { OnErr result (self.new ≡ self.old) }
+        ensures present { OnErr result (IsTrue (has_key self.old.current (K.bytes key))) }
     {
         self.remove_k(&key)
     }
@@ -73,8 +91,11 @@ impl<K: KeyTrait, V: Clone + Drop> TrackedTree<K, V> {
     pub fn delete_k(&mut self, key: &K) -> Result<bool, AllocError>
         requires clones { ClonesEqual V.is_clone }
         requires room { HasRoom self.old.current 1 }
-        ensures { RemovesKey result self.old self.new (deletion self.old (K.bytes key.now))
-            (K.bytes key.now) }
+        ensures answer { IfOk result
+            (λ removed. removed ≡ has_key self.old.current (K.bytes key.now)) }
+        ensures removed { OnOk result (self.new ≡ after_removal self.old (K.bytes key.now)) }
+        ensures refused { OnErr result (self.new ≡ self.old) }
+        ensures present { OnErr result (IsTrue (has_key self.old.current (K.bytes key.now))) }
     {
         Ok(self.remove_k(key)?.is_some())
     }
@@ -83,8 +104,11 @@ impl<K: KeyTrait, V: Clone + Drop> TrackedTree<K, V> {
     pub fn delete(&mut self, key: K) -> Result<bool, AllocError>
         requires clones { ClonesEqual V.is_clone }
         requires room { HasRoom self.old.current 1 }
-        ensures { RemovesKey result self.old self.new (deletion self.old (K.bytes key))
-            (K.bytes key) }
+        ensures answer { IfOk result
+            (λ removed. removed ≡ has_key self.old.current (K.bytes key)) }
+        ensures removed { OnOk result (self.new ≡ after_removal self.old (K.bytes key)) }
+        ensures refused { OnErr result (self.new ≡ self.old) }
+        ensures present { OnErr result (IsTrue (has_key self.old.current (K.bytes key))) }
     {
         self.delete_k(&key)
     }
@@ -92,7 +116,8 @@ impl<K: KeyTrait, V: Clone + Drop> TrackedTree<K, V> {
     /// Goes back to the base: it is the current version, and no key is touched. Refused for memory,
     /// all is as before.
     pub fn undo(&mut self) -> Result<(), AllocError>
-        ensures { Leaves result self.old self.new (tt, tracking_from self.old.base) }
+        ensures undone { OnOk result (self.new ≡ tracking_from self.old.base) }
+        ensures refused { OnErr result (self.new ≡ self.old) }
     {
         let base = self.base.clone()?;
         self.current = base;
@@ -103,7 +128,8 @@ impl<K: KeyTrait, V: Clone + Drop> TrackedTree<K, V> {
     /// Takes the current version as base: no key is touched then. Refused for memory, all is as
     /// before.
     pub fn commit(&mut self) -> Result<(), AllocError>
-        ensures { Leaves result self.old self.new (tt, tracking_from self.old.current) }
+        ensures committed { OnOk result (self.new ≡ tracking_from self.old.current) }
+        ensures refused { OnErr result (self.new ≡ self.old) }
     {
         let current = self.current.clone()?;
         self.base = current;

@@ -1,12 +1,11 @@
 -- How a closure is asked at the conflicts, and what a merge makes of its answers.
-use Rattle.std.specs.Prelude.{◌≡◌, ℕ, ◌+◌, List, ◌∷◌, ◌++◌, ◌||◌, Option, Bool, Result, OnOk, OnErr, length, map}
+use Rattle.std.specs.Prelude.{◌≡◌, ℕ, List, ◌∷◌, ◌++◌, ◌||◌, Option, Bool, map}
 use Rattle.std.specs.Borrow.{Bor}
 use Rattle.std.specs.Fn.{Mut}
 use Rattle.std.specs.FinMap as finite
 use Rattle.std.specs.List.{FoldsTo, count_by}
 use Rattle.std.specs.Option.{option_copied}
-use Rattle.rart_below.specs.Clones.{ClonesEqual}
-use Rattle.rart_maps.specs.Versions.{HasRoom, Map, Version}
+use Rattle.rart_maps.specs.Versions.{Map}
 use Rattle.rart_maps.specs.Visits.{CalledOn, CallableOn}
 use Rattle.rart_changes.specs.ChangeLists.{Change, changes, patched}
 use Rattle.rart_changes.specs.Merges.{Conflict, Answers, conflicts, merged}
@@ -64,27 +63,6 @@ module _ {F A V : Type 0} (g : Mut F A (Option V)) (Shows : A → Conflict V →
     pub asked : map (λ reply. reply.0) replies ≡ conflicts same base ours theirs
     pub calls : Replies f replies f'
     pub content : after ≡ patched (patched ours (changes same base theirs)) (map change_for replies)
-
-  -- The changes of theirs can be made on ours, and f be called on the conflicts.
-  pub record CanMerge (is_clone : V → V → Type 0) (same : V → V → Bool) (f : F)
-      (base ours theirs : Version V) : Type 0 where
-    pub clones : ClonesEqual is_clone
-    pub room : HasRoom ours (length (changes same base.content theirs.content))
-    pub answerable : Answerable f (conflicts same base.content ours.content theirs.content)
-
-  -- Ours has then the changes of theirs, and at each conflict f's answer. The number is one greater
-  -- for each key that theirs changed and that is there before or after. Refused, all is as before,
-  -- and f was called on a prefix of the conflicts.
-  pub record Merges {S B E : Type 0} (version : S → Version V) (same : V → V → Bool)
-      (result : Result B E) (f : F) (base ours theirs : S) (f' : F) (after : S) : Type 0 where
-    pub merges : OnOk result (MergesTo same f (version base).content (version ours).content
-        (version theirs).content f' (version after).content)
-    pub number : OnOk result ((version after).number ≡ (version ours).number
-        + held_in_either (version ours).content (version after).content
-        (changes same (version base).content (version theirs).content))
-    pub refused : OnErr result (after ≡ ours)
-    pub asked : OnErr result (IsAskedUpTo f (conflicts same (version base).content
-        (version ours).content (version theirs).content) f')
 
   -- Each answer of the closure is that of a function of the key and what the three have there.
   abbrev pub AnswersBy : Answers V → Type 0

@@ -1,13 +1,21 @@
 -- What a merge makes of one key that theirs changed.
-use Rattle.std.specs.Prelude.{◌≡◌, Bool, true, false, Option, Result, Ok, Err}
+use Rattle.std.specs.Prelude.{◌≡◌, ℕ, Bool, true, false, List, Option, Result, Ok, Err}
+use Rattle.std.specs.Borrow.{Bor}
 use Rattle.std.specs.Fn.{Mut}
+use Rattle.std.specs.Option.{option_copied}
 use Rattle.std.specs.Result.{IsOk, IsErr}
 use Rattle.std.specs.declared.alloc.AllocError.{AllocError}
-use Rattle.rart_below.specs.Clones.{ClonesEqual}
-use Rattle.rart_maps.specs.Versions.{HasRoom, Version}
+use Rattle.rart_maps.specs.Versions.{Version, value_at}
 use Rattle.rart_maps.specs.Visits.{CalledOn, CallableOn}
 use Rattle.rart_changes.specs.Merges.{Conflict, in_conflict}
 use Rattle.rart_merging.specs.Setting.{IsSetTo}
+
+-- What the base, ours and theirs have at a key that theirs changed, of which the visit of the changes
+-- shows two.
+abbrev pub three_at : {K V : Type 0} → (K → List ℕ) → Version V → K → Option (Bor V)
+    → Option (Bor V) → Conflict V
+three_at bytes ours key before their =
+    (bytes key, option_copied before, value_at ours (bytes key), option_copied their)
 
 module _ {F A V : Type 0} (g : Mut F A (Option V)) (Shows : A → Conflict V → Type 0) where
   -- What a key is to have, by whether the three are in conflict at it: the answer of f, called on
@@ -24,21 +32,6 @@ module _ {F A V : Type 0} (g : Mut F A (Option V)) (Shows : A → Conflict V →
   abbrev pub AskableIn : (V → V → Bool) → Result (Unit {0}) AllocError → F → Conflict V → Type 0
   AskableIn same made f three =
       IsOk made → Askable (in_conflict same three.1 three.2 three.3) f three
-
-  -- A key that theirs changed can be settled.
-  pub record CanSettle (is_clone : V → V → Type 0) (same : V → V → Bool) (next : Version V) (f : F)
-      (three : Conflict V) : Type 0 where
-    pub clones : ClonesEqual is_clone
-    pub room : HasRoom next 1
-    pub askable : Askable (in_conflict same three.1 three.2 three.3) f three
-
-  -- It can be, where no memory was refused before.
-  pub record CanSettleIn (is_clone : V → V → Type 0) (same : V → V → Bool)
-      (made : Result (Unit {0}) AllocError) (next : Version V) (f : F) (three : Conflict V)
-      : Type 0 where
-    pub clones : ClonesEqual is_clone
-    pub room : IsOk made → HasRoom next 1
-    pub askable : AskableIn same made f three
 
   -- What a draft becomes by it: where no memory was refused before, the key is settled, and has its
   -- value unless memory is refused for it. Else f is not called.

@@ -1,7 +1,8 @@
 //! A version that changes are being made on.
-ghost use Rattle.std.specs.Prelude.{IfOk, IsOk};
-ghost use Rattle.rart_maps.specs.Versions.{value_at};
-ghost use Rattle.rart_merging.specs.Setting.{Begins, CanGoOn, IsSetTo};
+ghost use Rattle.std.specs.Prelude.{◌≡◌, IfOk, IsOk};
+ghost use Rattle.rart_below.specs.Clones.{ClonesEqual};
+ghost use Rattle.rart_maps.specs.Versions.{HasRoom, value_at};
+ghost use Rattle.rart_merging.specs.Setting.{IsSetTo};
 
 use crate::setting::put_copy;
 use rart_below::KeyTrait;
@@ -19,7 +20,8 @@ pub(crate) struct Draft<K: KeyTrait, V: Clone + Drop> {
 impl<K: KeyTrait, V: Clone + Drop> Draft<K, V> {
     /// A copy with no change made.
     pub(crate) fn of(tree: &VersionedAdaptiveRadixTree<K, V>) -> Result<Draft<K, V>, AllocError>
-        ensures { IfOk result (λ draft. Begins draft.made tree.now draft.next) }
+        ensures next { IfOk result (λ draft. draft.next ≡ tree.now) }
+        ensures made { IfOk result (λ draft. IsOk draft.made) }
     {
         Ok(Draft {
             next: tree.clone()?,
@@ -29,7 +31,8 @@ impl<K: KeyTrait, V: Clone + Drop> Draft<K, V> {
 
     /// Gives a key what the other version has there.
     pub(crate) fn take_over(&mut self, other: &VersionedAdaptiveRadixTree<K, V>, key: K)
-        requires { CanGoOn V.is_clone self.old.made self.old.next }
+        requires clones { ClonesEqual V.is_clone }
+        requires room { IsOk self.old.made → HasRoom self.old.next 1 }
         ensures { IsOk self.new.made → IsOk self.old.made × IsSetTo self.old.next (K.bytes key)
             (value_at other.now (K.bytes key)) self.new.next }
     {

@@ -1,13 +1,13 @@
 //! The changes of two sides, made on a copy of the one.
-ghost use Rattle.std.specs.Prelude.{◌≡◌, ◌+◌, OnErr, IfOk, IsOk, OnOk, Option};
+ghost use Rattle.std.specs.Prelude.{◌≡◌, ◌+◌, OnErr, IfOk, IsOk, OnOk, Option, length};
 ghost use Rattle.std.specs.Option.{option_copied};
 ghost use Rattle.rart_below.specs.Clones.{ClonesEqual};
 ghost use Rattle.rart_changes.specs.ChangeLists.{changes};
 ghost use Rattle.rart_changes.specs.Merges.{conflicts, in_conflict};
 ghost use Rattle.rart_maps.specs.Versions.{HasRoom, value_at};
-ghost use Rattle.rart_merging.specs.Merging.{ByConflict, CanMerge, IsAskedUpTo, MergesTo, held_in_either};
+ghost use Rattle.rart_merging.specs.Merging.{Answerable, ByConflict, IsAskedUpTo, MergesTo, held_in_either};
 ghost use Rattle.rart_merging.specs.Setting.{IsSetTo};
-ghost use Rattle.rart_merging.specs.Settling.{AskableIn, CanSettle, CanSettleIn, Settles, SettlesIn};
+ghost use Rattle.rart_merging.specs.Settling.{Askable, AskableIn, Settles, SettlesIn, three_at};
 
 use crate::drafts::Draft;
 use crate::setting::{put, put_copy};
@@ -28,8 +28,11 @@ pub(crate) fn merged_copy<
     theirs: &VersionedAdaptiveRadixTree<K, V>,
     f: &mut F,
 ) -> Result<VersionedAdaptiveRadixTree<K, V>, AllocError>
-    requires { CanMerge F.FnMut (ByConflict K.bytes) V.is_clone V.eq f.old
-        base.now ours.now theirs.now }
+    requires clones { ClonesEqual V.is_clone }
+    requires room { HasRoom ours.now
+        (length (changes V.eq base.now.content theirs.now.content)) }
+    requires answerable { Answerable F.FnMut (ByConflict K.bytes) f.old
+        (conflicts V.eq base.now.content ours.now.content theirs.now.content) }
     ensures merges { IfOk result (λ after. MergesTo F.FnMut (ByConflict K.bytes) V.eq f.old
         base.now.content ours.now.content theirs.now.content f.new after.content) }
     ensures number { IfOk result (λ after. after.number ≡ ours.now.number
@@ -44,19 +47,11 @@ pub(crate) fn merged_copy<
         &mut |key: K, before: Option<&V>, their: Option<&V>|
             requires clones { ClonesEqual V.is_clone }
             requires room { IsOk draft.made → HasRoom draft.next 1 }
-            requires askable { AskableIn F.FnMut (ByConflict K.bytes) V.eq draft.made f.now (
-              K.bytes key,
-              option_copied before,
-              value_at ours.now (K.bytes key),
-              option_copied their,
-            ) }
+            requires askable { AskableIn F.FnMut (ByConflict K.bytes) V.eq draft.made f.now
+                (three_at K.bytes ours.now key before their) }
             ensures settles { SettlesIn F.FnMut (ByConflict K.bytes) V.eq draft.entry.made
-                draft.entry.next f.entry.now (
-                  K.bytes key,
-                  option_copied before.entry,
-                  value_at ours.entry.now (K.bytes key),
-                  option_copied their.entry,
-                )
+                draft.entry.next f.entry.now
+                (three_at K.bytes ours.entry.now key before.entry their.entry)
                 draft.exit.made draft.exit.next f.exit.now }
             ensures ours { ours.exit.now ≡ ours.entry.now }
         {
@@ -77,19 +72,13 @@ impl<K: KeyTrait, V: Clone + Drop + Eq> Draft<K, V> {
         their: Option<&V>,
         f: &mut F,
     )
-        requires { CanSettleIn F.FnMut (ByConflict K.bytes) V.is_clone V.eq
-            self.old.made self.old.next f.old (
-              K.bytes key,
-              option_copied before,
-              value_at ours.now (K.bytes key),
-              option_copied their,
-            ) }
-        ensures { SettlesIn F.FnMut (ByConflict K.bytes) V.eq self.old.made self.old.next f.old (
-          K.bytes key,
-          option_copied before.entry,
-          value_at ours.now (K.bytes key),
-          option_copied their.entry,
-        ) self.new.made self.new.next f.new }
+        requires clones { ClonesEqual V.is_clone }
+        requires room { IsOk self.old.made → HasRoom self.old.next 1 }
+        requires askable { AskableIn F.FnMut (ByConflict K.bytes) V.eq self.old.made f.old
+            (three_at K.bytes ours.now key before their) }
+        ensures { SettlesIn F.FnMut (ByConflict K.bytes) V.eq self.old.made self.old.next f.old
+            (three_at K.bytes ours.now key before.entry their.entry)
+            self.new.made self.new.next f.new }
     {
         if self.made.is_ok() {
             self.made = settle_in(&mut self.next, ours, key, before, their, f);
@@ -111,20 +100,15 @@ fn settle_in<
     their: Option<&V>,
     f: &mut F,
 ) -> Result<(), AllocError>
-    requires { CanSettle F.FnMut (ByConflict K.bytes) V.is_clone V.eq next.old f.old (
-      K.bytes key,
-      option_copied before,
-      value_at ours.now (K.bytes key),
-      option_copied their,
-    ) }
+    requires clones { ClonesEqual V.is_clone }
+    requires room { HasRoom next.old 1 }
+    requires askable { Askable F.FnMut (ByConflict K.bytes)
+        (in_conflict V.eq (option_copied before) (value_at ours.now (K.bytes key))
+        (option_copied their)) f.old (three_at K.bytes ours.now key before their) }
     ensures { (answer : Option V) × Settles F.FnMut (ByConflict K.bytes)
         (in_conflict V.eq (option_copied before.entry) (value_at ours.now (K.bytes key))
-        (option_copied their.entry)) f.old (
-          K.bytes key,
-          option_copied before.entry,
-          value_at ours.now (K.bytes key),
-          option_copied their.entry,
-        ) answer f.new
+        (option_copied their.entry)) f.old
+        (three_at K.bytes ours.now key before.entry their.entry) answer f.new
         × OnOk result (IsSetTo next.old (K.bytes key) answer next.new) }
 {
     let our = ours.get_k(&key);

@@ -1,10 +1,10 @@
 //! The calls, as methods of a version.
-ghost use Rattle.std.specs.Prelude.{length};
+ghost use Rattle.std.specs.Prelude.{◌≡◌, ◌+◌, OnErr, OnOk, length};
 ghost use Rattle.rart_below.specs.Clones.{ClonesEqual};
-ghost use Rattle.rart_changes.specs.ChangeLists.{changes};
+ghost use Rattle.rart_changes.specs.ChangeLists.{changes, effects, patched};
+ghost use Rattle.rart_changes.specs.Merges.{conflicts};
 ghost use Rattle.rart_maps.specs.Versions.{Version, HasRoom};
-ghost use Rattle.rart_merging.specs.Merging.{ByConflict, CanMerge, Merges};
-ghost use Rattle.rart_merging.specs.Patching.{Patches};
+ghost use Rattle.rart_merging.specs.Merging.{Answerable, ByConflict, IsAskedUpTo, MergesTo, held_in_either};
 
 use crate::merges::merged_copy;
 use crate::patches::patched_copy;
@@ -33,7 +33,13 @@ pub trait Merging<K: KeyTrait, V: Clone + Drop + Eq> {
         requires clones { ClonesEqual V.is_clone }
         requires room { HasRoom (version self.old)
             (length (changes V.eq (version old.now).content (version new.now).content)) }
-        ensures { Patches version V.eq result self.old old.now new.now self.new };
+        ensures patched { OnOk result ((version self.new).content
+            ≡ patched (version self.old).content
+            (changes V.eq (version old.now).content (version new.now).content)) }
+        ensures number { OnOk result ((version self.new).number ≡ (version self.old).number
+            + effects (version self.old).content
+            (changes V.eq (version old.now).content (version new.now).content)) }
+        ensures refused { OnErr result (self.new ≡ self.old) };
 
     /// Merges theirs into this one, ours, where both began with the base: the changes from the base
     /// to theirs are made on ours. In conflict is a key that both changed, and not to the same. It
@@ -65,10 +71,22 @@ pub trait Merging<K: KeyTrait, V: Clone + Drop + Eq> {
         theirs: &Self,
         f: &mut F,
     ) -> Result<(), AllocError>
-        requires { CanMerge F.FnMut (ByConflict K.bytes) V.is_clone V.eq f.old
-            (version base.now) (version self.old) (version theirs.now) }
-        ensures { Merges F.FnMut (ByConflict K.bytes) version V.eq result f.old
-            base.now self.old theirs.now f.new self.new };
+        requires clones { ClonesEqual V.is_clone }
+        requires room { HasRoom (version self.old)
+            (length (changes V.eq (version base.now).content (version theirs.now).content)) }
+        requires answerable { Answerable F.FnMut (ByConflict K.bytes) f.old
+            (conflicts V.eq (version base.now).content (version self.old).content
+            (version theirs.now).content) }
+        ensures merged { OnOk result (MergesTo F.FnMut (ByConflict K.bytes) V.eq f.old
+            (version base.now).content (version self.old).content (version theirs.now).content
+            f.new (version self.new).content) }
+        ensures number { OnOk result ((version self.new).number ≡ (version self.old).number
+            + held_in_either (version self.old).content (version self.new).content
+            (changes V.eq (version base.now).content (version theirs.now).content)) }
+        ensures refused { OnErr result (self.new ≡ self.old) }
+        ensures asked { OnErr result (IsAskedUpTo F.FnMut (ByConflict K.bytes) f.old
+            (conflicts V.eq (version base.now).content (version self.old).content
+            (version theirs.now).content) f.new) };
 }
 
 impl<K: KeyTrait, V: Clone + Drop + Eq> Merging<K, V> for VersionedAdaptiveRadixTree<K, V> {

@@ -4,7 +4,6 @@ pub mod LawLemmas
 pub mod PlaceLemmas
 pub mod ReadLemmas
 pub mod RunLemmas
-pub mod WritingLemmas
 pub mod OutOfMemoryLemmas
 pub mod WorkedCostLemmas
 pub mod WorkedRunLemmas

@@ -8,7 +8,6 @@ pub mod Laws
 pub mod Lent
 pub mod Replies
 pub mod Runs
-pub mod Writing
 pub mod WorkedCosts
 pub mod WorkedRuns
 pub use Rattle.rart_maps.specs.Versions

@@ -1,3 +1,3 @@
 pub mod Counting
-pub mod Listing
 pub mod InCommon
+pub mod Listing

@@ -1,5 +1,5 @@
-//! What a caller of the tree writes and proves, from the public contracts of `rart_versioned`
-//! alone.
+//! What a caller writes and proves, from the public contracts of `rart_versioned` alone, and in
+//! `snapshots` from that of `Family::run`.
 //! `docs/USING.md` shows some of these functions.
 #![tactic(auto)]
 
@@ -8,6 +8,7 @@ pub mod counting;
 pub mod in_common;
 pub mod listing;
 pub mod prices;
+pub mod snapshots;
 pub mod stock;
 pub mod values;
 pub mod visiting;

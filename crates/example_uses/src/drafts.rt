@@ -1,6 +1,6 @@
 //! Three drafts of a price list, merged one after another. The last one is in conflict with the
 //! first, and gives way.
-use rart_tracked::TrackedTree;
+use rart_changes::TrackedTree;
 use rart_versioned::{KeyTrait, VectorKey, VersionedAdaptiveRadixTree};
 use std::alloc::{AllocError, Global};
 

@@ -1,6 +1,6 @@
 //! An undo history that shows what each step did: a step keeps the version that it began with, and
 //! the cells that it touched.
-use rart_tracked::{KeyChange, TrackedTree};
+use rart_changes::{KeyChange, TrackedTree};
 use rart_versioned::{KeyTrait, VectorKey, VersionedAdaptiveRadixTree};
 use std::alloc::{AllocError, Global};
 

@@ -1,11 +1,11 @@
 //! A replica of a price list, which is sent what changed from snapshot to snapshot, and shows what
 //! the list showed at the last one.
 ghost use Rattle.std.specs.Prelude.{◌≡◌, false, length, IfOk, IsTrue, OnErr};
-ghost use Rattle.rart_changes.specs.ChangeLists.{changes};
+ghost use Rattle.rart_maps.specs.ChangeLists.{changes};
 ghost use Rattle.rart_maps.specs.Versions.{HasRoom};
 
-use rart_changes::laws::changes::patches_set_what_changed;
-use rart_merging::Merging;
+use rart_changes::Merging;
+use rart_maps::laws::changes::patches_set_what_changed;
 use rart_versioned::{KeyTrait, VectorKey, VersionedAdaptiveRadixTree};
 use std::alloc::{AllocError, Global};
 

@@ -1,6 +1,6 @@
 //! Versions that share their nodes, and what changed between them.
 use crate::keys::{Key, Kind, Tree, keys_of, put, tree_of};
-use rart_tracked::TrackedTree;
+use rart_changes::TrackedTree;
 use rart_versioned::KeyTrait;
 use std::alloc::{AllocError, Global};
 

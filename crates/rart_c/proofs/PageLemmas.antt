@@ -21,7 +21,7 @@ use Rattle.rart_maps.specs.Order.{IsBefore, MeetsLow}
 use Rattle.rart_maps.specs.Pairs.{pairs, within}
 use Rattle.rart_maps.specs.Versions.{Map}
 use Rattle.rart_c.specs.Pages.{entries_from, keys_of}
-use Rattle.rart_seeking.specs.Firsts.{IsFirst}
+use Rattle.rart_ways.specs.Firsts.{IsFirst}
 use Rattle.rart_c.specs.declared.paging.RartEntry.{RartEntry}
 
 -- without an upper bound all are kept

@@ -6,7 +6,7 @@ use Rattle.std.specs.declared.ops.Bound.TheVariants.{Included, Excluded, Unbound
 use Rattle.rart_c.specs.declared.answer.TheConstants.{DONE, ABSENT, TOO_SMALL}
 use Rattle.rart_c.specs.declared.paging.RartEntry.{RartEntry}
 use Rattle.rart_c.specs.declared.paging.TheConstants.{INCLUDED, EXCLUDED}
-use Rattle.rart_seeking.specs.Firsts.{IsFirst}
+use Rattle.rart_ways.specs.Firsts.{IsFirst}
 
 -- the bound of this kind at a key
 abbrev pub bound_of : ℕ → List ℕ → Bound (List ℕ)

@@ -3,7 +3,7 @@ ghost use Rattle.std.specs.Prelude.{◌≡◌, ℕ, List, length};
 ghost use Rattle.rart_c.specs.Answers.{Tells, number_of, told_there};
 ghost use Rattle.rart_c.specs.Firsts.{TellsFirst};
 ghost use Rattle.rart_c.specs.Longest.{length_found};
-ghost use Rattle.rart_seeking.specs.Firsts.{Finds};
+ghost use Rattle.rart_ways.specs.Firsts.{Finds};
 
 /// The call was done. Where it answers a value, there was one, and it is written.
 pub const DONE: u8 = 0;

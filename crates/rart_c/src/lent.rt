@@ -9,7 +9,7 @@ ghost use Rattle.rart_c.specs.Longest.{length_found, longest_length};
 ghost use Rattle.rart_c.specs.Shown.{shown};
 ghost use Rattle.rart_maps.specs.Pairs.{common, within};
 ghost use Rattle.rart_maps.specs.Versions.{HasRoom, empty_at, value_at, with_rise};
-ghost use Rattle.rart_seeking.specs.Firsts.{Finds};
+ghost use Rattle.rart_ways.specs.Firsts.{Finds};
 
 use crate::answer::Refusal;
 use crate::table::Table;

@@ -1,22 +1,46 @@
--- How a closure is shown a change.
-use Rattle.std.specs.Prelude.{◌≡◌, ℕ, List, Option}
+-- How a closure is shown a change, and how many nodes it takes to find the changes, at most and at
+-- least.
+use Rattle.std.specs.Prelude.{◌≡◌, ℕ, ◌+◌, ◌*◌, Bool, List, Option, sum_by, filter_map, if◌then◌else◌}
 use Rattle.std.specs.Borrow.{Bor}
 use Rattle.std.specs.Option.{option_copied}
-use Rattle.rart_changes.specs.ChangeLists.{Change}
+use Rattle.std.specs.FinMap as finite
+use Rattle.rart_maps.specs.Bounds.{lookup_bound}
+use Rattle.rart_maps.specs.Pairs.{Strings}
+use Rattle.rart_maps.specs.Versions.{Map, Version, has_no_key}
+use Rattle.rart_maps.specs.ChangeLists.{Change, change_of}
+use Rattle.rart_changes.specs.Tracking.{Tracking, listed}
 
-module _ {V : Type 0} where
-  -- by references to the values before and after, where there are any
-  abbrev pub ShowsValues : Option (Bor V) → Option (Bor V) → Change V → Type 0
-  ShowsValues before after change =
-      (option_copied before ≡ change.1) × (option_copied after ≡ change.2)
+-- a change, by a key with these bytes, and references to the values before and after where there
+-- are any
+abbrev pub ByChange : {K V : Type 0} → (K → List ℕ) →
+    K × (Option (Bor V) × (Option (Bor V) × Unit {0})) → Change V → Type 0
+ByChange bytes shown change = (bytes shown.0 ≡ change.0)
+    × (option_copied shown.1.0 ≡ change.1) × (option_copied shown.1.1.0 ≡ change.2)
 
-  -- and a key with these bytes
-  abbrev pub ByKeyChange : {K : Type 0} → (K → List ℕ) →
-      K × (Option (Bor V) × (Option (Bor V) × Unit {0})) → Change V → Type 0
-  ByKeyChange bytes shown change =
-      (bytes shown.0 ≡ change.0) × ShowsValues shown.1.0 shown.1.1.0 change
+-- the changes at these keys
+abbrev pub changes_at : {V : Type 0} → (V → V → Bool) → Map V → Map V → List (List ℕ)
+    → List (Change V)
+changes_at same old new keys =
+    filter_map (λ w. change_of same w (finite.get old w) (finite.get new w)) keys
 
-  -- or a view of the key
-  abbrev pub ByViewChange :
-      List ℕ × (Option (Bor V) × (Option (Bor V) × Unit {0})) → Change V → Type 0
-  ByViewChange shown change = (shown.0 ≡ change.0) × ShowsValues shown.1.0 shown.1.1.0 change
+-- the most nodes that looking each of these keys up in some maps enters
+abbrev pub lookups_bound : ℕ → List (List ℕ) → ℕ
+lookups_bound maps keys = sum_by (λ w. maps * lookup_bound w) keys
+
+-- and finding the changes at these keys, whatever the maps
+abbrev pub changes_bound : Strings → ℕ
+changes_bound keys = 2 * finite.len keys + lookups_bound 2 (listed keys)
+
+-- the fewest nodes that a lookup in a version enters
+abbrev pub lookup_least : {V : Type 0} → Version V → ℕ
+lookup_least v = if has_no_key v then 0 else 1
+
+-- the same for each of these keys, where that is so much for one
+abbrev pub lookups_least : ℕ → List (List ℕ) → ℕ
+lookups_least one keys = sum_by (λ w. one) keys
+
+-- the fewest that finding the changes enters: one for each touched key, and one more for each in
+-- each of the two maps that has a key
+abbrev pub changes_least : {V : Type 0} → Tracking V → ℕ
+changes_least t = finite.len t.touched
+    + lookups_least (lookup_least t.base + lookup_least t.current) (listed t.touched)

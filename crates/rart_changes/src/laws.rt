@@ -1,6 +1,5 @@
-//! What the words on changes and merges mean: laws, each the contract of a function that does
-//! nothing.
+//! What the words on tracked versions and on merges mean: laws, each the contract of a function that
+//! does nothing.
 
-pub mod changes;
-pub mod merges;
-pub mod worked;
+pub mod merging;
+pub mod tracked;

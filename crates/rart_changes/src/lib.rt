@@ -1,8 +1,13 @@
-//! What changed from one map of byte strings to another, what such changes make of a third, and
-//! where two sides changed the same key: definitions, and the laws that show what they mean.
+//! What changed between versions, and what such changes make of others.
+//!
+//! `tracked` has versions that know which keys were touched since they began, so what changed is
+//! found in the time of the touched keys, whatever the size of the map. `merging` has patches and
+//! merges: the changes from one version to another, made on a third.
 #![tactic(auto)]
 
-mod differing;
 pub mod laws;
+mod merging;
+mod tracked;
 
-pub use differing::do_differ;
+pub use merging::Merging;
+pub use tracked::{KeyChange, TrackedTree};

@@ -1,3 +1,5 @@
+pub mod ChangeLawLemmas
+pub mod ChangeLemmas
 pub mod ElementLemmas
 pub mod FoundLemmas
 pub mod IterationLawLemmas
@@ -6,6 +8,7 @@ pub mod LongestLemmas
 pub mod LookupLawLemmas
 pub mod LookupLemmas
 pub mod MapLemmas
+pub mod MergeLemmas
 pub mod OrderLemmas
 pub mod PairLawLemmas
 pub mod PointLemmas
@@ -17,4 +20,5 @@ pub mod VersionLemmas
 pub mod VisitLawLemmas
 pub mod VisitLemmas
 pub mod WorkedBoundLemmas
+pub mod WorkedChangeLemmas
 pub mod WorkedPairLemmas

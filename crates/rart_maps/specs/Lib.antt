@@ -1,10 +1,15 @@
 pub mod Bounds
+pub mod ChangeLaws
+pub mod ChangeLists
+pub mod ChangeVisits
 pub mod Changes
 pub mod FoundLaws
 pub mod IterationLaws
 pub mod Iterations
 pub mod LookupLaws
 pub mod Lookups
+pub mod MergeLaws
+pub mod Merges
 pub mod Order
 pub mod PairLaws
 pub mod Pairs
@@ -15,4 +20,5 @@ pub mod Versions
 pub mod VisitLaws
 pub mod Visits
 pub mod WorkedBounds
+pub mod WorkedChanges
 pub mod WorkedPairs

@@ -1,11 +1,14 @@
-//! What the words on maps, their pairs, iterations and visits mean: laws, each the contract of a
-//! function that does nothing.
+//! What the words on maps, their pairs, iterations, visits, changes and merges mean: laws, each the
+//! contract of a function that does nothing.
 
+pub mod changes;
 pub mod iterations;
 pub mod lookups;
+pub mod merges;
 pub mod pairs;
 pub mod points;
 pub mod starts;
 pub mod strings;
 pub mod visits;
 pub mod worked;
+pub mod worked_changes;

@@ -1,9 +1,11 @@
 pub mod Contents
-pub mod Depths
 pub mod Counts
+pub mod Depths
 pub mod Laws
 pub mod Lent
 pub mod NodeShapes
+pub mod Nodes
 pub mod Seen
 pub mod Shape
+pub mod Trees
 pub mod VersionedNodeIter

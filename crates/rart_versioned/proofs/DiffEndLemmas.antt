@@ -11,9 +11,9 @@ use Rattle.rart_below.specs.declared.slot.Refusal.{Refusal}
 use Rattle.rart_below.specs.declared.slot.Refusal.TheVariants.{Callback, Memory}
 use Rattle.rart_below.specs.declared.visit.VisitControl.{VisitControl}
 use Rattle.rart_below.specs.declared.visit.VisitControl.TheVariants.{Stop}
-use Rattle.rart_changes.specs.ChangeLists.{Change}
-use Rattle.rart_diff.specs.Ends.{Ends, EndsWithin, EntersTo, EntersToFirst, pairs_from, is_up_to_first, nodes_to}
-use Rattle.rart_diff.specs.TwoWalks.{nodes_ahead}
+use Rattle.rart_maps.specs.ChangeLists.{Change}
+use Rattle.rart_walks.specs.DiffEnds.{Ends, EndsWithin, EntersTo, EntersToFirst, pairs_from, is_up_to_first, nodes_to}
+use Rattle.rart_walks.specs.TwoWalks.{nodes_ahead}
 use Rattle.rart_maps.specs.Bounds.{node_count}
 use Rattle.rart_maps.specs.Order.{IsAtMost}
 use Rattle.rart_maps.specs.Versions.{Map}
@@ -22,7 +22,7 @@ use Rattle.rart_maps.proofs.OrderLemmas.{high-meets}
 use Rattle.rart_maps.proofs.PointLemmas.{map-contains}
 use Rattle.rart_node.specs.Counts.{Counts, CountsUpTo}
 use Rattle.rart_node.specs.Shape.{Shape, node}
-use Rattle.rart_shape.specs.Trees.{own_pair, pairs_of, pairs_below}
+use Rattle.rart_node.specs.Trees.{own_pair, pairs_of, pairs_below}
 use Rattle.rart_walks.specs.WalkFields.{cursor, at_hand}
 use Rattle.rart_walks.specs.Walks.{IsEndOf, paths_of, nodes_of}
 use Rattle.rart_walks.specs.declared.walk.Walk.{Walk}

@@ -3,7 +3,7 @@ use Rattle.std.proofs.Common.{◌≤◌, ◌-◌, ◌^◌, ℕ, List, Option, So
 use Rattle.std.specs.Prelude.{All, Contains}
 use Rattle.rart_below.specs.Bytes.{IsAdmitted}
 use Rattle.rart_node.specs.Shape.{Shape}
-use Rattle.rart_shape.specs.Trees.{pairs_of}
+use Rattle.rart_node.specs.Trees.{pairs_of}
 use Rattle.rart_walks.specs.Walks.{AreShort}
 use Rattle.rart_maps.proofs.ElementLemmas.{All-from_contains}
 use Rattle.rart_maps.proofs.FoundLemmas.{Contains-pairs}

@@ -6,8 +6,8 @@ use Rattle.std.proofs.Math.Nat.{le_refl}
 use Rattle.std.proofs.lemmas.List.Sums.{sum_by-append, sum_by-cons}
 use Rattle.rart_below.specs.Bytes.{begins}
 use Rattle.rart_node.specs.Shape.{Shape, Forest, node, bare, grown, prefix_of, entries_of}
-use Rattle.rart_shape.specs.Trees.{BeginsWith, own_pair, pairs_of, pairs_below, IsTree, AreBranches}
-use Rattle.rart_shape.proofs.KeyLemmas.{tree-has-pair}
+use Rattle.rart_node.specs.Trees.{BeginsWith, own_pair, pairs_of, pairs_below, IsTree, AreBranches}
+use Rattle.rart_node.proofs.KeyLemmas.{tree-has-pair}
 use Rattle.rart_walks.specs.Walks.{paths_of, paths_below}
 use Rattle.rart_maps.specs.Bounds.{reach_bound}
 use Rattle.rart_maps.specs.Pairs.{Strings, pairs, starts}

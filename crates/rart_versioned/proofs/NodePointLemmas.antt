@@ -7,12 +7,12 @@ use Rattle.std.specs.declared.ops.Bound.TheVariants.{Included}
 use Rattle.std.proofs.lemmas.Bool.{and_parts, and_from, eq-eqb, ne_eqb, false≢true, cases_eq}
 use Rattle.std.proofs.lemmas.Option.{same_Some}
 use Rattle.rart_node.specs.Shape.{Shape, Forest, node, bare, grown, prefix_of, entries_of}
-use Rattle.rart_shape.specs.Trees.{strip_prefix, at_end, found, found_below, is_key_or_fork, BeginsWith, IsTree, AreBranches, pairs_of, pairs_below}
+use Rattle.rart_node.specs.Trees.{strip_prefix, at_end, found, found_below, is_key_or_fork, BeginsWith, IsTree, AreBranches, pairs_of, pairs_below}
 use Rattle.rart_below.specs.Children as children
 use Rattle.rart_below.proofs.AscendingLemmas.{below_parts, ascending_parts}
-use Rattle.rart_shape.proofs.KeyLemmas.{tree-has-key}
-use Rattle.rart_shape.proofs.PairLemmas.{found-empty, found-other, find-pairs}
-use Rattle.rart_shape.proofs.PairOrderLemmas.{sorted-pairs}
+use Rattle.rart_node.proofs.KeyLemmas.{tree-has-key}
+use Rattle.rart_node.proofs.PairLemmas.{found-empty, found-other, find-pairs}
+use Rattle.rart_node.proofs.PairOrderLemmas.{sorted-pairs}
 use Rattle.rart_maps.specs.FoundLaws.{KeysAscend}
 use Rattle.rart_maps.specs.Order.{IsBefore}
 use Rattle.rart_maps.specs.Bounds.{bound_string, bound_length}

@@ -27,7 +27,7 @@ use Rattle.rart_maps.proofs.OrderLemmas.{IsBefore-itself, IsBefore-back, before-
 use Rattle.rart_maps.proofs.RangeLemmas.{is_below, up_to, up_to-first, up_to-past, filter-both}
 use Rattle.rart_maps.proofs.PointLemmas.{head_of, tail_of}
 use Rattle.rart_node.specs.Counts.{Counts, CountsUpTo}
-use Rattle.rart_visits.specs.Ends.{Ends, EndsWithin, EntersUpTo, MeetUpTo}
+use Rattle.rart_walks.specs.Ends.{Ends, EndsWithin, EntersUpTo, MeetUpTo}
 use Rattle.rart_versioned.specs.VisitCounts.{EndsSoon}
 
 -- ---- counts

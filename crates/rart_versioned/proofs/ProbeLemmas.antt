@@ -3,12 +3,12 @@ use Rattle.std.proofs.Common.{◌≡◌, ◌-◌, ◌<◌, ◌≤◌, ℕ, List,
 use Rattle.std.proofs.lemmas.List.{length-append}
 use Rattle.std.specs.Prelude.{filter}
 use Rattle.rart_node.specs.Shape.{Shape, node, prefix_of, value_of, height}
-use Rattle.rart_shape.specs.Trees.{strip_prefix, IsTree}
+use Rattle.rart_node.specs.Trees.{strip_prefix, IsTree}
 use Rattle.rart_below.specs.Bytes.{begins}
-use Rattle.rart_shape.proofs.PrefixLemmas.{strip_prefix-is}
-use Rattle.rart_shape.proofs.FindLemmas.{branch, ordered}
-use Rattle.rart_search.specs.Steps.{child_under}
-use Rattle.rart_search.proofs.StepLemmas.{take-front, own-first, under}
+use Rattle.rart_node.proofs.PrefixLemmas.{strip_prefix-is}
+use Rattle.rart_node.proofs.FindLemmas.{branch, ordered}
+use Rattle.rart_ways.specs.Steps.{child_under}
+use Rattle.rart_ways.proofs.StepLemmas.{take-front, own-first, under}
 use Rattle.rart_walks.specs.Frames.{behind_path, pending_pair}
 use Rattle.rart_walks.proofs.PrefixMatchLemmas.{matches_of, matches_at, matches_of-left}
 use Rattle.rart_walks.proofs.WalkLemmas.{behind-none}

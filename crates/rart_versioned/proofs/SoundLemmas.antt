@@ -13,14 +13,14 @@ use Rattle.rart_below.specs.Bytes.{byte_order}
 use Rattle.rart_versioned.specs.Keys.{IsKeyLength, IsKey}
 use Rattle.rart_node.specs.Shape.{Shape, node_of}
 use Rattle.rart_versioned.specs.Roots.{IsPutBelow}
-use Rattle.rart_shape.specs.Trees.{found, IsTree, IsPut}
+use Rattle.rart_node.specs.Trees.{found, IsTree, IsPut}
 use Rattle.rart_versioned.specs.Roots.{found_in, map_of, IsTreeIn, IsSound}
 use Rattle.std.proofs.Math.Facts.{Fits-lt-pow}
 use Rattle.std.proofs.lemmas.List.Elements.{All-nil, All-cons}
 use Rattle.rart_maps.specs.StartLaws.{HasByteKeys}
 use Rattle.rart_maps.specs.Versions.{Version, value_at, has_key, has_no_key}
 use Rattle.rart_versioned.proofs.VersionMapLemmas.{get-found}
-use Rattle.rart_shape.proofs.InsertionLemmas.{found-leaf}
+use Rattle.rart_node.proofs.InsertionLemmas.{found-leaf}
 
 one-more : (t : Bool) (m n : ℕ) → m ≤ n → cond t m (m + 1) ≤ n + 1
 one-more true m n le = omega (arith, le)

@@ -14,7 +14,7 @@ use Rattle.rart_maps.specs.Bounds.{lookup_bound, enter_bound, change_bound}
 use Rattle.rart_maps.specs.Changes.{slot_attempt_from}
 use Rattle.rart_maps.specs.Versions.{Version, value_at, has_key}
 use Rattle.rart_node.specs.Counts.{Counts, CountsUpTo}
-use Rattle.rart_shape.proofs.CountingLemmas.{counts-then}
+use Rattle.rart_node.proofs.CountingLemmas.{counts-then}
 use Rattle.rart_versioned.specs.ChangeCounts.{MakesToTryInsert}
 use Rattle.rart_versioned.specs.declared.counted.change.Change.{Change}
 use Rattle.rart_versioned.specs.SlotChanges.{change_enters, change_makes, change_of, change_of_absent, attempt_of, attempt_of_absent, outcome_of_absent, version_after, Tries, TriesAbsent}

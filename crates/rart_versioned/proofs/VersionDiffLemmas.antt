@@ -5,8 +5,8 @@ use Rattle.std.specs.FinMap as finite
 use Rattle.std.proofs.lemmas.Cmp.{nat_list_cmp_total}
 use Rattle.std.proofs.lemmas.List.{length-append}
 use Rattle.rart_below.specs.Bytes.{byte_order}
-use Rattle.rart_changes.specs.ChangeLists.{Change, change_of, changes, joined}
-use Rattle.rart_diff.specs.Diffs.{changes_between, map_with}
+use Rattle.rart_maps.specs.ChangeLists.{Change, change_of, changes, joined}
+use Rattle.rart_walks.specs.Diffs.{changes_between, map_with}
 use Rattle.rart_maps.specs.FoundLaws.{KeysAscend}
 use Rattle.rart_maps.specs.Pairs.{pairs}
 use Rattle.rart_maps.specs.Versions.{Map, Version}

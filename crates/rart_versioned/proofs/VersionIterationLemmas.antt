@@ -4,7 +4,7 @@ use Rattle.std.specs.Option.{option_map}
 use Rattle.std.proofs.lemmas.List.Elements.{All-nil, All-head, All-tail}
 use Rattle.rart_below.specs.Bytes.{IsAdmitted}
 use Rattle.rart_node.specs.Shape.{Shape, prefix_of, value_of, children_of}
-use Rattle.rart_shape.specs.Trees.{found, pairs_of}
+use Rattle.rart_node.specs.Trees.{found, pairs_of}
 use Rattle.rart_walks.specs.Walks.{AreShort}
 use Rattle.rart_walks.specs.Frames.{behind_path, pairs_of_all, pending_pair}
 use Rattle.rart_walks.proofs.WalkLemmas.{behind-none, pairs-entered}

@@ -5,8 +5,8 @@ use Rattle.std.specs.FinMap as finite
 use Rattle.rart_below.specs.Bytes.{byte_order}
 use Rattle.rart_maps.specs.Versions.{has_no_key}
 use Rattle.rart_node.specs.Shape.{Shape}
-use Rattle.rart_shape.specs.Trees.{IsTree}
-use Rattle.rart_shape.proofs.KeyLemmas.{tree-has-key}
+use Rattle.rart_node.specs.Trees.{IsTree}
+use Rattle.rart_node.proofs.KeyLemmas.{tree-has-key}
 use Rattle.rart_versioned.specs.Roots.{map_of}
 use Rattle.rart_versioned.proofs.VersionMapLemmas.{get-found}
 

@@ -6,9 +6,9 @@ use Rattle.std.specs.FinMap as finite
 use Rattle.std.specs.FinMap.Entries.{same_entries}
 use Rattle.rart_below.specs.Bytes.{byte_order}
 use Rattle.rart_node.specs.Shape.{Shape}
-use Rattle.rart_shape.specs.Trees.{pairs_of}
-use Rattle.rart_shape.proofs.PairLemmas.{find-pairs}
-use Rattle.rart_shape.proofs.PairOrderLemmas.{sorted-pairs}
+use Rattle.rart_node.specs.Trees.{pairs_of}
+use Rattle.rart_node.proofs.PairLemmas.{find-pairs}
+use Rattle.rart_node.proofs.PairOrderLemmas.{sorted-pairs}
 use Rattle.rart_maps.specs.Pairs.{pairs}
 use Rattle.rart_maps.proofs.OrderLemmas.{byte_order-IsAntisymmetric}
 use Rattle.rart_maps.proofs.PairLawLemmas.{pairs-empty}

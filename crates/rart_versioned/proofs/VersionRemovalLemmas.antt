@@ -9,7 +9,7 @@ use Rattle.std.specs.FinMap as finite
 use Rattle.rart_below.specs.Bytes.{byte_order, IsAdmitted}
 use Rattle.rart_versioned.specs.Keys.{IsKey}
 use Rattle.rart_node.specs.Shape.{Shape}
-use Rattle.rart_removal.specs.Removals.{AreAdmitted, IsTakenOr}
+use Rattle.rart_ways.specs.Removals.{AreAdmitted, IsTakenOr}
 use Rattle.rart_maps.specs.Versions.{Version, value_at, without_key}
 use Rattle.rart_versioned.specs.SlotChanges.{without_if_there}
 use Rattle.rart_versioned.specs.Roots.{found_in, IsTreeIn, map_of, IsSound}

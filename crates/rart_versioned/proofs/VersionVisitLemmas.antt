@@ -17,7 +17,7 @@ use Rattle.rart_maps.specs.Versions.{Version, has_no_key}
 use Rattle.rart_maps.proofs.RangeLemmas.{is_below, filter-both}
 use Rattle.rart_node.specs.Counts.{Counts, CountsUpTo}
 use Rattle.rart_node.specs.Shape.{Shape, node}
-use Rattle.rart_shape.specs.Trees.{found, pairs_of}
+use Rattle.rart_node.specs.Trees.{found, pairs_of}
 use Rattle.rart_walks.specs.Parts.{start_of}
 use Rattle.rart_walks.specs.Walks.{IsEndOf, paths_of, nodes_of}
 use Rattle.rart_walks.proofs.CursorLemmas.{nodes-paths}

@@ -9,7 +9,7 @@ use Rattle.std.specs.Range.Bound.{is_up_to_end}
 use Rattle.rart_below.specs.Bytes.{IsAdmitted, begins, byte_order}
 use Rattle.rart_maps.specs.FoundLaws.{KeysAscend}
 use Rattle.rart_node.specs.Shape.{Shape, height}
-use Rattle.rart_shape.specs.Trees.{pairs_of}
+use Rattle.rart_node.specs.Trees.{pairs_of}
 use Rattle.rart_walks.specs.Frames.{behind_path}
 use Rattle.rart_walks.specs.declared.walk.Walk.{Walk as PairWalk}
 use Rattle.rart_walks.specs.WalkFields.{IsWalk, cursor}

@@ -12,7 +12,7 @@ use Rattle.rart_below.specs.declared.partial.Partial.{Ghosts as Prefixes}
 use Rattle.rart_node.specs.contracts.node_ref.NodeRef as pointer
 use Rattle.rart_node.specs.Seen.{Seen, shape_of}
 use Rattle.rart_node.specs.Shape.{Shape}
-use Rattle.rart_shape.specs.Trees.{found, pairs_of, IsTree}
+use Rattle.rart_node.specs.Trees.{found, pairs_of, IsTree}
 use Rattle.rart_versioned.specs.Keys.{IsKey}
 
 module _ {V : Type 0} where

@@ -5,9 +5,9 @@ use Rattle.std.specs.Range.Bound.{is_from_start, is_up_to_end}
 use Rattle.std.specs.declared.ops.Bound.{Bound}
 use Rattle.std.specs.declared.ops.Bound.TheVariants.{Included}
 use Rattle.rart_below.specs.Bytes.{IsAdmitted, byte_order}
-use Rattle.rart_changes.specs.ChangeLists.{changes}
-use Rattle.rart_diff.specs.Diffs.{changes_between}
-use Rattle.rart_diff.specs.Ends.{pairs_from, is_up_to_first}
+use Rattle.rart_maps.specs.ChangeLists.{changes}
+use Rattle.rart_walks.specs.Diffs.{changes_between}
+use Rattle.rart_walks.specs.DiffEnds.{pairs_from, is_up_to_first}
 use Rattle.rart_maps.specs.Bounds.{bound_length, reach_bound, reach_by_pairs, node_count}
 use Rattle.rart_maps.specs.FoundLaws.{KeysAscend}
 use Rattle.rart_maps.specs.Pairs.{pairs, under, within}

@@ -1,8 +1,8 @@
 -- How a visit that its closure ends raises the counts: under a prefix, and of changes.
 use Rattle.std.specs.Prelude.{◌≡◌, ℕ, ◌+◌, ◌*◌, ◌≤◌, List, [], ◌∷◌, length}
 use Rattle.std.specs.FinSet as set
-use Rattle.rart_changes.specs.ChangeLists.{Change}
-use Rattle.rart_diff.specs.Ends.{pairs_from, is_up_to_first}
+use Rattle.rart_maps.specs.ChangeLists.{Change}
+use Rattle.rart_walks.specs.DiffEnds.{pairs_from, is_up_to_first}
 use Rattle.rart_maps.specs.Bounds.{node_count}
 use Rattle.rart_maps.specs.Pairs.{pairs}
 use Rattle.rart_maps.specs.Points.{points}

@@ -3,7 +3,7 @@
 use Rattle.std.proofs.Common.{◌≡◌, ℕ, List, [], ◌∷◌, ◌++◌, Option, refl, sym, ap, ◌∙◌}
 use Rattle.std.specs.List.{concat}
 use Rattle.std.proofs.lemmas.List.{append-nil, append_assoc}
-use Rattle.rart_shape.specs.Trees.{own_pair}
+use Rattle.rart_node.specs.Trees.{own_pair}
 use Rattle.rart_walks.specs.Frames.{OpenNode, behind_path, under_path, segments_of, pairs_ahead, paths_ahead}
 use Rattle.rart_walks.proofs.GatherLemmas.{gathered_all, all-gathered}
 use Rattle.rart_walks.proofs.CursorLemmas.{own_place, keys_of, keys-behind, keys-append, all-paths}

@@ -6,8 +6,8 @@ use Rattle.std.proofs.lemmas.Bool.{eqb-true, eqb-false, cases_order}
 use Rattle.std.proofs.lemmas.List.{append-nil, length-append}
 use Rattle.rart_below.specs.Bytes.{common_length}
 use Rattle.rart_node.specs.Shape.{Shape, prefix_of, children_of}
-use Rattle.rart_shape.specs.Trees.{IsTree, own_pair, pairs_of}
-use Rattle.rart_shape.proofs.PrefixLemmas.{common_fits}
+use Rattle.rart_node.specs.Trees.{IsTree, own_pair, pairs_of}
+use Rattle.rart_node.proofs.PrefixLemmas.{common_fits}
 use Rattle.rart_walks.specs.declared.walk.path.Part.{Part}
 use Rattle.rart_walks.specs.Frames.{behind_path, under_path, pairs_inside}
 use Rattle.rart_walks.specs.Parts.{keeps, reaches, goes_on, is_strict}

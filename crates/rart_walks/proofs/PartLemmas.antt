@@ -9,7 +9,7 @@ use Rattle.std.proofs.lemmas.List.{append-nil, append_assoc}
 use Rattle.rart_below.specs.Bytes.{begins, byte_order}
 use Rattle.rart_below.specs.Children.{child_at, children_from}
 use Rattle.rart_node.specs.Shape.{Shape, prefix_of, value_of, children_of}
-use Rattle.rart_shape.specs.Trees.{IsTree, own_pair}
+use Rattle.rart_node.specs.Trees.{IsTree, own_pair}
 use Rattle.rart_walks.specs.declared.walk.path.Part.{Part}
 use Rattle.rart_walks.specs.declared.walk.path.Part.TheVariants.{Under, From, Behind}
 use Rattle.rart_walks.specs.Frames.{behind_path}

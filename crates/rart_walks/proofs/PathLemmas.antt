@@ -5,8 +5,8 @@ use Rattle.std.proofs.lemmas.List.{append-nil, append_assoc}
 use Rattle.rart_below.specs.Children.{child_at, children_from}
 use Rattle.rart_node.specs.Counts.{Counts}
 use Rattle.rart_node.specs.Shape.{Shape, prefix_of, value_of, children_of}
-use Rattle.rart_shape.specs.Trees.{IsTree, own_pair, pairs_of}
-use Rattle.rart_shape.proofs.SearchLemmas.{IsSearchAt, search-start}
+use Rattle.rart_node.specs.Trees.{IsTree, own_pair, pairs_of}
+use Rattle.rart_node.proofs.SearchLemmas.{IsSearchAt, search-start}
 use Rattle.rart_walks.specs.declared.walk.path.Part.{Part}
 use Rattle.rart_walks.specs.Frames.{OpenNode, behind_path, under_path, pairs_of_all, segments_of, pairs_ahead, paths_ahead, TreesAhead, pending_pair}
 use Rattle.rart_walks.specs.Parts.{keeps, reaches, goes_on}

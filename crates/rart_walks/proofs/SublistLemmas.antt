@@ -5,7 +5,7 @@ use Rattle.std.specs.Cmp.{unsigned_tied}
 use Rattle.std.proofs.lemmas.Option.{same_Some, none-some}
 use Rattle.rart_below.specs.Children.{child_at, children_from}
 use Rattle.rart_node.specs.Shape.{Shape}
-use Rattle.rart_shape.specs.Trees.{pairs_of}
+use Rattle.rart_node.specs.Trees.{pairs_of}
 use Rattle.rart_walks.specs.Frames.{behind_path, pairs_of_all, AreTrees}
 use Rattle.rart_walks.specs.Walks.{AreShort}
 use Rattle.rart_walks.proofs.WalkLemmas.{behind-append, short-append, short-front, short-back, short-none}

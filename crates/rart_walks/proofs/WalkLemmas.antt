@@ -6,7 +6,7 @@ use Rattle.std.proofs.lemmas.List.Elements.{All-append, All-nil, All-cons}
 use Rattle.std.proofs.lemmas.List.{append_assoc, append-nil, map-append, length-append}
 use Rattle.rart_below.specs.Bytes.{IsAdmitted}
 use Rattle.rart_node.specs.Shape.{Shape, Forest, node, bare, grown, prefix_of, value_of, children_of, entries_of}
-use Rattle.rart_shape.specs.Trees.{IsTree, AreBranches, own_pair, pairs_of, pairs_below}
+use Rattle.rart_node.specs.Trees.{IsTree, AreBranches, own_pair, pairs_of, pairs_below}
 use Rattle.rart_walks.specs.Walks.{AreShort, GoesOnFirst, pending_pair, paths_of, paths_below}
 use Rattle.rart_walks.specs.Frames.{OpenNode, behind_path, under_path, pairs_of_all, paths_of_all, AreTrees, segments_of, pairs_ahead, paths_ahead, TreesAhead, AreSpent, TakesAhead}
 

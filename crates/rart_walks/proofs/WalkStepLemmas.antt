@@ -7,9 +7,9 @@ use Rattle.rart_below.specs.Bytes.{common_length, IsAdmitted}
 use Rattle.rart_below.specs.Children.{child_at, children_from}
 use Rattle.rart_node.specs.Counts.{Counts, CountsUpTo}
 use Rattle.rart_node.specs.Shape.{Shape, height, prefix_of, children_of}
-use Rattle.rart_shape.specs.Trees.{strip_prefix, pairs_of, path_bound}
-use Rattle.rart_shape.proofs.PrefixLemmas.{strip_prefix-whole, split-whole, common_fits}
-use Rattle.rart_shape.proofs.SearchLemmas.{IsSearchAt, search-counted, search-entered, search-lower, search-child}
+use Rattle.rart_node.specs.Trees.{strip_prefix, pairs_of, path_bound}
+use Rattle.rart_node.proofs.PrefixLemmas.{strip_prefix-whole, split-whole, common_fits}
+use Rattle.rart_node.proofs.SearchLemmas.{IsSearchAt, search-counted, search-entered, search-lower, search-child}
 use Rattle.rart_walks.specs.declared.walk.path.Part.{Part}
 use Rattle.rart_walks.specs.Frames.{OpenNode, segments_of, pairs_ahead, paths_ahead, TreesAhead}
 use Rattle.rart_walks.specs.Parts.{keeps, reaches, goes_on}

@@ -3,7 +3,7 @@
 use Rattle.std.specs.Prelude.{◌≡◌, ℕ, List, [], ◌∷◌, ◌++◌, Option, Some, None, map, ⊤}
 use Rattle.std.specs.List.{concat}
 use Rattle.rart_node.specs.Shape.{Shape, prefix_of, children_of}
-use Rattle.rart_shape.specs.Trees.{IsTree, pairs_of}
+use Rattle.rart_node.specs.Trees.{IsTree, pairs_of}
 use Rattle.rart_walks.specs.Walks.{Cursor, paths_of}
 pub use Rattle.rart_walks.specs.Walks.{pending_pair}
 

@@ -4,7 +4,7 @@ use Rattle.std.specs.List.{concat}
 use Rattle.std.specs.Option.{option_copied}
 use Rattle.rart_below.specs.Bytes.{IsAdmitted, common_length}
 use Rattle.rart_node.specs.Shape.{Shape, IsAscending, prefix_of, value_of, children_of}
-use Rattle.rart_shape.specs.Trees.{IsTree, pairs_of}
+use Rattle.rart_node.specs.Trees.{IsTree, pairs_of}
 use Rattle.rart_walks.specs.Frames.{OpenNode, behind_path, under_path, segments_of}
 use Rattle.rart_walks.specs.Parts.{keeps, reaches}
 use Rattle.rart_walks.specs.WalkFields.{open_nodes, nodes_open, cursor, path_to, IsWalk}

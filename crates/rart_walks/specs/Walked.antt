@@ -3,7 +3,7 @@ use Rattle.std.specs.Prelude.{◌≡◌, ◌+◌, ◌<◌, ◌≤◌, ℕ, Bool,
 use Rattle.std.specs.Borrow.{Bor}
 use Rattle.rart_node.specs.Counts.{Counts, CountsUpTo}
 use Rattle.rart_node.specs.Shape.{Shape}
-use Rattle.rart_shape.specs.Trees.{pairs_of}
+use Rattle.rart_node.specs.Trees.{pairs_of}
 use Rattle.rart_walks.specs.WalkFields.{open_nodes, cursor, at_hand, IsWalk, EntersForEach, path_to}
 use Rattle.rart_walks.specs.Walks.{Gives, IsEndOf, PassesTo, Steps, nodes_of, paths_of, walk_end}
 use Rattle.rart_walks.specs.declared.walk.Walk.{Walk}

@@ -5,7 +5,7 @@ use Rattle.std.specs.List.{concat}
 use Rattle.std.specs.Borrow.{Bor}
 use Rattle.rart_below.specs.Bytes.{begins}
 use Rattle.rart_node.specs.Shape.{Shape, Forest, node, bare, grown}
-pub use Rattle.rart_shape.specs.Nodes.{nodes_of, nodes_below}
+pub use Rattle.rart_node.specs.Nodes.{nodes_of, nodes_below}
 
 module _ {V : Type 0} where
   abbrev mutual

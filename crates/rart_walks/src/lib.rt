@@ -1,13 +1,24 @@
 // Ported from rart 0.11.0 (Apache-2.0), and rewritten.
-//! The ordered walk over a tree of nodes.
+//! The walks over trees of nodes, in the order of their keys.
 //!
-//! A walk goes from node to node with a stack on the heap, gives the values in the order of their
-//! keys, and keeps the way to where it stands on a key path. It knows prefixes and pointers alone,
-//! and no key type.
+//! A walk (`walk`) goes from node to node with a stack on the heap, gives the values in order, and
+//! keeps the way to where it stands on a key path. Over it stand the visits of one tree (`visits`),
+//! of the keys that two trees have in common (`lockstep`), and of what two trees differ in
+//! (`diff`). They know prefixes and pointers, and no key type but for the keys that they make.
 #![tactic(auto)]
 
+mod diff;
 mod key_path;
+mod lockstep;
+mod visits;
 mod walk;
 
+pub use diff::{
+    are_equal, count_changes, visit_changed_keys, visit_changed_views, visit_changed_views_until,
+};
 pub use key_path::{BytesPath, KeyPath, NoPath, SegmentsPath};
+pub use lockstep::{
+    IntersectionPath, ViewsPath, count_common, visit_common, visit_common_keys, visit_common_values,
+};
+pub use visits::{visit_values, visit_values_until, visit_views, visit_views_up_to};
 pub use walk::Walk;

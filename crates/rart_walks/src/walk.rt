@@ -4,7 +4,7 @@ ghost use Rattle.std.specs.Prelude.{◌≡◌, ◌++◌, ◌∷◌, [], List, is
 ghost use Rattle.std.specs.Option.{option_map};
 ghost use Rattle.rart_node.specs.VersionedNodeIter.{children_left};
 ghost use Rattle.rart_node.specs.Shape.{prefix_of, children_of};
-ghost use Rattle.rart_shape.specs.Trees.{IsTree, pairs_of};
+ghost use Rattle.rart_node.specs.Trees.{IsTree, pairs_of};
 ghost use Rattle.rart_walks.specs.Frames.{OpenNode, TakesChild, TakesAhead, segments_of};
 ghost use Rattle.rart_walks.specs.Openings.{CanEnter, CanOpen, EntersNext, EntersPart, EntersWhole, LeavesLeaf, Opens, StandsAbove};
 ghost use Rattle.rart_walks.specs.Walked.{GivesNext, HasNothing, StartsWhole, StepsOn};

@@ -3,7 +3,7 @@ ghost use Rattle.std.specs.Prelude.{◌≡◌, ℕ, List, length};
 ghost use Rattle.std.specs.declared.ops.Bound.TheVariants.{Included, Excluded, Unbounded};
 ghost use Rattle.rart_c.specs.Firsts.{ReadsFirst};
 ghost use Rattle.rart_maps.specs.Pairs.{within};
-ghost use Rattle.rart_seeking.specs.Firsts.{Finds};
+ghost use Rattle.rart_ways.specs.Firsts.{Finds};
 
 use crate::answer::{ABSENT, TOO_SMALL};
 use crate::bytes::handle::RartBytes;

@@ -1,24 +1,24 @@
 // Ported from rart 0.11.0 (Apache-2.0), and rewritten.
 //! What changed from one tree to another, and its counts.
 ghost use Rattle.std.specs.Prelude.{◌≡◌, ◌↔◌, ◌+◌, ◌<◌, ◌≤◌, ℕ, List, [], false, length, IfOk, IsTrue, OnOk};
-ghost use Rattle.rart_changes.specs.ChangeLists.{changes};
-ghost use Rattle.rart_changes.specs.ChangeVisits.{ByKeyChange, ByViewChange};
-ghost use Rattle.rart_diff.specs.Ends.{Ends, nodes_to};
+ghost use Rattle.rart_maps.specs.ChangeLists.{changes};
+ghost use Rattle.rart_maps.specs.ChangeVisits.{ByKeyChange, ByViewChange};
 ghost use Rattle.rart_maps.specs.Bounds.{node_count};
 ghost use Rattle.rart_maps.specs.Versions.{has_no_key};
 ghost use Rattle.rart_maps.specs.Visits.{Visits, Visitable, VisitsUntil, VisitableUntil};
 ghost use Rattle.rart_node.specs.Counts.{CountsUpTo};
 ghost use Rattle.rart_versioned.specs.TreeWalks.{AreWalks};
 ghost use Rattle.rart_versioned.specs.VisitCounts.{DiffEndsSoon, EndsAtFirst, node_count_to};
+ghost use Rattle.rart_walks.specs.DiffEnds.{Ends, nodes_to};
 ghost use Rattle.rart_walks.specs.WalkFields.{at_hand, cursor};
 
 use crate::counted::tree::VersionedAdaptiveRadixTree;
 use rart_below::{KeyTrait, LendingKeyView, Partial, Refusal, VisitControl};
-use rart_diff::{
-    are_equal, count_changes, visit_changed_keys, visit_changed_views, visit_changed_views_until,
-};
 use rart_node::Work;
-use rart_walks::{BytesPath, Walk};
+use rart_walks::{
+    BytesPath, Walk, are_equal, count_changes, visit_changed_keys, visit_changed_views,
+    visit_changed_views_until,
+};
 use std::alloc::AllocError;
 
 impl<K: KeyTrait, V: Clone + Drop + Eq> VersionedAdaptiveRadixTree<K, V> {

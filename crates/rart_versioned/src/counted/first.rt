@@ -7,12 +7,12 @@ ghost use Rattle.rart_maps.specs.Bounds.{bound_length};
 ghost use Rattle.rart_maps.specs.Pairs.{within};
 ghost use Rattle.rart_maps.specs.Versions.{has_no_key};
 ghost use Rattle.rart_node.specs.Counts.{CountsUpTo};
-ghost use Rattle.rart_seeking.specs.Firsts.{Finds, found_length};
+ghost use Rattle.rart_ways.specs.Firsts.{Finds, found_length};
 
 use crate::counted::tree::VersionedAdaptiveRadixTree;
 use rart_below::{KeyTrait, Partial};
 use rart_node::{NodeRef, Work};
-use rart_seeking::first_from;
+use rart_ways::first_from;
 use std::ops::Bound;
 
 impl<K: KeyTrait, V: Clone + Drop> VersionedAdaptiveRadixTree<K, V> {

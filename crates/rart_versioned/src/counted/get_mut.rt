@@ -16,9 +16,8 @@ ghost use Rattle.rart_versioned.specs.Roots.{LendsBelow, below_root, found_in};
 use crate::counted::missing::{Missing, found_of};
 use crate::counted::tree::VersionedAdaptiveRadixTree;
 use rart_below::{KeyTrait, Partial};
-use rart_lending::lend_below;
 use rart_node::{NodeRef, Work};
-use rart_search::path_length;
+use rart_ways::{lend_below, path_length};
 use std::alloc::AllocError;
 
 /// Lends the value of a key below a root for writing, and then raises the number by one. Refused

@@ -9,8 +9,8 @@ ghost use Rattle.rart_node.specs.Counts.{CountsUpTo};
 
 use crate::counted::tree::VersionedAdaptiveRadixTree;
 use rart_below::{KeyTrait, Partial};
-use rart_insertion::{insert_below, leaf_of};
 use rart_node::{NodeRef, Work};
+use rart_ways::{insert_below, leaf_of};
 use std::alloc::AllocError;
 
 impl<K: KeyTrait, V: Clone + Drop> VersionedAdaptiveRadixTree<K, V> {

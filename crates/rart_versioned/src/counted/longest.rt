@@ -10,7 +10,7 @@ ghost use Rattle.rart_versioned.specs.Longest.{entry_found, prefix_found};
 use crate::counted::tree::VersionedAdaptiveRadixTree;
 use rart_below::{KeyTrait, Partial};
 use rart_node::{NodeRef, Work};
-use rart_search::longest_prefix_match;
+use rart_ways::longest_prefix_match;
 use std::alloc::AllocError;
 
 impl<K: KeyTrait, V: Clone + Drop> VersionedAdaptiveRadixTree<K, V> {

@@ -10,7 +10,7 @@ ghost use Rattle.rart_node.specs.Counts.{CountsUpTo};
 use crate::counted::tree::VersionedAdaptiveRadixTree;
 use rart_below::{KeyTrait, Partial};
 use rart_node::{NodeRef, Work};
-use rart_search::get_below;
+use rart_ways::get_below;
 
 impl<K: KeyTrait, V: Clone + Drop> VersionedAdaptiveRadixTree<K, V> {
     /// As `get_k`, with the nodes entered counted into `work`: at most one more than the key has

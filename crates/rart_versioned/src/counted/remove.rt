@@ -11,7 +11,7 @@ ghost use Rattle.rart_versioned.specs.SlotChanges.{without_if_there};
 use crate::counted::tree::VersionedAdaptiveRadixTree;
 use rart_below::{KeyTrait, Partial};
 use rart_node::{NodeRef, Work};
-use rart_removal::remove_below;
+use rart_ways::remove_below;
 use std::alloc::AllocError;
 
 impl<K: KeyTrait, V: Clone + Drop> VersionedAdaptiveRadixTree<K, V> {

@@ -7,16 +7,17 @@ ghost use Rattle.rart_maps.specs.Pairs.{pairs, prefix_matches, under, within};
 ghost use Rattle.rart_maps.specs.Versions.{has_no_key};
 ghost use Rattle.rart_maps.specs.Visits.{BySlice, ByValue, ByView, Visit, Visits, Visitable, VisitsUntil, VisitableUntil};
 ghost use Rattle.rart_node.specs.Counts.{CountsUpTo};
-ghost use Rattle.rart_visits.specs.Ends.{Ends};
+ghost use Rattle.rart_walks.specs.Ends.{Ends};
 ghost use Rattle.rart_versioned.specs.VisitCounts.{EndsSoon};
 
 use crate::counted::tree::VersionedAdaptiveRadixTree;
 use crate::counted::walks::bytes_of;
 use rart_below::{KeyTrait, LendingKeyView, Partial, Refusal, VisitControl};
 use rart_node::{NodeRef, Work};
-use rart_search::visit_prefix_matches;
-use rart_visits::{visit_values, visit_values_until, visit_views, visit_views_up_to};
-use rart_walks::{NoPath, SegmentsPath, Walk};
+use rart_walks::{
+    NoPath, SegmentsPath, Walk, visit_values, visit_values_until, visit_views, visit_views_up_to,
+};
+use rart_ways::visit_prefix_matches;
 use std::alloc::AllocError;
 use std::ops::Bound;
 

@@ -10,7 +10,7 @@ ghost use Rattle.rart_node.specs.Counts.{CountsUpTo};
 use crate::counted::tree::VersionedAdaptiveRadixTree;
 use rart_below::{KeyTrait, Partial};
 use rart_node::{NodeRef, Work};
-use rart_seeking::has_within;
+use rart_ways::has_within;
 use std::ops::Bound;
 
 impl<K: KeyTrait, V: Clone + Drop> VersionedAdaptiveRadixTree<K, V> {

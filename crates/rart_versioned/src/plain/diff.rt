@@ -1,8 +1,8 @@
 // Ported from rart 0.11.0 (Apache-2.0), and rewritten.
 //! What changed from one tree to another, with no count.
 ghost use Rattle.std.specs.Prelude.{◌≡◌, ◌↔◌, [], length, IfOk, IsTrue};
-ghost use Rattle.rart_changes.specs.ChangeLists.{changes};
-ghost use Rattle.rart_changes.specs.ChangeVisits.{ByKeyChange, ByViewChange};
+ghost use Rattle.rart_maps.specs.ChangeLists.{changes};
+ghost use Rattle.rart_maps.specs.ChangeVisits.{ByKeyChange, ByViewChange};
 ghost use Rattle.rart_maps.specs.Visits.{Visits, Visitable, VisitsUntil, VisitableUntil};
 
 use crate::counted::VersionedAdaptiveRadixTree;

@@ -3,7 +3,7 @@
 ghost use Rattle.std.specs.Range.Bound.{bound_map};
 ghost use Rattle.std.specs.declared.ops.Bound.TheVariants.{Unbounded};
 ghost use Rattle.rart_maps.specs.Pairs.{within};
-ghost use Rattle.rart_seeking.specs.Firsts.{Finds};
+ghost use Rattle.rart_ways.specs.Firsts.{Finds};
 
 use crate::counted::VersionedAdaptiveRadixTree;
 use rart_below::KeyTrait;

@@ -7,7 +7,7 @@ ghost use Rattle.rart_below.specs.Bytes.{begins, byte_order};
 ghost use Rattle.rart_below.specs.Children.{children_from};
 ghost use Rattle.rart_node.specs.Shape.{IsAscending, children_of};
 ghost use Rattle.rart_node.specs.VersionedNodeIter.{children_left};
-ghost use Rattle.rart_shape.specs.Trees.{IsTree, pairs_of, path_bound};
+ghost use Rattle.rart_node.specs.Trees.{IsTree, pairs_of, path_bound};
 ghost use Rattle.rart_walks.specs.Frames.{pairs_inside};
 ghost use Rattle.rart_walks.specs.Openings.{EndsIn, EntersEnd, Finishes, StandsAbove};
 ghost use Rattle.rart_walks.specs.Parts.{keeps, reaches, goes_on, is_strict, start_of};
@@ -17,8 +17,7 @@ ghost use Rattle.rart_walks.specs.Walks.{AreShort};
 use super::Walk;
 use crate::key_path::KeyPath;
 use rart_below::Partial;
-use rart_node::{NodeRef, VersionedNode, VersionedNodeIter, Work};
-use rart_shape::rest_of;
+use rart_node::{NodeRef, VersionedNode, VersionedNodeIter, Work, rest_of};
 use std::alloc::{AllocError, Global};
 use std::ops::Bound;
 

@@ -3,8 +3,8 @@ ghost use Rattle.std.specs.Prelude.{IsTrue};
 ghost use Rattle.rart_maps.specs.Versions.{HasRoom};
 
 use super::fragile::{Fragile, Fuse};
+use rart_changes::TrackedTree;
 use rart_family::{KeyTrait, VectorKey, VersionedAdaptiveRadixTree};
-use rart_tracked::TrackedTree;
 use std::alloc::{AllocError, Global};
 use std::rc::Rc;
 

@@ -1,6 +1,5 @@
 //! The functions of the examples that take memory, each called once.
 use super::begun::key_of;
-use example_family::snapshots::replies_beside_a_snapshot;
 use example_tree::clients::{
     Counts, compare_and_set, count_up, get_or_insert, move_value, set_three, set_twice, swap,
     take_and_put_back, transfer, try_and_undo,
@@ -10,6 +9,7 @@ use example_tree::listing::{all_prices, listing, listing_along, listing_between,
 use example_tree::prices::{
     PriceError, PriceList, before_and_after, set_price_counted, try_set_price,
 };
+use example_tree::snapshots::replies_beside_a_snapshot;
 use example_tree::stock::{Stock, add};
 use example_tree::values::{Numbers, Readings, Text, Titles, keep, retitle};
 use example_tree::visiting::prices_under;

@@ -1,12 +1,12 @@
 //! A patch and a merge.
 ghost use Rattle.std.specs.Prelude.{IfOk, IsTrue, length};
-ghost use Rattle.rart_changes.specs.ChangeLists.{changes};
+ghost use Rattle.rart_maps.specs.ChangeLists.{changes};
 ghost use Rattle.rart_maps.specs.Versions.{HasRoom};
 
 use super::begun::{Begun, Version};
 use super::fragile::{Fragile, Fuse};
+use rart_changes::Merging;
 use rart_family::{KeyTrait, VectorKey, VersionedAdaptiveRadixTree};
-use rart_merging::Merging;
 use std::alloc::AllocError;
 use std::rc::Rc;
 

@@ -1,10 +1,10 @@
 //! Patches and merges.
 ghost use Rattle.std.specs.Prelude.{IfOk, IsTrue, length, nat_eq};
-ghost use Rattle.rart_changes.specs.ChangeLists.{changes};
+ghost use Rattle.rart_maps.specs.ChangeLists.{changes};
 ghost use Rattle.rart_maps.specs.Versions.{HasRoom};
 
 use crate::tests::trees::{Tree, chain, tree_of};
-use rart_merging::Merging;
+use rart_changes::Merging;
 use rart_versioned::{KeyTrait, VectorKey};
 use std::alloc::{AllocError, Global};
 use std::test::Fail;

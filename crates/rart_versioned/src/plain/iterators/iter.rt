@@ -3,7 +3,7 @@
 ghost use Rattle.std.specs.Prelude.{◌≡◌, [], ◌∷◌, Some, None, Err, IfOk, IfSome, length};
 ghost use Rattle.rart_below.specs.Bytes.{IsAdmitted};
 ghost use Rattle.rart_maps.specs.Pairs.{pairs, under};
-ghost use Rattle.rart_shape.specs.Trees.{pairs_of};
+ghost use Rattle.rart_node.specs.Trees.{pairs_of};
 ghost use Rattle.rart_versioned.specs.Iterators.{HasKeys, pairs_to_come};
 ghost use Rattle.rart_walks.specs.KeyPaths.{HoldsBytes};
 ghost use Rattle.rart_walks.specs.WalkFields.{path_to, IsWalk};

@@ -5,16 +5,15 @@ ghost use Rattle.std.specs.Option.{option_copied};
 ghost use Rattle.std.specs.Result.{IsOk};
 ghost use Rattle.rart_maps.specs.Pairs.{prefix_matches};
 ghost use Rattle.rart_node.specs.Shape.{height};
-ghost use Rattle.rart_shape.specs.Trees.{IsTree};
+ghost use Rattle.rart_node.specs.Trees.{IsTree};
 ghost use Rattle.rart_versioned.specs.Iterators.{EntryGives, ValueGives, height_in, matches_below};
 ghost use Rattle.rart_versioned.specs.Iterators.{IsWay, matches_on, next_node};
 ghost use Rattle.rart_walks.specs.Frames.{pending_pair};
 
 use crate::counted::VersionedAdaptiveRadixTree;
 use rart_below::{KeyTrait, Partial};
-use rart_node::{NodeRef, Work};
-use rart_search::step;
-use rart_shape::rest_of;
+use rart_node::{NodeRef, Work, rest_of};
+use rart_ways::step;
 use std::alloc::{AllocError, Global};
 use std::marker::Model;
 

@@ -4,11 +4,11 @@ use Rattle.std.specs.Result.{is_ok, OnErr}
 use Rattle.std.specs.Str.{bytes_eq}
 use Rattle.std.proofs.lemmas.Bool.{false≢true}
 use Rattle.rart_node.specs.Seen.{shape_of}
-use Rattle.rart_shape.specs.Trees.{found, IsPut}
+use Rattle.rart_node.specs.Trees.{found, IsPut}
 use Rattle.rart_versioned.specs.Roots.{found_in, IsSound}
-use Rattle.rart_shape.proofs.CountingLemmas.{counts-then, counts-most, made-none, entered-then, path-most}
+use Rattle.rart_node.proofs.CountingLemmas.{counts-then, counts-most, made-none, entered-then, path-most}
 use Rattle.rart_versioned.proofs.SoundLemmas.{sound-again}
-use Rattle.rart_lending.proofs.LentPathLemmas.{there-arrived}
+use Rattle.rart_ways.proofs.LentPathLemmas.{there-arrived}
 use Rattle.rart_versioned.proofs.counted.get_mut.lend_in.Goals as goal
 
 pub returns-in-None-path_length : goal.returns-in-None-path_length

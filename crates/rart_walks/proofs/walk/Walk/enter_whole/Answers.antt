@@ -1,5 +1,5 @@
 use Rattle.std.proofs.Common.{rules, refl, sym}
-use Rattle.rart_shape.proofs.FindLemmas.{ascending, ordered}
+use Rattle.rart_node.proofs.FindLemmas.{ascending, ordered}
 use Rattle.rart_walks.specs.WalkFields.{open_nodes}
 use Rattle.rart_walks.proofs.WalkLemmas.{whole-pairs, whole-paths, whole-trees, whole-short, path-fits}
 use Rattle.rart_walks.proofs.walk.Walk.enter_whole.Goals as goal

@@ -3,8 +3,8 @@ use Rattle.std.proofs.Math.Nat.{le_refl}
 use Rattle.std.proofs.lemmas.Result.{IfOk-weaker}
 use Rattle.std.specs.Ordering.{is_le}
 use Rattle.rart_below.specs.Bytes.{byte_order}
-use Rattle.rart_shape.specs.Trees.{pairs_of}
-use Rattle.rart_shape.proofs.CountingLemmas.{counts-most, path-most}
+use Rattle.rart_node.specs.Trees.{pairs_of}
+use Rattle.rart_node.proofs.CountingLemmas.{counts-most, path-most}
 use Rattle.rart_walks.specs.declared.walk.path.Part.TheVariants.{From}
 use Rattle.rart_walks.proofs.GatherLemmas.{keeping-same}
 use Rattle.rart_walks.proofs.PartLemmas.{keeps-itself}

@@ -4,7 +4,7 @@ use Rattle.std.specs.Option.{option_map, option_copied}
 use Rattle.std.proofs.lemmas.List.{append-nil, length-append}
 use Rattle.rart_node.specs.Counts.{Counts, CountsUpTo}
 use Rattle.rart_node.specs.Shape.{prefix_of, children_of, value_of}
-use Rattle.rart_shape.proofs.FindLemmas.{ascending, ordered}
+use Rattle.rart_node.proofs.FindLemmas.{ascending, ordered}
 use Rattle.rart_walks.specs.Frames.{segments_of, pairs_ahead, paths_ahead}
 use Rattle.rart_walks.specs.Walks.{GoesOnFirst, pending_pair}
 use Rattle.rart_walks.specs.WalkFields.{open_nodes, nodes_open}

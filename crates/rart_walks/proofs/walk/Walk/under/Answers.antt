@@ -1,5 +1,5 @@
 use Rattle.std.proofs.Math.Nat.{le_refl}
-use Rattle.rart_shape.proofs.CountingLemmas.{counts-most, path-most}
+use Rattle.rart_node.proofs.CountingLemmas.{counts-most, path-most}
 use Rattle.rart_walks.proofs.walk.Walk.under.Goals as goal
 
 pub returns : goal.returns

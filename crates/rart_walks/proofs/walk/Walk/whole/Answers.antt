@@ -1,7 +1,7 @@
 use Rattle.std.proofs.Common.{◌++◌, [], inr, length, arith, refl, sym, ap, ◌∙◌}
 use Rattle.std.proofs.lemmas.List.{append-nil, length-map}
 use Rattle.std.specs.List.{concat}
-use Rattle.rart_shape.specs.Trees.{pairs_of}
+use Rattle.rart_node.specs.Trees.{pairs_of}
 use Rattle.rart_walks.specs.Frames.{behind_path, under_path}
 use Rattle.rart_walks.specs.Walks.{Cursor, paths_of}
 use Rattle.rart_walks.proofs.CursorLemmas.{nodes-paths}

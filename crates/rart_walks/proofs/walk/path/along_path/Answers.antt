@@ -6,7 +6,7 @@ use Rattle.rart_below.specs.Bytes.{common_length}
 use Rattle.rart_below.specs.Children.{children_from}
 use Rattle.rart_node.specs.Shape.{Shape, prefix_of, children_of}
 use Rattle.rart_node.specs.VersionedNodeIter.{children_left}
-use Rattle.rart_shape.proofs.PrefixLemmas.{common_fits}
+use Rattle.rart_node.proofs.PrefixLemmas.{common_fits}
 use Rattle.rart_walks.specs.WalkFields.{open_nodes}
 use Rattle.rart_walks.specs.Parts.{reaches, goes_on}
 use Rattle.rart_walks.specs.Walks.{IsEndOf, paths_of}

@@ -1,5 +1,5 @@
 use Rattle.std.proofs.Common.{arith}
-use Rattle.rart_shape.proofs.CountingLemmas.{counts-most, counts-then, entered-then}
+use Rattle.rart_node.proofs.CountingLemmas.{counts-most, counts-then, entered-then}
 use Rattle.rart_versioned.proofs.VersionDiffLemmas.{walks-are}
 use Rattle.rart_versioned.proofs.counted.tree.VersionedAdaptiveRadixTree.both_walks.Goals as goal
 

@@ -1,7 +1,7 @@
 use Rattle.std.proofs.Common.{◌∙◌, length, arith, ap}
 use Rattle.rart_versioned.proofs.VersionDiffLemmas.{changes-few}
 use Rattle.std.proofs.lemmas.Result.{IfOk-weaker}
-use Rattle.rart_shape.proofs.CountingLemmas.{entered-then}
+use Rattle.rart_node.proofs.CountingLemmas.{entered-then}
 use Rattle.rart_versioned.proofs.VersionVisitLemmas.{OnOk-weaker, counts-through}
 use Rattle.rart_versioned.proofs.counted.tree.VersionedAdaptiveRadixTree.diff_count_counted.Goals as goal
 

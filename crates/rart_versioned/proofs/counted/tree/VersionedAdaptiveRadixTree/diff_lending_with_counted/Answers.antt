@@ -1,8 +1,8 @@
 use Rattle.std.proofs.Common.{arith, sym, subst}
-use Rattle.rart_changes.specs.ChangeVisits.{ByViewChange}
+use Rattle.rart_maps.specs.ChangeVisits.{ByViewChange}
 use Rattle.rart_maps.specs.Visits.{Visitable, Visits}
 use Rattle.rart_maps.proofs.VisitLemmas.{up_to-start, visits-refused}
-use Rattle.rart_shape.proofs.CountingLemmas.{entered-then}
+use Rattle.rart_node.proofs.CountingLemmas.{entered-then}
 use Rattle.rart_versioned.proofs.VersionVisitLemmas.{OnOk-weaker, counts-through}
 use Rattle.rart_versioned.proofs.counted.tree.VersionedAdaptiveRadixTree.diff_lending_with_counted.Goals as goal
 

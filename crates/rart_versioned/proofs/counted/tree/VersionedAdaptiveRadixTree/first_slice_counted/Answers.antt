@@ -8,8 +8,8 @@ use Rattle.rart_below.specs.Bytes.{byte_order}
 use Rattle.rart_node.specs.Seen.{shape_of}
 use Rattle.rart_maps.proofs.RangeLemmas.{from, up_to, within-from}
 use Rattle.rart_maps.specs.Bounds.{bound_string}
-use Rattle.rart_seeking.specs.Firsts.{Finds}
-use Rattle.rart_shape.proofs.CountingLemmas.{counts-most, path-most}
+use Rattle.rart_ways.specs.Firsts.{Finds}
+use Rattle.rart_node.proofs.CountingLemmas.{counts-most, path-most}
 use Rattle.rart_walks.specs.Parts.{start_of}
 use Rattle.rart_versioned.proofs.VersionIterationLemmas.{no-pairs, root-sound, root-pairs, root-short}
 use Rattle.rart_versioned.proofs.VersionVisitLemmas.{none-keyed}

@@ -1,7 +1,7 @@
 use Rattle.std.proofs.Common.{arith, sym, subst}
 use Rattle.rart_maps.specs.Visits.{ByView, Visitable, Visits}
 use Rattle.rart_maps.proofs.VisitLemmas.{up_to-start, visits-refused}
-use Rattle.rart_shape.proofs.CountingLemmas.{entered-then}
+use Rattle.rart_node.proofs.CountingLemmas.{entered-then}
 use Rattle.rart_versioned.proofs.VersionVisitLemmas.{OnOk-weaker}
 use Rattle.rart_versioned.proofs.counted.tree.VersionedAdaptiveRadixTree.for_each_view_counted.Goals as goal
 

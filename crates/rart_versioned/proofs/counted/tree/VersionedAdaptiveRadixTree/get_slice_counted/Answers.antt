@@ -4,7 +4,7 @@ use Rattle.std.specs.Option.{option_map}
 use Rattle.rart_node.specs.Seen.{shape_of}
 use Rattle.rart_versioned.specs.Roots.{found_in}
 use Rattle.rart_maps.specs.Versions.{has_no_key}
-use Rattle.rart_shape.proofs.CountingLemmas.{counts-most, path-most}
+use Rattle.rart_node.proofs.CountingLemmas.{counts-most, path-most}
 use Rattle.rart_versioned.proofs.VersionMapLemmas.{get-found}
 use Rattle.rart_versioned.proofs.SoundLemmas.{value-in, no-key}
 use Rattle.rart_versioned.proofs.VersionVisitLemmas.{none-prefix_matches, root-prefix_matches}

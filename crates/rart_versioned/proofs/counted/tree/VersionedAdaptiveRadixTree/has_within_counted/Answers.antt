@@ -11,8 +11,8 @@ use Rattle.rart_maps.proofs.RangeLemmas.{from, from-ascends, is_below, up_to, up
 use Rattle.rart_maps.specs.Bounds.{bound_string}
 use Rattle.rart_maps.specs.FoundLaws.{KeysAscend}
 use Rattle.rart_maps.specs.Pairs.{pairs}
-use Rattle.rart_seeking.specs.Firsts.{first_passes}
-use Rattle.rart_shape.proofs.CountingLemmas.{counts-most, path-most}
+use Rattle.rart_ways.specs.Firsts.{first_passes}
+use Rattle.rart_node.proofs.CountingLemmas.{counts-most, path-most}
 use Rattle.rart_walks.specs.Parts.{start_of}
 use Rattle.rart_versioned.proofs.VersionIterationLemmas.{no-pairs, root-sound, root-pairs, root-short}
 use Rattle.rart_versioned.proofs.VersionVisitLemmas.{none-keyed}

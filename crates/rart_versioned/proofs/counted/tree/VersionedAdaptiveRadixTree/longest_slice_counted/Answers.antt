@@ -1,7 +1,7 @@
 use Rattle.std.proofs.Common.{None, length, refl, sym, ap, ◌∙◌, arith}
 use Rattle.std.specs.List.{last_or}
 use Rattle.rart_node.specs.Seen.{shape_of}
-use Rattle.rart_shape.proofs.CountingLemmas.{counts-most, path-most}
+use Rattle.rart_node.proofs.CountingLemmas.{counts-most, path-most}
 use Rattle.rart_versioned.proofs.VersionVisitLemmas.{none-keyed, none-prefix_matches, root-prefix_matches}
 use Rattle.rart_versioned.proofs.counted.tree.VersionedAdaptiveRadixTree.longest_slice_counted.Goals as goal
 

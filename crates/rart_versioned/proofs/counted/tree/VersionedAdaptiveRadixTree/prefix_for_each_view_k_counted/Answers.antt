@@ -2,7 +2,7 @@ use Rattle.std.proofs.Common.{arith, length, sym, subst, ap, ◌∙◌}
 use Rattle.rart_maps.specs.Pairs.{under}
 use Rattle.rart_maps.specs.Visits.{ByView, Visitable, Visits}
 use Rattle.rart_maps.proofs.VisitLemmas.{up_to-start, visits-refused}
-use Rattle.rart_shape.proofs.CountingLemmas.{counts-most, counts-then, entered-then}
+use Rattle.rart_node.proofs.CountingLemmas.{counts-most, counts-then, entered-then}
 use Rattle.rart_versioned.proofs.VersionVisitLemmas.{OnOk-weaker}
 use Rattle.rart_versioned.proofs.counted.tree.VersionedAdaptiveRadixTree.prefix_for_each_view_k_counted.Goals as goal
 

@@ -2,8 +2,8 @@ use Rattle.std.proofs.Common.{◌+◌, ◌≤◌, ℕ, List, length, ap, sym, su
 use Rattle.rart_node.specs.Seen.{shape_of}
 use Rattle.rart_maps.specs.Visits.{BySlice, Visit, Visitable}
 use Rattle.rart_maps.proofs.VisitLemmas.{up_to-over, up_to-start}
-use Rattle.rart_shape.specs.Trees.{path_bound}
-use Rattle.rart_shape.proofs.CountingLemmas.{counts-most, path-most}
+use Rattle.rart_node.specs.Trees.{path_bound}
+use Rattle.rart_node.proofs.CountingLemmas.{counts-most, path-most}
 use Rattle.rart_versioned.proofs.VersionVisitLemmas.{none-keyed, none-prefix_matches, root-prefix_matches}
 use Rattle.rart_versioned.proofs.counted.tree.VersionedAdaptiveRadixTree.prefix_match_for_each_k_counted.Goals as goal
 

@@ -2,7 +2,7 @@ use Rattle.std.proofs.Common.{◌+◌, None, Some, length, sym, ap, subst, ◌�
 use Rattle.std.specs.Option.{option_map}
 use Rattle.rart_below.specs.Bytes.{IsAdmitted}
 use Rattle.rart_node.specs.Seen.{shape_of}
-use Rattle.rart_shape.proofs.CountingLemmas.{counts-most, path-most}
+use Rattle.rart_node.proofs.CountingLemmas.{counts-most, path-most}
 use Rattle.rart_versioned.specs.Roots.{IsSound}
 use Rattle.rart_versioned.proofs.VersionMapLemmas.{get-found}
 use Rattle.rart_versioned.proofs.SoundLemmas.{IsPutIn, leaf-put, root-put, sound-put, map-put, all-bytes}

@@ -1,12 +1,12 @@
 use Rattle.std.proofs.Common.{arith, is_some, Some, None, ◌≡◌, ◌+◌, sym, ap, subst, ◌∙◌}
 use Rattle.std.specs.Option.{option_map}
 use Rattle.rart_node.specs.Seen.{shape_of}
-use Rattle.rart_removal.specs.Removals.{IsTakenOr}
-use Rattle.rart_removal.proofs.EditLemmas.{on-any}
-use Rattle.rart_removal.proofs.PlanLemmas.{not_some-None}
+use Rattle.rart_ways.specs.Removals.{IsTakenOr}
+use Rattle.rart_ways.proofs.EditLemmas.{on-any}
+use Rattle.rart_ways.proofs.PlanLemmas.{not_some-None}
 use Rattle.rart_versioned.specs.Roots.{map_of, IsSound}
 use Rattle.rart_maps.specs.Versions.{Version, value_at, without_key}
-use Rattle.rart_shape.proofs.CountingLemmas.{counts-most, path-most}
+use Rattle.rart_node.proofs.CountingLemmas.{counts-most, path-most}
 use Rattle.rart_versioned.proofs.VersionMapLemmas.{get-found}
 use Rattle.rart_versioned.proofs.SoundLemmas.{tree-in}
 use Rattle.rart_versioned.proofs.VersionIterationLemmas.{root-value}

@@ -1,12 +1,12 @@
 use Rattle.std.proofs.Common.{◌≡◌, ◌+◌, arith, Ok, sym, subst}
 use Rattle.rart_below.specs.declared.visit.VisitControl.TheVariants.{Continue}
-use Rattle.rart_changes.specs.ChangeVisits.{ByViewChange}
-use Rattle.rart_changes.specs.ChangeLists.{changes}
-use Rattle.rart_diff.specs.Ends.{Ends, EntersTo}
-use Rattle.rart_diff.specs.TwoWalks.{nodes_ahead}
+use Rattle.rart_maps.specs.ChangeVisits.{ByViewChange}
+use Rattle.rart_maps.specs.ChangeLists.{changes}
+use Rattle.rart_walks.specs.DiffEnds.{Ends, EntersTo}
+use Rattle.rart_walks.specs.TwoWalks.{nodes_ahead}
 use Rattle.rart_maps.specs.Visits.{VisitableUntil, VisitsUntil}
 use Rattle.rart_maps.proofs.VisitLemmas.{up_to-start}
-use Rattle.rart_shape.proofs.CountingLemmas.{entered-then}
+use Rattle.rart_node.proofs.CountingLemmas.{entered-then}
 use Rattle.rart_versioned.proofs.DiffEndLemmas.{diff-ends-weaker, diff-soon}
 use Rattle.rart_versioned.proofs.VersionVisitLemmas.{counts-through}
 use Rattle.rart_versioned.proofs.counted.tree.VersionedAdaptiveRadixTree.try_diff_lending_with_counted.Goals as goal

@@ -4,7 +4,7 @@ use Rattle.rart_maps.specs.Pairs.{under}
 use Rattle.rart_maps.specs.Visits.{ByValue, VisitableUntil, VisitsUntil}
 use Rattle.rart_maps.proofs.VisitLemmas.{up_to-start}
 use Rattle.rart_versioned.proofs.PrefixEndLemmas.{ends-soon, ends-weaker}
-use Rattle.rart_shape.proofs.CountingLemmas.{counts-most, counts-then, entered-then}
+use Rattle.rart_node.proofs.CountingLemmas.{counts-most, counts-then, entered-then}
 use Rattle.rart_versioned.proofs.counted.tree.VersionedAdaptiveRadixTree.try_prefix_values_for_each_k_counted.Goals as goal
 
 pub visit_values_until-requires : goal.visit_values_until-requires

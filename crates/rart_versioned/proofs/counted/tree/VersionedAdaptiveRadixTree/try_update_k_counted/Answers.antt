@@ -1,6 +1,6 @@
 use Rattle.std.proofs.Common.{inl, sym, ◌∙◌, arith, refl}
 use Rattle.std.proofs.lemmas.Bool.{false≢true}
-use Rattle.rart_shape.proofs.CountingLemmas.{counts-most, entered-then}
+use Rattle.rart_node.proofs.CountingLemmas.{counts-most, entered-then}
 use Rattle.rart_versioned.proofs.SlotChangeLemmas.{there-by-slot, absent-by-slot, tells-or-fails, tries-there, tries-absent}
 use Rattle.rart_versioned.proofs.UpdateCountLemmas.{attempt-there, attempt-absent, looked-then, makes-then-tried, try-there, try-absent}
 use Rattle.rart_versioned.proofs.counted.tree.VersionedAdaptiveRadixTree.try_update_k_counted.Goals as goal

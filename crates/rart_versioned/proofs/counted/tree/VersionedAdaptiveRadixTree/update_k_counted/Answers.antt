@@ -1,8 +1,8 @@
 use Rattle.std.proofs.Common.{rules, inl, sym, ap, ◌∙◌, arith, refl}
 use Rattle.std.proofs.lemmas.Bool.{false≢true}
 use Rattle.std.specs.declared.alloc.AllocError.{AllocError}
-use Rattle.rart_removal.proofs.EditLemmas.{on-any}
-use Rattle.rart_shape.proofs.CountingLemmas.{counts-most, entered-then}
+use Rattle.rart_ways.proofs.EditLemmas.{on-any}
+use Rattle.rart_node.proofs.CountingLemmas.{counts-most, entered-then}
 use Rattle.rart_versioned.specs.SlotChanges.{version_after}
 use Rattle.rart_versioned.proofs.SlotChangeLemmas.{there-by-slot, absent-by-slot, asked-memory, tells, updates-there, updates-absent}
 use Rattle.rart_versioned.proofs.UpdateCountLemmas.{counts-changed, counts-absent, looked-then, lookup-stopped, makes-then, update-there, update-refused, update-absent}

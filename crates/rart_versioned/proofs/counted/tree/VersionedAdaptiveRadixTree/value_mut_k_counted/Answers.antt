@@ -6,7 +6,7 @@ use Rattle.rart_node.specs.Seen.{shape_of}
 use Rattle.rart_versioned.specs.Roots.{map_of, found_in}
 use Rattle.rart_maps.specs.Versions.{Version, HasRoom, value_at}
 use Rattle.rart_versioned.specs.Missing.{Explains}
-use Rattle.rart_shape.proofs.CountingLemmas.{counts-most}
+use Rattle.rart_node.proofs.CountingLemmas.{counts-most}
 use Rattle.rart_versioned.proofs.LendingLemmas.{same-ends, at-ok, both-at-err, not-fallen}
 use Rattle.rart_versioned.proofs.SoundLemmas.{map-below, sound-later, tree-in, value-in, has-root}
 use Rattle.rart_versioned.proofs.counted.tree.VersionedAdaptiveRadixTree.value_mut_k_counted.Goals as goal

@@ -5,7 +5,7 @@ use Rattle.rart_maps.specs.FoundLaws.{KeysAscend}
 use Rattle.rart_maps.specs.Visits.{ByView, Visits, Visitable}
 use Rattle.rart_maps.proofs.RangeLemmas.{up_to, from-ascends, within-from}
 use Rattle.rart_maps.proofs.VisitLemmas.{up_to-start, visits-refused}
-use Rattle.rart_shape.proofs.CountingLemmas.{counts-most}
+use Rattle.rart_node.proofs.CountingLemmas.{counts-most}
 use Rattle.rart_versioned.proofs.VersionVisitLemmas.{OnOk-weaker}
 use Rattle.rart_versioned.proofs.counted.tree.VersionedAdaptiveRadixTree.visit_range.Goals as goal
 

@@ -11,7 +11,7 @@ use Rattle.rart_versioned.specs.TreeWalks.{AreAdmitted}
 use Rattle.rart_versioned.proofs.VersionIterationLemmas.{content-admitted, no-pairs, root-sound, root-pairs, root-short}
 use Rattle.rart_versioned.proofs.VersionVisitLemmas.{start-is, none-keyed, root-range}
 use Rattle.std.specs.Prelude.{count_by}
-use Rattle.rart_shape.proofs.CountingLemmas.{counts-most}
+use Rattle.rart_node.proofs.CountingLemmas.{counts-most}
 use Rattle.rart_walks.specs.WalkFields.{at_hand}
 use Rattle.rart_versioned.proofs.counted.tree.VersionedAdaptiveRadixTree.walk_from.Goals as goal
 

@@ -3,10 +3,10 @@ use Rattle.std.specs.FinSet as set
 use Rattle.std.specs.Option.{is_some}
 use Rattle.std.specs.Prelude.{count_by}
 use Rattle.std.proofs.lemmas.Result.{IfOk-weaker}
-use Rattle.rart_diff.specs.Ends.{pairs_from, is_up_to_first}
+use Rattle.rart_walks.specs.DiffEnds.{pairs_from, is_up_to_first}
 use Rattle.rart_maps.specs.Points.{points}
 use Rattle.rart_node.specs.Seen.{shape_of}
-use Rattle.rart_shape.specs.Trees.{pairs_of}
+use Rattle.rart_node.specs.Trees.{pairs_of}
 use Rattle.rart_versioned.specs.VisitCounts.{node_count_to}
 use Rattle.rart_versioned.proofs.DiffEndLemmas.{one-hand, whole-to}
 use Rattle.rart_versioned.proofs.NodePointLemmas.{nodes-kept}

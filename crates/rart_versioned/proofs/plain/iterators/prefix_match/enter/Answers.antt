@@ -1,8 +1,8 @@
 use Rattle.std.proofs.Common.{◌-◌, ◌++◌, length, take, arith, sym, ap, ◌∙◌}
 use Rattle.std.specs.Option.{option_copied}
 use Rattle.rart_node.specs.Shape.{prefix_of, value_of}
-use Rattle.rart_search.specs.Steps.{child_under}
-use Rattle.rart_shape.specs.Trees.{strip_prefix}
+use Rattle.rart_ways.specs.Steps.{child_under}
+use Rattle.rart_node.specs.Trees.{strip_prefix}
 use Rattle.rart_walks.specs.Frames.{pending_pair}
 use Rattle.rart_versioned.specs.Iterators.{matches_below}
 use Rattle.rart_versioned.proofs.ProbeLemmas.{matches-left, matches-here, child-tree, child-lower, rest-short}

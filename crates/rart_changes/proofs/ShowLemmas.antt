@@ -1,0 +1,131 @@
+-- Showing the changes at some keys, one after the other: the calls, and the counts.
+use Rattle.std.proofs.Common.{◌≡◌, ◌+◌, ◌*◌, ◌≤◌, ◌<◌, ℕ, Bool, true, List, [], ◌∷◌, ◌++◌, Option, length, refl, sym, ap, subst, ◌∙◌, cond, arith}
+use Rattle.std.specs.Prelude.{Some, None}
+use Rattle.std.specs.Fn.{Mut}
+use Rattle.std.specs.List.{cons_option}
+use Rattle.std.specs.FinMap as finite
+use Rattle.std.proofs.lemmas.List.Elements.{filter_map-append}
+use Rattle.std.proofs.lemmas.List.Sums.{sum_by-cons}
+use Rattle.rart_maps.specs.Bounds.{lookup_bound}
+use Rattle.rart_maps.specs.Versions.{Map}
+use Rattle.rart_maps.specs.Visits.{AnswersUpTo}
+use Rattle.rart_maps.proofs.VisitLemmas.{up_to-start}
+use Rattle.rart_maps.specs.ChangeLists.{change_of, differ}
+use Rattle.rart_versioned.specs.Counts.{Counts, CountsUpTo}
+use Rattle.rart_changes.specs.ChangeVisits.{changes_at, lookups_bound, lookups_least}
+
+module _ {V : Type 0} (same : V → V → Bool) (old new : Map V) where
+  -- Of one key there is a change where the maps differ.
+  pub change-there : (w : List ℕ) (x y : Option V) → finite.get old w ≡ x → finite.get new w ≡ y
+      → differ same x y ≡ true → changes_at same old new (w ∷ []) ≡ (w, x, y) ∷ []
+  change-there w x y before after apart =
+      (λ i. cons_option (change_of same w (before i) (after i)) [])
+      ∙ ap (λ t. cons_option (cond t (Some (w, x, y)) None) []) apart
+
+  pub changes_at-cons : (w : List ℕ) (ws : List (List ℕ)) → changes_at same old new (w ∷ ws)
+      ≡ changes_at same old new (w ∷ []) ++ changes_at same old new ws
+  changes_at-cons w ws =
+      filter_map-append (λ v. change_of same v (finite.get old v) (finite.get new v))
+      (w ∷ []) ws
+
+pub nothing-left : {A : Type 0} (xs : List A) → length xs ≡ 0 → xs ≡ []
+nothing-left [] none = refl
+nothing-left (x ∷ xs) none = absurd (omega (arith, none))
+
+-- Before the first call all members are left.
+pub up_to-all : {F A R X : Type 0} (g : Mut F A R) (Shows : A → X → Type 0) {answer : R} (f : F)
+    (members left : List X) → left ≡ members → AnswersUpTo g Shows answer f members left f
+up_to-all g Shows {answer} f members left is =
+    subst (λ xs. AnswersUpTo g Shows answer f members xs f) (sym is)
+    (up_to-start g Shows answer f members)
+
+-- What two calls enter and make, one after the other.
+pub counts-both : {entered made later_entered later_made most most_made : ℕ}
+    {start between now : Counts} → CountsUpTo entered made start between
+    → CountsUpTo later_entered later_made between now → entered + later_entered ≤ most
+    → made + later_made ≤ most_made → CountsUpTo most most_made start now
+counts-both first later entered made =
+    let a = first.entered_grows in
+    let b = first.entered_at_most in
+    let c = first.made_grows in
+    let d = first.made_at_most in
+    let e = later.entered_grows in
+    let f = later.entered_at_most in
+    let g = later.made_grows in
+    let h = later.made_at_most in
+    record {
+      entered_grows = omega (arith, a, e);
+      entered_at_most = omega (arith, b, f, entered);
+      made_grows = omega (arith, c, g);
+      made_at_most = omega (arith, d, h, made);
+    }
+
+-- What is entered before a call is entered after it.
+pub entered-then : {entered made : ℕ} {between now : Counts} (start : Counts)
+    → start.entered < between.entered → CountsUpTo entered made between now
+    → start.entered < now.entered
+entered-then start some later = let grows = later.entered_grows in omega (arith, some, grows)
+
+-- With these keys left of all, how many nodes were entered at most, and at least.
+pub record AreCounted (maps least : ℕ) (all left : List (List ℕ)) (start now : Counts)
+    : Type 0 where
+  pub most : now.entered + lookups_bound maps left ≤ start.entered + lookups_bound maps all
+  pub few : start.entered + lookups_least least all ≤ now.entered + lookups_least least left
+  pub grows : start.entered ≤ now.entered
+  pub made : now.made ≡ start.made
+
+pub counted-next : {maps least : ℕ} {all left : List (List ℕ)} {start now after : Counts}
+    (w : List ℕ) (rest : List (List ℕ)) → left ≡ w ∷ rest
+    → AreCounted maps least all left start now
+    → CountsUpTo (maps * lookup_bound w) 0 now after → now.entered + least ≤ after.entered
+    → AreCounted maps least all rest start after
+counted-next {maps} {least} w rest comes before counted more_entered =
+    let bound = ap (lookups_bound maps) comes ∙ sum_by-cons (λ v. maps * lookup_bound v) w rest in
+    let fewest = ap (lookups_least least) comes ∙ sum_by-cons (λ v. least) w rest in
+    let most = before.most in
+    let few = before.few in
+    let grows = before.grows in
+    let made = before.made in
+    let more = counted.entered_grows in
+    let at_most = counted.entered_at_most in
+    let kept = counted.made_grows in
+    let none = counted.made_at_most in
+    record {
+      most = omega (arith, bound, most, at_most);
+      few = omega (arith, fewest, few, more_entered);
+      grows = omega (arith, grows, more);
+      made = omega (arith, made, kept, none);
+    }
+
+pub counted-end : {maps least : ℕ} {all left : List (List ℕ)} {start now : Counts}
+    → AreCounted maps least all left start now → CountsUpTo (lookups_bound maps all) 0 start now
+counted-end before =
+    let most = before.most in
+    let grows = before.grows in
+    let made = before.made in
+    record {
+      entered_grows = grows;
+      entered_at_most = omega (arith, most);
+      made_grows = omega (arith, made);
+      made_at_most = omega (arith, made);
+    }
+
+pub counted-least : {maps least : ℕ} {all left : List (List ℕ)} {start now : Counts} → left ≡ []
+    → AreCounted maps least all left start now
+    → start.entered + lookups_least least all ≤ now.entered
+counted-least {least = least} none before =
+    let over = ap (lookups_least least) none in
+    let few = before.few in
+    omega (arith, over, few)
+
+pub counted-start : (maps least : ℕ) {all left : List (List ℕ)} {start : Counts} → left ≡ all
+    → AreCounted maps least all left start start
+counted-start maps least {all} {left} {start} is =
+    let bound = ap (lookups_bound maps) is in
+    let fewest = ap (lookups_least least) is in
+    record {
+      most = omega (arith, bound);
+      few = omega (arith, fewest);
+      grows = omega arith;
+      made = refl;
+    }

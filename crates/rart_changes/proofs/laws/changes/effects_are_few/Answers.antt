@@ -1,5 +1,0 @@
-use Rattle.rart_changes.proofs.laws.changes.effects_are_few.Goals as goal
-use Rattle.rart_changes.proofs.ChangeLawLemmas.{effects_are_few}
-
-pub returns : goal.returns
-returns g c = effects_are_few _

@@ -1,0 +1,40 @@
+use Rattle.std.proofs.Common.{sym, ap, subst, ◌∙◌}
+use Rattle.rart_maps.specs.Visits.{CallableInTurn, Visit}
+use Rattle.rart_maps.proofs.VisitLemmas.{up_to-start, visits-refused}
+use Rattle.rart_maps.specs.Merges.{conflicts}
+use Rattle.rart_changes.specs.ConflictVisits.{ByConflict, conflicts_at}
+use Rattle.rart_changes.proofs.ConflictLemmas.{conflicts-at-touched}
+use Rattle.rart_changes.proofs.tracked.TrackedTree.conflicts_with_counted.Goals as goal
+
+pub returns-in_err-keys-clause-visits : goal.returns-in_err-keys-clause-visits
+returns-in_err-keys-clause-visits g c =
+    let Shows = ByConflict {V = g.row.V.Denot} g.K.KeyTrait.bytes in
+    visits-refused g.F.FnMut Shows c.from_residual.result c.from_residual.ensures.0
+    (_, up_to-start g.F.FnMut Shows tt c.args.f.now _)
+
+pub show_conflicts-requires : goal.show_conflicts-requires
+show_conflicts-requires g c =
+    let Shows = ByConflict {V = g.row.V.Denot} g.K.KeyTrait.bytes in
+    let same = g.V.PartialEq.eq in
+    let inside = c.self.inside in
+    let theirs = c.args.theirs.now.content in
+    let all = ap (conflicts_at same inside.base.content inside.current.content theirs)
+    c.in_ok-keys.ensures.keys
+    ∙ conflicts-at-touched same inside.base.content inside.current.content theirs
+    g.met.V.Eq.laws.refl inside.touched.content c.self.invariant.tracked
+    ∙ ap (λ t. conflicts same t.base.content t.current.content theirs) c.self.view_is in
+    subst (CallableInTurn g.F.FnMut Shows tt c.args.f.now) (sym all) c.requires
+
+pub returns-clause-visits : goal.returns-clause-visits
+returns-clause-visits g c =
+    let Shows = ByConflict {V = g.row.V.Denot} g.K.KeyTrait.bytes in
+    let same = g.V.PartialEq.eq in
+    let inside = c.self.inside in
+    let theirs = c.args.theirs.now.content in
+    let all = ap (conflicts_at same inside.base.content inside.current.content theirs)
+    c.in_ok-keys.ensures.keys
+    ∙ conflicts-at-touched same inside.base.content inside.current.content theirs
+    g.met.V.Eq.laws.refl inside.touched.content c.self.invariant.tracked
+    ∙ ap (λ t. conflicts same t.base.content t.current.content theirs) c.self.view_is in
+    subst (λ cs. Visit g.F.FnMut Shows c.args.f.now cs c.show_conflicts.new.f) all
+    c.show_conflicts.ensures.visits

@@ -1,0 +1,77 @@
+-- How a closure is asked at the conflicts, and what a merge makes of its answers.
+use Rattle.std.specs.Prelude.{◌≡◌, ℕ, List, ◌∷◌, ◌++◌, ◌||◌, Option, Bool, map}
+use Rattle.std.specs.Borrow.{Bor}
+use Rattle.std.specs.Fn.{Mut}
+use Rattle.std.specs.FinMap as finite
+use Rattle.std.specs.List.{FoldsTo, count_by}
+use Rattle.std.specs.Option.{option_copied}
+use Rattle.rart_maps.specs.Versions.{Map}
+use Rattle.rart_maps.specs.Visits.{CalledOn, CallableOn}
+use Rattle.rart_maps.specs.ChangeLists.{Change, changes, patched}
+use Rattle.rart_maps.specs.Merges.{Conflict, Answers, conflicts, merged}
+
+-- a conflict, by a key with these bytes, and references to the values of the base, of ours and of
+-- theirs, where there are any
+abbrev pub ByConflict : {K V : Type 0} → (K → List ℕ) →
+    Bor K × (Option (Bor V) × (Option (Bor V) × (Option (Bor V) × Unit {0}))) → Conflict V → Type 0
+ByConflict bytes shown conflict = (bytes shown.0.now ≡ conflict.0)
+    × (option_copied shown.1.0 ≡ conflict.1) × (option_copied shown.1.1.0 ≡ conflict.2)
+    × (option_copied shown.1.1.1.0 ≡ conflict.3)
+
+-- a conflict, and what its key is to have
+abbrev pub Reply : Type 0 → Type 0
+Reply V = Conflict V × Option V
+
+module _ {V : Type 0} where
+  -- the change of our side that a reply asks for
+  abbrev pub change_for : Reply V → Change V
+  change_for reply = (reply.0.0, reply.0.2, reply.1)
+
+  -- how many of the keys of these changes are there after, or before
+  abbrev pub held_in_either : Map V → Map V → List (Change V) → ℕ
+  held_in_either before after changes =
+      count_by (λ change. finite.contains_key after change.0 || finite.contains_key before change.0)
+      changes
+
+module _ {F A V : Type 0} (g : Mut F A (Option V)) (Shows : A → Conflict V → Type 0) where
+  -- f is called on the conflicts of these replies in order, once each, and on nothing else, and
+  -- gives these answers.
+  abbrev pub Replies : F → List (Reply V) → F → Type 0
+  Replies f replies f' = FoldsTo (λ j reply j'. CalledOn g Shows j reply.0 reply.1 j') f replies f'
+
+  -- It replies so to the conflicts before the rest.
+  pub record RepliesUpTo (f : F) (all : List (Conflict V)) (replies : List (Reply V))
+      (rest : List (Conflict V)) (f' : F) : Type 0 where
+    pub asked : all ≡ map (λ reply. reply.0) replies ++ rest
+    pub calls : Replies f replies f'
+
+  -- It may be called on each conflict, in every state that calls on those before it may leave.
+  pub record Answerable (f : F) (all : List (Conflict V)) : Type 0 where
+    pub at : (replies : List (Reply V)) (conflict : Conflict V) (rest : List (Conflict V)) (f' : F)
+        → RepliesUpTo f all replies (conflict ∷ rest) f' → CallableOn g Shows f' conflict
+
+  -- It is called on the conflicts of a prefix, which is what a refusal leaves.
+  abbrev pub IsAskedUpTo : F → List (Conflict V) → F → Type 0
+  IsAskedUpTo f all f' =
+      (replies : List (Reply V)) × (rest : List (Conflict V)) × RepliesUpTo f all replies rest f'
+
+  -- It replies to each conflict in turn. Ours has then the changes of theirs, and at each conflict
+  -- the answer.
+  pub record MergesTo (same : V → V → Bool) (f : F) (base ours theirs : Map V) (f' : F)
+      (after : Map V) : Type 0 where
+    pub replies : List (Reply V)
+    pub asked : map (λ reply. reply.0) replies ≡ conflicts same base ours theirs
+    pub calls : Replies f replies f'
+    pub content : after ≡ patched (patched ours (changes same base theirs)) (map change_for replies)
+
+  -- Each answer of the closure is that of a function of the key and what the three have there.
+  abbrev pub AnswersBy : Answers V → Type 0
+  AnswersBy answers = (f : F) (conflict : Conflict V) (answer : Option V) (f' : F) →
+      CalledOn g Shows f conflict answer f'
+      → answer ≡ answers conflict.0 conflict.1 conflict.2 conflict.3
+
+  -- With answers by a function, what a merge leaves is the merge by that function.
+  abbrev pub AnswersAreMerged : (V → V → Bool) → Type 0
+  AnswersAreMerged same = (answers : Answers V) → AnswersBy answers →
+      (base ours theirs after : Map V) (f f' : F) →
+      MergesTo same f base ours theirs f' after → after ≡ merged same answers base ours theirs

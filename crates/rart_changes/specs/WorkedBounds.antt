@@ -1,0 +1,26 @@
+-- Worked values of the bounds, and of sets within each other, found by hand.
+use Rattle.std.specs.Prelude.{◌≡◌, codes}
+use Rattle.rart_maps.specs.Pairs.{Strings}
+use Rattle.rart_changes.specs.ChangeVisits.{changes_bound}
+use Rattle.rart_changes.specs.ConflictVisits.{conflicts_bound}
+use Rattle.rart_changes.specs.Rebasing.{IsWithin}
+use Rattle.rart_changes.specs.Tracking.{no_key, with_string}
+
+abbrev pub one_key : Strings
+one_key = with_string no_key (codes "a")
+
+abbrev pub two_keys : Strings
+two_keys = with_string one_key (codes "bc")
+
+-- Two for each of the two keys. A lookup of the one enters two at most, of the other three, and
+-- each is looked up in two maps.
+abbrev pub ChangesOfTwo : Type 0
+ChangesOfTwo = changes_bound two_keys ≡ 14
+
+-- The same, but each is looked up in three maps.
+abbrev pub ConflictsOfTwo : Type 0
+ConflictsOfTwo = conflicts_bound two_keys ≡ 19
+
+-- The other key is not in the one set.
+abbrev pub OneWithinTwo : Type 0
+OneWithinTwo = IsWithin one_key two_keys × ¬ IsWithin two_keys one_key

@@ -1,0 +1,140 @@
+//! Tracked versions: a version that knows which keys were touched since it began, so what changed
+//! is found in the time of the touched keys, whatever the size of the map.
+//!
+//! The tracked version itself: how it begins, and what is read off it.
+ghost use Rattle.std.specs.Prelude.{◌≡◌, ◌<◌, ◌*◌, false, IfOk};
+ghost use Rattle.std.specs.FinMap as finite;
+ghost use Rattle.std.specs.Option.{option_copied};
+ghost use Rattle.rart_changes.specs.Asks.{CanMark};
+ghost use Rattle.rart_changes.specs.Tracking.{IsMarked, IsTracked, tracking_from};
+ghost use Rattle.rart_maps.specs.Bounds.{change_bound, lookup_bound};
+ghost use Rattle.rart_maps.specs.Versions.{empty_at, has_no_key, value_at};
+ghost use Rattle.rart_versioned.specs.Counts.{CountsUpTo};
+
+mod conflicts;
+mod counting;
+mod keys;
+mod lending;
+mod plain;
+mod showing;
+mod try_updating;
+mod updating;
+
+pub use plain::KeyChange;
+use rart_below::KeyTrait;
+use rart_versioned::{VersionedAdaptiveRadixTree, Work};
+use std::alloc::{AllocError, Global};
+use std::marker::Model;
+
+/// A version that keeps the one that it began with, its base, and the keys that were touched since.
+///
+/// Contracts see it as the base, the current version, and the finite set of touched keys. A key
+/// that was not touched has what it has in the base.
+pub struct TrackedTree<K: KeyTrait, V: Clone> {
+    pub(crate) alloc: Global,
+    pub(crate) base: VersionedAdaptiveRadixTree<K, V>,
+    pub(crate) current: VersionedAdaptiveRadixTree<K, V>,
+    pub(crate) touched: VersionedAdaptiveRadixTree<K, ()>,
+}
+
+/// Written out, as that of the tree.
+impl<K: KeyTrait, V: Clone + Drop> Drop for TrackedTree<K, V> {
+    fn drop(self) {
+        let TrackedTree {
+            alloc: _,
+            base: _,
+            current: _,
+            touched: _,
+        } = self;
+    }
+}
+
+impl<K: KeyTrait, V: Clone> Model for TrackedTree<K, V> {
+    ghost use Rattle.rart_changes.specs.Tracking.{Keeps, Tracking, tracking_code, tracking_of};
+
+    ghost Value = { Tracking V };
+
+    ghost coded = { tracking_code V.code };
+
+    ghost view = { λ inside. tracking_of inside.base inside.current inside.touched };
+
+    ghost invariant = { λ inside. Keeps inside.base inside.current inside.touched };
+}
+
+impl<K: KeyTrait, V: Clone + Drop> TrackedTree<K, V> {
+    /// Begins with a version as base. It is the current one too, and no key is touched. Refused for
+    /// memory, there is none.
+    pub fn begin(
+        alloc: Global,
+        tree: &VersionedAdaptiveRadixTree<K, V>,
+    ) -> Result<TrackedTree<K, V>, AllocError>
+        ensures { IfOk result (λ tracked. tracked ≡ tracking_from tree.now) }
+    {
+        Ok(TrackedTree {
+            alloc,
+            base: tree.clone()?,
+            current: tree.clone()?,
+            touched: no_keys(alloc),
+        })
+    }
+
+    /// The current version. A key that was not touched has there what it has in the base.
+    pub fn current(&self) -> &VersionedAdaptiveRadixTree<K, V>
+        ensures current { result.now ≡ self.now.current }
+        ensures tracked { IsTracked self.now }
+    {
+        &self.current
+    }
+
+    /// The version that it began with.
+    pub fn base(&self) -> &VersionedAdaptiveRadixTree<K, V>
+        ensures { result.now ≡ self.now.base }
+    {
+        &self.base
+    }
+
+    /// As `get_k`, with the nodes entered counted into `work`: at most one more than the key has
+    /// bytes, and at least one where there is a key in the current version.
+    pub fn get_k_counted(&self, key: &K, work: &mut Work) -> Option<&V>
+        ensures value { option_copied result ≡ value_at self.now.current (K.bytes key.now) }
+        ensures counted { CountsUpTo (lookup_bound (K.bytes key.now)) 0 work.old work.new }
+        ensures entered { has_no_key self.now.current ≡ false
+            → work.old.entered < work.new.entered }
+    {
+        self.current.get_k_counted(key, work)
+    }
+
+    /// How many keys were touched.
+    pub fn touched_count(&self) -> u64
+        ensures { result ≡ finite.len self.now.touched }
+    {
+        self.touched.version()
+    }
+}
+
+/// A set without a key.
+pub(crate) fn no_keys<K: KeyTrait>(alloc: Global) -> VersionedAdaptiveRadixTree<K, ()>
+    ensures empty { result ≡ empty_at 0 }
+    ensures counted { result.number ≡ finite.len result.content }
+{
+    VersionedAdaptiveRadixTree::new(alloc)
+}
+
+/// These keys and one more, where the number of the tree is how many there are. The key is looked
+/// up, and put in where it is absent. Refused for memory, there are none.
+pub(crate) fn marked<K: KeyTrait>(
+    touched: &VersionedAdaptiveRadixTree<K, ()>,
+    key: &K,
+    work: &mut Work,
+) -> Result<VersionedAdaptiveRadixTree<K, ()>, AllocError>
+    requires { CanMark touched.now }
+    ensures marked { IfOk result (IsMarked touched.now (K.bytes key.now)) }
+    ensures counted { CountsUpTo (2 * lookup_bound (K.bytes key.now)) (change_bound (K.bytes key.now))
+        work.old work.new }
+{
+    let mut marked = touched.clone()?;
+    if marked.get_k_counted(key, work).is_none() {
+        marked.insert_k_counted(key, (), work)?;
+    }
+    Ok(marked)
+}

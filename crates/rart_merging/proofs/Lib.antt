@@ -1,5 +1,0 @@
-pub mod CallLemmas
-pub mod MergedVersionLemmas
-pub mod PatchLemmas
-pub mod SettingLemmas
-pub mod SettlingLemmas

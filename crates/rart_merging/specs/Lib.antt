@@ -1,4 +1,0 @@
-pub mod Merging
-pub mod Patching
-pub mod Setting
-pub mod Settling

@@ -1,3 +1,0 @@
-pub mod EditLemmas
-pub mod PlanLemmas
-pub mod RemovalLemmas

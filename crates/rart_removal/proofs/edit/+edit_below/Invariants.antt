@@ -1,4 +1,0 @@
-use Rattle.rart_removal.proofs.edit.+edit_below.Given as goal
-
-abbrev pub decreases-edit_below : goal.decreases-edit_below
-decreases-edit_below g l = l.depth

@@ -1,4 +1,0 @@
-pub mod Steps
-pub mod Paths
-pub mod Longest
-pub mod Searches

@@ -1,6 +1,0 @@
-pub mod FromLemmas
-pub mod TurnLemmas
-pub mod BesideLemmas
-pub mod LeastLemmas
-pub mod SeekStartLemmas
-pub mod SeekStepLemmas

@@ -1,9 +1,0 @@
-pub mod Asks
-pub mod ChangeVisits
-pub mod ConflictVisits
-pub mod KeptKeys
-pub mod Lending
-pub mod Rebasing
-pub mod Shown
-pub mod Tracking
-pub mod WorkedBounds

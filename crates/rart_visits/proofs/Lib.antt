@@ -1,3 +1,0 @@
-pub mod VisitCountLemmas
-pub mod VisitEndLemmas
-pub mod UpToLemmas

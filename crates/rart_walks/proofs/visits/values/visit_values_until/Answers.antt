@@ -1,0 +1,82 @@
+use Rattle.std.proofs.Common.{rules, [], map, Ok, inr, refl, ap, ◌∙◌}
+use Rattle.std.proofs.lemmas.Fn.{called}
+use Rattle.rart_below.specs.declared.visit.VisitControl.TheVariants.{Continue, Stop}
+use Rattle.rart_maps.specs.Visits.{ByValue}
+use Rattle.rart_maps.proofs.VisitLemmas.{callable-next, up_to-next, up_to-part, visit_up_to-next}
+use Rattle.rart_walks.proofs.VisitCountLemmas.{counted-next, counted-end}
+use Rattle.rart_walks.proofs.VisitEndLemmas.{goes-past, goes-next, goes-end}
+use Rattle.rart_walks.proofs.visits.values.visit_values_until.Goals as goal
+
+pub visiting-preserved-in-Ok-Some-None : goal.visiting-preserved-in-Ok-Some-None
+visiting-preserved-in-Ok-Some-None g c =
+    let walked = c.in-Ok-Some-None.ensures in
+    let comes = rw c.in-Ok-Some-None.field-0-is at walked.steps in
+    let none = c.in-Ok-Some-None.field-0-0-is in
+    let same = ap (map (λ pair. pair.1)) (rw none at comes.pairs) in
+    let before = c.visiting.invariant in
+    record {
+      walk = walked.walk;
+      calls = up_to-part g.F.FnMut ByValue (Ok Continue) [] _ same before.calls refl;
+      counted = counted-next _ before.counted walked.entered walked.counted;
+      goes = goes-past g.F.FnMut _ _ _ _ _ before.goes comes walked.entered walked.one _
+          walked.each none;
+    }
+
+pub f-requires : goal.f-requires
+f-requires g c =
+    let walked = c.in-Ok-Some-Some.ensures in
+    let comes = rw c.in-Ok-Some-Some.field-0-is at walked.steps in
+    let gives = rw c.in-Ok-Some-Some.field-0-0-is at comes.pairs in
+    let same = ap (map (λ pair. pair.1)) gives in
+    let before = c.visiting.invariant.calls in
+    let here = callable-next g.F.FnMut ByValue (Ok Continue) _ _ same c.requires.visitable before in
+    search (rules, here)
+
+pub visiting-preserved : goal.visiting-preserved
+visiting-preserved g c =
+    let walked = c.in-Ok-Some-Some.ensures in
+    let comes = rw c.in-Ok-Some-Some.field-0-is at walked.steps in
+    let some = c.in-Ok-Some-Some.field-0-0-is in
+    let same = ap (map (λ pair. pair.1)) (rw some at comes.pairs) in
+    let told = c.in-Ok-Continue.is ∙ ap Ok c.in-Ok-Continue.field-0-is in
+    let call = called g.F.FnMut c.f.ensures told in
+    let before = c.visiting.invariant in
+    record {
+      walk = walked.walk;
+      calls = up_to-next g.F.FnMut ByValue (Ok Continue) _ _ same before.calls (_, call, refl);
+      counted = counted-next _ before.counted walked.entered walked.counted;
+      goes = goes-next g.F.FnMut _ _ _ _ _ before.goes comes walked.entered walked.one
+          c.in-Ok-Some-Some.value some _ walked.each (_, call, refl);
+    }
+
+pub returns-in-Ok-Stop : goal.returns-in-Ok-Stop
+returns-in-Ok-Stop g c =
+    let walked = c.in-Ok-Some-Some.ensures in
+    let comes = rw c.in-Ok-Some-Some.field-0-is at walked.steps in
+    let some = c.in-Ok-Some-Some.field-0-0-is in
+    let same = ap (map (λ pair. pair.1)) (rw some at comes.pairs) in
+    let told = c.in-Ok-Stop.is ∙ ap Ok c.in-Ok-Stop.field-0-is in
+    let call = called g.F.FnMut c.f.ensures told in
+    let before = c.visiting.invariant in
+    record {
+      visits =
+          (Stop, visit_up_to-next g.F.FnMut ByValue _ _ same before.calls (_, call, refl));
+      counted = counted-end before.counted walked.counted;
+      ends = inr (goes-end g.F.FnMut _ _ _ _ _ before.goes comes walked.entered walked.one
+          c.in-Ok-Some-Some.value some _ walked.each (_, call, refl));
+    }
+
+pub returns-in-Err-f : goal.returns-in-Err-f
+returns-in-Err-f g c =
+    let walked = c.in-Ok-Some-Some.ensures in
+    let comes = rw c.in-Ok-Some-Some.field-0-is at walked.steps in
+    let some = c.in-Ok-Some-Some.field-0-0-is in
+    let same = ap (map (λ pair. pair.1)) (rw some at comes.pairs) in
+    let call = called g.F.FnMut c.f.ensures c.in-Err-f.is in
+    let before = c.visiting.invariant in
+    record {
+      visits = visit_up_to-next g.F.FnMut ByValue _ _ same before.calls (_, call, refl);
+      counted = counted-end before.counted walked.counted;
+      ends = goes-end g.F.FnMut _ _ _ _ _ before.goes comes walked.entered walked.one
+          c.in-Ok-Some-Some.value some _ walked.each (_, call, refl);
+    }

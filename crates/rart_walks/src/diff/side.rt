@@ -1,0 +1,71 @@
+//! One of the two trees whose keys are merged.
+ghost use Rattle.std.specs.Prelude.{◌≡◌, ◌+◌, ◌≤◌, OnOk, is_some};
+ghost use Rattle.rart_walks.specs.TwoWalks.{Ascends};
+
+use crate::key_path::BytesPath;
+use crate::walk::Walk;
+use rart_below::Partial;
+use rart_node::Work;
+use std::alloc::AllocError;
+
+/// A walk over one of two trees, and the value of the key that it stands at until that is taken.
+///
+/// Contracts see the pairs that are left by `pairs_left`, and how many nodes are left to enter by
+/// `nodes_left`.
+#[derive(Drop)]
+pub(crate) struct Side<'a, P: Partial, V> {
+    walk: Walk<'a, P, V, BytesPath>,
+    value: Option<&'a V>,
+}
+
+impl<'a, P: Partial, V: Drop> Side<'a, P, V> {
+    ghost use Rattle.rart_walks.specs.Passes.{GoesTo};
+    ghost use Rattle.rart_walks.specs.SideFields.{IsSide, HasLeft, ComesToKey, GivesValue, key_at, pairs_left, paths_left, pairs_at_hand};
+
+    /// The tree as far as the walk has it left. It enters no node.
+    pub(crate) fn new(walk: Walk<'a, P, V, BytesPath>) -> Side<'a, P, V>
+        requires { Ascends walk }
+        ensures { HasLeft walk.entry result }
+    {
+        Side { walk, value: None }
+    }
+
+    /// Goes on to the next key, where the value of the last one was taken. It enters the nodes on
+    /// the way to that, and so one at least, but for a key that was at hand.
+    pub(crate) fn advance(&mut self, work: &mut Work) -> Result<(), AllocError>
+        requires { IsSide self.old }
+        ensures comes { ComesToKey result self.old self.new work.old work.new }
+        ensures way { OnOk result (GoesTo (pairs_left self.old) (paths_left self.old)
+            (paths_left self.new)) }
+        ensures each { OnOk result (work.old.entered + pairs_at_hand self.new
+            ≤ work.new.entered + pairs_at_hand self.old) }
+    {
+        if self.value.is_none() {
+            self.value = self.walk.next_value(work)?;
+        }
+        Ok(())
+    }
+
+    /// Whether it stands at a key whose value is not taken.
+    pub(crate) fn has_key(&self) -> bool
+        ensures { result ≡ is_some self.now.value }
+    {
+        self.value.is_some()
+    }
+
+    /// The key that it stands at.
+    pub(crate) fn key(&self) -> &[u8]
+        requires { IsSide self.now }
+        ensures { result.now ≡ key_at self.now }
+    {
+        self.walk.key_path().as_slice()
+    }
+
+    /// Takes the value of the key that it stands at.
+    pub(crate) fn take(&mut self) -> Option<&'a V>
+        requires { IsSide self.old }
+        ensures { GivesValue self.old self.new result }
+    {
+        self.value.take()
+    }
+}

@@ -1,0 +1,131 @@
+// Ported from rart 0.11.0 (Apache-2.0), and rewritten.
+//! A cursor in either of two trees.
+ghost use Rattle.std.specs.Prelude.{◌≡◌, ◌⊎◌, ◌+◌};
+ghost use Rattle.std.specs.Option.{option_map};
+ghost use Rattle.rart_walks.specs.Entries.{both};
+ghost use Rattle.rart_walks.specs.TreeCursors.{value_here};
+
+use crate::key_path::KeyPath;
+use crate::lockstep::branches::Branches;
+use crate::lockstep::pair_cursor::PairCursor;
+use crate::lockstep::tree_cursor::TreeCursor;
+use rart_below::Partial;
+use rart_node::{NodeRef, Work};
+use std::alloc::AllocError;
+
+/// A cursor in either tree, side by side.
+#[derive(Drop)]
+pub(crate) struct TreeCursors<'a, P: Partial, V> {
+    pub(crate) left: TreeCursor<'a, P, V>,
+    pub(crate) right: TreeCursor<'a, P, V>,
+}
+
+impl<'a, P: Partial, V: Drop> TreeCursors<'a, P, V> {
+    ghost use Rattle.rart_walks.specs.TreeCursorFields.{cursor_shape};
+
+    /// The nodes that two pointers show: both are entered.
+    pub(crate) fn open(
+        left: &'a NodeRef<P, V>,
+        right: &'a NodeRef<P, V>,
+        work: &mut Work,
+    ) -> TreeCursors<'a, P, V>
+        ensures left { cursor_shape result.left ≡ left.now.shape }
+        ensures right { cursor_shape result.right ≡ right.now.shape }
+        ensures whole { result.left.from ≡ 0 }
+        ensures work { work.new ≡ record work.old { entered = work.old.entered + 2 } }
+    {
+        TreeCursors {
+            left: TreeCursor::whole(left.open(work)),
+            right: TreeCursor::whole(right.open(work)),
+        }
+    }
+
+    /// The values of the key that ends here, if both have one.
+    pub(crate) fn values_here(&self) -> Option<(&'a V, &'a V)>
+        ensures { option_map (λ pair. (pair.0.now, pair.1.now)) result
+            ≡ both (value_here (cursor_shape self.now.left))
+            (value_here (cursor_shape self.now.right)) }
+    {
+        Some((self.left.value_here()?, self.right.value_here()?))
+    }
+}
+
+impl<'a, P: Partial, V: Drop, T: KeyPath<'a>> PairCursor<V, T> for TreeCursors<'a, P, V> {
+    type Branches = Branches<'a, P, V>;
+
+    ghost use Rattle.rart_walks.specs.Branches.{branches_left, nodes_a_step};
+    ghost use Rattle.rart_walks.specs.TreeCursorFields.{cursor_shape};
+
+    ghost left = { λ at. cursor_shape at.left };
+
+    ghost right = { λ at. cursor_shape at.right };
+
+    ghost HasWhole = { λ at. (at.left.from ≡ 0) ⊎ (at.right.from ≡ 0) };
+
+    ghost branches_left = { branches_left };
+
+    ghost nodes_a_step = { nodes_a_step };
+
+    ghost holds = { T.holds };
+
+    ghost greatest = { T.greatest };
+
+    ghost can_refuse = { T.can_refuse };
+
+    #[inline]
+    fn parts_early(&self) -> bool {
+        let left = self.left.rest();
+        let right = self.right.rest();
+        1 < left.len() && 1 < right.len() && left[1] != right[1]
+    }
+
+    #[inline]
+    fn are_leaves(&self) -> bool {
+        self.left.node.is_leaf() && self.right.node.is_leaf()
+    }
+
+    #[inline]
+    fn same(&self) -> Option<usize> {
+        let len = self.left.rest().len();
+        if self.right.rest().len() == len && self.left.common_with(&self.right) == len {
+            Some(len)
+        } else {
+            None
+        }
+    }
+
+    fn common(&self) -> Option<usize> {
+        let common = self.left.common_with(&self.right);
+        if !self.left.is_longer(common) {
+            return Some(common);
+        }
+        if !self.right.is_longer(common) {
+            return Some(common);
+        }
+        None
+    }
+
+    fn push(&self, count: usize, key_path: &mut T) -> Result<(), AllocError> {
+        key_path.push(self.left.first(count))
+    }
+
+    fn pop(&self, count: usize, key_path: &mut T) {
+        key_path.pop(self.left.first(count));
+    }
+
+    fn behind(&self, count: usize) -> Self {
+        TreeCursors {
+            left: self.left.behind(count),
+            right: self.right.behind(count),
+        }
+    }
+
+    fn branches(self) -> Branches<'a, P, V> {
+        Branches::new(self.left, self.right)
+    }
+
+    fn next(branches: &mut Branches<'a, P, V>, work: &mut Work) -> Option<Self> {
+        let (left, right) = branches.next(work)?;
+        Some(TreeCursors { left, right })
+    }
+}

@@ -1,0 +1,11 @@
+// Ported from rart 0.11.0 (Apache-2.0), and rewritten.
+//! Visits of the values of a tree of nodes: calls of a closure on each, in the order of their keys.
+//!
+//! A visitor calls its closure on what a walk has left. It knows prefixes and pointers alone, and
+//! no key type.
+
+mod values;
+mod views;
+
+pub use values::{visit_values, visit_values_until};
+pub use views::{visit_views, visit_views_up_to};

@@ -1,0 +1,87 @@
+// Ported from rart 0.11.0 (Apache-2.0), and rewritten.
+//! Visits of pairs, their keys lent as views.
+ghost use Rattle.std.specs.Prelude.{◌≡◌, ◌^◌, ◌-◌, Some};
+ghost use Rattle.std.specs.List.{concat};
+ghost use Rattle.std.specs.Ordering.{as_partial_cmp};
+ghost use Rattle.std.specs.Range.Bound.{bound_map, is_up_to_end};
+ghost use Rattle.rart_below.specs.Bytes.{byte_order};
+ghost use Rattle.rart_maps.specs.FoundLaws.{KeysAscend};
+ghost use Rattle.rart_maps.specs.Visits.{ByView, Visitable};
+ghost use Rattle.rart_walks.specs.Visited.{VisitsPairs, VisitsPairsUpTo, pairs_up_to};
+ghost use Rattle.rart_walks.specs.WalkFields.{cursor, IsWalk};
+ghost use Rattle.rart_walks.specs.KeyPaths.{HoldsSegments};
+
+use crate::key_path::SegmentsPath;
+use crate::walk::Walk;
+use rart_below::{LendingKeyView, Partial};
+use rart_node::Work;
+use std::alloc::AllocError;
+use std::cmp::Ordering;
+use std::ops::Bound;
+
+/// Calls the closure on each pair that a walk has left: with a view of the key, which ends with the
+/// call, and a reference to the value.
+///
+/// It enters each node that the walk has left, and so one at least for each pair, but for one at
+/// hand. Refused for memory, it has called the closure on a prefix of the pairs.
+pub fn visit_views<'a, P: Partial, V: Drop, F: FnMut(LendingKeyView<'_, '_>, &V)>(
+    mut walk: Walk<'a, P, V, SegmentsPath<'a>>,
+    f: &mut F,
+    work: &mut Work,
+) -> Result<(), AllocError>
+    requires walk { IsWalk HoldsSegments (Some (2 ^ 64 - 1)) walk }
+    requires visitable { Visitable F.FnMut ByView f.old (cursor walk).pairs }
+    ensures { VisitsPairs F.FnMut ByView walk.entry result f.old f.new work.old work.new }
+{
+    'visiting: while let Some(value) = walk.next_value(work)? {
+        f(view_of(walk.key_path()), value);
+    }
+    Ok(())
+}
+
+/// As `visit_views`, for the pairs up to an upper bound. It ends at the first node past that, with
+/// a value or without: so, of the nodes that the walk has left, it enters no more than those whose
+/// path meets the bound, and one; and one at least for each pair, but for one at hand.
+pub fn visit_views_up_to<'a, P: Partial, V: Drop, F: FnMut(LendingKeyView<'_, '_>, &V)>(
+    mut walk: Walk<'a, P, V, SegmentsPath<'a>>,
+    high: Bound<&[u8]>,
+    f: &mut F,
+    work: &mut Work,
+) -> Result<(), AllocError>
+    requires walk { IsWalk HoldsSegments (Some (2 ^ 64 - 1)) walk }
+    requires ascend { KeysAscend (λ pair. pair.0) (cursor walk).pairs }
+    requires visitable { Visitable F.FnMut ByView f.old
+        (pairs_up_to (bound_map (λ high. high.now) high) (cursor walk).pairs) }
+    ensures { VisitsPairsUpTo (bound_map (λ high. high.now) high.entry) F.FnMut ByView
+        walk.entry result f.old f.new work.old work.new }
+{
+    'visiting: while let Some(value) = walk.next_node(work)? {
+        let path = view_of(walk.key_path());
+        if !is_up_to(&path, high) {
+            return Ok(());
+        }
+        if let Some(value) = value {
+            f(path, value);
+        }
+    }
+    Ok(())
+}
+
+// The path of the node at which a walk stands: where that has a value, its key.
+fn view_of<'a, 'view>(key_path: &'view SegmentsPath<'a>) -> LendingKeyView<'a, 'view>
+    ensures { result ≡ concat key_path.now }
+{
+    LendingKeyView::new(key_path.segments(), key_path.len())
+}
+
+// Whether a path meets an upper bound.
+fn is_up_to(path: &LendingKeyView<'_, '_>, high: Bound<&[u8]>) -> bool
+    ensures { result ≡ is_up_to_end (as_partial_cmp byte_order)
+        (bound_map (λ high. high.now) high.entry) path.now }
+{
+    match high {
+        Bound::Included(high) => path.cmp_slice(high) != Ordering::Greater,
+        Bound::Excluded(high) => path.cmp_slice(high) == Ordering::Less,
+        Bound::Unbounded => true,
+    }
+}

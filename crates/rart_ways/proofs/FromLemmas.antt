@@ -1,0 +1,109 @@
+-- Which keys are from a string on, or behind it, one node at a time.
+use Rattle.std.proofs.Common.{◌≡◌, ◌<◌, ◌≤◌, ℕ, Bool, true, false, List, [], ◌∷◌, ◌++◌, length, refl, arith, sym, ap, ◌∙◌}
+use Rattle.std.specs.declared.cmp.Ordering.{Ordering}
+use Rattle.std.specs.declared.cmp.Ordering.TheVariants.{Less, Equal, Greater}
+use Rattle.std.specs.Ordering.{ordering_then, is_le, is_lt}
+use Rattle.std.specs.Cmp.{nat_cmp_is}
+use Rattle.std.proofs.lemmas.List.{append-nil, length-append}
+use Rattle.rart_below.specs.Bytes.{byte_order}
+use Rattle.rart_node.specs.Shape.{Shape, prefix_of, children_of}
+use Rattle.rart_ways.specs.Starts.{is_from}
+use Rattle.rart_node.specs.Trees.{IsTree, own_pair, pairs_of}
+use Rattle.rart_walks.specs.Frames.{behind_path, pairs_inside}
+use Rattle.rart_walks.proofs.EndLemmas.{IsFront, PartsAt}
+use Rattle.rart_walks.proofs.GatherLemmas.{keeping, gathered, pairs-gathered, all-gathered}
+use Rattle.rart_walks.proofs.PartLemmas.{GoesAlong, own_pair-ends, parted-lower, parted-upper, parted-all, parted-inside}
+
+order-along : (p u w : List ℕ) → byte_order (p ++ u) (p ++ w) ≡ byte_order u w
+order-along [] u w = refl
+order-along (b ∷ p) u w =
+    ap (λ r. ordering_then r (byte_order (p ++ u) (p ++ w))) (sym (nat_cmp_is b b Equal refl))
+    ∙ order-along p u w
+
+order-goes : (told : Ordering → Bool) → told Less ≡ true → told Greater ≡ false
+    → GoesAlong (λ u w. told (byte_order u w)) true
+order-goes told less greater = record {
+  along = λ p u w. ap told (order-along p u w);
+  ended = λ b u. greater;
+  lower =
+      λ b u c w lt. ap (λ r. told (ordering_then r (byte_order u w)))
+      (sym (nat_cmp_is b c Greater lt)) ∙ greater;
+  upper =
+      λ b u c w lt. ap (λ r. told (ordering_then r (byte_order u w))) (sym (nat_cmp_is b c Less lt))
+      ∙ less;
+  inside = λ b w. less;
+}
+
+pub from-goes : (strict : Bool) → GoesAlong (is_from strict) true
+from-goes true = order-goes is_lt refl refl
+from-goes false = order-goes is_le refl refl
+
+pub from-itself : (w : List ℕ) → is_from false [] w ≡ true
+from-itself [] = refl
+from-itself (b ∷ w) = refl
+
+module _ {V : Type 0} (strict : Bool) (s : Shape V) (rest : List ℕ) where
+  abbrev kept : List (List ℕ × V)
+  kept = keeping (is_from strict rest) (pairs_of s)
+
+  kept-gathered : kept ≡ keeping (is_from strict rest) (gathered own_pair s)
+  kept-gathered = ap (keeping (is_from strict rest)) (pairs-gathered s)
+
+  -- ---- the string ends inside the prefix, or with it
+  module _ (front : IsFront rest (prefix_of s)) where
+    within-all : ((key : List ℕ) → is_from strict [] (front.more ++ key) ≡ true)
+        → kept ≡ pairs_of s
+    within-all each =
+        kept-gathered ∙ parted-all own_pair own_pair-ends (is_from strict) true
+        (from-goes strict) s rest front.more front.is each ∙ sym (pairs-gathered s)
+
+    ended : (more : List ℕ) → front.more ≡ more → length rest ≡ length (prefix_of s) → more ≡ []
+    ended [] is same = refl
+    ended (b ∷ more) is same =
+        let long = ap length (front.is ∙ ap (λ z. rest ++ z) is) ∙ length-append rest (b ∷ more) in
+        absurd (omega (arith, long, same))
+
+    pub end-whole : length rest ≡ length (prefix_of s) → rest ≡ prefix_of s
+    end-whole same =
+        sym (front.is ∙ ap (λ z. rest ++ z) (ended front.more refl same) ∙ append-nil rest)
+
+    pub end-inside : IsTree s → strict ≡ true → length rest ≡ length (prefix_of s)
+        → kept ≡ pairs_inside s
+    end-inside tree is same =
+        kept-gathered ∙ parted-inside own_pair own_pair-ends (is_from strict) true
+        (from-goes strict) s rest front.more front.is tree (ended front.more refl same)
+        (ap (λ t. is_from t [] []) is)
+        ∙ ap (behind_path (prefix_of s)) (sym (all-gathered (children_of s)))
+
+    pub end-weak : strict ≡ false → kept ≡ pairs_of s
+    end-weak is =
+        within-all (λ key. ap (λ t. is_from t [] (front.more ++ key)) is
+        ∙ from-itself (front.more ++ key))
+
+    beyond : (more : List ℕ) → front.more ≡ more → length rest < length (prefix_of s)
+        → (key : List ℕ) → is_from strict [] (more ++ key) ≡ true
+    beyond [] none less key =
+        let same = ap length (front.is ∙ ap (λ z. rest ++ z) none ∙ append-nil rest) in
+        absurd (omega (arith, less, same))
+    beyond (b ∷ more) some less key = (from-goes strict).inside b (more ++ key)
+
+    pub end-short : length rest < length (prefix_of s) → kept ≡ pairs_of s
+    end-short less = within-all (beyond front.more refl less)
+
+  -- ---- the string leaves the prefix
+  module _ (b c : ℕ) (parts : PartsAt (prefix_of s) rest b c) where
+    at-front : kept ≡ keeping (is_from strict (parts.front ++ (c ∷ parts.left)))
+        (gathered own_pair s)
+    at-front =
+        kept-gathered ∙ ap (λ z. keeping (is_from strict z) (gathered own_pair s)) parts.also
+
+    pub end-above : c < b → kept ≡ pairs_of s
+    end-above less =
+        at-front ∙ parted-upper own_pair own_pair-ends (is_from strict) true (from-goes strict) s
+        parts.front b parts.more c parts.left parts.is less ∙ sym (pairs-gathered s)
+
+    pub end-below : b ≤ c → kept ≡ []
+    end-below most =
+        let differs = parts.differs in
+        at-front ∙ parted-lower own_pair own_pair-ends (is_from strict) true (from-goes strict) s
+        parts.front b parts.more c parts.left parts.is (omega (arith, most, differs))

@@ -1,0 +1,14 @@
+pub mod BesideLemmas
+pub mod CutLemmas
+pub mod EditLemmas
+pub mod FromLemmas
+pub mod InsertionStepLemmas
+pub mod LeastLemmas
+pub mod LentPathLemmas
+pub mod LookupPathLemmas
+pub mod PlanLemmas
+pub mod RemovalLemmas
+pub mod SeekStartLemmas
+pub mod SeekStepLemmas
+pub mod StepLemmas
+pub mod TurnLemmas

@@ -1,0 +1,11 @@
+pub mod Besides
+pub mod Firsts
+pub mod Grafts
+pub mod Insertions
+pub mod Longest
+pub mod Paths
+pub mod Plans
+pub mod Removals
+pub mod Searches
+pub mod Starts
+pub mod Steps

@@ -1,0 +1,153 @@
+-- What a plan and its parts ask of a tree and make of it: inside only.
+use Rattle.std.specs.Prelude.{◌≡◌, ℕ, zero, suc, ◌+◌, ◌*◌, ◌<◌, ◌≤◌, Bool, true, false, List, [], Option, Some, None, IsSome, Result, Ok, Err, IfOk, OnOk, OnErr, ⊤, length, slice_get}
+use Rattle.std.specs.Option.{option_and_then}
+use Rattle.rart_below.specs.Bytes.{IsAdmitted}
+use Rattle.rart_below.specs.Children.{child_at}
+use Rattle.rart_below.specs.Clones.{ClonesEqual}
+use Rattle.rart_node.specs.Counts.{Counts, CountsUpTo}
+use Rattle.rart_node.specs.Shape.{Shape, HasOnly, prefix_of, value_of, children_of, with_value, with_deleted}
+use Rattle.rart_ways.specs.Removals.{CountsLeaving}
+use Rattle.rart_ways.specs.declared.removal.edit.Edit.{Edit}
+use Rattle.rart_ways.specs.declared.removal.edit.Edit.TheVariants.{Take, Prune, Replace}
+use Rattle.rart_ways.specs.declared.removal.plan.Plan.{Plan}
+use Rattle.rart_ways.specs.declared.removal.plan.Plan.TheVariants.{Absent, Leaf, At}
+use Rattle.rart_node.specs.Trees.{strip_prefix, found, IsTree, IsTaken, path_bound}
+
+module _ {V : Type 0} where
+  -- the value of the child under the byte
+  abbrev pub value_under : ℕ → Shape V → Option V
+  value_under byte s = option_and_then value_of (child_at byte (children_of s))
+
+  -- A node with a value and no child, at which the key ends.
+  abbrev pub IsLeafAt : List ℕ → Shape V → Type 0
+  IsLeafAt key s = (children_of s ≡ []) × IsSome (value_of s)
+      × (strip_prefix (prefix_of s) key ≡ Some [])
+
+  -- Behind the prefix the key goes on with the byte, to this child with this rest.
+  pub record GoesOn (key : List ℕ) (s : Shape V) (byte : ℕ) (child : Shape V) (rest : List ℕ)
+      : Type 0 where
+    pub strips : strip_prefix (prefix_of s) key ≡ Some rest
+    pub next : slice_get rest 0 ≡ Some byte
+    pub here : child_at byte (children_of s) ≡ Some child
+
+  -- Under the byte the key goes on to a leaf that it ends at.
+  abbrev pub LeadsToLeaf : ℕ → List ℕ → Shape V → Type 0
+  LeadsToLeaf byte key s = (leaf : Shape V) × (rest : List ℕ) × GoesOn key s byte leaf rest
+      × IsLeafAt rest leaf
+
+  -- A node can lose a child where it has a value or more than two children.
+  pub record CanLoseAChild (can : Bool) (s : Shape V) : Type 0 where
+    pub stays : can ≡ true → value_of s ≡ None → 2 < length (children_of s)
+    pub value : can ≡ false → value_of s ≡ None
+    pub children : can ≡ false → length (children_of s) ≤ 2
+
+  -- A clone of a value equals it, and the nodes are a tree.
+  pub record CanEdit (is_clone : V → V → Type 0) (s : Shape V) : Type 0 where
+    pub clones : ClonesEqual is_clone
+    pub tree : IsTree s
+
+  -- The node has no value and one child, and may have the prefixes of both as one.
+  pub record CanMerge (is_clone : V → V → Type 0) (most : Option ℕ) (s : Shape V) : Type 0 where
+    pub clones : ClonesEqual is_clone
+    pub value : value_of s ≡ None
+    pub child : length (children_of s) ≡ 1
+    pub admitted : (byte : ℕ) (child : Shape V) → HasOnly byte child s
+        → IsAdmitted most (length (prefix_of s) + length (prefix_of child))
+
+  -- The value that goes is given, and the node is left as told; refused, it is as before. At most
+  -- `most` nodes are entered, and as many made.
+  pub record TakesOut {E : Type 0} (result : Result (Option V) E) (gone : Option V)
+      (IsTold : Shape V → Type 0) (most : ℕ) (before after : Shape V) (start now : Counts)
+      : Type 0 where
+    pub taken : OnOk result (IsTold after)
+    pub value : IfOk result (λ value. value ≡ gone)
+    pub refused : OnErr result (after ≡ before)
+    pub counted : CountsUpTo most most start now
+
+-- What is given is as told, and so many nodes at most are entered and made for it.
+pub record Gives {A E : Type 0} (result : Result A E) (IsTold : A → Type 0) (entered made : ℕ)
+    (start now : Counts) : Type 0 where
+  pub told : IfOk result IsTold
+  pub counted : CountsUpTo entered made start now
+
+-- how many nodes an edit enters, and makes
+abbrev pub edit_cost : {P V : Type 0} → Edit P V → ℕ
+edit_cost Take = 1
+edit_cost (Prune byte) = 2
+edit_cost (Replace node value) = 0
+
+-- how many more are entered, and made, until the plan is carried out
+abbrev pub plan_cost : {P V : Type 0} → Plan P V → ℕ
+plan_cost Absent = 0
+plan_cost Leaf = 1
+plan_cost (At depth edit) = depth + edit_cost edit
+
+abbrev pub cost_of : {P V E : Type 0} → Result (Plan P V) E → ℕ
+cost_of (Ok plan) = plan_cost plan
+cost_of (Err refused) = 0
+
+abbrev pub edit_cost_of : {P V E : Type 0} → Result (Edit P V) E → ℕ
+edit_cost_of (Ok edit) = edit_cost edit
+edit_cost_of (Err refused) = 0
+
+module _ {P V : Type 0} where
+  -- what an edit makes of a node, and the value that goes
+  abbrev pub edited : Edit P V → Shape V → Shape V
+  edited Take s = with_value None s
+  edited (Prune byte) s = with_deleted byte s
+  edited (Replace node value) s = node.shape
+
+  abbrev pub gone : Edit P V → Shape V → Option V
+  gone Take s = value_of s
+  gone (Prune byte) s = value_under byte s
+  gone (Replace node value) s = value
+
+  -- A child that is to be taken out is there.
+  abbrev pub Fits : Edit P V → Shape V → Type 0
+  Fits Take s = ⊤
+  Fits (Prune byte) s = IsSome (child_at byte (children_of s))
+  Fits (Replace node value) s = ⊤
+
+  -- The edit takes the key out of the tree at this node.
+  pub record Removes (edit : Edit P V) (key : List ℕ) (s : Shape V) : Type 0 where
+    pub fits : Fits edit s
+    pub taken : IsTaken key s (edited edit s)
+    pub value : gone edit s ≡ found s key
+
+  -- It does so this many nodes down the way of the key.
+  abbrev pub RemovesBelow : ℕ → Edit P V → List ℕ → Shape V → Type 0
+  RemovesBelow zero edit key s = Removes edit key s
+  RemovesBelow (suc depth) edit key s = (byte : ℕ) × (child : Shape V) × (rest : List ℕ)
+      × GoesOn key s byte child rest × RemovesBelow depth edit rest child
+
+  -- The plan takes the key out of the tree.
+  abbrev pub IsPlan : Plan P V → List ℕ → Shape V → Type 0
+  IsPlan Absent key s = found s key ≡ None
+  IsPlan Leaf key s = IsLeafAt key s
+  IsPlan (At depth edit) key s = RemovesBelow depth edit key s × IsSome (found s key)
+
+  -- What is told is a plan for the key. At least one node is entered; where the key is absent,
+  -- nothing is refused and no node made.
+  pub record PlansBelow {E : Type 0} (result : Result (Plan P V) E) (key : List ℕ) (s : Shape V)
+      (start now : Counts) : Type 0 where
+    pub plan : IfOk result (λ plan. IsPlan plan key s)
+    pub present : OnErr result (IsSome (found s key))
+    pub counted : CountsLeaving (cost_of result) (2 * path_bound s key) (path_bound s key) start now
+    pub entered : start.entered < now.entered
+    pub absent_makes_none : found s key ≡ None → now.made ≡ start.made
+
+  -- What is told is a plan for the key that is the node's prefix. Where the node has no value,
+  -- nothing is refused and no node made.
+  pub record PlansHere {E : Type 0} (result : Result (Plan P V) E) (s : Shape V)
+      (start now : Counts) : Type 0 where
+    pub plan : IfOk result (λ plan. IsPlan plan (prefix_of s) s)
+    pub present : OnErr result (IsSome (value_of s))
+    pub counted : CountsLeaving (cost_of result) 1 1 start now
+    pub absent_makes_none : value_of s ≡ None → now.made ≡ start.made
+
+  -- What is told is an edit that takes out each key that leads to a leaf under the byte.
+  pub record PlansWithout {E : Type 0} (result : Result (Edit P V) E) (byte : ℕ) (s : Shape V)
+      (start now : Counts) : Type 0 where
+    pub removes : IfOk result (λ edit. (key : List ℕ) → LeadsToLeaf byte key s
+        → Removes edit key s)
+    pub counted : CountsLeaving (edit_cost_of result) 2 2 start now

@@ -1,0 +1,21 @@
+// Ported from rart 0.11.0 (Apache-2.0), and rewritten.
+//! The ways along a key, from the root of a tree of nodes down to one place.
+//!
+//! `search` reads: a value, how far down it stands, the keys that begin a key. `insertion` and
+//! `removal` put a value in and take one out, `lending` lends one for writing, and `seeking` finds
+//! the first key that meets a bound.
+#![tactic(auto)]
+
+mod insertion;
+mod lending;
+mod removal;
+mod search;
+mod seeking;
+
+pub use insertion::{insert_below, leaf_of};
+pub use lending::lend_below;
+pub use removal::{Removed, remove_below};
+pub use search::{
+    Passed, get_below, longest_prefix_match, path_length, step, visit_prefix_matches,
+};
+pub use seeking::{first_from, has_within};

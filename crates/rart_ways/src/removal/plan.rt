@@ -1,0 +1,138 @@
+// Ported from rart 0.11.0 (Apache-2.0), and rewritten.
+//! The way down that finds a key, and what is to be done to remove it.
+ghost use Rattle.std.specs.Prelude.{◌≡◌, ℕ, List};
+ghost use Rattle.rart_below.specs.Clones.{ClonesEqual};
+ghost use Rattle.rart_node.specs.Shape.{Shape, HasOnly, IsAscending, merged, prefix_of};
+ghost use Rattle.rart_node.specs.Trees.{IsTree};
+ghost use Rattle.rart_ways.specs.Plans.{CanLoseAChild, CanMerge, Gives, LeadsToLeaf, PlansBelow, PlansHere, PlansWithout, value_under};
+ghost use Rattle.rart_ways.specs.Removals.{CanRemove};
+
+use crate::removal::edit::Edit;
+use rart_below::Partial;
+use rart_node::{NodeRef, VersionedNode, Work, strip_prefix};
+use std::alloc::{AllocError, Global};
+
+/// What is to be done to remove a key.
+#[derive(Drop)]
+pub(crate) enum Plan<P: Partial, V> {
+    /// Nothing: the key is absent.
+    Absent,
+    /// The node goes: the key ends there, and it has no child.
+    Leaf,
+    /// An edit, `steps` nodes down the way of the key.
+    At(usize, Edit<P, V>),
+}
+
+/// What is to be done to remove a key below a pointer. It calls itself once for each node of the
+/// way.
+pub(crate) fn plan_below<P: Partial, V: Clone + Drop>(
+    alloc: Global,
+    at: &NodeRef<P, V>,
+    key: &[u8],
+    version: u64,
+    work: &mut Work,
+) -> Result<Plan<P, V>, AllocError>
+    requires { CanRemove V.is_clone P.MAXIMUM_SIZE at.now.shape }
+    ensures { PlansBelow result key.now at.now.shape work.old work.new }
+{
+    let node = at.open(work);
+    let Some(rest) = strip_prefix(key, node.prefix()) else {
+        return Ok(Plan::Absent);
+    };
+    let Some(byte) = rest.first() else {
+        return plan_here(alloc, node, version, work);
+    };
+    let Some(child) = node.seek_child(*byte) else {
+        return Ok(Plan::Absent);
+    };
+    match plan_below(alloc, child, rest, version, work)? {
+        Plan::Absent => Ok(Plan::Absent),
+        Plan::Leaf => Ok(Plan::At(0, plan_without(alloc, node, *byte, version, work)?)),
+        Plan::At(depth, edit) => Ok(Plan::At(depth + 1, edit)),
+    }
+}
+
+/// What is to be done where the key is the prefix of this node.
+fn plan_here<P: Partial, V: Clone + Drop>(
+    alloc: Global,
+    node: &VersionedNode<P, V>,
+    version: u64,
+    work: &mut Work,
+) -> Result<Plan<P, V>, AllocError>
+    requires { CanRemove V.is_clone P.MAXIMUM_SIZE node.now.shape }
+    ensures { PlansHere result node.now.shape work.old work.new }
+{
+    if node.value().is_none() {
+        return Ok(Plan::Absent);
+    }
+    match node.num_children() {
+        0 => Ok(Plan::Leaf),
+        1 => {
+            let mut copy = node.cow_clone_inner(alloc, version)?;
+            let value = copy.take_value();
+            let merged = merge(alloc, &copy, version, work)?;
+            Ok(Plan::At(0, Edit::Replace(merged, value)))
+        }
+        _ => Ok(Plan::At(0, Edit::Take)),
+    }
+}
+
+/// What is done at a node to take out the leaf under a byte.
+fn plan_without<P: Partial, V: Clone + Drop>(
+    alloc: Global,
+    node: &VersionedNode<P, V>,
+    byte: u8,
+    version: u64,
+    work: &mut Work,
+) -> Result<Edit<P, V>, AllocError>
+    requires may { CanRemove V.is_clone P.MAXIMUM_SIZE node.now.shape }
+    requires leaf { (key : List ℕ) × LeadsToLeaf byte key node.now.shape }
+    ensures { PlansWithout result byte node.now.shape work.old work.new }
+{
+    if can_lose_a_child(node) {
+        return Ok(Edit::Prune(byte));
+    }
+    let value = value_under(node, byte, work)?;
+    let mut copy = node.cow_clone_inner(alloc, version)?;
+    let _ = copy.delete_child(byte);
+    Ok(Edit::Replace(merge(alloc, &copy, version, work)?, value))
+}
+
+/// Whether a node that loses a child still has a value or two children.
+fn can_lose_a_child<P: Partial, V: Drop>(node: &VersionedNode<P, V>) -> bool
+    requires { IsTree node.now.shape }
+    ensures { CanLoseAChild result node.now.shape }
+{
+    node.value().is_some() || node.num_children() > 2
+}
+
+/// A copy of the value of the child under a byte: one node entered.
+fn value_under<P: Partial, V: Clone + Drop>(
+    node: &VersionedNode<P, V>,
+    byte: u8,
+    work: &mut Work,
+) -> Result<Option<V>, AllocError>
+    requires clones { ClonesEqual V.is_clone }
+    requires order { IsAscending node.now.shape }
+    ensures { Gives result (λ value. value ≡ value_under byte node.now.shape) 1 0
+        work.old work.new }
+{
+    match node.seek_child(byte) {
+        None => Ok(None),
+        Some(child) => child.open(work).value().cloned(),
+    }
+}
+
+/// A pointer to a node in place of this one and its only child: one node entered and one made.
+fn merge<P: Partial, V: Clone + Drop>(
+    alloc: Global,
+    node: &VersionedNode<P, V>,
+    version: u64,
+    work: &mut Work,
+) -> Result<NodeRef<P, V>, AllocError>
+    requires { CanMerge V.is_clone P.MAXIMUM_SIZE node.now.shape }
+    ensures { Gives result (λ it. (byte : ℕ) (child : Shape V) → HasOnly byte child node.now.shape
+        → it.shape ≡ merged (prefix_of node.now.shape) child) 1 1 work.old work.new }
+{
+    NodeRef::new(alloc, node.merge_child(alloc, version, work)?, work)
+}

@@ -1,0 +1,60 @@
+// Ported from rart 0.11.0 (Apache-2.0), and rewritten.
+//! The longest of the keys that begin a probe.
+ghost use Rattle.std.specs.Prelude.{◌≡◌, ◌≤◌, ℕ, List, IfSome, take};
+ghost use Rattle.std.specs.List.{last_or};
+ghost use Rattle.std.specs.Option.{option_copied};
+ghost use Rattle.rart_node.specs.Trees.{IsTree};
+ghost use Rattle.rart_walks.specs.Frames.{pending_pair};
+ghost use Rattle.rart_ways.specs.Longest.{pair_found};
+ghost use Rattle.rart_ways.specs.Searches.{FindsLongest};
+
+use crate::search::steps::step;
+use rart_below::Partial;
+use rart_node::{NodeRef, Work};
+
+/// The longest key below a pointer that begins the probe, if there is one: how many bytes it has,
+/// and a reference to its value.
+///
+/// Each node along the probe is entered once: at least the first and one for each key that begins
+/// the probe, and no more than one for each byte of the probe beside the first. It takes no memory.
+pub fn longest_prefix_match<'a, P: Partial, V: Drop>(
+    root: &'a NodeRef<P, V>,
+    probe: &[u8],
+    work: &mut Work,
+) -> Option<(usize, &'a V)>
+    requires tree { IsTree root.now.shape }
+    ensures { FindsLongest result probe.now root.now.shape work.old work.new }
+{
+    let mut at = root;
+    let mut rest = probe;
+    let mut longest = None;
+    'down: loop {
+        let Some(passed) = step(at, rest, work) else {
+            return longest;
+        };
+        rest = passed.rest;
+        longest = longer(longest, probe.len() - rest.len(), passed.node.value());
+        let Some(child) = passed.child() else {
+            return longest;
+        };
+        at = child;
+    }
+}
+
+// The value of a node, if it has one, with the length of its key; or else what was found above it.
+fn longer<'a, V>(
+    above: Option<(usize, &'a V)>,
+    passed: usize,
+    value: Option<&'a V>,
+) -> Option<(usize, &'a V)>
+    ensures pair { (probe : List ℕ) → pair_found probe result
+        ≡ last_or (pair_found probe above.entry)
+        (pending_pair (take passed probe) (option_copied value.entry)) }
+    ensures within { (most : ℕ) → passed ≤ most → IfSome above.entry (λ found. found.0 ≤ most)
+        → IfSome result (λ found. found.0 ≤ most) }
+{
+    match value {
+        Some(value) => Some((passed, value)),
+        None => above,
+    }
+}

@@ -1,0 +1,53 @@
+//! Tests of the versioned tree, of merges and of tuple indexes, through public calls alone: that
+//! calls succeed where there is memory, how often values are cloned, and texts. No contract can say
+//! these.
+//!
+//! The program compares what changed between versions with std's maps: random diffs, patches and
+//! merges. What differs first ends the program.
+#![tactic(auto)]
+
+mod draw;
+#[cfg(test)]
+mod tests;
+mod trials;
+mod version;
+
+use anyhow::bail;
+use draw::below;
+use rand_pcg::Pcg32;
+use std::alloc::{AllocError, Global};
+use trials::{diff_agrees, take_over_agrees};
+use version::Version;
+
+/// How many there are of each.
+const SEEDS: u64 = 2_000;
+
+fn main(rt: HostRuntime) -> anyhow::Result<()> {
+    for seed in 0..SEEDS {
+        if !is_met(rt.alloc(), seed)? {
+            bail!("what changed differs at seed {seed}");
+        }
+    }
+    println!(rt; "{SEEDS} diffs, patches and merges: what changed is as in the maps")?;
+    Ok(())
+}
+
+// Whether a diff, a patch and a merge of versions drawn from a seed are as those of their maps.
+fn is_met(alloc: Global, seed: u64) -> Result<bool, AllocError> {
+    let mut words = Pcg32::new(seed, 35);
+    let mut base = Version::new(alloc);
+    base.change(&mut words, 60)?;
+    let mut ours = base.copy()?;
+    ours.change(&mut words, 30)?;
+    let mut theirs = if below(&mut words, 8) == 0 {
+        Version::new(alloc)
+    } else {
+        base.copy()?
+    };
+    theirs.change(&mut words, 30)?;
+    Ok(
+        diff_agrees(&base, &theirs)?
+            && take_over_agrees(&base, &ours, &theirs, false)?
+            && take_over_agrees(&base, &ours, &theirs, true)?,
+    )
+}

@@ -147,7 +147,7 @@ impl<'a, P: Partial, V: Drop, T: KeyPath<'a>> Walk<'a, P, V, T> {
     ///
     /// Refused for memory, the walk has ended.
     #[inline(always)]
-    pub fn next_node(&mut self, work: &mut Work) -> Result<Option<Option<&'a V>>, AllocError>
+    pub(crate) fn next_node(&mut self, work: &mut Work) -> Result<Option<Option<&'a V>>, AllocError>
         requires walk { IsWalk T.holds T.greatest self.old }
         ensures { StepsOn T.holds T.greatest self.old result self.new work.old work.new }
     {

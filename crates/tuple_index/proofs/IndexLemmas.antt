@@ -325,6 +325,12 @@ module _ (before : Version (Unit {0})) (keys : AreTupleKeys (pairs before.conten
   answer-shown (Ok there) is = is ∙ there-shown
   answer-shown (Err error) is = tt
 
+  -- Where it is refused, the tuple is there.
+  pub present-shown : (r : Result Bool AllocError) → OnErr r (has_key before w ≡ true)
+      → OnErr r (has_tuple shown.tuples t ≡ true)
+  present-shown (Ok there) is = tt
+  present-shown (Err error) is = sym there-shown ∙ is
+
   module _ (after : Version (Unit {0})) where
     -- Its key was set.
     pub put-keys : (r : Result Bool AllocError) → OnOk r (after ≡ with_key before w tt 1)

@@ -9,9 +9,11 @@ copied-some None = refl
 copied-some (Some x) = refl
 
 pub returns : goal.returns
-returns c =
-    c.is_some.ensures
-    ∙ copied-some c.get.result
-    ∙ ap is_some c.get.ensures
-    ∙ there-shown c.self.inside.tree c.self.invariant c.args.self.now c.self.view_is _ c.args.tuple
-    c.key.ensures.narrow (c.in_ok-key.ensures ∙ c.key.ensures.bytes)
+returns c = record {
+  answered = refl;
+  there = c.is_some.ensures
+      ∙ copied-some c.get.result
+      ∙ ap is_some c.get.ensures
+      ∙ there-shown c.self.inside.tree c.self.invariant c.args.self.now c.self.view_is _
+      c.args.tuple c.key.ensures.narrow (c.in_ok-key.ensures.bytes ∙ c.key.ensures.bytes);
+}

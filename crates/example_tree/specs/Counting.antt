@@ -1,4 +1,4 @@
--- Worked values of the tree's counts: for keys of two bytes, by the formulas of docs/USING.md.
+-- Worked values of the tree's counts, for keys of two bytes.
 use Rattle.std.specs.Prelude.{◌≡◌, ℕ, [], ◌∷◌, codes, Some, None}
 use Rattle.rart_versioned.specs.declared.Slot.TheVariants.{Vacant, Occupied}
 use Rattle.rart_versioned.specs.SlotUpdate.TheVariants.{Keep, Insert, Remove}

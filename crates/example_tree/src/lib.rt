@@ -1,6 +1,6 @@
 //! What a caller writes and proves, from the public contracts of `rart_versioned` alone, and in
 //! `snapshots` from that of `Family::run`.
-//! `docs/USING.md` shows some of these functions.
+//! `docs/USING.md` tells what each page is on.
 #![tactic(auto)]
 
 pub mod clients;

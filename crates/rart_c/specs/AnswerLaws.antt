@@ -1,4 +1,5 @@
--- Laws that show what the answers tell: by them and by what is written a caller knows what was there.
+-- Laws that show what the answers tell: by them and by what is written a caller knows what was
+-- there.
 use Rattle.std.specs.Prelude.{◌≡◌, ◌<◌, ◌==◌, ℕ, List, [], ◌∷◌, Option, Some, None, if◌then◌else◌, length, take}
 use Rattle.rart_c.specs.Answers.{Tells}
 use Rattle.rart_c.specs.Firsts.{TellsFirst}

@@ -27,7 +27,8 @@ lends_bytes tree lent =
 -- what it showed before
 abbrev pub rests : MutBor RartTree → Fml
 rests tree =
-    follows_so handle.the_row handle.the_row tree.ghost_name none (λ _ _. ⊤) (λ left. left ≡ tree.now)
+    follows_so handle.the_row handle.the_row tree.ghost_name none (λ _ _. ⊤)
+    (λ left. left ≡ tree.now)
 
 abbrev pub rests_bytes : MutBor RartBytes → Fml
 rests_bytes tree =

@@ -105,7 +105,7 @@ impl RartTree {
         Some(unsafe { &mut *at })
     }
 
-    /// Lends the table to a read, if there is one. Nothing is stored in the handle.
+    /// Lends the table to a read, if there is one. The handle shows what it showed.
     pub(crate) fn table(&mut self) -> Option<&Table<u64>>
         ensures* same { sem 𝓛 (rests self.entry) }
         ensures table { shown result ≡ self.old.shows }

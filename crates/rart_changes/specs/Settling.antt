@@ -10,8 +10,8 @@ use Rattle.rart_maps.specs.Visits.{CalledOn, CallableOn}
 use Rattle.rart_maps.specs.Merges.{Conflict, in_conflict}
 use Rattle.rart_changes.specs.Setting.{IsSetTo}
 
--- What the base, ours and theirs have at a key that theirs changed, of which the visit of the changes
--- shows two.
+-- What the base, ours and theirs have at a key that theirs changed, of which the visit of the
+-- changes shows two.
 abbrev pub three_at : {K V : Type 0} → (K → List ℕ) → Version V → K → Option (Bor V)
     → Option (Bor V) → Conflict V
 three_at bytes ours key before their =

@@ -1,6 +1,4 @@
-//! Patches and merges: the changes from one version to another, made on a third.
-//!
-//! The calls, as methods of a version.
+//! Patches and merges, as methods of a version.
 ghost use Rattle.std.specs.Prelude.{◌≡◌, ◌+◌, OnErr, OnOk, length};
 ghost use Rattle.rart_below.specs.Clones.{ClonesEqual};
 ghost use Rattle.rart_changes.specs.Merging.{Answerable, ByConflict, IsAskedUpTo, MergesTo, held_in_either};

@@ -1,13 +1,11 @@
-//! Tracked versions: a version that knows which keys were touched since it began, so what changed
-//! is found in the time of the touched keys, whatever the size of the map.
-//!
-//! The tracked version itself: how it begins, and what is read off it.
-ghost use Rattle.std.specs.Prelude.{◌≡◌, ◌<◌, ◌*◌, false, IfOk};
+//! A tracked version: how it begins, and what is read off it.
+ghost use Rattle.std.specs.Prelude.{◌≡◌, ◌<◌, ◌≤◌, ◌+◌, ◌*◌, false, length, IfOk};
 ghost use Rattle.std.specs.FinMap as finite;
 ghost use Rattle.std.specs.Option.{option_copied};
 ghost use Rattle.rart_changes.specs.Asks.{CanMark};
 ghost use Rattle.rart_changes.specs.Tracking.{IsMarked, IsTracked, tracking_from};
 ghost use Rattle.rart_maps.specs.Bounds.{change_bound, lookup_bound};
+ghost use Rattle.rart_maps.specs.Pairs.{prefix_matches};
 ghost use Rattle.rart_maps.specs.Versions.{empty_at, has_no_key, value_at};
 ghost use Rattle.rart_versioned.specs.Counts.{CountsUpTo};
 
@@ -94,12 +92,16 @@ impl<K: KeyTrait, V: Clone + Drop> TrackedTree<K, V> {
     }
 
     /// As `get_k`, with the nodes entered counted into `work`: at most one more than the key has
-    /// bytes, and at least one where there is a key in the current version.
+    /// bytes, and at least one where there is a key in the current version, and one for each key
+    /// that begins this one.
     pub fn get_k_counted(&self, key: &K, work: &mut Work) -> Option<&V>
         ensures value { option_copied result ≡ value_at self.now.current (K.bytes key.now) }
         ensures counted { CountsUpTo (lookup_bound (K.bytes key.now)) 0 work.old work.new }
         ensures entered { has_no_key self.now.current ≡ false
             → work.old.entered < work.new.entered }
+        ensures each { work.old.entered
+            + length (prefix_matches self.now.current.content (K.bytes key.now))
+            ≤ work.new.entered }
     {
         self.current.get_k_counted(key, work)
     }
@@ -129,8 +131,8 @@ pub(crate) fn marked<K: KeyTrait>(
 ) -> Result<VersionedAdaptiveRadixTree<K, ()>, AllocError>
     requires { CanMark touched.now }
     ensures marked { IfOk result (IsMarked touched.now (K.bytes key.now)) }
-    ensures counted { CountsUpTo (2 * lookup_bound (K.bytes key.now)) (change_bound (K.bytes key.now))
-        work.old work.new }
+    ensures counted { CountsUpTo (2 * lookup_bound (K.bytes key.now))
+        (change_bound (K.bytes key.now)) work.old work.new }
 {
     let mut marked = touched.clone()?;
     if marked.get_k_counted(key, work).is_none() {

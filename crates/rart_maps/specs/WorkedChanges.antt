@@ -47,5 +47,6 @@ abbrev pub undone : Map ℕ
 undone = patched after (map reversed (changes (λ x y. x == y) before after))
 
 abbrev pub UndoneFromAfter : Type 0
-UndoneFromAfter = (finite.get undone (codes "a") ≡ Some 1) × (finite.get undone (codes "b") ≡ Some 2)
-    × (finite.get undone (codes "bc") ≡ Some 3) × (finite.get undone (codes "c") ≡ None)
+UndoneFromAfter = (finite.get undone (codes "a") ≡ Some 1)
+    × (finite.get undone (codes "b") ≡ Some 2) × (finite.get undone (codes "bc") ≡ Some 3)
+    × (finite.get undone (codes "c") ≡ None)

@@ -1,6 +1,6 @@
 // Ported from rart 0.11.0 (Apache-2.0), and rewritten.
-//! Nodes of the tree, the counted pointers that lead to them, the counts of work, and what a tree of
-//! nodes means.
+//! Nodes of the tree, the counted pointers that lead to them, the counts of work, and what a tree
+//! of nodes means.
 //!
 //! To the crates above a node is a prefix, an optional value, a width and a finite map from bytes
 //! to pointers, and opening a pointer is one count. How a node keeps its children is this crate's

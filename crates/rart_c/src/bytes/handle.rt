@@ -106,7 +106,7 @@ impl RartBytes {
         Some(unsafe { &mut *at })
     }
 
-    /// Lends the table to a read, if there is one. Nothing is stored in the handle.
+    /// Lends the table to a read, if there is one. The handle shows what it showed.
     pub(crate) fn table(&mut self) -> Option<&Table<Bytes>>
         ensures* same { sem 𝓛 (rests_bytes self.entry) }
         ensures table { shown result ≡ self.old.shows }

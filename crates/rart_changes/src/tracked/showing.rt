@@ -16,8 +16,8 @@ use std::alloc::AllocError;
 impl<K: KeyTrait, V: Clone + Drop + Eq> TrackedTree<K, V> {
     /// As `changes_with`, with the nodes entered counted into `work`: at most two for each touched
     /// key, and for each two more than twice its bytes. So they don't depend on the size of the
-    /// maps. Refused for memory, it has entered no more. Else one at least for each touched key, and
-    /// one more for each in each of both versions that has a key.
+    /// maps. Refused for memory, it has entered no more. Else one at least for each touched key,
+    /// and one more for each in each of both versions that has a key.
     pub fn changes_with_counted<F: FnMut(K, Option<&V>, Option<&V>)>(
         &self,
         f: &mut F,

@@ -46,6 +46,9 @@ impl<K: KeyTrait, V: Clone + Drop> TrackedTree<K, V> {
             (2 * change_bound (K.bytes key.now)) work.old work.new }
         ensures entered { has_no_key self.old.current ≡ false
             → work.old.entered < work.new.entered }
+        ensures absent { has_key self.old.current (K.bytes key.now) ≡ false
+            → CountsUpTo (4 * lookup_bound (K.bytes key.now)) (2 * change_bound (K.bytes key.now))
+            work.old work.new }
         ensures absent_makes_none { has_key self.old.current (K.bytes key.now) ≡ false
             → IfOk result (λ is_there. is_there ≡ false → work.new.made ≡ work.old.made) }
     {

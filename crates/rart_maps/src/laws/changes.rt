@@ -1,4 +1,5 @@
-//! What the changes from one map to another are, and what they make of a map.
+//! What the changes from one map to another are, and what they make of a map. Where a law needs
+//! it, `==` of values is asked to be reflexive, symmetric, or equality.
 ghost use Rattle.rart_maps.specs.ChangeLaws.{ChangesAscend, ChangesAreFound, NothingChanges};
 ghost use Rattle.rart_maps.specs.ChangeLaws.{ChangesReverse, NoChangeIsTheSame};
 ghost use Rattle.rart_maps.specs.ChangeLaws.{PatchesSetWhatChanged, PatchesGiveTheNew};

@@ -1,4 +1,5 @@
-//! Where two sides that began with one map are in conflict, and what a merge of them is.
+//! Where two sides that began with one map are in conflict, and what a merge of them is. Where a
+//! law needs it, `==` of values is asked to be symmetric, or equality.
 ghost use Rattle.rart_maps.specs.MergeLaws.{ConflictsAscend, ConflictsAreFound};
 ghost use Rattle.rart_maps.specs.MergeLaws.{MergesAreByKey, SidesAgree};
 ghost use Rattle.rart_maps.specs.MergeLaws.{ConflictsExchange, MergesExchange, BaseGivesWay};

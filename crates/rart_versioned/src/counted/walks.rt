@@ -51,9 +51,8 @@ impl<K: KeyTrait, V: Clone + Drop> VersionedAdaptiveRadixTree<K, V> {
     /// A walk over the pairs whose key meets a lower bound.
     ///
     /// It enters at most one node for each byte of the bound, and one; and one at least where there
-    /// is a key. Of the nodes that it has
-    /// left to enter then, those whose path meets an upper bound are at most one for each byte of
-    /// that, and two for each pair within both.
+    /// is a key. Of the nodes that it has left to enter then, those whose path meets an upper bound
+    /// are at most one for each byte of that, and two for each pair within both.
     pub(crate) fn walk_from<'a, T: KeyPath<'a>>(
         &'a self,
         low: Bound<&[u8]>,

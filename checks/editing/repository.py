@@ -1,12 +1,6 @@
-"""The crates of a repository, as `crates.txt` lists them.
-
-    python3 -B checks/editing/repository.py CRATE
-
-prints a crate and the repository's crates below it.
-"""
+"""The crates of a repository, as `crates.txt` lists them."""
 import dataclasses
 import os
-import sys
 
 # The parts of a crate that a check reads.
 PARTS = ("src", "specs", "proofs")
@@ -55,16 +49,6 @@ class Repository:
         return [it for name, it in self.crates.items() if name in wanted]
 
 
-def main():
-    repository = Repository(f"{os.path.dirname(os.path.realpath(__file__))}/../..")
-    crate = repository.crates[sys.argv[1]]
-    print(*(it.name for it in repository.below(crate)), crate.name)
-
-
 def library(built, name):
     """Where a run of the toolchain left a built library, in the repository `built`."""
     return f"{built}/crates/{name}/out/rlib/{name}.rlib"
-
-
-if __name__ == "__main__":
-    main()

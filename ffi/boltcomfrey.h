@@ -107,12 +107,12 @@ rart_answer rart_snapshot(rart_tree *RART_ALONE tree, rart_tree *RART_ALONE copy
 RART_NONNULL RART_MUST_USE RART_CHANGES(1) RART_CHANGES(2)
 rart_answer rart_clone(rart_tree *RART_ALONE tree, rart_tree *RART_ALONE copy);
 
-// Frees what the tree leads to, and leaves it without a key, its number so great. RART_NO_MEMORY
-// says that memory was refused: it is as before then.
+// Frees what the tree leads to, and leaves it without a key, with this number. RART_NO_MEMORY says
+// that memory was refused: it is as before then.
 RART_NONNULL RART_MUST_USE RART_CHANGES(1)
 rart_answer rart_new_at(rart_tree *tree, uint64_t number);
 
-// The number.
+// The version's number, which each change raises.
 RART_NONNULL RART_MUST_USE RART_CHANGES(1)
 uint64_t rart_version(rart_tree *tree);
 
@@ -239,12 +239,12 @@ rart_answer rart_bytes_snapshot(rart_bytes *RART_ALONE tree, rart_bytes *RART_AL
 RART_NONNULL RART_MUST_USE RART_CHANGES(1) RART_CHANGES(2)
 rart_answer rart_bytes_clone(rart_bytes *RART_ALONE tree, rart_bytes *RART_ALONE copy);
 
-// Frees what the tree leads to, and leaves it without a key, its number so great. RART_NO_MEMORY
-// says that memory was refused: it is as before then.
+// Frees what the tree leads to, and leaves it without a key, with this number. RART_NO_MEMORY says
+// that memory was refused: it is as before then.
 RART_NONNULL RART_MUST_USE RART_CHANGES(1)
 rart_answer rart_bytes_new_at(rart_bytes *tree, uint64_t number);
 
-// The number.
+// The version's number, which each change raises.
 RART_NONNULL RART_MUST_USE RART_CHANGES(1)
 uint64_t rart_bytes_version(rart_bytes *tree);
 

@@ -10,7 +10,7 @@ use crate::answer::{tell, tell_longest};
 use crate::handle::RartTree;
 use crate::lent;
 
-/// The number.
+/// The version's number, which each change raises.
 #[unsafe(no_mangle)]
 pub extern "C" fn rart_version(tree: &mut RartTree) -> u64
     ensures number { result ≡ tree.old.shows.number }

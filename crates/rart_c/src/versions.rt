@@ -48,7 +48,7 @@ pub extern "C" fn rart_clone(alloc: Global, tree: &mut RartTree, copy: &mut Rart
     DONE
 }
 
-/// Frees what the tree leads to, and leaves it without a key, its number so great. `NO_MEMORY` says
+/// Frees what the tree leads to, and leaves it without a key, with this number. `NO_MEMORY` says
 /// that memory was refused: it is as before then.
 #[unsafe(no_mangle)]
 pub extern "C" fn rart_new_at(alloc: Global, tree: &mut RartTree, number: u64) -> u8

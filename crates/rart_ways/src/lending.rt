@@ -15,7 +15,7 @@ use rart_below::Partial;
 use rart_node::{NodeRef, Work};
 use std::alloc::AllocError;
 
-/// Lends the value of a key that ends `down` nodes below a pointer, for writing.
+/// Lends the value of a key that ends `steps` nodes below a pointer, for writing.
 ///
 /// Each node on the way is opened for writing once. Refused for memory, the pointer shows what it
 /// showed.

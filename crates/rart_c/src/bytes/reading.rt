@@ -12,7 +12,7 @@ use crate::bytes::handle::RartBytes;
 use crate::bytes::value::Bytes;
 use crate::lent;
 
-/// The number.
+/// The version's number, which each change raises.
 #[unsafe(no_mangle)]
 pub extern "C" fn rart_bytes_version(tree: &mut RartBytes) -> u64
     ensures number { result ≡ tree.old.shows.number }

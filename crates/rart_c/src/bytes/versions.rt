@@ -52,7 +52,7 @@ pub extern "C" fn rart_bytes_clone(alloc: Global, tree: &mut RartBytes, copy: &m
     DONE
 }
 
-/// Frees what the tree leads to, and leaves it without a key, its number so great. `NO_MEMORY` says
+/// Frees what the tree leads to, and leaves it without a key, with this number. `NO_MEMORY` says
 /// that memory was refused: it is as before then.
 #[unsafe(no_mangle)]
 pub extern "C" fn rart_bytes_new_at(alloc: Global, tree: &mut RartBytes, number: u64) -> u8

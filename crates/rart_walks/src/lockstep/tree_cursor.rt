@@ -68,7 +68,7 @@ impl<'a, P: Partial, V: Drop> TreeCursor<'a, P, V> {
         requires { count ≤ length (prefix_of (cursor_shape self.now)) }
         ensures { cursor_shape result ≡ behind_bytes count (cursor_shape self.now) }
     {
-        // (the length of a prefix fits)
+        // (for the proof: a prefix has a length that fits, so the sum below does)
         let _len = self.node.prefix().len();
         TreeCursor {
             node: self.node,

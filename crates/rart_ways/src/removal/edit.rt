@@ -22,7 +22,7 @@ pub(crate) enum Edit<P: Partial, V> {
     Replace(NodeRef<P, V>, Option<V>),
 }
 
-/// Does an edit `steps` nodes down the way of a key, and gives the value that goes. Refused for
+/// Does an edit `depth` nodes down the way of a key, and gives the value that goes. Refused for
 /// memory, all is as before.
 pub(crate) fn edit_below<P: Partial, V: Clone + Drop>(
     at: &mut NodeRef<P, V>,

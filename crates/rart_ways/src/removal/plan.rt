@@ -19,7 +19,7 @@ pub(crate) enum Plan<P: Partial, V> {
     Absent,
     /// The node goes: the key ends there, and it has no child.
     Leaf,
-    /// An edit, `steps` nodes down the way of the key.
+    /// An edit, so many nodes down the way of the key.
     At(usize, Edit<P, V>),
 }
 

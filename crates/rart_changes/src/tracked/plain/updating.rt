@@ -66,9 +66,9 @@ impl<K: KeyTrait, V: Clone + Drop> TrackedTree<K, V> {
 
     /// As `update_k` for a callback that may fail, as the tree's `try_update_k`.
     ///
-    /// Its error is answered as `Refusal::Callback`: both versions and the touched keys are as
-    /// before, and the number of the current one is two greater where the key is there. Refused for
-    /// memory the answer is `Refusal::Memory`, all is as before, and the callback may have run.
+    /// Its error is answered as `Refusal::Callback`: both maps and the touched keys are as before,
+    /// and the number of the current one is two greater where the key is there. Refused for memory
+    /// the answer is `Refusal::Memory`, all is as before, and the callback may have run.
     pub fn try_update_k<E: Drop, F: FnOnce(&mut Slot<V>) -> Result<SlotUpdate<V>, E>>(
         &mut self,
         key: &K,

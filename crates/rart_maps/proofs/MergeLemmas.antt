@@ -14,7 +14,7 @@ use Rattle.rart_maps.proofs.FoundLemmas.{ascending_lists_are_fixed}
 use Rattle.rart_maps.specs.ChangeLaws.{Decides, IsReflexive, IsSymmetric}
 use Rattle.rart_maps.specs.ChangeLists.{Change, patched, differ, changes}
 use Rattle.rart_maps.specs.Merges.{Conflict, Answers, exchanged, answered, in_conflict, conflict_of, conflicts, merged}
-use Rattle.rart_maps.specs.MergeLaws.{ConflictsAscend, ConflictsAreFound, MergesAreByKey, SidesAgree, ConflictsExchange, MergesExchange, BaseGivesWay, merged_at}
+use Rattle.rart_maps.specs.MergeLaws.{ConflictsAscend, ConflictsAreFound, MergesAreByKey, SidesAgree, ConflictsExchange, MergesExchange, BaseGivesWay, PatchesAreMerges, merged_at}
 use Rattle.rart_maps.proofs.ChangeLemmas.{KeysAscend-kept, filter_map-all, patched-elsewhere, patched-there, changes-ascend, changes-from, changes-to}
 use Rattle.rart_maps.proofs.ChangeLawLemmas.{alike, differ-itself, differ-reversed, patched-by_key, symmetric-if-decided}
 
@@ -295,3 +295,20 @@ module _ {V : Type 0} (same : V → V → Bool) where
         merges_are_by_key answers base side base q
         ∙ ours-at decides answers q (finite.get base q) (finite.get side q)),
   )
+
+  -- ---- one side stands
+
+  theirs-stand : (b x y : Option V) (t : Bool) → in_conflict same b x y ≡ t
+      → cond (differ same b y) y x ≡ cond t y (cond (differ same b y) y x)
+  theirs-stand b x y true is =
+      let others = (and_parts (differ same b x) (differ same b y && differ same x y) is).1 in
+      ap (λ d. cond d y x) (and_parts (differ same b y) (differ same x y) others).0
+  theirs-stand b x y false is = refl
+
+  pub patches_are_merges : PatchesAreMerges same
+  patches_are_merges base ours theirs =
+      finite.same_map nat_list_cmp_total byte_order-IsAntisymmetric _ _ (λ q.
+      let b = finite.get base q in let x = finite.get ours q in let y = finite.get theirs q in
+      patched-by_key same base theirs ours q (differ same b y) refl
+      ∙ theirs-stand b x y (in_conflict same b x y) refl
+      ∙ sym (merges_are_by_key (λ key b x y. y) base ours theirs q))

@@ -52,3 +52,10 @@ module _ {V : Type 0} (same : V → V → Bool) where
   abbrev pub BaseGivesWay : Type 0
   BaseGivesWay = Decides same → (answers : Answers V) (base side : Map V) →
       (merged same answers base base side ≡ side) × (merged same answers base side base ≡ side)
+
+  -- The changes of one side, made on the other, are the merge in which that side stands: so is what
+  -- a rebase leaves.
+  abbrev pub PatchesAreMerges : Type 0
+  PatchesAreMerges = (base ours theirs : Map V) →
+      patched ours (changes same base theirs)
+      ≡ merged same (λ key b x y. y) base ours theirs

@@ -3,6 +3,7 @@
 ghost use Rattle.rart_maps.specs.MergeLaws.{ConflictsAscend, ConflictsAreFound};
 ghost use Rattle.rart_maps.specs.MergeLaws.{MergesAreByKey, SidesAgree};
 ghost use Rattle.rart_maps.specs.MergeLaws.{ConflictsExchange, MergesExchange, BaseGivesWay};
+ghost use Rattle.rart_maps.specs.MergeLaws.{PatchesAreMerges};
 
 /// The conflicts ascend strictly by key, and stand exactly where both sides changed a key, and not
 /// to the same.
@@ -19,9 +20,10 @@ pub fn merges_are_by_key<V: Eq>()
 {}
 
 /// Both sides see the same conflicts, and get the same merge where they answer them alike. Where
-/// one side changed nothing it is the other side.
+/// one side changed nothing it is the other side; where one stands it is the other with its changes.
 pub fn merges_exchange<V: Eq>()
     ensures conflicts { ConflictsExchange V.eq }
     ensures merges { MergesExchange V.eq }
     ensures base { BaseGivesWay V.eq }
+    ensures stands { PatchesAreMerges V.eq }
 {}

@@ -39,33 +39,6 @@ up_to-all g Shows {answer} f members left is =
     subst (λ xs. AnswersUpTo g Shows answer f members xs f) (sym is)
     (up_to-start g Shows answer f members)
 
--- What two calls enter and make, one after the other.
-pub counts-both : {entered made later_entered later_made most most_made : ℕ}
-    {start between now : Counts} → CountsUpTo entered made start between
-    → CountsUpTo later_entered later_made between now → entered + later_entered ≤ most
-    → made + later_made ≤ most_made → CountsUpTo most most_made start now
-counts-both first later entered made =
-    let a = first.entered_grows in
-    let b = first.entered_at_most in
-    let c = first.made_grows in
-    let d = first.made_at_most in
-    let e = later.entered_grows in
-    let f = later.entered_at_most in
-    let g = later.made_grows in
-    let h = later.made_at_most in
-    record {
-      entered_grows = omega (arith, a, e);
-      entered_at_most = omega (arith, b, f, entered);
-      made_grows = omega (arith, c, g);
-      made_at_most = omega (arith, d, h, made);
-    }
-
--- What is entered before a call is entered after it.
-pub entered-then : {entered made : ℕ} {between now : Counts} (start : Counts)
-    → start.entered < between.entered → CountsUpTo entered made between now
-    → start.entered < now.entered
-entered-then start some later = let grows = later.entered_grows in omega (arith, some, grows)
-
 -- With these keys left of all, how many nodes were entered at most, and at least.
 pub record AreCounted (maps least : ℕ) (all left : List (List ℕ)) (start now : Counts)
     : Type 0 where

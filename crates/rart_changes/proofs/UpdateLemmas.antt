@@ -127,12 +127,3 @@ pub same-attempt : {F V E : Type 0} (callback : Once F (MutBor (Slot V) × Unit 
 same-attempt callback f before v after w answer b is same answers =
     subst (λ a. Answers callback f v w (Ok a) after) same
     (subst (λ u. Answers callback f u w (Ok answer) after) is answers)
-
--- An update leaves what is tracked, but for the version, and the key where that is told.
-pub updated-view : {V : Type 0} (t now : Tracking V) (w : List ℕ) (v : Version V)
-    (touched : Strings)
-    (answer : Bool) → t ≡ now → touched ≡ cond answer (with_string t.touched w) t.touched
-    → record { base = t.base; current = v; touched = touched } ≡ updated now w answer v
-updated-view t now w v touched answer is keys =
-    (λ i. record { base = t.base; current = v; touched = keys i })
-    ∙ ap (λ u. updated u w answer v) is

@@ -5,7 +5,7 @@ use Rattle.rart_below.specs.Bytes.{byte_order}
 use Rattle.rart_below.specs.declared.slot.Slot.{Slot}
 use Rattle.rart_below.specs.declared.slot.SlotUpdate.{SlotUpdate}
 use Rattle.rart_below.specs.declared.slot.SlotUpdate.TheVariants.{Keep, Insert, Remove}
-use Rattle.rart_maps.specs.Changes.{Changes, insertion, replacement, removal, deletion, after_removal, slot_of, left_behind, slot_update, slot_update_from, slot_attempt, slot_attempt_from}
+use Rattle.rart_maps.specs.Changes.{Changes, replacement, removal, after_removal, slot_of, left_behind, slot_update, slot_update_from, slot_attempt, slot_attempt_from}
 use Rattle.rart_maps.specs.Lookups.{LacksAll, Sets, value_in, value_left}
 use Rattle.rart_maps.specs.Versions.{Version, value_at, empty_at, with_key, without_key}
 use Rattle.rart_maps.proofs.VersionLemmas.{value_at-with_key, value_at-with_other_key, value_at-without_key, value_at-without_other_key}
@@ -42,13 +42,6 @@ module _ {V : Type 0} where
 
     -- ---- by a call's answer
     module _ {E : Type 0} where
-      pub insertion-sets : (x : V) (result : Result Bool E)
-          → Changes result before after (insertion before w x)
-          → OnOk result (Sets before after w (Some x))
-      insertion-sets x (Ok answer) changes =
-          by-after _ _ changes.1 (with_key-sets before w x 1)
-      insertion-sets x (Err refusal) changes = tt
-
       pub replacement-sets : (x : V) (result : Result (Option V) E)
           → Changes result before after (replacement before w x)
           → OnOk result (Sets before after w (Some x))
@@ -61,12 +54,6 @@ module _ {V : Type 0} where
           → OnOk result (Sets before after w None)
       removal-sets (Ok answer) changes = by-after _ _ changes.1 (after_removal-sets before w)
       removal-sets (Err refusal) changes = tt
-
-      pub deletion-sets : (result : Result Bool E)
-          → Changes result before after (deletion before w)
-          → OnOk result (Sets before after w None)
-      deletion-sets (Ok answer) changes = by-after _ _ changes.1 (after_removal-sets before w)
-      deletion-sets (Err refusal) changes = tt
 
     -- ---- by a callback's answer
     updated-from : (found : Option V) → value_at before w ≡ found → (left : Slot V)

@@ -79,11 +79,6 @@ module _ {F A R X : Type 0} (g : Mut F A R) (Shows : A → X → Type 0) (answer
       callable.at x rest j
       (subst (λ left. AnswersUpTo g Shows answer f members left j) comes before)
 
-  -- What may always be called is callable on any members in turn.
-  pub callable-always : ((f : F) (a : A) → Takes g f a) → (f : F) (members : List X) →
-      CallableInTurn g Shows answer f members
-  callable-always always f members = record { at = λ x rest last before a shows. always last a }
-
   -- What each call keeps between the states before and after it, all keep together: for what the
   -- closure's captures refer to.
   pub answers-keep : (Keeps : F → F → Type 0) → ((f : F) → Keeps f f) →
@@ -124,19 +119,3 @@ module _ {F A X E : Type 0} (g : Mut F A (Result VisitControl E)) (Shows : A →
   visit_up_to-next {f} {j} {last} {members} x rest comes before called =
       let here = subst (λ left. AnswersUpTo g Shows (Ok Continue) f members left j) comes before in
       (x, rest, j, here, called)
-
-  pub visit_up_to-part : {f j last : F} {members left : List X} {answer : Result VisitControl E}
-      (part rest : List X) → left ≡ part ++ rest →
-      AnswersUpTo g Shows (Ok Continue) f members left j → VisitUpTo g Shows j part answer last →
-      VisitUpTo g Shows f members answer last
-  visit_up_to-part part rest comes before ends =
-      let within = ends.0 ∷ ends.1 in
-      let here = up_to-within g Shows (Ok Continue) part rest comes before within ends.3 in
-      (ends.0, ends.1 ++ rest, ends.2, here, ends.4)
-
-  -- a visit of one member, which its one answer ends
-  pub visit_until-one : {f last : F} (x : X) (answer : Result VisitControl E) →
-      CalledOn g Shows f x answer last → VisitUntil g Shows f (x ∷ []) answer last
-  visit_until-one {f} {last} x (Ok Continue) called = (last, called, refl)
-  visit_until-one {f} x (Ok Stop) called = (x, [], f, ([], refl, refl), called)
-  visit_until-one {f} x (Err e) called = (x, [], f, ([], refl, refl), called)

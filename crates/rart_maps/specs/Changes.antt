@@ -12,16 +12,9 @@ module _ {V : Type 0} where
   Changes (Ok answer) before after outcome = (answer ≡ outcome.0) × (after ≡ outcome.1)
   Changes (Err refusal) before after outcome = after ≡ before
 
-  -- Setting a key to a value: whether a value was replaced, and the version after.
-  abbrev pub insertion : Version V → List ℕ → V → Bool × Version V
-  insertion v w x = (has_key v w, with_key v w x 1)
-
-  -- the same, with the value that was replaced, the number so much greater, and by one
-  abbrev pub replacement_by : ℕ → Version V → List ℕ → V → Option V × Version V
-  replacement_by more v w x = (value_at v w, with_key v w x more)
-
+  -- Setting a key to a value: the value that was replaced, and the version after.
   abbrev pub replacement : Version V → List ℕ → V → Option V × Version V
-  replacement v w x = replacement_by 1 v w x
+  replacement v w x = (value_at v w, with_key v w x 1)
 
   -- without the key where it was there, and the number then one greater
   abbrev pub after_removal : Version V → List ℕ → Version V
@@ -30,10 +23,6 @@ module _ {V : Type 0} where
   -- Taking a key out: its value, and the version after.
   abbrev pub removal : Version V → List ℕ → Option V × Version V
   removal v w = (value_at v w, after_removal v w)
-
-  -- the same, with whether the key was there
-  abbrev pub deletion : Version V → List ℕ → Bool × Version V
-  deletion v w = (has_key v w, after_removal v w)
 
   -- with the key set to what was left behind a reference to its value, where it was there
   abbrev pub after_writing : Version V → List ℕ → V → Version V

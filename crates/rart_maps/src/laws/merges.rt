@@ -20,7 +20,8 @@ pub fn merges_are_by_key<V: Eq>()
 {}
 
 /// Both sides see the same conflicts, and get the same merge where they answer them alike. Where
-/// one side changed nothing it is the other side; where one stands it is the other with its changes.
+/// one side changed nothing it is the other side; where one stands it is the other with its
+/// changes.
 pub fn merges_exchange<V: Eq>()
     ensures conflicts { ConflictsExchange V.eq }
     ensures merges { MergesExchange V.eq }

@@ -1,8 +1,9 @@
 // Ported from rart 0.11.0 (Apache-2.0), and rewritten.
 //! How far down a tree the value of a key stands.
-ghost use Rattle.std.specs.Prelude.{◌<◌};
-ghost use Rattle.rart_node.specs.Trees.{IsTree};
-ghost use Rattle.rart_ways.specs.Searches.{FindsDepth};
+ghost use Rattle.std.specs.Prelude.{◌≡◌, ◌+◌, ◌<◌, ◌≤◌, None, IfNone, IfSome};
+ghost use Rattle.rart_node.specs.Counts.{CountsUpTo};
+ghost use Rattle.rart_node.specs.Trees.{IsTree, found, path_bound};
+ghost use Rattle.rart_ways.specs.Paths.{Arrives};
 
 use crate::search::steps::step;
 use rart_below::Partial;
@@ -16,7 +17,11 @@ pub fn path_length<P: Partial, V: Drop>(
     work: &mut Work,
 ) -> Option<usize>
     requires tree { IsTree root.now.shape }
-    ensures { FindsDepth result key.now root.now.shape work.old work.new }
+    ensures arrives { IfSome result (λ steps. Arrives steps key.now root.now.shape) }
+    ensures few { IfSome result (λ steps. steps + 1 ≤ path_bound root.now.shape key.now) }
+    ensures absent { IfNone result (found root.now.shape key.now ≡ None) }
+    ensures counted { CountsUpTo (path_bound root.now.shape key.now) 0 work.old work.new }
+    ensures entered { work.old.entered < work.new.entered }
 {
     let mut at = root;
     let mut rest = key;

@@ -1,12 +1,13 @@
 // Ported from rart 0.11.0 (Apache-2.0), and rewritten.
 //! The longest of the keys that begin a probe.
-ghost use Rattle.std.specs.Prelude.{◌≡◌, ◌≤◌, ℕ, List, IfSome, take};
+ghost use Rattle.std.specs.Prelude.{◌≡◌, ◌<◌, ◌≤◌, ℕ, List, None, IfSome, length, take};
 ghost use Rattle.std.specs.List.{last_or};
 ghost use Rattle.std.specs.Option.{option_copied};
-ghost use Rattle.rart_node.specs.Trees.{IsTree};
+ghost use Rattle.rart_node.specs.Counts.{CountsUpTo};
+ghost use Rattle.rart_node.specs.Trees.{IsTree, path_bound};
 ghost use Rattle.rart_walks.specs.Frames.{pending_pair};
 ghost use Rattle.rart_ways.specs.Longest.{pair_found};
-ghost use Rattle.rart_ways.specs.Searches.{FindsLongest};
+ghost use Rattle.rart_ways.specs.Searches.{EntersEach, prefix_matches};
 
 use crate::search::steps::step;
 use rart_below::Partial;
@@ -23,7 +24,12 @@ pub fn longest_prefix_match<'a, P: Partial, V: Drop>(
     work: &mut Work,
 ) -> Option<(usize, &'a V)>
     requires tree { IsTree root.now.shape }
-    ensures { FindsLongest result probe.now root.now.shape work.old work.new }
+    ensures longest { pair_found probe.now result
+        ≡ last_or None (prefix_matches probe.now root.now.shape) }
+    ensures within { IfSome result (λ found. found.0 ≤ length probe.now) }
+    ensures counted { CountsUpTo (path_bound root.now.shape probe.now) 0 work.old work.new }
+    ensures entered { work.old.entered < work.new.entered }
+    ensures each { EntersEach (prefix_matches probe.now root.now.shape) work.old work.new }
 {
     let mut at = root;
     let mut rest = probe;
@@ -41,7 +47,7 @@ pub fn longest_prefix_match<'a, P: Partial, V: Drop>(
     }
 }
 
-// The value of a node, if it has one, with the length of its key; or else what was found above it.
+/// The value of a node, if it has one, with the length of its key; or else what was found above it.
 fn longer<'a, V>(
     above: Option<(usize, &'a V)>,
     passed: usize,

@@ -1,7 +1,10 @@
 // Ported from rart 0.11.0 (Apache-2.0), and rewritten.
 //! The value of a key.
-ghost use Rattle.rart_node.specs.Trees.{IsTree};
-ghost use Rattle.rart_ways.specs.Searches.{FindsValue};
+ghost use Rattle.std.specs.Prelude.{◌≡◌, ◌<◌};
+ghost use Rattle.std.specs.Option.{option_copied};
+ghost use Rattle.rart_node.specs.Counts.{CountsUpTo};
+ghost use Rattle.rart_node.specs.Trees.{IsTree, found, path_bound};
+ghost use Rattle.rart_ways.specs.Searches.{EntersEach, prefix_matches};
 
 use crate::search::steps::step;
 use rart_below::Partial;
@@ -17,7 +20,10 @@ pub fn get_below<'a, P: Partial, V: Drop>(
     work: &mut Work,
 ) -> Option<&'a V>
     requires tree { IsTree root.now.shape }
-    ensures { FindsValue result key.now root.now.shape work.old work.new }
+    ensures value { option_copied result ≡ found root.now.shape key.now }
+    ensures counted { CountsUpTo (path_bound root.now.shape key.now) 0 work.old work.new }
+    ensures entered { work.old.entered < work.new.entered }
+    ensures each { EntersEach (prefix_matches key.now root.now.shape) work.old work.new }
 {
     let mut at = root;
     let mut rest = key;

@@ -1,12 +1,12 @@
 // Ported from rart 0.11.0 (Apache-2.0), and rewritten.
 //! The visit of the keys that begin a probe.
-ghost use Rattle.std.specs.Prelude.{filter};
+ghost use Rattle.std.specs.Prelude.{◌<◌};
 ghost use Rattle.std.specs.Option.{option_copied};
-ghost use Rattle.rart_below.specs.Bytes.{begins};
 ghost use Rattle.rart_maps.specs.Visits.{BySlice, Visit, Visitable};
-ghost use Rattle.rart_node.specs.Trees.{IsTree, pairs_of};
+ghost use Rattle.rart_node.specs.Counts.{CountsUpTo};
+ghost use Rattle.rart_node.specs.Trees.{IsTree, path_bound};
 ghost use Rattle.rart_walks.specs.Frames.{pending_pair};
-ghost use Rattle.rart_ways.specs.Searches.{VisitsMatches};
+ghost use Rattle.rart_ways.specs.Searches.{EntersEach, prefix_matches};
 
 use crate::search::steps::step;
 use rart_below::Partial;
@@ -25,8 +25,12 @@ pub fn visit_prefix_matches<P: Partial, V: Drop, F: FnMut(&[u8], &V)>(
 )
     requires tree { IsTree root.now.shape }
     requires visitable { Visitable F.FnMut BySlice f.old
-        (filter (λ pair. begins pair.0 probe.now) (pairs_of root.now.shape)) }
-    ensures { VisitsMatches F.FnMut f.old probe.now root.now.shape f.new work.old work.new }
+        (prefix_matches probe.now root.now.shape) }
+    ensures visits { Visit F.FnMut BySlice f.old
+        (prefix_matches probe.now root.now.shape) f.new }
+    ensures counted { CountsUpTo (path_bound root.now.shape probe.now) 0 work.old work.new }
+    ensures entered { work.old.entered < work.new.entered }
+    ensures each { EntersEach (prefix_matches probe.now root.now.shape) work.old work.new }
 {
     let mut at = root;
     let mut rest = probe;
@@ -44,7 +48,7 @@ pub fn visit_prefix_matches<P: Partial, V: Drop, F: FnMut(&[u8], &V)>(
     }
 }
 
-// The visit of one node's own value, if it has one.
+/// The visit of one node's own value, if it has one.
 fn visit_own<V, F: FnMut(&[u8], &V)>(key: &[u8], value: Option<&V>, f: &mut F)
     requires { Visitable F.FnMut BySlice f.old (pending_pair key.now (option_copied value)) }
     ensures { Visit F.FnMut BySlice f.old (pending_pair key.now (option_copied value.entry)) f.new }

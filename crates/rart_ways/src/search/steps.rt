@@ -1,9 +1,10 @@
 // Ported from rart 0.11.0 (Apache-2.0), and rewritten.
 //! One step along a key: what the key finds at a node.
-ghost use Rattle.std.specs.Prelude.{◌≡◌};
+ghost use Rattle.std.specs.Prelude.{◌≡◌, ◌+◌, IfSome};
 ghost use Rattle.std.specs.Option.{option_map};
-ghost use Rattle.rart_node.specs.Trees.{IsTree};
-ghost use Rattle.rart_ways.specs.Steps.{Passes, child_under};
+ghost use Rattle.rart_node.specs.Shape.{prefix_of};
+ghost use Rattle.rart_node.specs.Trees.{IsTree, strip_prefix};
+ghost use Rattle.rart_ways.specs.Steps.{child_under};
 
 use rart_below::Partial;
 use rart_node::{NodeRef, VersionedNode, Work, strip_prefix};
@@ -40,7 +41,10 @@ pub fn step<'a, 'k, P: Partial, V: Drop>(
     work: &mut Work,
 ) -> Option<Passed<'a, 'k, P, V>>
     requires tree { IsTree at.now.shape }
-    ensures { Passes result key.now at.now.shape work.old work.new }
+    ensures rest { option_map (λ passed. passed.rest.now) result
+        ≡ strip_prefix (prefix_of at.now.shape) key.now }
+    ensures node { IfSome result (λ passed. passed.node.now.shape ≡ at.now.shape) }
+    ensures work { work.new ≡ record work.old { entered = work.old.entered + 1 } }
 {
     let node = at.open(work);
     let rest = strip_prefix(key, node.prefix())?;

@@ -27,7 +27,7 @@ returns-in-None-path_length g c =
         writes_back = tt;
         value = tt;
         missing =
-            subst (λ o. found_in o w ≡ None) root-is (c.in-None-path_length.ensures.absent refl);
+            subst (λ o. found_in o w ≡ None) root-is (c.in-None-path_length.ensures.absent);
         raised = tt;
         kept = refl;
         counted =

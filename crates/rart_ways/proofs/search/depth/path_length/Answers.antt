@@ -17,7 +17,8 @@ returns-in_err-passed g c =
     let opens = c.in_err-passed.ensures.work in
     record {
       arrives = nothing-if _ c.from_residual.result c.from_residual.ensures;
-      absent = λ none. step-left _ _ _ _ _ _ _ at opens c.in_err-passed.ensures.rest;
+      absent = rw c.from_residual.ensures
+          (step-left _ _ _ _ _ _ _ at opens c.in_err-passed.ensures.rest);
       few = nothing-if _ c.from_residual.result c.from_residual.ensures;
       counted = step-counted _ _ _ _ _ _ _ at opens;
       entered = step-entered _ _ _ _ _ _ _ at opens;
@@ -29,7 +30,7 @@ returns-in-None-2 g c =
     let opens = c.in_ok-passed.ensures.work in
     record {
       arrives = tt;
-      absent = λ none. step-here _ _ _ _ _ _ _ at opens _ c.in_ok-passed.ensures.rest
+      absent = step-here _ _ _ _ _ _ _ at opens _ c.in_ok-passed.ensures.rest
           (rest-empty c.in_ok-passed.passed.rest.now
           (sym c.if-is_empty.true ∙ c.is_empty.ensures))
           ∙ sym (ap value_of c.in_ok-passed.ensures.node) ∙ sym c.value.ensures
@@ -45,7 +46,7 @@ returns-in-None-2-2 g c =
     let opens = c.in_ok-passed.ensures.work in
     record {
       arrives = tt;
-      absent = λ none. step-missing _ _ _ _ _ _ _ at opens _ c.in_ok-passed.ensures.rest
+      absent = step-missing _ _ _ _ _ _ _ at opens _ c.in_ok-passed.ensures.rest
           (λ end. false≢true (c.if-is_empty.ensures ∙ ap (λ z. length z == 0) end))
           (sym (ap (option_map (λ child. child.now.shape)) c.in-None.is)
           ∙ c.child.ensures

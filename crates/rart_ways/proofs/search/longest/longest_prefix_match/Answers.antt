@@ -32,7 +32,7 @@ returns-in_default g c =
       within = c.down.invariant.within;
       counted = step-counted _ _ _ _ _ _ _ at opens;
       entered = step-entered _ _ _ _ _ _ _ at opens;
-      least = each-left _ _ _ _ _ _ _ c.down.invariant.above opens c.in_default.ensures.rest;
+      each = each-left _ _ _ _ _ _ _ c.down.invariant.above opens c.in_default.ensures.rest;
     }
 
 pub overflow_sub-probe : goal.overflow_sub-probe
@@ -58,7 +58,7 @@ returns-in_default-child g c =
           c.down.invariant.within;
       counted = step-counted _ _ _ _ _ _ _ at opens;
       entered = step-entered _ _ _ _ _ _ _ at opens;
-      least = each-last _ _ _ _ _ _ _ c.down.invariant.above opens at.tree _
+      each = each-last _ _ _ _ _ _ _ c.down.invariant.above opens at.tree _
           c.in-Some.ensures.rest none;
     }
 

@@ -16,7 +16,7 @@ returns-in_err-passed g c =
           ∙ sym (step-left _ _ _ _ _ _ _ at opens c.in_err-passed.ensures.rest);
       counted = step-counted _ _ _ _ _ _ _ at opens;
       entered = step-entered _ _ _ _ _ _ _ at opens;
-      least = each-left _ _ _ _ _ _ _ c.down.invariant.above opens c.in_err-passed.ensures.rest;
+      each = each-left _ _ _ _ _ _ _ c.down.invariant.above opens c.in_err-passed.ensures.rest;
     }
 
 pub returns-in-None : goal.returns-in-None
@@ -29,7 +29,7 @@ returns-in-None g c =
           (rest-empty c.in_ok-passed.passed.rest.now (search rules)));
       counted = step-counted _ _ _ _ _ _ _ at opens;
       entered = step-entered _ _ _ _ _ _ _ at opens;
-      least = each-last _ _ _ _ _ _ _ c.down.invariant.above opens at.tree _
+      each = each-last _ _ _ _ _ _ _ c.down.invariant.above opens at.tree _
           c.in_ok-passed.ensures.rest
           (sym (ap (option_map (λ child. child.now.shape)) c.in-None.is)
           ∙ c.child.ensures
@@ -48,7 +48,7 @@ returns-in-None-2 g c =
           ∙ ap (child_under c.in_ok-passed.passed.rest.now) c.in_ok-passed.ensures.node));
       counted = step-counted _ _ _ _ _ _ _ at opens;
       entered = step-entered _ _ _ _ _ _ _ at opens;
-      least = each-last _ _ _ _ _ _ _ c.down.invariant.above opens at.tree _
+      each = each-last _ _ _ _ _ _ _ c.down.invariant.above opens at.tree _
           c.in_ok-passed.ensures.rest
           (sym (ap (option_map (λ child. child.now.shape)) c.in-None.is)
           ∙ c.child.ensures

@@ -31,7 +31,7 @@ returns-in_default g c =
           c.down.invariant.visits;
       counted = step-counted _ _ _ _ _ _ _ at opens;
       entered = step-entered _ _ _ _ _ _ _ at opens;
-      least = each-left _ _ _ _ _ _ _ c.down.invariant.above opens c.in_default.ensures.rest;
+      each = each-left _ _ _ _ _ _ _ c.down.invariant.above opens c.in_default.ensures.rest;
     }
 
 pub overflow_sub-end : goal.overflow_sub-end
@@ -66,7 +66,7 @@ returns-in_default-child g c =
           c.visit_own.new.f c.down.invariant.visits c.visit_own.ensures);
       counted = step-counted _ _ _ _ _ _ _ at opens;
       entered = step-entered _ _ _ _ _ _ _ at opens;
-      least = each-last _ _ _ _ _ _ _ c.down.invariant.above opens at.tree _
+      each = each-last _ _ _ _ _ _ _ c.down.invariant.above opens at.tree _
           c.in-Some.ensures.rest none;
     }
 

@@ -43,5 +43,5 @@ returns-in-Some-clause-each g c =
     let all = ap length (root-prefix_matches shape_of g.K.KeyTrait.MAXIMUM_SIZE
     c.self.inside.version c.self.inside.root c.args.self.now c.self.invariant c.self.view_is
     c.in-Some.root c.in-Some.is c.args.probe.now c.args.probe.now refl) in
-    let least = c.longest_prefix_match.ensures.least in
-    omega (arith, all, least)
+    let each = c.longest_prefix_match.ensures.each in
+    omega (arith, all, each)

@@ -65,5 +65,5 @@ returns-in-Some-clause-each g c =
     let all = ap length (root-prefix_matches shape_of g.K.KeyTrait.MAXIMUM_SIZE
     c.self.inside.version c.self.inside.root c.args.self.now c.self.invariant c.self.view_is
     c.in-Some.root c.in-Some.is (g.K.KeyTrait.bytes c.args.probe.now) _ c.as_ref.ensures) in
-    let least = c.visit_prefix_matches.ensures.least in
-    omega (arith, all, least)
+    let each = c.visit_prefix_matches.ensures.each in
+    omega (arith, all, each)

@@ -10,7 +10,6 @@ use Rattle.rart_node.specs.Shape.{Shape, node, widenings, prefix_of, children_of
 use Rattle.rart_node.specs.Trees.{BeginsWith, found, IsTree, IsPut, Puts, cut_at, ending, path_bound}
 use Rattle.rart_node.proofs.PrefixLemmas.{strip_prefix-own, split-common, split-whole, common-within, common-long, begins-first, begins-long, no-first, first-parts}
 use Rattle.rart_node.proofs.CountingLemmas.{path-step, path-one, counts-opened, counts-then, counts-below, ending-most}
-use Rattle.rart_ways.specs.Insertions.{Inserts, PutsMaking}
 use Rattle.rart_ways.proofs.CutLemmas.{cut-found}
 use Rattle.rart_node.proofs.FindLemmas.{found-below, found-child, branch, ordered, IsBranch}
 use Rattle.rart_node.proofs.InsertionLemmas.{put-below, replaced-same}
@@ -167,7 +166,17 @@ module _ {V : Type 0} (s : Shape V) (key : List ℕ) (common : ℕ)
       let some = common-long (prefix_of s) key byte begins also in
       omega (arith, some, is)
 
--- What an insertion makes of a pointer to s, whose node was opened.
+-- What an insertion makes of a pointer, and of the counts.
+pub record Inserts {V E : Type 0} (result : Result (Option V) E) (key : List ℕ) (value : V)
+    (before after : Shape V) (start now : Counts) : Type 0 where
+  pub puts : Puts result key value before after
+  pub counted : CountsUpTo (path_bound before key) (length key + 2) start now
+  pub entered : start.entered < now.entered
+  pub made : start.made < now.made
+  pub made_below : (byte : ℕ) → BeginsWith byte (prefix_of before) → BeginsWith byte key
+      → now.made ≤ start.made + length key + 1
+
+-- so of a pointer to s, whose node was opened
 module _ {V : Type 0} (s : Shape V) (key : List ℕ) (common : ℕ)
     (is : common ≡ common_length (prefix_of s) key) {E : Type 0} (result : Result (Option V) E)
     (value : V) {start between now : Counts}
@@ -196,22 +205,22 @@ module _ {V : Type 0} (s : Shape V) (key : List ℕ) (common : ℕ)
       }
 
   pub inserts-split : {n after shown : Shape V} → n ≡ s → shown ≡ after
-      → PutsMaking (length (drop common key) + 1) result key value n after between now
+      → Puts result key value n after → CountsUpTo 0 (length (drop common key) + 1) between now
       → Inserts result key value s shown start now
-  inserts-split same shows made =
-      inserted (moved (Puts result key value) same shows made.puts) made.counted (omega arith)
+  inserts-split same shows puts counted =
+      inserted (moved (Puts result key value) same shows puts) counted (omega arith)
 
   pub inserts-here : {n after shown : Shape V} (left : List ℕ) → left ≡ drop common key
       → length (prefix_of s) ≤ common → n ≡ s → shown ≡ after
-      → PutsMaking (ending n left) result (prefix_of n ++ left) value n after between now
+      → Puts result (prefix_of n ++ left) value n after → CountsUpTo 0 (ending n left) between now
       → Inserts result key value s shown start now
-  inserts-here {n} {after} left is-rest le same shows made =
+  inserts-here {n} {after} left is-rest le same shows puts counted =
       let most = ending-most n left in
       let long = ap length is-rest in
       inserted
       (puts-here s key common is result value le same shows
-      (subst (λ rest. Puts result (prefix_of n ++ rest) value n after) is-rest made.puts))
-      made.counted (omega (arith, most, long))
+      (subst (λ rest. Puts result (prefix_of n ++ rest) value n after) is-rest puts))
+      counted (omega (arith, most, long))
 
   pub inserts-down : (byte : ℕ) (child after shown : Shape V) (left : List ℕ) → left
       ≡ drop common key

@@ -1,7 +1,6 @@
 pub mod Besides
 pub mod Firsts
 pub mod Grafts
-pub mod Insertions
 pub mod Longest
 pub mod Paths
 pub mod Plans

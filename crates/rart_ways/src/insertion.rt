@@ -1,11 +1,12 @@
 // Ported from rart 0.11.0 (Apache-2.0), and rewritten.
 //! The way down a tree to a value that is put at a key.
-ghost use Rattle.std.specs.Prelude.{◌≡◌, ◌+◌, ◌<◌, Some, [], ◌++◌, length, drop};
-ghost use Rattle.rart_below.specs.Bytes.{IsAdmitted};
+ghost use Rattle.std.specs.Prelude.{◌≡◌, ℕ, ◌+◌, ◌<◌, ◌≤◌, None, Some, IfOk, OnOk, [], ◌++◌, length, drop, slice_get};
+ghost use Rattle.rart_below.specs.Bytes.{IsAdmitted, common_length};
+ghost use Rattle.rart_below.specs.Children.{child_at};
 ghost use Rattle.rart_below.specs.Clones.{ClonesEqual};
-ghost use Rattle.rart_node.specs.Shape.{node_of, prefix_of};
-ghost use Rattle.rart_node.specs.Trees.{cut_at, ending};
-ghost use Rattle.rart_ways.specs.Insertions.{CanFinish, CanInsert, Inserts, LeavesAt, MakesOne, PutsMaking};
+ghost use Rattle.rart_node.specs.Counts.{CountsUpTo};
+ghost use Rattle.rart_node.specs.Shape.{children_of, node_of, prefix_of, value_of};
+ghost use Rattle.rart_node.specs.Trees.{BeginsWith, IsOrdered, IsTree, Puts, cut_at, ending, path_bound};
 
 use rart_below::Partial;
 use rart_node::{NodeRef, VersionedNode, Work, rest_of};
@@ -13,6 +14,9 @@ use std::alloc::{AllocError, Global};
 
 /// Puts a value at a key below a pointer, and gives the value that was there. Refused for memory,
 /// the pointer shows what it showed.
+///
+/// Of the nodes that are made at most two are more than the key has bytes; below a root one, since
+/// there the prefix and the key begin with one byte.
 ///
 /// It calls itself once for each node of the way. `split`, which only the last of them may call, is
 /// not inlined, so that a level takes little of the machine's stack.
@@ -24,8 +28,16 @@ pub fn insert_below<P: Partial, V: Clone + Drop>(
     version: u64,
     work: &mut Work,
 ) -> Result<Option<V>, AllocError>
-    requires { CanInsert V.is_clone P.MAXIMUM_SIZE key.now at.old.shape }
-    ensures { Inserts result key.now value at.old.shape at.new.shape work.old work.new }
+    requires clones { ClonesEqual V.is_clone }
+    requires admitted { IsAdmitted P.MAXIMUM_SIZE (length key.now) }
+    requires tree { IsTree at.old.shape }
+    ensures puts { Puts result key.now value at.old.shape at.new.shape }
+    ensures counted { CountsUpTo (path_bound at.old.shape key.now) (length key.now + 2)
+        work.old work.new }
+    ensures entered { work.old.entered < work.new.entered }
+    ensures made { work.old.made < work.new.made }
+    ensures made_below { (byte : ℕ) → BeginsWith byte (prefix_of at.old.shape)
+        → BeginsWith byte key.now → work.new.made ≤ work.old.made + length key.now + 1 }
 {
     let node = at.open_mut(work)?;
     let common = node.prefix().prefix_length_slice(key);
@@ -54,10 +66,13 @@ fn split<P: Partial, V: Clone + Drop>(
     version: u64,
     work: &mut Work,
 ) -> Result<Option<V>, AllocError>
-    requires may { CanInsert V.is_clone P.MAXIMUM_SIZE key.now node.old.shape }
-    requires leaves { LeavesAt common key.now node.old.shape }
-    ensures { PutsMaking (length (drop common key.now) + 1) result key.now value
-        node.old.shape node.new.shape work.old work.new }
+    requires clones { ClonesEqual V.is_clone }
+    requires admitted { IsAdmitted P.MAXIMUM_SIZE (length key.now) }
+    requires tree { IsTree node.old.shape }
+    requires common { common ≡ common_length (prefix_of node.old.shape) key.now }
+    requires inside { common < length (prefix_of node.old.shape) }
+    ensures puts { Puts result key.now value node.old.shape node.new.shape }
+    ensures counted { CountsUpTo 0 (length (drop common key.now) + 1) work.old work.new }
 {
     let mut upper = cut(alloc, node, common, version, work)?;
     let old = finish(
@@ -83,10 +98,14 @@ fn finish<P: Partial, V: Clone + Drop>(
     version: u64,
     work: &mut Work,
 ) -> Result<Option<V>, AllocError>
-    requires { CanFinish P.MAXIMUM_SIZE rest.now node.old.shape }
-    ensures { PutsMaking (ending node.old.shape rest.now) result
-        (prefix_of node.old.shape ++ rest.now) value
-        node.old.shape node.new.shape work.old work.new }
+    requires admitted { IsAdmitted P.MAXIMUM_SIZE (length rest.now) }
+    requires order { IsOrdered node.old.shape }
+    requires some { value_of node.old.shape ≡ None → 0 < length (children_of node.old.shape) }
+    requires absent { (byte : ℕ) → slice_get rest.now 0 ≡ Some byte
+        → child_at byte (children_of node.old.shape) ≡ None }
+    ensures puts { Puts result (prefix_of node.old.shape ++ rest.now) value
+        node.old.shape node.new.shape }
+    ensures counted { CountsUpTo 0 (ending node.old.shape rest.now) work.old work.new }
 {
     match rest.first() {
         None => Ok(node.set_value(value)),
@@ -108,7 +127,9 @@ fn cut<P: Partial, V: Clone + Drop>(
 ) -> Result<VersionedNode<P, V>, AllocError>
     requires clones { ClonesEqual V.is_clone }
     requires inside { at < length (prefix_of node.now.shape) }
-    ensures { MakesOne result (λ upper. upper.shape ≡ cut_at at node.now.shape) work.old work.new }
+    ensures cut { IfOk result (λ upper. upper.shape ≡ cut_at at node.now.shape) }
+    ensures counted { CountsUpTo 0 1 work.old work.new }
+    ensures made { OnOk result (work.new.made ≡ work.old.made + 1) }
 {
     let prefix = node.prefix();
     let below = prefix.partial_after(alloc, at)?;
@@ -128,8 +149,9 @@ pub fn leaf_of<P: Partial, V: Clone + Drop>(
     work: &mut Work,
 ) -> Result<NodeRef<P, V>, AllocError>
     requires { IsAdmitted P.MAXIMUM_SIZE (length rest.now) }
-    ensures { MakesOne result (λ leaf. leaf.shape ≡ node_of rest.now (Some value) 0 [])
-        work.old work.new }
+    ensures leaf { IfOk result (λ leaf. leaf.shape ≡ node_of rest.now (Some value) 0 []) }
+    ensures counted { CountsUpTo 0 1 work.old work.new }
+    ensures made { OnOk result (work.new.made ≡ work.old.made + 1) }
 {
     let prefix = P::new_from_slice(alloc, rest)?;
     NodeRef::new(

@@ -10,9 +10,16 @@ pub returns-then-common-len : goal.returns-then-common-len
 returns-then-common-len g t c =
     let same = c.in_ok-node.ensures.shown in
     let is = matched c.args.key.now same c.prefix.ensures c.prefix_length_slice-common.ensures in
-    inserts-split c.args.at.now.shape c.args.key.now _ is
+    let done = inserts-split c.args.at.now.shape c.args.key.now _ is
     c.split.result c.args.value c.in_ok-node.ensures.work same
-    (c.open_mut.follows.holds c.split.new.node (search rules)) c.split.ensures
+    (c.open_mut.follows.holds c.split.new.node (search rules)) c.split.ensures.puts
+    c.split.ensures.counted in record {
+      puts = done.puts;
+      counted = done.counted;
+      entered = done.entered;
+      made = done.made;
+      made_below = done.made_below;
+    }
 
 -- ---- the whole prefix is matched
 
@@ -32,10 +39,17 @@ returns-in-None g t c =
     let s = c.args.at.now.shape in
     let key = c.args.key.now in
     let is = matched key same c.prefix.ensures c.prefix_length_slice-common.ensures in
-    inserts-here s key _ is c.finish.result c.args.value c.in_ok-node.ensures.work
+    let done = inserts-here s key _ is c.finish.result c.args.value c.in_ok-node.ensures.work
     c.rest_of-rest.result.now c.rest_of-rest.ensures
     (is-whole s key _ is same c.prefix-2.ensures c.len.ensures c.if-common-len.false) same
-    (c.open_mut.follows.holds c.finish.new.node (search rules)) c.finish.ensures
+    (c.open_mut.follows.holds c.finish.new.node (search rules)) c.finish.ensures.puts
+    c.finish.ensures.counted in record {
+      puts = done.puts;
+      counted = done.counted;
+      entered = done.entered;
+      made = done.made;
+      made_below = done.made_below;
+    }
 
 pub returns-in-None-seek_child_mut : goal.returns-in-None-seek_child_mut
 returns-in-None-seek_child_mut g t c =
@@ -43,12 +57,19 @@ returns-in-None-seek_child_mut g t c =
     let s = c.args.at.now.shape in
     let key = c.args.key.now in
     let is = matched key same c.prefix.ensures c.prefix_length_slice-common.ensures in
-    inserts-here s key _ is c.finish-in-None-seek_child_mut.result c.args.value
+    let done = inserts-here s key _ is c.finish-in-None-seek_child_mut.result c.args.value
     c.in_ok-node.ensures.work c.rest_of-rest.result.now c.rest_of-rest.ensures
     (is-whole s key _ is same c.prefix-2.ensures c.len.ensures c.if-common-len.false)
     (c.seek_child_mut.follows.holds-at-none ∙ same)
     (c.open_mut.follows.holds c.finish-in-None-seek_child_mut.new.node (search rules))
-    c.finish-in-None-seek_child_mut.ensures
+    c.finish-in-None-seek_child_mut.ensures.puts
+    c.finish-in-None-seek_child_mut.ensures.counted in record {
+      puts = done.puts;
+      counted = done.counted;
+      entered = done.entered;
+      made = done.made;
+      made_below = done.made_below;
+    }
 
 -- ---- the key goes on below a child
 
@@ -66,12 +87,14 @@ insert_below-requires g t c κs within =
         within.0,
         (
           within.1,
-          record {
-            clones = c.requires.clones;
-            admitted = subst (λ rest. IsAdmitted g.P.Partial.MAXIMUM_SIZE (length rest))
-                (sym c.rest_of-rest.ensures) (rest-admitted s key _ is _ c.requires.admitted);
-            tree = below.tree;
-          },
+          (
+            c.requires.clones,
+            (
+              subst (λ rest. IsAdmitted g.P.Partial.MAXIMUM_SIZE (length rest))
+                  (sym c.rest_of-rest.ensures) (rest-admitted s key _ is _ c.requires.admitted),
+              below.tree,
+            ),
+          ),
         ),
       ),
     )
@@ -83,7 +106,7 @@ returns-in-Some-seek_child_mut g t c =
     let key = c.args.key.now in
     let is = matched key same c.prefix.ensures c.prefix_length_slice-common.ensures in
     let inner = c.seek_child_mut.follows.lender c.insert_below.new.at in
-    inserts-down s key _ is c.insert_below.result c.args.value c.in_ok-node.ensures.work
+    let done = inserts-down s key _ is c.insert_below.result c.args.value c.in_ok-node.ensures.work
     c.in-Some.byte _ _ _ c.rest_of-rest.result.now c.rest_of-rest.ensures c.requires.tree
     (is-whole s key _ is same c.prefix-2.ensures c.len.ensures c.if-common-len.false)
     (sym c.first.ensures.value ∙ sym c.in-Some.ensures)
@@ -93,4 +116,16 @@ returns-in-Some-seek_child_mut g t c =
     c.insert_below.new.at.shape same
     c.in-Some-seek_child_mut.is
     (c.seek_child_mut.follows.holds c.insert_below.new.at))
-    c.insert_below.ensures
+    record {
+      puts = c.insert_below.ensures.puts;
+      counted = c.insert_below.ensures.counted;
+      entered = c.insert_below.ensures.entered;
+      made = c.insert_below.ensures.made;
+      made_below = c.insert_below.ensures.made_below;
+    } in record {
+      puts = done.puts;
+      counted = done.counted;
+      entered = done.entered;
+      made = done.made;
+      made_below = done.made_below;
+    }

@@ -38,7 +38,7 @@ returns-in_ok-add_child-in-Some g c =
     let absent = c.requires.absent c.in-Some.byte.now next in
     let after =
     c.in_ok-add_child-in-Some.ensures.ok
-    ∙ ap (λ leaf. with_added c.in-Some.byte.now leaf s) c.in_ok-leaf-in-Some.ensures.told in
+    ∙ ap (λ leaf. with_added c.in-Some.byte.now leaf s) c.in_ok-leaf-in-Some.ensures.leaf in
     let leaf = c.in_ok-leaf-in-Some.ensures.counted in
     let entered = c.in_ok-add_child-in-Some.ensures.entered in
     let made = c.in_ok-add_child-in-Some.ensures.made in

@@ -40,7 +40,7 @@ invariant_of-self-in-None g c =
       (c.requires.admitted, omega arith),
       all-bytes c.args.key.now c.type_inv.key,
     )
-    (subst (IsPutIn w c.args.value None) (sym c.in_ok-leaf-in-None.ensures.told)
+    (subst (IsPutIn w c.args.value None) (sym c.in_ok-leaf-in-None.ensures.leaf)
     (leaf-put w c.args.value))
 
 pub invariant_of-self-in-Some : goal.invariant_of-self-in-Some

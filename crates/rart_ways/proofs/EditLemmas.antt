@@ -5,9 +5,8 @@ use Rattle.std.specs.Result.{IsOk, IsErr, IfOk, OnOk, OnErr}
 use Rattle.std.proofs.lemmas.Bool.{false≢true}
 use Rattle.std.proofs.lemmas.Option.{none-some, same_Some}
 use Rattle.rart_below.specs.Children.{child_at}
-use Rattle.rart_node.specs.Counts.{Counts, CountsUpTo}
 use Rattle.rart_node.specs.Shape.{Shape, prefix_of, value_of, children_of, with_deleted, with_replaced, IsAscending}
-use Rattle.rart_ways.specs.Plans.{GoesOn, Removes, RemovesBelow, TakesOut, value_under}
+use Rattle.rart_ways.specs.Plans.{GoesOn, Removes, RemovesBelow, value_under}
 use Rattle.rart_ways.specs.declared.removal.edit.Edit.{Edit}
 use Rattle.rart_node.specs.Trees.{strip_prefix, found, IsTree, IsTaken}
 use Rattle.rart_node.proofs.PrefixLemmas.{strip_prefix-is, strip_prefix-own}
@@ -50,18 +49,6 @@ pub refused-if : {A E : Type 0} (P : A → Type 0) (result : Result A E) → IsE
     → IfOk result P
 refused-if P (Ok x) err = absurd (false≢true err)
 refused-if P (Err e) err = tt
-
-pub refused-takes : {V E : Type 0} (result : Result (Option V) E) → IsErr result
-    → {gone : Option V} {IsTold : Shape V → Type 0} {most : ℕ} {before after : Shape V}
-    {start now : Counts} → after ≡ before → CountsUpTo most most start now
-    → TakesOut result gone IsTold most before after start now
-refused-takes result err same counted =
-    record {
-      taken = refused-ok _ result err;
-      value = refused-if _ result err;
-      refused = on-any result same;
-      counted = counted;
-    }
 
 -- what is left of a string behind a prefix that it begins with
 pub drop-stripped : (prefix key rest : List ℕ) → strip_prefix prefix key ≡ Some rest

@@ -1,17 +1,13 @@
 -- What a plan and its parts ask of a tree and make of it: inside only.
-use Rattle.std.specs.Prelude.{◌≡◌, ℕ, zero, suc, ◌+◌, ◌*◌, ◌<◌, ◌≤◌, Bool, true, false, List, [], Option, Some, None, IsSome, Result, Ok, Err, IfOk, OnOk, OnErr, ⊤, length, slice_get}
+use Rattle.std.specs.Prelude.{◌≡◌, ℕ, zero, suc, ◌+◌, List, [], Option, Some, None, IsSome, Result, Ok, Err, ⊤, slice_get}
 use Rattle.std.specs.Option.{option_and_then}
-use Rattle.rart_below.specs.Bytes.{IsAdmitted}
 use Rattle.rart_below.specs.Children.{child_at}
-use Rattle.rart_below.specs.Clones.{ClonesEqual}
-use Rattle.rart_node.specs.Counts.{Counts, CountsUpTo}
-use Rattle.rart_node.specs.Shape.{Shape, HasOnly, prefix_of, value_of, children_of, with_value, with_deleted}
-use Rattle.rart_ways.specs.Removals.{CountsLeaving}
+use Rattle.rart_node.specs.Shape.{Shape, prefix_of, value_of, children_of, with_value, with_deleted}
 use Rattle.rart_ways.specs.declared.removal.edit.Edit.{Edit}
 use Rattle.rart_ways.specs.declared.removal.edit.Edit.TheVariants.{Take, Prune, Replace}
 use Rattle.rart_ways.specs.declared.removal.plan.Plan.{Plan}
 use Rattle.rart_ways.specs.declared.removal.plan.Plan.TheVariants.{Absent, Leaf, At}
-use Rattle.rart_node.specs.Trees.{strip_prefix, found, IsTree, IsTaken, path_bound}
+use Rattle.rart_node.specs.Trees.{strip_prefix, found, IsTaken}
 
 module _ {V : Type 0} where
   -- the value of the child under the byte
@@ -34,41 +30,6 @@ module _ {V : Type 0} where
   abbrev pub LeadsToLeaf : ℕ → List ℕ → Shape V → Type 0
   LeadsToLeaf byte key s = (leaf : Shape V) × (rest : List ℕ) × GoesOn key s byte leaf rest
       × IsLeafAt rest leaf
-
-  -- A node can lose a child where it has a value or more than two children.
-  pub record CanLoseAChild (can : Bool) (s : Shape V) : Type 0 where
-    pub stays : can ≡ true → value_of s ≡ None → 2 < length (children_of s)
-    pub value : can ≡ false → value_of s ≡ None
-    pub children : can ≡ false → length (children_of s) ≤ 2
-
-  -- A clone of a value equals it, and the nodes are a tree.
-  pub record CanEdit (is_clone : V → V → Type 0) (s : Shape V) : Type 0 where
-    pub clones : ClonesEqual is_clone
-    pub tree : IsTree s
-
-  -- The node has no value and one child, and may have the prefixes of both as one.
-  pub record CanMerge (is_clone : V → V → Type 0) (most : Option ℕ) (s : Shape V) : Type 0 where
-    pub clones : ClonesEqual is_clone
-    pub value : value_of s ≡ None
-    pub child : length (children_of s) ≡ 1
-    pub admitted : (byte : ℕ) (child : Shape V) → HasOnly byte child s
-        → IsAdmitted most (length (prefix_of s) + length (prefix_of child))
-
-  -- The value that goes is given, and the node is left as told; refused, it is as before. At most
-  -- `most` nodes are entered, and as many made.
-  pub record TakesOut {E : Type 0} (result : Result (Option V) E) (gone : Option V)
-      (IsTold : Shape V → Type 0) (most : ℕ) (before after : Shape V) (start now : Counts)
-      : Type 0 where
-    pub taken : OnOk result (IsTold after)
-    pub value : IfOk result (λ value. value ≡ gone)
-    pub refused : OnErr result (after ≡ before)
-    pub counted : CountsUpTo most most start now
-
--- What is given is as told, and so many nodes at most are entered and made for it.
-pub record Gives {A E : Type 0} (result : Result A E) (IsTold : A → Type 0) (entered made : ℕ)
-    (start now : Counts) : Type 0 where
-  pub told : IfOk result IsTold
-  pub counted : CountsUpTo entered made start now
 
 -- how many nodes an edit enters, and makes
 abbrev pub edit_cost : {P V : Type 0} → Edit P V → ℕ
@@ -125,29 +86,3 @@ module _ {P V : Type 0} where
   IsPlan Absent key s = found s key ≡ None
   IsPlan Leaf key s = IsLeafAt key s
   IsPlan (At depth edit) key s = RemovesBelow depth edit key s × IsSome (found s key)
-
-  -- What is told is a plan for the key. At least one node is entered; where the key is absent,
-  -- nothing is refused and no node made.
-  pub record PlansBelow {E : Type 0} (result : Result (Plan P V) E) (key : List ℕ) (s : Shape V)
-      (start now : Counts) : Type 0 where
-    pub plan : IfOk result (λ plan. IsPlan plan key s)
-    pub present : OnErr result (IsSome (found s key))
-    pub counted : CountsLeaving (cost_of result) (2 * path_bound s key) (path_bound s key) start now
-    pub entered : start.entered < now.entered
-    pub absent_makes_none : found s key ≡ None → now.made ≡ start.made
-
-  -- What is told is a plan for the key that is the node's prefix. Where the node has no value,
-  -- nothing is refused and no node made.
-  pub record PlansHere {E : Type 0} (result : Result (Plan P V) E) (s : Shape V)
-      (start now : Counts) : Type 0 where
-    pub plan : IfOk result (λ plan. IsPlan plan (prefix_of s) s)
-    pub present : OnErr result (IsSome (value_of s))
-    pub counted : CountsLeaving (cost_of result) 1 1 start now
-    pub absent_makes_none : value_of s ≡ None → now.made ≡ start.made
-
-  -- What is told is an edit that takes out each key that leads to a leaf under the byte.
-  pub record PlansWithout {E : Type 0} (result : Result (Edit P V) E) (byte : ℕ) (s : Shape V)
-      (start now : Counts) : Type 0 where
-    pub removes : IfOk result (λ edit. (key : List ℕ) → LeadsToLeaf byte key s
-        → Removes edit key s)
-    pub counted : CountsLeaving (edit_cost_of result) 2 2 start now

@@ -1,11 +1,12 @@
 // Ported from rart 0.11.0 (Apache-2.0), and rewritten.
 //! What is done at one node, and the way down to it.
-ghost use Rattle.std.specs.Prelude.{◌≡◌, ◌+◌, IsSome, None};
+ghost use Rattle.std.specs.Prelude.{◌≡◌, ◌+◌, IsSome, None, IfOk, OnErr, OnOk};
 ghost use Rattle.rart_below.specs.Children.{child_at};
 ghost use Rattle.rart_below.specs.Clones.{ClonesEqual};
+ghost use Rattle.rart_node.specs.Counts.{CountsUpTo};
 ghost use Rattle.rart_node.specs.Shape.{children_of, value_of, with_deleted, with_value};
-ghost use Rattle.rart_node.specs.Trees.{IsTaken, found};
-ghost use Rattle.rart_ways.specs.Plans.{CanEdit, Fits, RemovesBelow, TakesOut, edited, edit_cost, gone, value_under};
+ghost use Rattle.rart_node.specs.Trees.{IsTaken, IsTree, found};
+ghost use Rattle.rart_ways.specs.Plans.{Fits, RemovesBelow, edited, edit_cost, gone, value_under};
 
 use rart_below::Partial;
 use rart_node::{NodeRef, Work, rest_of};
@@ -31,11 +32,14 @@ pub(crate) fn edit_below<P: Partial, V: Clone + Drop>(
     edit: Edit<P, V>,
     work: &mut Work,
 ) -> Result<Option<V>, AllocError>
-    requires may { CanEdit V.is_clone at.old.shape }
+    requires clones { ClonesEqual V.is_clone }
+    requires tree { IsTree at.old.shape }
     requires planned { RemovesBelow depth edit key.now at.old.shape }
-    ensures { TakesOut result (found at.old.shape key.now)
-        (λ left. IsTaken key.now at.old.shape left) (depth + edit_cost edit)
-        at.old.shape at.new.shape work.old work.new }
+    ensures taken { OnOk result (IsTaken key.now at.old.shape at.new.shape) }
+    ensures value { IfOk result (λ value. value ≡ found at.old.shape key.now) }
+    ensures refused { OnErr result (at.new.shape ≡ at.old.shape) }
+    ensures counted { let most = depth + edit_cost edit in
+        CountsUpTo most most work.old work.new }
 {
     if depth == 0 {
         return edit_here(at, edit, work);
@@ -57,11 +61,13 @@ fn edit_here<P: Partial, V: Clone + Drop>(
     edit: Edit<P, V>,
     work: &mut Work,
 ) -> Result<Option<V>, AllocError>
-    requires may { CanEdit V.is_clone at.old.shape }
+    requires clones { ClonesEqual V.is_clone }
+    requires tree { IsTree at.old.shape }
     requires fits { Fits edit at.old.shape }
-    ensures { TakesOut result (gone edit at.old.shape)
-        (λ left. left ≡ edited edit at.old.shape) (edit_cost edit)
-        at.old.shape at.new.shape work.old work.new }
+    ensures taken { OnOk result (at.new.shape ≡ edited edit at.old.shape) }
+    ensures value { IfOk result (λ value. value ≡ gone edit at.old.shape) }
+    ensures refused { OnErr result (at.new.shape ≡ at.old.shape) }
+    ensures counted { CountsUpTo (edit_cost edit) (edit_cost edit) work.old work.new }
 {
     match edit {
         Edit::Take => take(at, work),
@@ -79,9 +85,10 @@ pub(crate) fn take<P: Partial, V: Clone + Drop>(
     work: &mut Work,
 ) -> Result<Option<V>, AllocError>
     requires clones { ClonesEqual V.is_clone }
-    ensures { TakesOut result (value_of at.old.shape)
-        (λ left. left ≡ with_value None at.old.shape) 1
-        at.old.shape at.new.shape work.old work.new }
+    ensures taken { OnOk result (at.new.shape ≡ with_value None at.old.shape) }
+    ensures value { IfOk result (λ value. value ≡ value_of at.old.shape) }
+    ensures refused { OnErr result (at.new.shape ≡ at.old.shape) }
+    ensures counted { CountsUpTo 1 1 work.old work.new }
 {
     let node = at.open_mut(work)?;
     Ok(node.take_value())
@@ -94,11 +101,13 @@ fn prune<P: Partial, V: Clone + Drop>(
     byte: u8,
     work: &mut Work,
 ) -> Result<Option<V>, AllocError>
-    requires may { CanEdit V.is_clone at.old.shape }
+    requires clones { ClonesEqual V.is_clone }
+    requires tree { IsTree at.old.shape }
     requires present { IsSome (child_at byte (children_of at.old.shape)) }
-    ensures { TakesOut result (value_under byte at.old.shape)
-        (λ left. left ≡ with_deleted byte at.old.shape) 2
-        at.old.shape at.new.shape work.old work.new }
+    ensures taken { OnOk result (at.new.shape ≡ with_deleted byte at.old.shape) }
+    ensures value { IfOk result (λ value. value ≡ value_under byte at.old.shape) }
+    ensures refused { OnErr result (at.new.shape ≡ at.old.shape) }
+    ensures counted { CountsUpTo 2 2 work.old work.new }
 {
     let node = at.open_mut(work)?;
     let Some(leaf) = node.seek_child_mut(byte) else {

@@ -1,11 +1,13 @@
 // Ported from rart 0.11.0 (Apache-2.0), and rewritten.
 //! The way down that finds a key, and what is to be done to remove it.
-ghost use Rattle.std.specs.Prelude.{◌≡◌, ℕ, List};
+ghost use Rattle.std.specs.Prelude.{◌≡◌, ℕ, ◌+◌, ◌*◌, ◌<◌, ◌≤◌, true, false, List, None, IsSome, IfOk, OnErr, length};
+ghost use Rattle.rart_below.specs.Bytes.{IsAdmitted};
 ghost use Rattle.rart_below.specs.Clones.{ClonesEqual};
-ghost use Rattle.rart_node.specs.Shape.{Shape, HasOnly, IsAscending, merged, prefix_of};
-ghost use Rattle.rart_node.specs.Trees.{IsTree};
-ghost use Rattle.rart_ways.specs.Plans.{CanLoseAChild, CanMerge, Gives, LeadsToLeaf, PlansBelow, PlansHere, PlansWithout, value_under};
-ghost use Rattle.rart_ways.specs.Removals.{CanRemove};
+ghost use Rattle.rart_node.specs.Counts.{CountsUpTo};
+ghost use Rattle.rart_node.specs.Shape.{Shape, HasOnly, IsAscending, children_of, merged, prefix_of, value_of};
+ghost use Rattle.rart_node.specs.Trees.{IsTree, found, path_bound};
+ghost use Rattle.rart_ways.specs.Plans.{IsPlan, LeadsToLeaf, Removes, cost_of, edit_cost_of, value_under};
+ghost use Rattle.rart_ways.specs.Removals.{AreAdmitted, CountsLeaving};
 
 use crate::removal::edit::Edit;
 use rart_below::Partial;
@@ -23,8 +25,10 @@ pub(crate) enum Plan<P: Partial, V> {
     At(usize, Edit<P, V>),
 }
 
-/// What is to be done to remove a key below a pointer. It calls itself once for each node of the
-/// way.
+/// What is to be done to remove a key below a pointer. Where the key is absent, nothing is refused
+/// and no node made.
+///
+/// It calls itself once for each node of the way.
 pub(crate) fn plan_below<P: Partial, V: Clone + Drop>(
     alloc: Global,
     at: &NodeRef<P, V>,
@@ -32,8 +36,15 @@ pub(crate) fn plan_below<P: Partial, V: Clone + Drop>(
     version: u64,
     work: &mut Work,
 ) -> Result<Plan<P, V>, AllocError>
-    requires { CanRemove V.is_clone P.MAXIMUM_SIZE at.now.shape }
-    ensures { PlansBelow result key.now at.now.shape work.old work.new }
+    requires clones { ClonesEqual V.is_clone }
+    requires tree { IsTree at.now.shape }
+    requires lengths { AreAdmitted P.MAXIMUM_SIZE at.now.shape }
+    ensures plan { IfOk result (λ plan. IsPlan plan key.now at.now.shape) }
+    ensures present { OnErr result (IsSome (found at.now.shape key.now)) }
+    ensures counted { CountsLeaving (cost_of result) (2 * path_bound at.now.shape key.now)
+        (path_bound at.now.shape key.now) work.old work.new }
+    ensures entered { work.old.entered < work.new.entered }
+    ensures absent_makes_none { found at.now.shape key.now ≡ None → work.new.made ≡ work.old.made }
 {
     let node = at.open(work);
     let Some(rest) = strip_prefix(key, node.prefix()) else {
@@ -52,15 +63,21 @@ pub(crate) fn plan_below<P: Partial, V: Clone + Drop>(
     }
 }
 
-/// What is to be done where the key is the prefix of this node.
+/// What is to be done where the key is the prefix of this node. Where that has no value, nothing is
+/// refused and no node made.
 fn plan_here<P: Partial, V: Clone + Drop>(
     alloc: Global,
     node: &VersionedNode<P, V>,
     version: u64,
     work: &mut Work,
 ) -> Result<Plan<P, V>, AllocError>
-    requires { CanRemove V.is_clone P.MAXIMUM_SIZE node.now.shape }
-    ensures { PlansHere result node.now.shape work.old work.new }
+    requires clones { ClonesEqual V.is_clone }
+    requires tree { IsTree node.now.shape }
+    requires lengths { AreAdmitted P.MAXIMUM_SIZE node.now.shape }
+    ensures plan { IfOk result (λ plan. IsPlan plan (prefix_of node.now.shape) node.now.shape) }
+    ensures present { OnErr result (IsSome (value_of node.now.shape)) }
+    ensures counted { CountsLeaving (cost_of result) 1 1 work.old work.new }
+    ensures absent_makes_none { value_of node.now.shape ≡ None → work.new.made ≡ work.old.made }
 {
     if node.value().is_none() {
         return Ok(Plan::Absent);
@@ -85,9 +102,13 @@ fn plan_without<P: Partial, V: Clone + Drop>(
     version: u64,
     work: &mut Work,
 ) -> Result<Edit<P, V>, AllocError>
-    requires may { CanRemove V.is_clone P.MAXIMUM_SIZE node.now.shape }
+    requires clones { ClonesEqual V.is_clone }
+    requires tree { IsTree node.now.shape }
+    requires lengths { AreAdmitted P.MAXIMUM_SIZE node.now.shape }
     requires leaf { (key : List ℕ) × LeadsToLeaf byte key node.now.shape }
-    ensures { PlansWithout result byte node.now.shape work.old work.new }
+    ensures removes { IfOk result (λ edit. (key : List ℕ) → LeadsToLeaf byte key node.now.shape
+        → Removes edit key node.now.shape) }
+    ensures counted { CountsLeaving (edit_cost_of result) 2 2 work.old work.new }
 {
     if can_lose_a_child(node) {
         return Ok(Edit::Prune(byte));
@@ -101,7 +122,10 @@ fn plan_without<P: Partial, V: Clone + Drop>(
 /// Whether a node that loses a child still has a value or two children.
 fn can_lose_a_child<P: Partial, V: Drop>(node: &VersionedNode<P, V>) -> bool
     requires { IsTree node.now.shape }
-    ensures { CanLoseAChild result node.now.shape }
+    ensures stays { result ≡ true → value_of node.now.shape ≡ None
+        → 2 < length (children_of node.now.shape) }
+    ensures valueless { result ≡ false → value_of node.now.shape ≡ None }
+    ensures few { result ≡ false → length (children_of node.now.shape) ≤ 2 }
 {
     node.value().is_some() || node.num_children() > 2
 }
@@ -114,8 +138,8 @@ fn value_under<P: Partial, V: Clone + Drop>(
 ) -> Result<Option<V>, AllocError>
     requires clones { ClonesEqual V.is_clone }
     requires order { IsAscending node.now.shape }
-    ensures { Gives result (λ value. value ≡ value_under byte node.now.shape) 1 0
-        work.old work.new }
+    ensures value { IfOk result (λ value. value ≡ value_under byte node.now.shape) }
+    ensures counted { CountsUpTo 1 0 work.old work.new }
 {
     match node.seek_child(byte) {
         None => Ok(None),
@@ -123,16 +147,23 @@ fn value_under<P: Partial, V: Clone + Drop>(
     }
 }
 
-/// A pointer to a node in place of this one and its only child: one node entered and one made.
+/// A pointer to a node in place of this one, which has no value, and its only child: one node
+/// entered and one made.
 fn merge<P: Partial, V: Clone + Drop>(
     alloc: Global,
     node: &VersionedNode<P, V>,
     version: u64,
     work: &mut Work,
 ) -> Result<NodeRef<P, V>, AllocError>
-    requires { CanMerge V.is_clone P.MAXIMUM_SIZE node.now.shape }
-    ensures { Gives result (λ it. (byte : ℕ) (child : Shape V) → HasOnly byte child node.now.shape
-        → it.shape ≡ merged (prefix_of node.now.shape) child) 1 1 work.old work.new }
+    requires clones { ClonesEqual V.is_clone }
+    requires valueless { value_of node.now.shape ≡ None }
+    requires one { length (children_of node.now.shape) ≡ 1 }
+    requires admitted { (byte : ℕ) (child : Shape V) → HasOnly byte child node.now.shape
+        → IsAdmitted P.MAXIMUM_SIZE (length (prefix_of node.now.shape) + length (prefix_of child)) }
+    ensures merged { IfOk result (λ it. (byte : ℕ) (child : Shape V)
+        → HasOnly byte child node.now.shape
+        → it.shape ≡ merged (prefix_of node.now.shape) child) }
+    ensures counted { CountsUpTo 1 1 work.old work.new }
 {
     NodeRef::new(alloc, node.merge_child(alloc, version, work)?, work)
 }

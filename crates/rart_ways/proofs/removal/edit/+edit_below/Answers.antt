@@ -69,13 +69,7 @@ edit_below-requires g t c κs within =
         within.0,
         (
           within.1,
-          (
-            record {
-              clones = c.requires.may.clones;
-              tree = (branch-is c.requires.may.tree goes).tree;
-            },
-            removes,
-          ),
+          (c.requires.clones, ((branch-is c.requires.tree goes).tree, removes)),
         ),
       ),
     )
@@ -99,13 +93,13 @@ returns g t c =
     (c.open_mut.follows.holds (c.seek_child_mut.follows.lender c.edit_below.new.at)) in
     record {
       taken = on-ok c.edit_below.result
-          (taken-deeper c.requires.may.tree goes _ _ _ _ c.in_ok-node.ensures.shown replaced shows)
+          (taken-deeper c.requires.tree goes _ _ _ _ c.in_ok-node.ensures.shown replaced shows)
           c.edit_below.ensures.taken;
       value = if-ok c.edit_below.result
-          (λ value is. is ∙ sym (found-below-is c.requires.may.tree goes))
+          (λ value is. is ∙ sym (found-below-is c.requires.tree goes))
           c.edit_below.ensures.value;
       refused = on-err c.edit_below.result
-          (kept-is s _ _ _ _ _ _ c.in_ok-node.ensures.shown c.requires.may.tree
+          (kept-is s _ _ _ _ _ _ c.in_ok-node.ensures.shown c.requires.tree
           c.in-Some-seek_child_mut.ensures.value replaced shows) c.edit_below.ensures.refused;
       counted = counts-then (counts-opened _ _ c.in_ok-node.ensures.work)
           c.edit_below.ensures.counted (omega (arith, some)) (omega (arith, some));

@@ -56,11 +56,10 @@ plan_below-requires g t c κs within =
         within.0,
         (
           within.1,
-          record {
-            clones = c.requires.clones;
-            tree = known.tree;
-            lengths = admitted-child _ s _ _ c.requires.tree goes.here c.requires.lengths;
-          },
+          (
+            c.requires.clones,
+            (known.tree, admitted-child _ s _ _ c.requires.tree goes.here c.requires.lengths),
+          ),
         ),
       ),
     )

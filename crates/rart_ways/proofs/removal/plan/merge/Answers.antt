@@ -7,7 +7,7 @@ use Rattle.rart_ways.proofs.removal.plan.merge.Goals as goal
 pub returns : goal.returns
 returns g c =
     record {
-      told = if-ok c.new.result
+      merged = if-ok c.new.result
           (λ pointer is byte child only. is
           ∙ c.in_ok-merge_child.ensures.merged c.requires.clones byte child only)
           c.new.ensures.shown;

@@ -21,8 +21,8 @@ merge-requires g c =
     let is = c.take_value-value.ensures.new ∙ ap (with_value None) copied in
     record {
       clones = c.requires.clones;
-      value = ap value_of is ∙ no-value s;
-      child = one-child s _ is (sym c.num_children.ensures.count ∙ c.in-1.is);
+      valueless = ap value_of is ∙ no-value s;
+      one = one-child s _ is (sym c.num_children.ensures.count ∙ c.in-1.is);
       admitted = λ byte child only.
           here-admitted _ s _ child byte is c.requires.tree c.requires.lengths only;
     }
@@ -48,7 +48,7 @@ returns-in_ok-merged-in-1 g c =
       plan = (
         here-replaces c.in_ok-merged-in-1.merged c.take_value-value.result s _
             (one-child s _ is (sym c.num_children.ensures.count ∙ c.in-1.is))
-            c.in_ok-merged-in-1.ensures.told c.requires.tree is
+            c.in_ok-merged-in-1.ensures.merged c.requires.tree is
             (c.take_value-value.ensures.old ∙ ap value_of copied),
         subst IsSome (sym (here-found s)) there,
       );

@@ -156,38 +156,40 @@ module _ {V : Type 0} where
       ] in
       both (step key s) refl is
 
-  -- ---- the next step of a key of which `depth` bytes stand above the node
-  module _ (s : Shape V) (w : List ℕ) (depth : ℕ) (within : depth ≤ length w)
-      (there : IsSome (step (drop depth w) s)) where
+  -- ---- the next step of a key of which `passed` bytes stand above the node
+  module _ (s : Shape V) (w : List ℕ) (passed : ℕ) (within : passed ≤ length w)
+      (there : IsSome (step (drop passed w) s)) where
     abbrev below : Shape V × List ℕ
-    below = (IsSome-Some (step (drop depth w) s) there).0
+    below = (IsSome-Some (step (drop passed w) s) there).0
 
-    goes : IsStep (drop depth w) s below
-    goes = is-step s (drop depth w) below (IsSome-Some (step (drop depth w) s) there).1
+    goes : IsStep (drop passed w) s below
+    goes = is-step s (drop passed w) below (IsSome-Some (step (drop passed w) s) there).1
 
-    matched : common_length (prefix_of s) (drop depth w) ≡ length (prefix_of s)
-    matched = let most = (common-within (prefix_of s) (drop depth w)).0 in let whole = goes.whole in
+    matched : common_length (prefix_of s) (drop passed w) ≡ length (prefix_of s)
+    matched =
+        let most = (common-within (prefix_of s) (drop passed w)).0 in
+        let whole = goes.whole in
         omega (arith, most, whole)
 
     -- The key is longer than what stands above the node and the node's prefix.
-    pub step-long : depth + length (prefix_of s) < length w
+    pub step-long : passed + length (prefix_of s) < length w
     step-long =
         let some =
         begins-long (first_byte below.1) below.1
         (begins-first (first_byte below.1) below.1 goes.next) in
         let left : length below.1 ≡ length
-        (drop (common_length (prefix_of s) (drop depth w)) (drop depth w)) =
+        (drop (common_length (prefix_of s) (drop passed w)) (drop passed w)) =
         ap length goes.rest in
-        let a = length-drop (common_length (prefix_of s) (drop depth w)) (drop depth w) in
-        let b = length-drop depth w in
+        let a = length-drop (common_length (prefix_of s) (drop passed w)) (drop passed w) in
+        let b = length-drop passed w in
         omega (arith, some, left, a, b, matched, within)
 
-    rest-is : (end : ℕ) → end ≡ depth + length (prefix_of s) → drop end w ≡ below.1
+    rest-is : (end : ℕ) → end ≡ passed + length (prefix_of s) → drop end w ≡ below.1
     rest-is end is =
-        ap (λ n. drop n w) (is ∙ ap (λ n. depth + n) (sym matched))
-        ∙ sym (drop-drop (common_length (prefix_of s) (drop depth w)) depth w) ∙ sym goes.rest
+        ap (λ n. drop n w) (is ∙ ap (λ n. passed + n) (sym matched))
+        ∙ sym (drop-drop (common_length (prefix_of s) (drop passed w)) passed w) ∙ sym goes.rest
 
-    byte-is : (end byte : ℕ) → end ≡ depth + length (prefix_of s) → byte ≡ slice_index_or w end 0
+    byte-is : (end byte : ℕ) → end ≡ passed + length (prefix_of s) → byte ≡ slice_index_or w end 0
         → first_byte below.1 ≡ byte
     byte-is end byte is reads =
         let lt : end < length w = let long = step-long in omega (arith, long, is) in
@@ -196,17 +198,17 @@ module _ {V : Type 0} where
         same_Some _ byte (sym goes.next ∙ ap (λ z. slice_get z 0) (sym (rest-is end is)) ∙ next)
 
     -- It goes on at the child under the byte behind these.
-    pub step-next : (end byte : ℕ) → end ≡ depth + length (prefix_of s)
+    pub step-next : (end byte : ℕ) → end ≡ passed + length (prefix_of s)
         → byte ≡ slice_index_or w end 0
-        → step (drop depth w) s ≡ option_map (λ child. (child, drop end w))
+        → step (drop passed w) s ≡ option_map (λ child. (child, drop end w))
         (child_at byte (children_of s))
     step-next end byte is reads =
-        (IsSome-Some (step (drop depth w) s) there).1
+        (IsSome-Some (step (drop passed w) s) there).1
         ∙ ap (λ z. Some (below.0, z)) (sym (rest-is end is))
         ∙ ap (option_map (λ child. (child, drop end w)))
         (sym goes.child ∙ ap (λ z. child_at z (children_of s)) (byte-is end byte is reads))
 
-    pub step-first : (end byte : ℕ) → end ≡ depth + length (prefix_of s)
+    pub step-first : (end byte : ℕ) → end ≡ passed + length (prefix_of s)
         → byte ≡ slice_index_or w end 0 → first_byte (drop end w) ≡ byte
     step-first end byte is reads = ap first_byte (rest-is end is) ∙ byte-is end byte is reads
 

@@ -32,8 +32,8 @@ pub fn lend_below<'a, P: Partial, V: Clone + Drop>(
     ensures value { IfOk result (λ value. found at.old.shape key.now ≡ Some value.now) }
     ensures counted { CountsUpTo (steps + 1) (steps + 1) work.old work.new }
 {
-    let mut depth = 0;
-    let node = Whole::down(at, key, &mut depth, steps, work)?;
+    let mut passed = 0;
+    let node = Whole::down(at, key, &mut passed, steps, work)?;
     match node.value_mut() {
         Some(value) => Ok(value),
         None => unreachable!(),

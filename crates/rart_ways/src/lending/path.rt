@@ -24,25 +24,25 @@ use std::marker::PhantomData;
 pub(crate) trait Path {
     ghost most: { ℕ };
 
-    /// Lends the node that is `steps` nodes down on the way of a key. `depth` bytes of the key
+    /// Lends the node that is `steps` nodes down on the way of a key. `passed` bytes of the key
     /// stand above the node of the pointer, and then above the last one.
     fn down<'a, P: Partial, V: Clone + Drop>(
         at: &'a mut NodeRef<P, V>,
         key: &[u8],
-        depth: &mut usize,
+        passed: &mut usize,
         steps: usize,
         work: &mut Work,
     ) -> Result<&'a mut VersionedNode<P, V>, AllocError>
         requires clones { ClonesEqual V.is_clone }
-        requires depth { depth.old ≤ length key.now }
+        requires within { passed.old ≤ length key.now }
         requires tree { IsTree at.old.shape }
         requires few { steps ≤ most }
-        requires there { IsSome (path_end steps (drop depth.old key.now) at.old.shape) }
+        requires there { IsSome (path_end steps (drop passed.old key.now) at.old.shape) }
         ensures* writes_back { sem 𝓛 (LendsPathEnd P.row V.row P.Partial at.entry steps
-            (drop depth.entry.now key.now) result) }
-        ensures reached { IfOk result (λ end. path_end steps (drop depth.old key.now) at.old.shape
-            ≡ Some (end.now.shape, drop depth.new key.now)) }
-        ensures within { depth.new ≤ length key.now }
+            (drop passed.entry.now key.now) result) }
+        ensures reached { IfOk result (λ end. path_end steps (drop passed.old key.now) at.old.shape
+            ≡ Some (end.now.shape, drop passed.new key.now)) }
+        ensures within { passed.new ≤ length key.now }
         ensures counted { CountsUpTo (steps + 1) (steps + 1) work.old work.new };
 }
 
@@ -60,7 +60,7 @@ impl Path for Here {
     fn down<'a, P: Partial, V: Clone + Drop>(
         at: &'a mut NodeRef<P, V>,
         _key: &[u8],
-        _depth: &mut usize,
+        _passed: &mut usize,
         _steps: usize,
         work: &mut Work,
     ) -> Result<&'a mut VersionedNode<P, V>, AllocError> {
@@ -74,7 +74,7 @@ impl<L: Path> Path for Twice<L> {
     fn down<'a, P: Partial, V: Clone + Drop>(
         at: &'a mut NodeRef<P, V>,
         key: &[u8],
-        depth: &mut usize,
+        passed: &mut usize,
         steps: usize,
         work: &mut Work,
     ) -> Result<&'a mut VersionedNode<P, V>, AllocError> {
@@ -82,33 +82,33 @@ impl<L: Path> Path for Twice<L> {
             return at.open_mut(work);
         }
         let half = (steps - 1) / 2;
-        let middle = L::down(at, key, depth, half, work)?;
-        let byte = next_byte(middle, key, depth);
+        let middle = L::down(at, key, passed, half, work)?;
+        let byte = next_byte(middle, key, passed);
         match middle.seek_child_mut(byte) {
-            Some(child) => L::down(child, key, depth, steps - 1 - half, work),
+            Some(child) => L::down(child, key, passed, steps - 1 - half, work),
             None => unreachable!(),
         }
     }
 }
 
-/// The byte under which a key goes on below a node. `depth` bytes of the key stand above the node,
+/// The byte under which a key goes on below a node. `passed` bytes of the key stand above the node,
 /// and then above the child.
-fn next_byte<P: Partial, V: Drop>(node: &VersionedNode<P, V>, key: &[u8], depth: &mut usize) -> u8
-    requires depth { depth.old ≤ length key.now }
-    requires there { IsSome (step (drop depth.old key.now) node.now.shape) }
-    ensures next { step (drop depth.old key.now) node.now.shape
-        ≡ option_map (λ child. (child, drop depth.new key.now))
+fn next_byte<P: Partial, V: Drop>(node: &VersionedNode<P, V>, key: &[u8], passed: &mut usize) -> u8
+    requires within { passed.old ≤ length key.now }
+    requires there { IsSome (step (drop passed.old key.now) node.now.shape) }
+    ensures next { step (drop passed.old key.now) node.now.shape
+        ≡ option_map (λ child. (child, drop passed.new key.now))
         (child_at result (children_of node.now.shape)) }
-    ensures first { first_byte (drop depth.new key.now) ≡ result }
-    ensures within { depth.new ≤ length key.now }
+    ensures first { first_byte (drop passed.new key.now) ≡ result }
+    ensures within { passed.new ≤ length key.now }
 {
-    *depth += node.prefix().len();
-    key[*depth]
+    *passed += node.prefix().len();
+    key[*passed]
 }
 
-// 64 times: 2^64 - 1 nodes down, more than a key has bytes.
 type Four<L> = Twice<Twice<Twice<Twice<L>>>>;
 
 type Sixteen<L> = Four<Four<Four<Four<L>>>>;
 
+/// 64 times twice: 2^64 - 1 nodes down, more than a key has bytes.
 pub(crate) type Whole = Sixteen<Sixteen<Sixteen<Sixteen<Here>>>>;

@@ -16,7 +16,7 @@ returns g c =
     let s = c.args.at.now.shape in
     let steps = c.args.steps in
     let node = c.in_ok-node.node.now.shape in
-    let left = drop c.down.new.depth w in
+    let left = drop c.down.new.passed w in
     let reached : path_end steps w s ≡ Some (node, left) = c.in_ok-node.ensures.reached in
     let same : c.requires.arrives.0 ≡ (node, left) =
     same_Some c.requires.arrives.0 (node, left) (sym c.requires.arrives.1 ∙ reached) in

@@ -3,18 +3,18 @@ use Rattle.rart_node.specs.Shape.{prefix_of}
 use Rattle.rart_ways.proofs.LentPathLemmas.{step-first, step-long, step-next}
 use Rattle.rart_ways.proofs.lending.path.next_byte.Goals as goal
 
-pub overflow_add-depth : goal.overflow_add-depth
-overflow_add-depth g c =
+pub overflow_add-passed : goal.overflow_add-passed
+overflow_add-passed g c =
     let s = c.args.node.now.shape in
-    let long = step-long s c.args.key.now c.args.depth.now c.requires.depth c.requires.there in
+    let long = step-long s c.args.key.now c.args.passed.now c.requires.within c.requires.there in
     let of_prefix : c.len.result ≡ length (prefix_of s) =
     c.len.ensures ∙ ap length c.prefix.ensures in
     omega (arith, long, of_prefix)
 
-pub bounds-key-depth : goal.bounds-key-depth
-bounds-key-depth g c =
+pub bounds-key-passed : goal.bounds-key-passed
+bounds-key-passed g c =
     let s = c.args.node.now.shape in
-    let long = step-long s c.args.key.now c.args.depth.now c.requires.depth c.requires.there in
+    let long = step-long s c.args.key.now c.args.passed.now c.requires.within c.requires.there in
     let of_prefix : c.len.result ≡ length (prefix_of s) =
     c.len.ensures ∙ ap length c.prefix.ensures in
     omega (arith, long, of_prefix)
@@ -22,14 +22,14 @@ bounds-key-depth g c =
 pub returns : goal.returns
 returns g c =
     let s = c.args.node.now.shape in
-    let long = step-long s c.args.key.now c.args.depth.now c.requires.depth c.requires.there in
+    let long = step-long s c.args.key.now c.args.passed.now c.requires.within c.requires.there in
     let of_prefix : c.len.result ≡ length (prefix_of s) =
     c.len.ensures ∙ ap length c.prefix.ensures in
-    let end = ap (λ n. c.args.depth.now + n) of_prefix in
+    let end = ap (λ n. c.args.passed.now + n) of_prefix in
     record {
-      next = step-next s c.args.key.now c.args.depth.now c.requires.depth c.requires.there _ _ end
-          refl;
-      first = step-first s c.args.key.now c.args.depth.now c.requires.depth c.requires.there _ _ end
-          refl;
+      next = step-next s c.args.key.now c.args.passed.now c.requires.within c.requires.there _ _
+          end refl;
+      first = step-first s c.args.key.now c.args.passed.now c.requires.within c.requires.there _ _
+          end refl;
       within = omega (arith, long, of_prefix);
     }

@@ -20,7 +20,7 @@ pub down-requires : goal.down-requires
 down-requires g c =
     let w = c.args.key.now in
     let s = c.args.at.now.shape in
-    let key = drop c.args.depth.now w in
+    let key = drop c.args.passed.now w in
     let steps = c.args.steps in
     let half = (steps - 1) / 2 in
     let rest = steps - 1 - half in
@@ -28,7 +28,7 @@ down-requires g c =
     let parts : steps ≡ half + suc rest = omega (arith, c.if-steps-eq0.false) in
     record {
       clones = c.requires.clones;
-      depth = c.requires.depth;
+      within = c.requires.within;
       tree = c.requires.tree;
       few = omega (arith, few);
       there = front-there half (suc rest) steps key s parts c.requires.there;
@@ -38,20 +38,20 @@ pub next_byte-byte-requires : goal.next_byte-byte-requires
 next_byte-byte-requires g c =
     let w = c.args.key.now in
     let s = c.args.at.now.shape in
-    let key = drop c.args.depth.now w in
+    let key = drop c.args.passed.now w in
     let steps = c.args.steps in
     let half = (steps - 1) / 2 in
     let rest = steps - 1 - half in
     let parts : steps ≡ half + suc rest = omega (arith, c.if-steps-eq0.false) in
     let middle = c.in_ok-middle.middle.now.shape in
-    let left = drop c.down.new.depth w in
+    let left = drop c.down.new.passed w in
     let reached : path_end half key s ≡ Some (middle, left) =
     c.in_ok-middle.ensures.reached in
     let further : IsSome (path_end (suc rest) left middle) =
     subst IsSome (back-is half (suc rest) steps key s (middle, left) parts reached)
     c.requires.there in
     record {
-      depth = c.in_ok-middle.ensures.within;
+      within = c.in_ok-middle.ensures.within;
       there = step-there rest left middle further;
     }
 
@@ -59,13 +59,13 @@ pub seek_child_mut-requires : goal.seek_child_mut-requires
 seek_child_mut-requires g c =
     let w = c.args.key.now in
     let s = c.args.at.now.shape in
-    let key = drop c.args.depth.now w in
+    let key = drop c.args.passed.now w in
     let steps = c.args.steps in
     let half = (steps - 1) / 2 in
     let rest = steps - 1 - half in
     let parts : steps ≡ half + suc rest = omega (arith, c.if-steps-eq0.false) in
     let middle = c.in_ok-middle.middle.now.shape in
-    let left = drop c.down.new.depth w in
+    let left = drop c.down.new.passed w in
     let reached : path_end half key s ≡ Some (middle, left) =
     c.in_ok-middle.ensures.reached in
     let tree : IsTree middle = tree-along half key s (middle, left) c.requires.tree reached in
@@ -75,13 +75,13 @@ pub down-requires-in-Some : goal.down-requires-in-Some
 down-requires-in-Some g c =
     let w = c.args.key.now in
     let s = c.args.at.now.shape in
-    let key = drop c.args.depth.now w in
+    let key = drop c.args.passed.now w in
     let steps = c.args.steps in
     let half = (steps - 1) / 2 in
     let rest = steps - 1 - half in
     let parts : steps ≡ half + suc rest = omega (arith, c.if-steps-eq0.false) in
     let middle = c.in_ok-middle.middle.now.shape in
-    let left = drop c.down.new.depth w in
+    let left = drop c.down.new.passed w in
     let reached : path_end half key s ≡ Some (middle, left) =
     c.in_ok-middle.ensures.reached in
     let further : IsSome (path_end (suc rest) left middle) =
@@ -89,7 +89,7 @@ down-requires-in-Some g c =
     c.requires.there in
     let byte = c.next_byte-byte.result in
     let child = c.in-Some.child.now.shape in
-    let below = drop c.next_byte-byte.new.depth w in
+    let below = drop c.next_byte-byte.new.passed w in
     let here : child_at byte (children_of middle) ≡ Some child = sym c.in-Some.ensures.value in
     let goes : step left middle ≡ Some (child, below) =
     c.next_byte-byte.ensures.next ∙ ap (option_map (λ z. (z, below))) here in
@@ -97,7 +97,7 @@ down-requires-in-Some g c =
     let few = c.requires.few in
     record {
       clones = c.requires.clones;
-      depth = c.next_byte-byte.ensures.within;
+      within = c.next_byte-byte.ensures.within;
       tree = (branch middle byte child (ordered middle tree) here).tree;
       few = omega (arith, few);
       there = subst IsSome (below-is rest left middle (child, below) goes) further;
@@ -107,13 +107,13 @@ pub unreachable-requires : goal.unreachable-requires
 unreachable-requires g c =
     let w = c.args.key.now in
     let s = c.args.at.now.shape in
-    let key = drop c.args.depth.now w in
+    let key = drop c.args.passed.now w in
     let steps = c.args.steps in
     let half = (steps - 1) / 2 in
     let rest = steps - 1 - half in
     let parts : steps ≡ half + suc rest = omega (arith, c.if-steps-eq0.false) in
     let middle = c.in_ok-middle.middle.now.shape in
-    let left = drop c.down.new.depth w in
+    let left = drop c.down.new.passed w in
     let reached : path_end half key s ≡ Some (middle, left) =
     c.in_ok-middle.ensures.reached in
     let further : IsSome (path_end (suc rest) left middle) =
@@ -121,20 +121,20 @@ unreachable-requires g c =
     c.requires.there in
     let gone : step left middle ≡ None =
     c.next_byte-byte.ensures.next ∙ ap
-    (option_map (λ z. (z, drop c.next_byte-byte.new.depth w))) (sym c.in-None.ensures.value) in
+    (option_map (λ z. (z, drop c.next_byte-byte.new.passed w))) (sym c.in-None.ensures.value) in
     false≢true (subst IsSome gone (step-there rest left middle further))
 
 pub returns : goal.returns
 returns g c =
     let w = c.args.key.now in
     let s = c.args.at.now.shape in
-    let key = drop c.args.depth.now w in
+    let key = drop c.args.passed.now w in
     let steps = c.args.steps in
     let half = (steps - 1) / 2 in
     let rest = steps - 1 - half in
     let parts : steps ≡ half + suc rest = omega (arith, c.if-steps-eq0.false) in
     let middle = c.in_ok-middle.middle.now.shape in
-    let left = drop c.down.new.depth w in
+    let left = drop c.down.new.passed w in
     let reached : path_end half key s ≡ Some (middle, left) =
     c.in_ok-middle.ensures.reached in
     let further : IsSome (path_end (suc rest) left middle) =
@@ -143,7 +143,7 @@ returns g c =
     let tree : IsTree middle = tree-along half key s (middle, left) c.requires.tree reached in
     let byte = c.next_byte-byte.result in
     let child = c.in-Some.child.now.shape in
-    let below = drop c.next_byte-byte.new.depth w in
+    let below = drop c.next_byte-byte.new.passed w in
     let here : child_at byte (children_of middle) ≡ Some child = sym c.in-Some.ensures.value in
     let goes : step left middle ≡ Some (child, below) =
     c.next_byte-byte.ensures.next ∙ ap (option_map (λ z. (z, below))) here in

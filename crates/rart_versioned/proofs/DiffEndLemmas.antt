@@ -1,18 +1,13 @@
 -- A diff that its closure ends, in the words of the maps.
-use Rattle.std.proofs.Common.{◌≡◌, ◌⊎◌, ◌+◌, ◌≤◌, ⊎_elim, inl, inr, ℕ, Bool, true, false, cond, List, [], ◌∷◌, ◌++◌, Option, Result, Ok, Err, IfOk, length, map, arith, refl, sym, ap, subst, ◌∙◌, append-nil}
+use Rattle.std.proofs.Common.{◌≡◌, ◌⊎◌, ◌+◌, ◌≤◌, ⊎_elim, inl, inr, ℕ, true, false, cond, List, [], ◌∷◌, ◌++◌, Option, Result, Ok, Err, IfOk, length, arith, refl, sym, ap, subst, ◌∙◌, append-nil}
 use Rattle.std.specs.Prelude.{Contains, count_by}
-use Rattle.std.specs.Fn.{Mut}
 use Rattle.std.specs.Option.{is_some}
 use Rattle.std.specs.Ordering.{is_le}
 use Rattle.std.specs.declared.ops.Bound.TheVariants.{Included}
 use Rattle.std.proofs.lemmas.List.Sums.{sum_by-cons}
 use Rattle.rart_below.specs.Bytes.{byte_order}
-use Rattle.rart_below.specs.declared.slot.Refusal.{Refusal}
-use Rattle.rart_below.specs.declared.slot.Refusal.TheVariants.{Callback, Memory}
-use Rattle.rart_below.specs.declared.visit.VisitControl.{VisitControl}
-use Rattle.rart_below.specs.declared.visit.VisitControl.TheVariants.{Stop}
 use Rattle.rart_maps.specs.ChangeLists.{Change}
-use Rattle.rart_walks.specs.DiffEnds.{Ends, EndsWithin, EntersTo, EntersToFirst, pairs_from, is_up_to_first, nodes_to}
+use Rattle.rart_walks.specs.DiffEnds.{EntersTo, EntersToFirst, pairs_from, is_up_to_first, nodes_to}
 use Rattle.rart_walks.specs.TwoWalks.{nodes_ahead}
 use Rattle.rart_maps.specs.Bounds.{node_count}
 use Rattle.rart_maps.specs.Order.{IsAtMost}
@@ -142,23 +137,3 @@ module _ {P V : Type 0} {partial : _} (m n : Map V) (old new : Walk P V (List �
       → EntersToFirst old new between after changes → EndsAtFirst m n start after changes
   diff-first nodes [] through = omega (arith, nodes, through)
   diff-first nodes (first ∷ changes) enters = diff-soon [] first enters
-
--- How a diff ends is known in other counts too, where these follow.
-module _ {F A M E : Type 0} (g : Mut F A (Result VisitControl E)) (Shows : A → M → Type 0)
-    {Through Reaches : Type 0} {Costs Bounds : List M → M → Type 0} (members : List M)
-    (through : Through → Reaches) (each : (front : List M) (last : M) → Costs front last
-    → Bounds front last) where
-  within-weaker : (f f' : F) (answer : Result VisitControl E)
-      → EndsWithin g Shows Costs f members answer f' → EndsWithin g Shows Bounds f members answer f'
-  within-weaker f f' answer ends = (ends.0, ends.1, ends.2, each ends.0 ends.1 ends.3)
-
-  pub diff-ends-weaker : (f f' : F) (result : Result (Unit {0}) (Refusal E))
-      → Ends g Shows Through Costs result f members f'
-      → Ends g Shows Reaches Bounds result f members f'
-  diff-ends-weaker f f' (Ok done) ends =
-      ⊎_elim
-      (λ all. inl (all.0, through all.1))
-      (λ some. inr (within-weaker f f' (Ok Stop) some))
-      ends
-  diff-ends-weaker f f' (Err (Callback e)) ends = within-weaker f f' (Err e) ends
-  diff-ends-weaker f f' (Err (Memory refused)) ends = tt

@@ -1,7 +1,6 @@
 -- A visit under a prefix that its closure ends at a key: what there is up to that key.
-use Rattle.std.proofs.Common.{◌≡◌, ◌⊎◌, ◌+◌, ◌*◌, ◌<◌, ◌≤◌, ◌&&◌, ⊎_elim, inl, inr, ℕ, Bool, true, false, cond, List, [], ◌∷◌, ◌++◌, Result, Ok, Err, length, arith, refl, sym, ap, subst, ◌∙◌}
+use Rattle.std.proofs.Common.{◌≡◌, ◌⊎◌, ◌+◌, ◌*◌, ◌<◌, ◌≤◌, ◌&&◌, ⊎_elim, inl, inr, ℕ, Bool, true, false, cond, List, [], ◌∷◌, ◌++◌, length, arith, refl, sym, ap, subst, ◌∙◌}
 use Rattle.std.specs.Prelude.{◌==◌, Contains, count_by}
-use Rattle.std.specs.Fn.{Mut}
 use Rattle.std.specs.Ordering.{as_partial_cmp, is_lt}
 use Rattle.std.specs.Range.Bound.{bounds_contain}
 use Rattle.std.specs.Str.{bytes_eq}
@@ -12,10 +11,6 @@ use Rattle.std.proofs.lemmas.List.Elements.{All-nil, All-cons}
 use Rattle.std.proofs.lemmas.List.Sums.{length-filter, sum_by-cons}
 use Rattle.std.proofs.lemmas.Slice.Eq.{bytes_eq-Decides}
 use Rattle.rart_below.specs.Bytes.{begins, byte_order}
-use Rattle.rart_below.specs.declared.slot.Refusal.{Refusal}
-use Rattle.rart_below.specs.declared.slot.Refusal.TheVariants.{Callback, Memory}
-use Rattle.rart_below.specs.declared.visit.VisitControl.{VisitControl}
-use Rattle.rart_below.specs.declared.visit.VisitControl.TheVariants.{Stop}
 use Rattle.rart_maps.specs.Bounds.{bound_length}
 use Rattle.rart_maps.specs.FoundLaws.{KeysAscend}
 use Rattle.rart_maps.specs.Order.{IsBefore, IsAtMost}
@@ -27,7 +22,7 @@ use Rattle.rart_maps.proofs.OrderLemmas.{IsBefore-itself, IsBefore-back, before-
 use Rattle.rart_maps.proofs.RangeLemmas.{is_below, up_to, up_to-first, up_to-past, filter-both}
 use Rattle.rart_maps.proofs.PointLemmas.{head_of, tail_of}
 use Rattle.rart_node.specs.Counts.{Counts, CountsUpTo}
-use Rattle.rart_walks.specs.Ends.{Ends, EndsWithin, EntersUpTo, MeetUpTo}
+use Rattle.rart_walks.specs.Ends.{EntersUpTo, MeetUpTo}
 use Rattle.rart_versioned.specs.VisitCounts.{EndsSoon}
 
 -- ---- counts
@@ -257,26 +252,3 @@ module _ {V : Type 0} where
           };
           at_least = omega (arith, least, at_hand);
         }
-
--- How a visit ends is known in other counts too, where these follow.
-module _ {F A V E : Type 0} (g : Mut F A (Result VisitControl E)) (Shows : A → V → Type 0)
-    {Through Reaches : Type 0} {Costs Bounds : List (List ℕ × V) → List ℕ × V → Type 0}
-    (members : List (List ℕ × V)) (through : Through → Reaches)
-    (each : (front rest : List (List ℕ × V)) (last : List ℕ × V)
-    → members ≡ front ++ last ∷ rest → Costs front last → Bounds front last) where
-  within-weaker : (f last : F) (answer : Result VisitControl E)
-      → EndsWithin g Shows Costs f members answer last
-      → EndsWithin g Shows Bounds f members answer last
-  within-weaker f last answer ends =
-      (ends.0, ends.1, ends.2, each ends.0 ends.2.rest ends.1 ends.2.is ends.3)
-
-  pub ends-weaker : (f last : F) (result : Result (Unit {0}) (Refusal E))
-      → Ends g Shows Through Costs result f members last
-      → Ends g Shows Reaches Bounds result f members last
-  ends-weaker f last (Ok done) ends =
-      ⊎_elim
-      (λ all. inl (all.0, through all.1))
-      (λ some. inr (within-weaker f last (Ok Stop) some))
-      ends
-  ends-weaker f last (Err (Callback e)) ends = within-weaker f last (Err e) ends
-  ends-weaker f last (Err (Memory refused)) ends = tt

@@ -1,6 +1,7 @@
 -- What a visitor over a tree goes over and enters, in the words of the version that is shown.
-use Rattle.std.proofs.Common.{◌≡◌, ◌+◌, ◌*◌, ◌≤◌, ◌++◌, ◌&&◌, ⊎_elim, ℕ, Bool, true, false, cond, List, [], Option, None, Some, Result, Ok, Err, OnOk, OnErr, length, filter, map, arith, refl, sym, ap, subst, ◌∙◌}
+use Rattle.std.proofs.Common.{◌≡◌, ◌+◌, ◌*◌, ◌≤◌, ◌++◌, ◌&&◌, ⊎_elim, inl, inr, ℕ, Bool, true, false, cond, List, [], ◌∷◌, Option, None, Some, Result, Ok, Err, OnOk, OnErr, length, filter, map, arith, refl, sym, ap, subst, ◌∙◌}
 use Rattle.std.specs.Prelude.{count_by}
+use Rattle.std.specs.Fn.{Mut}
 use Rattle.std.specs.Option.{option_map}
 use Rattle.std.specs.Ordering.{is_lt}
 use Rattle.std.specs.declared.ops.Bound.{Bound}
@@ -10,6 +11,10 @@ use Rattle.std.proofs.lemmas.List.Sums.{length-filter, sum_by-cons}
 use Rattle.std.specs.FinMap as finite
 use Rattle.std.specs.FinSet as set
 use Rattle.rart_below.specs.Bytes.{begins, byte_order}
+use Rattle.rart_below.specs.declared.slot.Refusal.{Refusal}
+use Rattle.rart_below.specs.declared.slot.Refusal.TheVariants.{Callback, Memory}
+use Rattle.rart_below.specs.declared.visit.VisitControl.{VisitControl}
+use Rattle.rart_below.specs.declared.visit.VisitControl.TheVariants.{Stop}
 use Rattle.rart_maps.specs.Bounds.{bound_string, bound_length, reach_bound, reach_by_pairs, node_count}
 use Rattle.rart_maps.specs.Pairs.{prefix_matches, within}
 use Rattle.rart_maps.specs.Points.{partings}
@@ -18,6 +23,7 @@ use Rattle.rart_maps.proofs.RangeLemmas.{is_below, filter-both}
 use Rattle.rart_node.specs.Counts.{Counts, CountsUpTo}
 use Rattle.rart_node.specs.Shape.{Shape, node}
 use Rattle.rart_node.specs.Trees.{found, pairs_of}
+use Rattle.rart_walks.specs.Ends.{Ends, EndsWithin}
 use Rattle.rart_walks.specs.Parts.{start_of}
 use Rattle.rart_walks.specs.Walks.{IsEndOf, paths_of, nodes_of}
 use Rattle.rart_walks.proofs.CursorLemmas.{nodes-paths}
@@ -37,6 +43,27 @@ OnOk-weaker (Err error) follows holds = tt
 pub OnErr-always : {A E P : Type 0} (result : Result A E) → P → OnErr result P
 OnErr-always (Ok value) holds = tt
 OnErr-always (Err error) holds = holds
+
+-- How a visit ends is known in other counts too, where these follow.
+module _ {F A M E : Type 0} (g : Mut F A (Result VisitControl E)) (Shows : A → M → Type 0)
+    {Through Reaches : Type 0} {Costs Bounds : List M → M → Type 0} (members : List M)
+    (through : Through → Reaches) (each : (front rest : List M) (last : M)
+    → members ≡ front ++ last ∷ rest → Costs front last → Bounds front last) where
+  within-weaker : (f f' : F) (answer : Result VisitControl E)
+      → EndsWithin g Shows Costs f members answer f' → EndsWithin g Shows Bounds f members answer f'
+  within-weaker f f' answer ends =
+      (ends.0, ends.1, ends.2, each ends.0 ends.2.rest ends.1 ends.2.is ends.3)
+
+  pub ends-weaker : (f f' : F) (result : Result (Unit {0}) (Refusal E))
+      → Ends g Shows Through Costs result f members f'
+      → Ends g Shows Reaches Bounds result f members f'
+  ends-weaker f f' (Ok done) ends =
+      ⊎_elim
+      (λ all. inl (all.0, through all.1))
+      (λ some. inr (within-weaker f f' (Ok Stop) some))
+      ends
+  ends-weaker f f' (Err (Callback e)) ends = within-weaker f f' (Err e) ends
+  ends-weaker f f' (Err (Memory refused)) ends = tt
 
 -- What a walk has left to enter, and what was entered for it, are all nodes: so many are entered in
 -- all.

@@ -1,6 +1,6 @@
 -- What a diff has entered where it ends on a change.
 use Rattle.std.proofs.Common.{◌≡◌, ◌+◌, ◌≤◌, ℕ, Bool, cond, List, [], ◌∷◌, ◌++◌, Option, Some, None, length, sym, ap, subst, ◌∙◌, arith}
-use Rattle.std.specs.Prelude.{Ok, Err, Result}
+use Rattle.std.specs.Prelude.{Ok, Result}
 use Rattle.std.specs.Borrow.{Bor}
 use Rattle.std.specs.Fn.{Mut}
 use Rattle.std.specs.Option.{is_some, option_copied}
@@ -12,49 +12,44 @@ use Rattle.rart_maps.specs.Visits.{AnswersUpTo, CalledOn}
 use Rattle.rart_node.specs.Counts.{Counts}
 use Rattle.rart_walks.specs.WalkFields.{cursor}
 use Rattle.rart_walks.specs.declared.walk.Walk.{Walk}
-use Rattle.rart_walks.specs.ChangeFields.{ComesToChange, GivesChange, GoesOver, changes_left, key_given, nodes_to_enter, hands}
-use Rattle.rart_walks.specs.DiffEnds.{EndsWithin, EntersTo, EntersToFirst, pairs_from, is_up_to_first}
-use Rattle.rart_walks.specs.Passes.{GoesTo, HasCome}
-use Rattle.rart_walks.specs.SideFields.{pairs_left, paths_left}
+use Rattle.rart_walks.specs.ChangeFields.{ComesTo, ComesToChange, GivesChange, changes_left, key_given, nodes_to_enter, hands}
+use Rattle.rart_walks.specs.DiffEnds.{EntersTo, EntersToFirst, pairs_from, is_up_to_first}
+use Rattle.rart_walks.specs.Ends.{EndsWithin}
+use Rattle.rart_walks.specs.Passes.{GoesTo}
+use Rattle.rart_walks.specs.SideFields.{HasLeft, paths_left}
 use Rattle.rart_walks.specs.TwoWalks.{nodes_ahead}
 use Rattle.rart_walks.specs.declared.diff.changes.ChangeWalk.{ChangeWalk}
-use Rattle.rart_walks.proofs.DiffCountLemmas.{IsCounted}
+use Rattle.rart_walks.proofs.CountedLemmas.{IsCounted, counts-none_made}
 use Rattle.rart_walks.proofs.DiffPassLemmas.{up_to_first-passes}
 
 module _ {P V : Type 0} {partial : _} (same : V → V → Bool) (old new : Walk P V (List ℕ) partial)
-    (made : ChangeWalk P V partial) (over : GoesOver same old new made) where
+    (made : ChangeWalk P V partial) (before : HasLeft old made.before)
+    (after : HasLeft new made.after) where
   pub enters-to : (next : ChangeWalk P V partial) (start now : Counts) (front : List (Change V))
       (last : Change V) → IsCounted (nodes_ahead old new) start (nodes_to_enter next) now
-      → HasCome last.0 (pairs_left made.before) (pairs_left made.after) (paths_left made.before)
-      (paths_left made.after) (paths_left next.before) (paths_left next.after)
+      → ComesTo last.0 made next
       → start.entered + (length front + 1) + hands next ≤ now.entered + hands made
       → EntersTo old new start now front last
   enters-to next start now front last counted come each =
       let key = last.0 in
       let one = subst (λ paths. GoesTo (pairs_from key (cursor old).pairs) paths
-      (paths_left next.before)) over.before_paths
+      (paths_left next.before)) before.paths
       (subst (λ pairs. GoesTo (pairs_from key pairs) (paths_left made.before)
-      (paths_left next.before)) over.before_pairs come.before) in
+      (paths_left next.before)) before.pairs come.before) in
       let other = subst (λ paths. GoesTo (pairs_from key (cursor new).pairs) paths
-      (paths_left next.after)) over.after_paths
+      (paths_left next.after)) after.paths
       (subst (λ pairs. GoesTo (pairs_from key pairs) (paths_left made.after)
-      (paths_left next.after)) over.after_pairs come.after) in
+      (paths_left next.after)) after.pairs come.after) in
       let few = one.passing (is_up_to_first (pairs_from key (cursor old).pairs))
       (up_to_first-passes (pairs_from key (cursor old).pairs)) in
       let also = other.passing (is_up_to_first (pairs_from key (cursor new).pairs))
       (up_to_first-passes (pairs_from key (cursor new).pairs)) in
       let nodes = counted.same in
-      let grows = counted.grows in
-      let none = counted.made in
-      let held = over.hands in
+      let held = before.hand in
+      let also_held = after.hand in
       record {
-        at_most = record {
-          entered_grows = grows;
-          entered_at_most = omega (arith, nodes, few, also);
-          made_grows = omega (arith, none);
-          made_at_most = omega (arith, none);
-        };
-        at_least = omega (arith, each, held);
+        at_most = counts-none_made counted.grows (omega (arith, nodes, few, also)) counted.made;
+        at_least = omega (arith, each, held, also_held);
       }
 
   -- The first change was looked for.
@@ -83,9 +78,7 @@ module _ {P V : Type 0} {partial : _} (same : V → V → Bool) (old new : Walk 
           → (calls : AnswersUpTo g Shows (Ok Continue) f members left state)
           → left ≡ change ∷ rest → CalledOn g Shows state change answer f'
           → IsCounted (nodes_ahead old new) start (nodes_to_enter next) now
-          → HasCome change.0 (pairs_left made.before) (pairs_left made.after)
-          (paths_left made.before) (paths_left made.after) (paths_left next.before)
-          (paths_left next.after)
+          → ComesTo change.0 made next
           → start.entered + length members + hands next ≤ now.entered + length rest + hands made
           → EndsWithin g Shows (EntersTo old new start now) f members answer f'
       ends-on {f} {state} members left rest change answer next start now calls is called counted

@@ -1,6 +1,6 @@
 -- Which nodes are entered on the way from key to key of two trees.
-use Rattle.std.proofs.Common.{◌≡◌, ◌⊎◌, ◌+◌, ◌≤◌, ⊎_elim, inl, inr, ℕ, Bool, true, false, cond, List, [], ◌∷◌, ◌++◌, Option, Some, None, length, refl, sym, ap, subst, ◌∙◌, arith}
-use Rattle.std.specs.Prelude.{All, Contains, IsSome, count_by}
+use Rattle.std.proofs.Common.{◌≡◌, ◌⊎◌, ◌+◌, ⊎_elim, inl, inr, ℕ, Bool, true, false, cond, List, [], ◌∷◌, ◌++◌, Option, Some, None, length, refl, sym, ap, subst, ◌∙◌, arith}
+use Rattle.std.specs.Prelude.{Contains, IsSome, count_by}
 use Rattle.std.specs.Borrow.{Bor}
 use Rattle.std.specs.List.{concat}
 use Rattle.std.specs.Option.{is_some, option_copied}
@@ -8,7 +8,7 @@ use Rattle.std.specs.Ordering.{is_le}
 use Rattle.std.specs.declared.ops.Bound.TheVariants.{Included}
 use Rattle.std.proofs.lemmas.Bool.{false≢true}
 use Rattle.std.proofs.lemmas.List.{length-append}
-use Rattle.std.proofs.lemmas.List.Elements.{All-head, All-tail, All-contains}
+use Rattle.std.proofs.lemmas.List.Elements.{All-contains}
 use Rattle.std.proofs.lemmas.List.Sums.{sum_by-cons}
 use Rattle.rart_below.specs.Bytes.{begins, byte_order}
 use Rattle.rart_maps.specs.FoundLaws.{KeysAscend}
@@ -16,9 +16,12 @@ use Rattle.rart_maps.specs.Order.{IsBefore, IsAtMost}
 use Rattle.rart_maps.proofs.ElementLemmas.{Contains-here, Contains-later, AllPairs-first, AllPairs-rest}
 use Rattle.rart_maps.proofs.OrderLemmas.{begins-rest, high-meets, IsBefore-itself, IsBefore-back}
 use Rattle.rart_walks.specs.Walks.{Cursor, Gives, PassesTo, pending_pair}
-use Rattle.rart_walks.specs.Diffs.{AreBehind, Leads}
+use Rattle.rart_walks.specs.Diffs.{Leads}
 use Rattle.rart_walks.specs.DiffEnds.{pairs_from, is_up_to_first}
-use Rattle.rart_walks.specs.Passes.{PassesToFirst, GoesTo, GoesOnTo, IsLeft, HasGone, HasCome}
+use Rattle.rart_walks.specs.ChangeFields.{IsChangeWalk, GoesFurther, ComesTo}
+use Rattle.rart_walks.specs.Passes.{PassesToFirst, GoesTo, GoesOnTo}
+use Rattle.rart_walks.specs.SideFields.{pairs_left, paths_left}
+use Rattle.rart_walks.specs.declared.diff.changes.ChangeWalk.{ChangeWalk}
 use Rattle.rart_walks.proofs.SideLemmas.{before-before}
 
 -- ---- order
@@ -231,15 +234,8 @@ module _ {V : Type 0} where
   leads-here {key} (Some x) {pairs} {left} leads some =
       (x, subst (λ list. Contains list (key, x)) (sym leads.pairs) (Contains-here (key, x) left))
 
-  -- ---- two trees
-  pub gone-still : (one other : List (List ℕ × V)) (one_paths other_paths : List (List ℕ))
-      → HasGone one other one_paths other_paths one other one_paths other_paths
-  gone-still one other one_paths other_paths =
-      record {
-        before = record { goes = goes-still one one_paths; later = λ test passes. passes };
-        after = record { goes = goes-still other other_paths; later = λ test passes. passes };
-        still = λ key left. (left, refl, refl);
-      }
+  on-still : (pairs : List (List ℕ × V)) (paths : List (List ℕ)) → GoesOnTo pairs paths pairs paths
+  on-still pairs paths = record { goes = goes-still pairs paths; later = λ test passes. passes }
 
   goes_on-through : {pairs left more : List (List ℕ × V)} {before between after : List (List ℕ)}
       → GoesOnTo pairs before left between → GoesOnTo left between more after
@@ -250,9 +246,18 @@ module _ {V : Type 0} where
         later = λ test passes. first.later test (second.later test passes);
       }
 
-  pub gone-through : {a b a' b' a'' b'' : List (List ℕ × V)} {p q p' q' p'' q'' : List (List ℕ)}
-      → HasGone a b p q a' b' p' q' → HasGone a' b' p' q' a'' b'' p'' q''
-      → HasGone a b p q a'' b'' p'' q''
+-- ---- two trees
+module _ {P V : Type 0} {partial : _} where
+  pub gone-still : (walk : ChangeWalk P V partial) → GoesFurther walk walk
+  gone-still walk =
+      record {
+        before = on-still (pairs_left walk.before) (paths_left walk.before);
+        after = on-still (pairs_left walk.after) (paths_left walk.after);
+        still = λ key left. (left, refl, refl);
+      }
+
+  pub gone-through : {old walk new : ChangeWalk P V partial} → GoesFurther old walk
+      → GoesFurther walk new → GoesFurther old new
   gone-through first second =
       record {
         before = goes_on-through first.before second.before;
@@ -264,12 +269,16 @@ module _ {V : Type 0} where
       }
 
   -- The next key of either was taken.
-  module _ {key : List ℕ} {value other : Option V} {a b a' b' : List (List ℕ × V)}
-      {p q p' q' : List (List ℕ)} (first : Leads key value a a') (second : Leads key other b b')
-      (one : KeysAscend (λ pair. pair.0) a) (two : KeysAscend (λ pair. pair.0) b)
-      (goes : GoesTo a p p') (also : GoesTo b q q') where
-    pub gone-next : HasGone a b p q a' b' p' q'
+  module _ (old new : ChangeWalk P V partial) {key : List ℕ} {value other : Option V}
+      (first : Leads key value (pairs_left old.before) (pairs_left new.before))
+      (second : Leads key other (pairs_left old.after) (pairs_left new.after))
+      (walk : IsChangeWalk old)
+      (goes : GoesTo (pairs_left old.before) (paths_left old.before) (paths_left new.before))
+      (also : GoesTo (pairs_left old.after) (paths_left old.after) (paths_left new.after)) where
+    pub gone-next : GoesFurther old new
     gone-next =
+        let one = walk.before.ascends in
+        let two = walk.after.ascends in
         record {
           before = leads-goes first one goes;
           after = leads-goes second two also;
@@ -286,26 +295,28 @@ module _ {V : Type 0} where
               );
         }
 
-    pub come-next : (IsSome value) ⊎ (IsSome other) → HasCome key a b p q p' q'
+    pub come-next : (IsSome value) ⊎ (IsSome other) → ComesTo key old new
     come-next some =
         record {
           left = ⊎_elim (λ here. inl (leads-here value first here))
               (λ here. inr (leads-here other second here)) some;
-          before = goes-from key one goes;
-          after = goes-from key two also;
+          before = goes-from key walk.before.ascends goes;
+          after = goes-from key walk.after.ascends also;
         }
 
   -- Both have gone on, and then come to a key.
-  pub come-through : {key : List ℕ} {a b a' b' : List (List ℕ × V)}
-      {p q p' q' p'' q'' : List (List ℕ)} → KeysAscend (λ pair. pair.0) a'
-      → KeysAscend (λ pair. pair.0) b' → HasGone a b p q a' b' p' q'
-      → HasCome key a' b' p' q' p'' q'' → HasCome key a b p q p'' q''
-  come-through {key} {a} {b} {a'} {b'} {p} {q} {p'} {q'} {p''} {q''} one two gone come =
+  pub come-through : {key : List ℕ} {old walk new : ChangeWalk P V partial} → IsChangeWalk walk
+      → GoesFurther old walk → ComesTo key walk new → ComesTo key old new
+  come-through {key} {old} {walk} {new} is gone come =
       let still = gone.still key come.left in
       record {
         left = still.0;
-        before = subst (λ pairs. GoesTo pairs p p'') (sym still.1)
-            (goes-through (goes-from key one gone.before.goes) come.before);
-        after = subst (λ pairs. GoesTo pairs q q'') (sym still.2)
-            (goes-through (goes-from key two gone.after.goes) come.after);
+        before =
+            subst (λ pairs. GoesTo pairs (paths_left old.before) (paths_left new.before))
+            (sym still.1)
+            (goes-through (goes-from key is.before.ascends gone.before.goes) come.before);
+        after =
+            subst (λ pairs. GoesTo pairs (paths_left old.after) (paths_left new.after))
+            (sym still.2)
+            (goes-through (goes-from key is.after.ascends gone.after.goes) come.after);
       }

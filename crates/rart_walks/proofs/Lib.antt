@@ -3,8 +3,8 @@ pub mod BranchLemmas
 pub mod ChildLemmas
 pub mod CommonLemmas
 pub mod CommonVisitLemmas
+pub mod CountedLemmas
 pub mod CursorLemmas
-pub mod DiffCountLemmas
 pub mod DiffEndLemmas
 pub mod DiffLemmas
 pub mod DiffPassLemmas
@@ -30,7 +30,6 @@ pub mod SkipLemmas
 pub mod SublistLemmas
 pub mod TreeCursorLemmas
 pub mod UpToLemmas
-pub mod VisitCountLemmas
 pub mod VisitEndLemmas
 pub mod WalkLemmas
 pub mod WalkStepLemmas

@@ -11,7 +11,9 @@ use Rattle.rart_maps.specs.FoundLaws.{KeysAscend}
 use Rattle.rart_maps.specs.Order.{IsBefore}
 use Rattle.rart_maps.proofs.RangeLemmas.{up_to, is_below, up_to-past, past-behind}
 use Rattle.rart_node.specs.Counts.{Counts, CountsUpTo}
+use Rattle.rart_node.proofs.CountingLemmas.{made-none}
 use Rattle.rart_walks.specs.Walks.{Cursor, ComesTo, GoesOnFirst}
+use Rattle.rart_walks.proofs.CountedLemmas.{counts-none_made}
 
 -- ---- paths past the bound
 longer-behind : (u : List ℕ) (c : ℕ) (more : List ℕ) → IsBefore u (u ++ (c ∷ more))
@@ -53,10 +55,7 @@ module _ (high : Bound (List ℕ)) where
   few-next {V} {before} {after} comes meets few entered counted =
       let within = few.within in
       let grows = few.grows in
-      let made = few.made in
       let more = counted.entered_grows in
-      let kept = counted.made_grows in
-      let none = counted.made_at_most in
       record {
         within =
             ⊎_elim
@@ -73,7 +72,7 @@ module _ (high : Bound (List ℕ)) where
             omega (arith, within, entered, same, long))
             comes.place;
         grows = omega (arith, grows, more);
-        made = omega (arith, made, kept, none);
+        made = made-none counted ∙ few.made;
       }
 
   -- The last step may have been refused, or have come to a node past the bound.
@@ -83,14 +82,7 @@ module _ (high : Bound (List ℕ)) where
   few-end few counted =
       let within = few.within in
       let grows = few.grows in
-      let made = few.made in
       let more = counted.entered_grows in
       let most = counted.entered_at_most in
-      let kept = counted.made_grows in
-      let none = counted.made_at_most in
-      record {
-        entered_grows = omega (arith, grows, more);
-        entered_at_most = omega (arith, within, most);
-        made_grows = omega (arith, made, kept);
-        made_at_most = omega (arith, made, none);
-      }
+      counts-none_made (omega (arith, grows, more)) (omega (arith, within, most))
+      (made-none counted ∙ few.made)

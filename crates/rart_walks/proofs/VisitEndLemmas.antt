@@ -1,12 +1,12 @@
 -- A visit that its closure may end, node by node: on whose values the closure was called, and what
 -- was entered by then.
-use Rattle.std.proofs.Common.{◌≡◌, ◌+◌, ◌≤◌, ℕ, true, false, List, [], ◌∷◌, ◌++◌, Option, Some, None, Result, Ok, length, map, arith, refl, sym, ap, subst, ◌∙◌, append_assoc}
+use Rattle.std.proofs.Common.{◌≡◌, ◌+◌, ◌≤◌, ℕ, true, false, List, [], ◌∷◌, ◌++◌, Option, Some, None, Result, Ok, length, arith, refl, sym, ap, subst, ◌∙◌, append_assoc}
 use Rattle.std.specs.List.{concat}
 use Rattle.std.specs.Borrow.{Bor}
 use Rattle.std.specs.Fn.{Mut}
 use Rattle.std.specs.declared.ops.Bound.{Bound}
 use Rattle.std.proofs.lemmas.Bool.{true≢false}
-use Rattle.std.proofs.lemmas.List.{length-append, map-append}
+use Rattle.std.proofs.lemmas.List.{append-nil, length-append}
 use Rattle.std.proofs.lemmas.List.Elements.{All-nil, All-cons, All-head, All-pop}
 use Rattle.rart_below.specs.declared.visit.VisitControl.{VisitControl}
 use Rattle.rart_below.specs.declared.visit.VisitControl.TheVariants.{Continue}
@@ -15,7 +15,8 @@ use Rattle.rart_maps.proofs.RangeLemmas.{is_below}
 use Rattle.rart_maps.proofs.VisitLemmas.{answers-append}
 use Rattle.rart_node.specs.Counts.{Counts, CountsUpTo}
 use Rattle.rart_walks.specs.Walks.{Cursor, ComesTo, GoesOnFirst}
-use Rattle.rart_walks.specs.Ends.{EndsWithin, MeetUpTo, EntersUpTo}
+use Rattle.rart_walks.specs.Ends.{ByPairValue, EndsWithin, MeetUpTo, EntersUpTo}
+use Rattle.rart_walks.proofs.CountedLemmas.{counts-none_made}
 use Rattle.rart_walks.proofs.UpToLemmas.{IsFew, few-next, past-further}
 
 -- What begins a string that meets an upper bound meets it too.
@@ -49,10 +50,23 @@ module _ {F V E : Type 0} (g : Mut F (Bor V × Unit {0}) (Result VisitControl E)
       (now : Counts) (f : F) : Type 0 where
     pub front : List (List ℕ × V)
     pub is : members ≡ front ++ left
-    pub calls : Answers g ByValue (Ok Continue) start (map (λ pair. pair.1) front) f
+    pub calls : Answers g ByPairValue (Ok Continue) start front f
     pub few : (high : Bound (List ℕ)) → MeetUpTo high front → MeetUpTo high (first_of left)
         → IsFew high paths before ahead now
     pub each : before.entered + length front + at_hand ≤ now.entered + hand
+
+  -- It has gone through all of them.
+  pub goes-over : {left : List (List ℕ × V)} {ahead : List (List ℕ)} {at_hand : ℕ} {now : Counts}
+      {f : F} → GoesOn left ahead at_hand now f → left ≡ []
+      → Answers g ByPairValue (Ok Continue) start members f
+      × (before.entered + length members ≤ now.entered + hand)
+  goes-over {f = f} goes none =
+      let whole = goes.is ∙ ap (λ left. goes.front ++ left) none ∙ append-nil goes.front in
+      let long = ap length whole in
+      let each = goes.each in (
+        subst (λ pairs. Answers g ByPairValue (Ok Continue) start pairs f) (sym whole) goes.calls,
+        omega (arith, each, long),
+      )
 
   -- The walk comes to a node.
   module _ {at to : Cursor V} {value : Option (Bor V)} {at_hand : ℕ} {now later : Counts} {f : F}
@@ -114,11 +128,8 @@ module _ {F V E : Type 0} (g : Mut F (Bor V × Unit {0}) (Result VisitControl E)
             front = goes.front ++ (concat to.segments, lent.now) ∷ [];
             is = goes.is ∙ ap (λ left. goes.front ++ left) goes-gives
                 ∙ sym (append_assoc goes.front ((concat to.segments, lent.now) ∷ []) to.pairs);
-            calls = subst (λ values. Answers g ByValue (Ok Continue) start values f')
-                (sym (map-append (λ (pair : List ℕ × V). pair.1) goes.front
-                ((concat to.segments, lent.now) ∷ [])))
-                (answers-append g ByValue (Ok Continue) (map (λ pair. pair.1) goes.front)
-                (lent.now ∷ []) start f f' goes.calls (f', called, refl));
+            calls = answers-append g ByPairValue (Ok Continue) goes.front
+                ((concat to.segments, lent.now) ∷ []) start f f' goes.calls (f', called, refl);
             few = λ high met first. few-last high met;
             each = omega (arith, each, step, long, more);
           }
@@ -127,7 +138,7 @@ module _ {F V E : Type 0} (g : Mut F (Bor V × Unit {0}) (Result VisitControl E)
       pub goes-end : (later_hand : ℕ) {f' : F} {answer : Result VisitControl E}
           → now.entered + length at.pairs + later_hand ≤ later.entered + length to.pairs + at_hand
           → CalledOn g ByValue f lent.now answer f'
-          → EndsWithin g ByValue (EntersUpTo paths hand before later) start members answer f'
+          → EndsWithin g ByPairValue (EntersUpTo paths hand before later) start members answer f'
       goes-end later_hand step called =
           let long = ap length goes-gives in
           let each = goes.each in (
@@ -144,14 +155,7 @@ module _ {F V E : Type 0} (g : Mut F (Bor V × Unit {0}) (Result VisitControl E)
               at_most = λ high met.
                   let few = few-last high met in
                   let within = few.within in
-                  let grows = few.grows in
-                  let made = few.made in
-                  record {
-                    entered_grows = omega (arith, grows);
-                    entered_at_most = omega (arith, within);
-                    made_grows = omega (arith, made);
-                    made_at_most = omega (arith, made);
-                  };
+                  counts-none_made few.grows (omega (arith, within)) few.made;
               at_least = omega (arith, each, step, long);
             },
           )

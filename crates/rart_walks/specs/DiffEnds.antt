@@ -1,50 +1,12 @@
--- How a diff ends that its closure may end, and which nodes it has entered by then.
-use Rattle.std.specs.Prelude.{◌≡◌, ◌+◌, ◌≤◌, ◌⊎◌, ℕ, Bool, true, List, [], ◌∷◌, ◌++◌, Result, Ok, Err, count_by, filter, length, ⊤}
-use Rattle.std.specs.Fn.{Mut}
+-- Which nodes a diff has entered where it ends on a change.
+use Rattle.std.specs.Prelude.{◌≡◌, ◌+◌, ◌≤◌, ℕ, Bool, true, List, [], ◌∷◌, count_by, filter, length}
 use Rattle.std.specs.Ordering.{is_le}
 use Rattle.rart_below.specs.Bytes.{byte_order}
-use Rattle.rart_below.specs.declared.slot.Refusal.{Refusal}
-use Rattle.rart_below.specs.declared.slot.Refusal.TheVariants.{Callback, Memory}
-use Rattle.rart_below.specs.declared.visit.VisitControl.{VisitControl}
-use Rattle.rart_below.specs.declared.visit.VisitControl.TheVariants.{Continue, Stop}
 use Rattle.rart_maps.specs.ChangeLists.{Change}
-use Rattle.rart_maps.specs.Visits.{Answers, CalledOn}
 use Rattle.rart_node.specs.Counts.{Counts, CountsUpTo}
 use Rattle.rart_walks.specs.WalkFields.{cursor, at_hand}
 use Rattle.rart_walks.specs.declared.walk.Walk.{Walk}
 use Rattle.rart_walks.specs.TwoWalks.{nodes_ahead}
-
--- ---- where it ends
-
-module _ {F A M E : Type 0} (g : Mut F A (Result VisitControl E)) (Shows : A → M → Type 0) where
-  -- f is called on the members in front, and answers `Continue`; then on the last, and gives this
-  -- answer. The rest are left out.
-  pub record EndsOn (f : F) (members front : List M) (last : M) (answer : Result VisitControl E)
-      (f' : F) : Type 0 where
-    pub rest : List M
-    pub is : members ≡ front ++ last ∷ rest
-    pub state : F
-    pub calls : Answers g Shows (Ok Continue) f front state
-    pub call : CalledOn g Shows state last answer f'
-
-  -- It ends on some member with this answer, and then the counts are right for that one and those
-  -- in front of it.
-  abbrev pub EndsWithin :
-      (List M → M → Type 0) → F → List M → Result VisitControl E → F → Type 0
-  EndsWithin Costs f members answer f' =
-      (front : List M) × (last : M) × EndsOn f members front last answer f' × Costs front last
-
-  -- By what a visitor answers: it went through all members, and the counts are right for that, or
-  -- it ended on one of them. Of a refusal nothing is said.
-  abbrev pub Ends : Type 0 → (List M → M → Type 0) → Result (Unit {0}) (Refusal E) → F → List M
-      → F → Type 0
-  Ends Through Costs (Ok done) f members f' =
-      (Answers g Shows (Ok Continue) f members f' × Through)
-      ⊎ EndsWithin Costs f members (Ok Stop) f'
-  Ends Through Costs (Err (Callback e)) f members f' = EndsWithin Costs f members (Err e) f'
-  Ends Through Costs (Err (Memory refused)) f members f' = ⊤
-
--- ---- what it has entered
 
 module _ {V : Type 0} where
   -- the pairs from a key on

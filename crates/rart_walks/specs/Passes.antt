@@ -1,7 +1,6 @@
 -- Which nodes are entered on the way from key to key: of a tree none that is behind the first key
 -- that is left of it.
 use Rattle.std.specs.Prelude.{◌≡◌, ◌+◌, ◌≤◌, ◌⊎◌, ℕ, Bool, true, List, [], ◌∷◌, Contains, count_by, length}
-use Rattle.rart_walks.specs.DiffEnds.{pairs_from}
 use Rattle.rart_maps.specs.Order.{IsAtMost}
 
 module _ {V : Type 0} where
@@ -28,21 +27,3 @@ module _ {V : Type 0} where
   abbrev pub IsLeft : List ℕ → List (List ℕ × V) → List (List ℕ × V) → Type 0
   IsLeft key one other =
       ((x : V) × Contains one (key, x)) ⊎ ((x : V) × Contains other (key, x))
-
-  -- Two trees had the pairs and paths left that come first, and now have the others: whichever key
-  -- is left then, from it on nothing is gone.
-  pub record HasGone (one other : List (List ℕ × V)) (one_paths other_paths : List (List ℕ))
-      (one' other' : List (List ℕ × V)) (one_paths' other_paths' : List (List ℕ))
-      : Type 0 where
-    pub before : GoesOnTo one one_paths one' one_paths'
-    pub after : GoesOnTo other other_paths other' other_paths'
-    pub still : (key : List ℕ) → IsLeft key one' other' → IsLeft key one other
-        × (pairs_from key one ≡ pairs_from key one')
-        × (pairs_from key other ≡ pairs_from key other')
-
-  -- A key was left, and both trees have gone on to it.
-  pub record HasCome (key : List ℕ) (one other : List (List ℕ × V))
-      (one_paths other_paths one_paths' other_paths' : List (List ℕ)) : Type 0 where
-    pub left : IsLeft key one other
-    pub before : GoesTo (pairs_from key one) one_paths one_paths'
-    pub after : GoesTo (pairs_from key other) other_paths other_paths'

@@ -1,17 +1,15 @@
--- What the fields of a side mean, what its calls do, and which of two comes first.
-use Rattle.std.specs.Prelude.{◌≡◌, ℕ, ◌+◌, List, [], ◌++◌, Option, Some, None, IsSome, Result, OnOk, length, if◌then◌else◌}
-use Rattle.std.specs.Borrow.{Bor}
+-- What the fields of a side mean, and which of two comes first.
+use Rattle.std.specs.Prelude.{◌≡◌, ℕ, ◌+◌, List, [], ◌++◌, Option, Some, None, IsSome, length, if◌then◌else◌}
 use Rattle.std.specs.Option.{is_some, option_copied}
 use Rattle.std.specs.declared.cmp.Ordering.{Ordering}
 use Rattle.std.specs.declared.cmp.Ordering.TheVariants.{Less, Equal, Greater}
 use Rattle.rart_maps.specs.FoundLaws.{KeysAscend}
-use Rattle.rart_node.specs.Counts.{Counts, CountsUpTo}
 use Rattle.rart_walks.specs.KeyPaths.{HoldsBytes}
 use Rattle.rart_walks.specs.Walks.{pending_pair}
 use Rattle.rart_walks.specs.WalkFields.{IsWalk, path_to, cursor, at_hand}
 use Rattle.rart_walks.specs.declared.walk.Walk.{Walk}
 use Rattle.rart_walks.specs.declared.diff.side.Side.{Side}
-use Rattle.rart_walks.specs.Diffs.{AreBehind, Leads}
+use Rattle.rart_walks.specs.Diffs.{AreBehind}
 
 -- `partial` is what is known of prefixes, which the types take for a ghost field
 module _ {P V : Type 0} {partial : _} where
@@ -41,22 +39,12 @@ module _ {P V : Type 0} {partial : _} where
     pub walk : IsWalk HoldsBytes None side.walk
     pub ascends : KeysAscend (λ pair. pair.0) (pairs_left side)
 
-  -- It stands at the first of the pairs that are left, if there is one.
-  abbrev pub IsAtKey : Side P V partial → Type 0
-  IsAtKey side = side.value ≡ None → (cursor side.walk).pairs ≡ []
-
-  -- Where it stands at no key, it has entered all nodes.
-  abbrev pub IsThrough : Side P V partial → Type 0
-  IsThrough side = side.value ≡ None → nodes_left side ≡ 0
-
-  -- Both are sides, and stand at the first of what they have left.
-  pub record AreAtKeys (old new : Side P V partial) : Type 0 where
-    pub before : IsSide old
-    pub after : IsSide new
-    pub before_at_key : IsAtKey old
-    pub after_at_key : IsAtKey new
-    pub before_through : IsThrough old
-    pub after_through : IsThrough new
+  -- It stands at the first of the pairs that are left, if there is one, and else has entered all
+  -- nodes.
+  pub record IsAtFirst (it : Side P V partial) : Type 0 where
+    pub side : IsSide it
+    pub at_key : it.value ≡ None → (cursor it.walk).pairs ≡ []
+    pub through : it.value ≡ None → nodes_left it ≡ 0
 
   -- Which side has the first key: the old one, both, or the new one; or there is none.
   abbrev pub ComesFirst : Side P V partial → Side P V partial → Option Ordering → Type 0
@@ -71,27 +59,4 @@ module _ {P V : Type 0} {partial : _} where
     pub side : IsSide made
     pub pairs : pairs_left made ≡ (cursor walk).pairs
     pub paths : paths_left made ≡ (cursor walk).paths
-    pub nodes : nodes_left made ≡ length (cursor walk).paths
     pub hand : pairs_at_hand made ≡ at_hand walk
-
-  -- It has come to the first of the pairs that it had left, and has entered the nodes that it has
-  -- no more left to enter. Refused, it has entered no other.
-  pub record ComesToKey {E : Type 0} (result : Result (Unit {0}) E) (old new : Side P V partial)
-      (start now : Counts) : Type 0 where
-    pub side : OnOk result (IsSide new)
-    pub pairs : OnOk result (pairs_left new ≡ pairs_left old)
-    pub at_key : OnOk result (IsAtKey new)
-    pub through : OnOk result (IsThrough new)
-    pub entered : OnOk result (now.entered + nodes_left new ≡ start.entered + nodes_left old)
-    pub counted : CountsUpTo (nodes_left old) 0 start now
-
-  -- It gave the value of its key, which leads what is left then.
-  pub record GivesValue (old new : Side P V partial) (given : Option (Bor V)) : Type 0 where
-    pub side : IsSide new
-    pub value : option_copied given ≡ option_copied old.value
-    pub key : key_at new ≡ key_at old
-    pub leads : IsSome given → Leads (key_at old) (option_copied given) (pairs_left old)
-        (pairs_left new)
-    pub paths : paths_left new ≡ paths_left old
-    pub nodes : nodes_left new ≡ nodes_left old
-    pub hand : IsSome old.value → pairs_at_hand new + 1 ≡ pairs_at_hand old

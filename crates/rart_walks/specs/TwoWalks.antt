@@ -1,11 +1,11 @@
 -- Two walks that go on together, from key to key of either, and what both have left.
-use Rattle.std.specs.Prelude.{ℕ, ◌+◌, Bool, List, Option, None, length}
+use Rattle.std.specs.Prelude.{ℕ, ◌+◌, Bool, List, None, length}
 use Rattle.rart_maps.specs.ChangeLists.{Change}
 use Rattle.rart_maps.specs.FoundLaws.{KeysAscend}
 use Rattle.rart_walks.specs.KeyPaths.{HoldsBytes}
 use Rattle.rart_walks.specs.WalkFields.{IsWalk, cursor}
 use Rattle.rart_walks.specs.declared.walk.Walk.{Walk}
-use Rattle.rart_walks.specs.Diffs.{AreAdmitted, changes_between}
+use Rattle.rart_walks.specs.Diffs.{changes_between}
 
 -- `partial` is what is known of prefixes, which the types take for a ghost field
 module _ {P V : Type 0} {partial : _} where
@@ -18,12 +18,6 @@ module _ {P V : Type 0} {partial : _} where
   pub record GoTogether (before after : Walk P V (List ℕ) partial) : Type 0 where
     pub old : Ascends before
     pub new : Ascends after
-
-  -- A key can be made of each that either has left.
-  pub record CanGiveKeys (most : Option ℕ) (before after : Walk P V (List ℕ) partial)
-      : Type 0 where
-    pub old_admitted : AreAdmitted most (cursor before).pairs
-    pub new_admitted : AreAdmitted most (cursor after).pairs
 
   -- the changes from the pairs that the one has left to those of the other
   abbrev pub changes_ahead : (V → V → Bool) → Walk P V (List ℕ) partial

@@ -7,7 +7,7 @@ ghost use Rattle.rart_maps.specs.Pairs.{pairs, prefix_matches, under, within};
 ghost use Rattle.rart_maps.specs.Versions.{has_no_key};
 ghost use Rattle.rart_maps.specs.Visits.{BySlice, ByValue, ByView, Visit, Visits, Visitable, VisitsUntil, VisitableUntil};
 ghost use Rattle.rart_node.specs.Counts.{CountsUpTo};
-ghost use Rattle.rart_walks.specs.Ends.{Ends};
+ghost use Rattle.rart_walks.specs.Ends.{ByPairValue, Ends};
 ghost use Rattle.rart_versioned.specs.VisitCounts.{EndsSoon};
 
 use crate::counted::tree::VersionedAdaptiveRadixTree;
@@ -93,10 +93,10 @@ impl<K: KeyTrait, V: Clone + Drop> VersionedAdaptiveRadixTree<K, V> {
         ensures counted_by_pairs { CountsUpTo (reach_by_pairs self.now.content
             (K.bytes prefix.now)) 0 work.old work.new }
         ensures entered { has_no_key self.now ≡ false → work.old.entered < work.new.entered }
-        ensures ends { Ends F.FnMut ByValue (work.old.entered
-            + length (under self.now.content (K.bytes prefix.now)) ≤ work.new.entered)
-            (EndsSoon (K.bytes prefix.now) work.old work.new)
-            result f.old (under self.now.content (K.bytes prefix.now)) f.new }
+        ensures ends { let pairs = under self.now.content (K.bytes prefix.now) in
+            let through = work.old.entered + length pairs ≤ work.new.entered in
+            let ended = EndsSoon (K.bytes prefix.now) work.old work.new in
+            Ends F.FnMut ByPairValue through ended result f.old pairs f.new }
     {
         let walk: Result<Walk<'_, K::PartialType, V, NoPath>, AllocError> = self.walk_under(
             prefix.as_ref(),

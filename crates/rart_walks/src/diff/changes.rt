@@ -1,7 +1,9 @@
 //! The walk from change to change.
 ghost use Rattle.std.specs.Prelude.{◌≡◌, ◌+◌, ◌≤◌, IfOk, OnOk, is_some, if◌then◌else◌};
-ghost use Rattle.rart_walks.specs.SideFields.{AreAtKeys};
-ghost use Rattle.rart_walks.specs.TwoWalks.{GoTogether};
+ghost use Rattle.rart_node.specs.Counts.{CountsUpTo};
+ghost use Rattle.rart_walks.specs.Passes.{GoesTo};
+ghost use Rattle.rart_walks.specs.SideFields.{HasLeft, IsAtFirst};
+ghost use Rattle.rart_walks.specs.TwoWalks.{GoTogether, changes_ahead, nodes_ahead};
 
 use crate::diff::order::order_of;
 use crate::diff::side::Side;
@@ -21,13 +23,13 @@ use std::cmp::Ordering;
 pub(crate) struct ChangeWalk<'a, P: Partial, V> {
     before: Side<'a, P, V>,
     after: Side<'a, P, V>,
-    // whether the tree before has the key that was given last, or else the one after alone
+    /// Whether the tree before has the key that was given last, or else the one after alone.
     is_before: bool,
 }
 
 impl<'a, P: Partial, V: Drop + Eq> ChangeWalk<'a, P, V> {
-    ghost use Rattle.rart_walks.specs.ChangeFields.{IsChangeWalk, GoesOver, GoesOn, GivesChange, ComesToChange, TakesKey, TakesFirst, StepsTo, key_given, hands};
-    ghost use Rattle.rart_walks.specs.SideFields.{paths_left};
+    ghost use Rattle.rart_walks.specs.ChangeFields.{IsChangeWalk, GivesChange, ComesToChange, TakesKey, changes_left, nodes_to_enter, key_given, hands};
+    ghost use Rattle.rart_walks.specs.SideFields.{pairs_left, paths_left};
 
     /// The changes from the pairs that the one walk has left to those of the other. It enters no
     /// node.
@@ -36,7 +38,11 @@ impl<'a, P: Partial, V: Drop + Eq> ChangeWalk<'a, P, V> {
         new: Walk<'a, P, V, BytesPath>,
     ) -> ChangeWalk<'a, P, V>
         requires { GoTogether old new }
-        ensures { GoesOver V.eq old.entry new.entry result }
+        ensures walk { IsChangeWalk result }
+        ensures before { HasLeft old.entry result.before }
+        ensures after { HasLeft new.entry result.after }
+        ensures changes { changes_left V.eq result ≡ changes_ahead V.eq old.entry new.entry }
+        ensures nodes { nodes_to_enter result ≡ nodes_ahead old.entry new.entry }
     {
         ChangeWalk {
             before: Side::new(old),
@@ -65,9 +71,12 @@ impl<'a, P: Partial, V: Drop + Eq> ChangeWalk<'a, P, V> {
         work: &mut Work,
     ) -> Result<Option<(Option<&'a V>, Option<&'a V>)>, AllocError>
         requires { IsChangeWalk self.old }
-        ensures told { GoesOn result (GivesChange V.eq self.old self.new) self.old
-            self.new work.old work.new }
+        ensures walk { OnOk result (IsChangeWalk self.new) }
+        ensures gives { IfOk result (GivesChange V.eq self.old self.new) }
         ensures come { IfOk result (ComesToChange self.old self.new) }
+        ensures exact { OnOk result (work.new.entered + nodes_to_enter self.new
+            ≡ work.old.entered + nodes_to_enter self.old) }
+        ensures counted { CountsUpTo (nodes_to_enter self.old) 0 work.old work.new }
         ensures each { IfOk result (λ given. work.old.entered + (if is_some given then 1 else 0)
             + hands self.new ≤ work.new.entered + hands self.old) }
     {
@@ -79,15 +88,21 @@ impl<'a, P: Partial, V: Drop + Eq> ChangeWalk<'a, P, V> {
         Ok(None)
     }
 
-    // Goes on to the next key of either tree, and gives what both have there.
+    /// Goes on to the next key of either tree, and gives what both have there.
     fn next_key(
         &mut self,
         work: &mut Work,
     ) -> Result<Option<(Option<&'a V>, Option<&'a V>)>, AllocError>
         requires { IsChangeWalk self.old }
-        ensures told { GoesOn result (TakesKey self.old self.new) self.old self.new
-            work.old work.new }
-        ensures steps { OnOk result (StepsTo self.old self.new) }
+        ensures walk { OnOk result (IsChangeWalk self.new) }
+        ensures takes { IfOk result (TakesKey self.old self.new) }
+        ensures before { OnOk result (GoesTo (pairs_left self.old.before)
+            (paths_left self.old.before) (paths_left self.new.before)) }
+        ensures after { OnOk result (GoesTo (pairs_left self.old.after)
+            (paths_left self.old.after) (paths_left self.new.after)) }
+        ensures exact { OnOk result (work.new.entered + nodes_to_enter self.new
+            ≡ work.old.entered + nodes_to_enter self.old) }
+        ensures counted { CountsUpTo (nodes_to_enter self.old) 0 work.old work.new }
         ensures each { IfOk result (λ given. work.old.entered + (if is_some given then 1 else 0)
             + hands self.new ≤ work.new.entered + hands self.old) }
     {
@@ -96,10 +111,12 @@ impl<'a, P: Partial, V: Drop + Eq> ChangeWalk<'a, P, V> {
         Ok(self.take_first())
     }
 
-    // Takes the values of the first of the keys that both stand at.
+    /// Takes the values of the first of the keys that both stand at.
     fn take_first(&mut self) -> Option<(Option<&'a V>, Option<&'a V>)>
-        requires { AreAtKeys self.old.before self.old.after }
-        ensures takes { TakesFirst self.old self.new result }
+        requires before { IsAtFirst self.old.before }
+        requires after { IsAtFirst self.old.after }
+        ensures walk { IsChangeWalk self.new }
+        ensures takes { TakesKey self.old self.new result }
         ensures before { paths_left self.new.before ≡ paths_left self.old.before }
         ensures after { paths_left self.new.after ≡ paths_left self.old.after }
         ensures each { (if is_some result then 1 else 0) + hands self.new ≤ hands self.old }

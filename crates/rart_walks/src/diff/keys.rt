@@ -3,7 +3,9 @@ ghost use Rattle.std.specs.Prelude.{◌≡◌, ◌+◌, OnOk};
 ghost use Rattle.rart_maps.specs.ChangeVisits.{ByKeyChange};
 ghost use Rattle.rart_maps.specs.Visits.{Visits, Visitable};
 ghost use Rattle.rart_node.specs.Counts.{CountsUpTo};
-ghost use Rattle.rart_walks.specs.TwoWalks.{GoTogether, CanGiveKeys, changes_ahead, nodes_ahead};
+ghost use Rattle.rart_walks.specs.Diffs.{AreAdmitted};
+ghost use Rattle.rart_walks.specs.TwoWalks.{GoTogether, changes_ahead, nodes_ahead};
+ghost use Rattle.rart_walks.specs.WalkFields.{cursor};
 
 use crate::diff::changes::ChangeWalk;
 use crate::key_path::BytesPath;
@@ -31,7 +33,8 @@ pub fn visit_changed_keys<
     work: &mut Work,
 ) -> Result<(), AllocError>
     requires walks { GoTogether old new }
-    requires keys { CanGiveKeys K.MAXIMUM_SIZE old new }
+    requires old_admitted { AreAdmitted K.MAXIMUM_SIZE (cursor old).pairs }
+    requires new_admitted { AreAdmitted K.MAXIMUM_SIZE (cursor new).pairs }
     requires visitable { Visitable F.FnMut (ByKeyChange K.bytes) f.old
         (changes_ahead V.eq old new) }
     ensures visits { Visits F.FnMut (ByKeyChange K.bytes) result f.old

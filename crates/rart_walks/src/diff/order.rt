@@ -1,5 +1,5 @@
 //! Which of two trees has the first key.
-ghost use Rattle.rart_walks.specs.SideFields.{AreAtKeys, ComesFirst};
+ghost use Rattle.rart_walks.specs.SideFields.{ComesFirst, IsAtFirst};
 
 use crate::diff::side::Side;
 use rart_below::Partial;
@@ -11,7 +11,8 @@ pub(crate) fn order_of<P: Partial, V: Drop>(
     before: &Side<'_, P, V>,
     after: &Side<'_, P, V>,
 ) -> Option<Ordering>
-    requires { AreAtKeys before.now after.now }
+    requires before { IsAtFirst before.now }
+    requires after { IsAtFirst after.now }
     ensures { ComesFirst before.now after.now result }
 {
     match (before.has_key(), after.has_key()) {

@@ -1,5 +1,8 @@
 //! One of the two trees whose keys are merged.
-ghost use Rattle.std.specs.Prelude.{◌≡◌, ◌+◌, ◌≤◌, OnOk, is_some};
+ghost use Rattle.std.specs.Prelude.{◌≡◌, ◌+◌, ◌≤◌, IsSome, OnOk, is_some};
+ghost use Rattle.std.specs.Option.{option_copied};
+ghost use Rattle.rart_node.specs.Counts.{CountsUpTo};
+ghost use Rattle.rart_walks.specs.Diffs.{Leads};
 ghost use Rattle.rart_walks.specs.TwoWalks.{Ascends};
 
 use crate::key_path::BytesPath;
@@ -20,7 +23,7 @@ pub(crate) struct Side<'a, P: Partial, V> {
 
 impl<'a, P: Partial, V: Drop> Side<'a, P, V> {
     ghost use Rattle.rart_walks.specs.Passes.{GoesTo};
-    ghost use Rattle.rart_walks.specs.SideFields.{IsSide, HasLeft, ComesToKey, GivesValue, key_at, pairs_left, paths_left, pairs_at_hand};
+    ghost use Rattle.rart_walks.specs.SideFields.{IsSide, IsAtFirst, HasLeft, key_at, pairs_left, paths_left, nodes_left, pairs_at_hand};
 
     /// The tree as far as the walk has it left. It enters no node.
     pub(crate) fn new(walk: Walk<'a, P, V, BytesPath>) -> Side<'a, P, V>
@@ -31,12 +34,17 @@ impl<'a, P: Partial, V: Drop> Side<'a, P, V> {
     }
 
     /// Goes on to the next key, where the value of the last one was taken. It enters the nodes on
-    /// the way to that, and so one at least, but for a key that was at hand.
+    /// the way to that, and so one at least, but for a key that was at hand. Refused, it has
+    /// entered none that was not left.
     pub(crate) fn advance(&mut self, work: &mut Work) -> Result<(), AllocError>
         requires { IsSide self.old }
-        ensures comes { ComesToKey result self.old self.new work.old work.new }
+        ensures first { OnOk result (IsAtFirst self.new) }
+        ensures pairs { OnOk result (pairs_left self.new ≡ pairs_left self.old) }
         ensures way { OnOk result (GoesTo (pairs_left self.old) (paths_left self.old)
             (paths_left self.new)) }
+        ensures exact { OnOk result
+            (work.new.entered + nodes_left self.new ≡ work.old.entered + nodes_left self.old) }
+        ensures counted { CountsUpTo (nodes_left self.old) 0 work.old work.new }
         ensures each { OnOk result (work.old.entered + pairs_at_hand self.new
             ≤ work.new.entered + pairs_at_hand self.old) }
     {
@@ -61,10 +69,17 @@ impl<'a, P: Partial, V: Drop> Side<'a, P, V> {
         self.walk.key_path().as_slice()
     }
 
-    /// Takes the value of the key that it stands at.
+    /// Takes the value of the key that it stands at, which leads what is left then.
     pub(crate) fn take(&mut self) -> Option<&'a V>
         requires { IsSide self.old }
-        ensures { GivesValue self.old self.new result }
+        ensures side { IsSide self.new }
+        ensures value { option_copied result ≡ option_copied self.old.value }
+        ensures key { key_at self.new ≡ key_at self.old }
+        ensures leads { IsSome result → Leads (key_at self.old) (option_copied result)
+            (pairs_left self.old) (pairs_left self.new) }
+        ensures paths { paths_left self.new ≡ paths_left self.old }
+        ensures hand { IsSome self.old.value → pairs_at_hand self.new + 1
+            ≡ pairs_at_hand self.old }
     {
         self.value.take()
     }

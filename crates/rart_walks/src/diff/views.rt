@@ -4,7 +4,8 @@ ghost use Rattle.std.specs.Option.{option_copied};
 ghost use Rattle.rart_maps.specs.ChangeVisits.{ByViewChange};
 ghost use Rattle.rart_maps.specs.Visits.{CallableOn, CalledOn, Visits, Visitable, VisitsUntil, VisitableUntil};
 ghost use Rattle.rart_node.specs.Counts.{CountsUpTo};
-ghost use Rattle.rart_walks.specs.DiffEnds.{Ends, EntersTo};
+ghost use Rattle.rart_walks.specs.DiffEnds.{EntersTo};
+ghost use Rattle.rart_walks.specs.Ends.{Ends};
 ghost use Rattle.rart_walks.specs.TwoWalks.{GoTogether, changes_ahead, nodes_ahead};
 
 use crate::diff::changes::ChangeWalk;
@@ -64,10 +65,11 @@ pub fn visit_changed_views_until<
     ensures visits { VisitsUntil F.FnMut ByViewChange result f.old
         (changes_ahead V.eq old.entry new.entry) f.new }
     ensures counted { CountsUpTo (nodes_ahead old.entry new.entry) 0 work.old work.new }
-    ensures ends { Ends F.FnMut ByViewChange
-        (work.new.entered ≡ work.old.entered + nodes_ahead old.entry new.entry)
-        (EntersTo old.entry new.entry work.old work.new)
-        result f.old (changes_ahead V.eq old.entry new.entry) f.new }
+    ensures ends { let through = work.new.entered
+        ≡ work.old.entered + nodes_ahead old.entry new.entry in
+        let ended = EntersTo old.entry new.entry work.old work.new in
+        Ends F.FnMut ByViewChange through ended result f.old
+        (changes_ahead V.eq old.entry new.entry) f.new }
 {
     let mut changes = ChangeWalk::new(old, new);
     'visiting: loop {
@@ -84,7 +86,7 @@ pub fn visit_changed_views_until<
     }
 }
 
-// Calls the closure on a change, with a view of its key.
+/// Calls the closure on a change, with a view of its key.
 fn show<V, R, F: FnMut(LendingKeyView<'_, '_>, Option<&V>, Option<&V>) -> R>(
     key: &[u8],
     before: Option<&V>,

@@ -1,9 +1,10 @@
 // Ported from rart 0.11.0 (Apache-2.0), and rewritten.
 //! Visits of values alone.
-ghost use Rattle.std.specs.Prelude.{map};
-ghost use Rattle.rart_maps.specs.Visits.{ByValue, Visitable, VisitableUntil};
-ghost use Rattle.rart_walks.specs.Visited.{VisitsValues, VisitsValuesUntil};
-ghost use Rattle.rart_walks.specs.WalkFields.{cursor, IsWalk};
+ghost use Rattle.std.specs.Prelude.{◌+◌, ◌≤◌, OnOk, length, map};
+ghost use Rattle.rart_maps.specs.Visits.{ByValue, Visitable, VisitableUntil, Visits, VisitsUntil};
+ghost use Rattle.rart_node.specs.Counts.{CountsUpTo};
+ghost use Rattle.rart_walks.specs.Ends.{ByPairValue, Ends, EntersUpTo};
+ghost use Rattle.rart_walks.specs.WalkFields.{at_hand, cursor, IsWalk};
 
 use crate::key_path::KeyPath;
 use crate::walk::Walk;
@@ -23,7 +24,11 @@ pub fn visit_values<'a, P: Partial, V: Drop, T: KeyPath<'a>, F: FnMut(&V)>(
     requires walk { IsWalk T.holds T.greatest walk }
     requires visitable { Visitable F.FnMut ByValue f.old
         (map (λ pair. pair.1) (cursor walk).pairs) }
-    ensures { VisitsValues F.FnMut ByValue walk.entry result f.old f.new work.old work.new }
+    ensures visits { Visits F.FnMut ByValue result f.old
+        (map (λ pair. pair.1) (cursor walk.entry).pairs) f.new }
+    ensures counted { CountsUpTo (length (cursor walk.entry).paths) 0 work.old work.new }
+    ensures each { OnOk result (work.old.entered + length (cursor walk.entry).pairs
+        ≤ work.new.entered + at_hand walk.entry) }
 {
     'visiting: while let Some(value) = walk.next_value(work)? {
         f(value);
@@ -48,7 +53,14 @@ pub fn visit_values_until<
     requires walk { IsWalk T.holds T.greatest walk }
     requires visitable { VisitableUntil F.FnMut ByValue f.old
         (map (λ pair. pair.1) (cursor walk).pairs) }
-    ensures { VisitsValuesUntil F.FnMut ByValue walk.entry result f.old f.new work.old work.new }
+    ensures visits { VisitsUntil F.FnMut ByValue result f.old
+        (map (λ pair. pair.1) (cursor walk.entry).pairs) f.new }
+    ensures counted { CountsUpTo (length (cursor walk.entry).paths) 0 work.old work.new }
+    ensures ends { let left = cursor walk.entry in
+        let through = work.old.entered + length left.pairs
+            ≤ work.new.entered + at_hand walk.entry in
+        let ended = EntersUpTo left.paths (at_hand walk.entry) work.old work.new in
+        Ends F.FnMut ByPairValue through ended result f.old left.pairs f.new }
 {
     'visiting: loop {
         let value = match walk.next_node(work) {

@@ -1,14 +1,15 @@
 // Ported from rart 0.11.0 (Apache-2.0), and rewritten.
 //! Visits of pairs, their keys lent as views.
-ghost use Rattle.std.specs.Prelude.{◌≡◌, ◌^◌, ◌-◌, Some};
+ghost use Rattle.std.specs.Prelude.{◌≡◌, ◌+◌, ◌^◌, ◌-◌, ◌≤◌, Some, OnOk, count_by, length};
 ghost use Rattle.std.specs.List.{concat};
 ghost use Rattle.std.specs.Ordering.{as_partial_cmp};
 ghost use Rattle.std.specs.Range.Bound.{bound_map, is_up_to_end};
 ghost use Rattle.rart_below.specs.Bytes.{byte_order};
 ghost use Rattle.rart_maps.specs.FoundLaws.{KeysAscend};
-ghost use Rattle.rart_maps.specs.Visits.{ByView, Visitable};
-ghost use Rattle.rart_walks.specs.Visited.{VisitsPairs, VisitsPairsUpTo, pairs_up_to};
-ghost use Rattle.rart_walks.specs.WalkFields.{cursor, IsWalk};
+ghost use Rattle.rart_maps.specs.Visits.{ByView, Visitable, Visits};
+ghost use Rattle.rart_node.specs.Counts.{CountsUpTo};
+ghost use Rattle.rart_walks.specs.Visited.{pairs_up_to};
+ghost use Rattle.rart_walks.specs.WalkFields.{at_hand, cursor, IsWalk};
 ghost use Rattle.rart_walks.specs.KeyPaths.{HoldsSegments};
 
 use crate::key_path::SegmentsPath;
@@ -31,7 +32,12 @@ pub fn visit_views<'a, P: Partial, V: Drop, F: FnMut(LendingKeyView<'_, '_>, &V)
 ) -> Result<(), AllocError>
     requires walk { IsWalk HoldsSegments (Some (2 ^ 64 - 1)) walk }
     requires visitable { Visitable F.FnMut ByView f.old (cursor walk).pairs }
-    ensures { VisitsPairs F.FnMut ByView walk.entry result f.old f.new work.old work.new }
+    ensures visits { Visits F.FnMut ByView result f.old (cursor walk.entry).pairs f.new }
+    ensures counted { CountsUpTo (length (cursor walk.entry).paths) 0 work.old work.new }
+    ensures exact { OnOk result
+        (work.new.entered ≡ work.old.entered + length (cursor walk.entry).paths) }
+    ensures each { OnOk result (work.old.entered + length (cursor walk.entry).pairs
+        ≤ work.new.entered + at_hand walk.entry) }
 {
     'visiting: while let Some(value) = walk.next_value(work)? {
         f(view_of(walk.key_path()), value);
@@ -52,8 +58,15 @@ pub fn visit_views_up_to<'a, P: Partial, V: Drop, F: FnMut(LendingKeyView<'_, '_
     requires ascend { KeysAscend (λ pair. pair.0) (cursor walk).pairs }
     requires visitable { Visitable F.FnMut ByView f.old
         (pairs_up_to (bound_map (λ high. high.now) high) (cursor walk).pairs) }
-    ensures { VisitsPairsUpTo (bound_map (λ high. high.now) high.entry) F.FnMut ByView
-        walk.entry result f.old f.new work.old work.new }
+    ensures visits { Visits F.FnMut ByView result f.old
+        (pairs_up_to (bound_map (λ high. high.now) high.entry) (cursor walk.entry).pairs) f.new }
+    ensures counted { CountsUpTo (length (cursor walk.entry).paths) 0 work.old work.new }
+    ensures few { let within = is_up_to_end (as_partial_cmp byte_order)
+        (bound_map (λ high. high.now) high.entry) in
+        CountsUpTo (count_by within (cursor walk.entry).paths + 1) 0 work.old work.new }
+    ensures each { let pairs = pairs_up_to (bound_map (λ high. high.now) high.entry)
+        (cursor walk.entry).pairs in
+        OnOk result (work.old.entered + length pairs ≤ work.new.entered + at_hand walk.entry) }
 {
     'visiting: while let Some(value) = walk.next_node(work)? {
         let path = view_of(walk.key_path());
@@ -67,14 +80,14 @@ pub fn visit_views_up_to<'a, P: Partial, V: Drop, F: FnMut(LendingKeyView<'_, '_
     Ok(())
 }
 
-// The path of the node at which a walk stands: where that has a value, its key.
+/// The path of the node at which a walk stands: where that has a value, its key.
 fn view_of<'a, 'view>(key_path: &'view SegmentsPath<'a>) -> LendingKeyView<'a, 'view>
     ensures { result ≡ concat key_path.now }
 {
     LendingKeyView::new(key_path.segments(), key_path.len())
 }
 
-// Whether a path meets an upper bound.
+/// Whether a path meets an upper bound.
 fn is_up_to(path: &LendingKeyView<'_, '_>, high: Bound<&[u8]>) -> bool
     ensures { result ≡ is_up_to_end (as_partial_cmp byte_order)
         (bound_map (λ high. high.now) high.entry) path.now }

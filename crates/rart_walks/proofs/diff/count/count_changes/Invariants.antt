@@ -1,7 +1,7 @@
 use Rattle.std.proofs.Common.{◌≡◌, ◌+◌, length}
 use Rattle.rart_walks.specs.ChangeFields.{IsChangeWalk, changes_left, nodes_to_enter}
 use Rattle.rart_walks.specs.TwoWalks.{changes_ahead, nodes_ahead}
-use Rattle.rart_walks.proofs.DiffCountLemmas.{IsCounted}
+use Rattle.rart_walks.proofs.CountedLemmas.{IsCounted}
 use Rattle.rart_walks.proofs.diff.count.count_changes.Given as goal
 
 abbrev pub invariant-counting : goal.invariant-counting

@@ -3,7 +3,7 @@ use Rattle.rart_maps.specs.ChangeVisits.{ByViewChange}
 use Rattle.rart_maps.specs.Visits.{AnswersUpTo}
 use Rattle.rart_walks.specs.ChangeFields.{IsChangeWalk, changes_left, nodes_to_enter}
 use Rattle.rart_walks.specs.TwoWalks.{changes_ahead, nodes_ahead}
-use Rattle.rart_walks.proofs.DiffCountLemmas.{IsCounted}
+use Rattle.rart_walks.proofs.CountedLemmas.{IsCounted}
 use Rattle.rart_walks.proofs.diff.views.visit_changed_views.Given as goal
 
 abbrev pub invariant-visiting : goal.invariant-visiting

@@ -1,7 +1,7 @@
 use Rattle.std.proofs.Common.{rules, arith, map, refl, ap}
 use Rattle.rart_maps.specs.Visits.{ByValue}
 use Rattle.rart_maps.proofs.VisitLemmas.{callable-next, up_to-next}
-use Rattle.rart_walks.proofs.VisitCountLemmas.{counted-next}
+use Rattle.rart_walks.proofs.CountedLemmas.{counted-next}
 use Rattle.rart_walks.proofs.visits.values.visit_values.Goals as goal
 
 pub f-requires : goal.f-requires

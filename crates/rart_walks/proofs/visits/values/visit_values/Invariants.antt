@@ -1,7 +1,7 @@
 use Rattle.std.proofs.Common.{length, map}
 use Rattle.rart_maps.specs.Visits.{ByValue, AnswersUpTo}
 use Rattle.rart_walks.specs.WalkFields.{cursor, IsWalk, EntersForEach}
-use Rattle.rart_walks.proofs.VisitCountLemmas.{IsCounted}
+use Rattle.rart_walks.proofs.CountedLemmas.{IsCounted}
 use Rattle.rart_walks.proofs.visits.values.visit_values.Given as goal
 
 abbrev pub invariant-visiting : goal.invariant-visiting

@@ -1,10 +1,10 @@
-use Rattle.std.proofs.Common.{rules, [], map, Ok, inr, refl, ap, ◌∙◌}
+use Rattle.std.proofs.Common.{rules, arith, [], map, Ok, inl, inr, refl, ap, ◌∙◌}
 use Rattle.std.proofs.lemmas.Fn.{called}
 use Rattle.rart_below.specs.declared.visit.VisitControl.TheVariants.{Continue, Stop}
 use Rattle.rart_maps.specs.Visits.{ByValue}
 use Rattle.rart_maps.proofs.VisitLemmas.{callable-next, up_to-next, up_to-part, visit_up_to-next}
-use Rattle.rart_walks.proofs.VisitCountLemmas.{counted-next, counted-end}
-use Rattle.rart_walks.proofs.VisitEndLemmas.{goes-past, goes-next, goes-end}
+use Rattle.rart_walks.proofs.CountedLemmas.{counted-next, counted-end}
+use Rattle.rart_walks.proofs.VisitEndLemmas.{goes-past, goes-next, goes-end, goes-over}
 use Rattle.rart_walks.proofs.visits.values.visit_values_until.Goals as goal
 
 pub visiting-preserved-in-Ok-Some-None : goal.visiting-preserved-in-Ok-Some-None
@@ -80,3 +80,11 @@ returns-in-Err-f g c =
       ends = goes-end g.F.FnMut _ _ _ _ _ before.goes comes walked.entered walked.one
           c.in-Ok-Some-Some.value some _ walked.each (_, call, refl);
     }
+
+pub returns-in-Ok-None-clause-ends : goal.returns-in-Ok-None-clause-ends
+returns-in-Ok-None-clause-ends g c =
+    let over = rw c.in-Ok-None.field-0-is at c.in-Ok-None.ensures.steps in
+    let one = c.in-Ok-None.ensures.one.entered_grows in
+    let through = goes-over g.F.FnMut _ _ _ _ _ c.visiting.invariant.goes over.0 in
+    let each = through.1 in
+    inl (through.0, omega (arith, each, one))

@@ -2,7 +2,7 @@ use Rattle.std.proofs.Common.{◌+◌, length, map, Ok}
 use Rattle.rart_below.specs.declared.visit.VisitControl.TheVariants.{Continue}
 use Rattle.rart_maps.specs.Visits.{ByValue, AnswersUpTo}
 use Rattle.rart_walks.specs.WalkFields.{cursor, at_hand, IsWalk}
-use Rattle.rart_walks.proofs.VisitCountLemmas.{IsCounted}
+use Rattle.rart_walks.proofs.CountedLemmas.{IsCounted}
 use Rattle.rart_walks.proofs.VisitEndLemmas.{GoesOn}
 use Rattle.rart_walks.proofs.visits.values.visit_values_until.Given as goal
 

@@ -2,7 +2,7 @@ use Rattle.std.proofs.Common.{rules, arith, length, refl, ap, ◌∙◌}
 use Rattle.std.specs.List.{concat}
 use Rattle.rart_maps.specs.Visits.{ByView}
 use Rattle.rart_maps.proofs.VisitLemmas.{callable-next, up_to-next, up_to-over, visits-refused}
-use Rattle.rart_walks.proofs.VisitCountLemmas.{counted-next, counted-end}
+use Rattle.rart_walks.proofs.CountedLemmas.{counted-next, counted-end}
 use Rattle.rart_walks.proofs.visits.views.visit_views.Goals as goal
 
 pub returns-in_err-value : goal.returns-in_err-value
@@ -12,8 +12,8 @@ returns-in_err-value g c =
     record {
       visits = visits-refused g.F.FnMut ByView c.from_residual.result refused (_, before.calls);
       counted = counted-end before.counted c.in_err-value.ensures.counted;
-      entered = search (rules, refused);
-      least = search (rules, refused);
+      exact = search (rules, refused);
+      each = search (rules, refused);
     }
 
 pub f-requires : goal.f-requires
@@ -48,11 +48,11 @@ returns g c =
     record {
       visits = up_to-over g.F.FnMut ByView tt none.0 before.calls;
       counted = counted-end before.counted walked.counted;
-      entered =
+      exact =
           let same = before.counted.same in
           let next = walked.entered in
           omega (arith, same, next, no_path);
-      least =
+      each =
           let each = before.each in
           let next = walked.each in
           omega (arith, each, next, no_pair);

@@ -5,7 +5,7 @@ use Rattle.rart_maps.specs.FoundLaws.{KeysAscend}
 use Rattle.rart_maps.specs.Visits.{ByView}
 use Rattle.rart_maps.proofs.RangeLemmas.{up_to, is_below, up_to-first, ascends-rest}
 use Rattle.rart_maps.proofs.VisitLemmas.{callable-next, up_to-next, up_to-over, up_to-part}
-use Rattle.rart_walks.proofs.VisitCountLemmas.{counted-next, counted-end}
+use Rattle.rart_walks.proofs.CountedLemmas.{counted-next, counted-end}
 use Rattle.rart_walks.proofs.UpToLemmas.{none-past, few-next, few-end}
 use Rattle.rart_walks.proofs.visits.views.visit_views_up_to.Goals as goal
 
@@ -22,7 +22,7 @@ returns-then-not-is_up_to g c =
       visits = up_to-over g.F.FnMut ByView tt none before.calls;
       counted = counted-end before.counted walked.counted;
       few = few-end high before.few walked.one;
-      least =
+      each =
           let each = before.each in
           let over = ap length none in
           let grows = walked.one.entered_grows in
@@ -102,7 +102,7 @@ returns g c =
       visits = up_to-over g.F.FnMut ByView tt none before.calls;
       counted = counted-end before.counted walked.counted;
       few = few-end high before.few walked.one;
-      least =
+      each =
           let each = before.each in
           let no_pair = ap length none in
           let grows = walked.one.entered_grows in

@@ -2,7 +2,7 @@ use Rattle.std.proofs.Common.{arith, sym, subst}
 use Rattle.rart_maps.specs.Visits.{ByView, Visitable, Visits}
 use Rattle.rart_maps.proofs.VisitLemmas.{up_to-start, visits-refused}
 use Rattle.rart_node.proofs.CountingLemmas.{entered-then}
-use Rattle.rart_versioned.proofs.VersionVisitLemmas.{OnOk-weaker}
+use Rattle.rart_versioned.proofs.VersionVisitLemmas.{OnOk-weaker, counts-through}
 use Rattle.rart_versioned.proofs.counted.tree.VersionedAdaptiveRadixTree.for_each_view_counted.Goals as goal
 
 pub visit_views-requires-clause-visitable : goal.visit_views-requires-clause-visitable
@@ -21,22 +21,10 @@ returns g c =
     let walk = c.in_ok-walk.ensures in
     let visit = c.visit_views.ensures in
     let nodes = walk.nodes in
-    let way_grows = walk.counted.entered_grows in
-    let way_made = walk.counted.made_grows in
-    let way_none = walk.counted.made_at_most in
-    let grows = visit.counted.entered_grows in
-    let most = visit.counted.entered_at_most in
-    let made = visit.counted.made_grows in
-    let none = visit.counted.made_at_most in
     record {
       visits = subst (λ list. Visits g.F.FnMut ByView c.visit_views.result c.args.f.now list
           c.visit_views.new.f) walk.pairs visit.visits;
-      counted = record {
-        entered_grows = omega (arith, way_grows, grows);
-        entered_at_most = omega (arith, nodes, most);
-        made_grows = omega (arith, way_made, made);
-        made_at_most = omega (arith, way_none, none);
-      };
-      exact = OnOk-weaker c.visit_views.result (λ all. omega (arith, all, nodes)) visit.entered;
+      counted = counts-through walk.counted nodes visit.counted;
+      exact = OnOk-weaker c.visit_views.result (λ all. omega (arith, all, nodes)) visit.exact;
       entered = λ keyed. entered-then c.args.work.now (walk.entered keyed) visit.counted;
     }

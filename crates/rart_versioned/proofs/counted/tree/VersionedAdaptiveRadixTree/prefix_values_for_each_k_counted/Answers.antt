@@ -50,6 +50,6 @@ returns g c =
       counted = counts-then way visit.counted (omega (arith, nodes)) (omega arith);
       counted_by_pairs = counts-then way visit.counted (omega (arith, few)) (omega arith);
       entered = λ keyed. entered-then c.args.work.now (walk.entered keyed) visit.counted;
-      each = OnOk-weaker c.visit_values.result (λ least. omega (arith, least, hand, long))
-          visit.least;
+      each = OnOk-weaker c.visit_values.result (λ each. omega (arith, each, hand, long))
+          visit.each;
     }

@@ -2,13 +2,14 @@ use Rattle.std.proofs.Common.{◌≡◌, ◌+◌, arith, Ok, sym, subst}
 use Rattle.rart_below.specs.declared.visit.VisitControl.TheVariants.{Continue}
 use Rattle.rart_maps.specs.ChangeVisits.{ByViewChange}
 use Rattle.rart_maps.specs.ChangeLists.{changes}
-use Rattle.rart_walks.specs.DiffEnds.{Ends, EntersTo}
+use Rattle.rart_walks.specs.DiffEnds.{EntersTo}
+use Rattle.rart_walks.specs.Ends.{Ends}
 use Rattle.rart_walks.specs.TwoWalks.{nodes_ahead}
 use Rattle.rart_maps.specs.Visits.{VisitableUntil, VisitsUntil}
 use Rattle.rart_maps.proofs.VisitLemmas.{up_to-start}
 use Rattle.rart_node.proofs.CountingLemmas.{entered-then}
-use Rattle.rart_versioned.proofs.DiffEndLemmas.{diff-ends-weaker, diff-soon}
-use Rattle.rart_versioned.proofs.VersionVisitLemmas.{counts-through}
+use Rattle.rart_versioned.proofs.DiffEndLemmas.{diff-soon}
+use Rattle.rart_versioned.proofs.VersionVisitLemmas.{counts-through, ends-weaker}
 use Rattle.rart_versioned.proofs.counted.tree.VersionedAdaptiveRadixTree.try_diff_lending_with_counted.Goals as goal
 
 pub visit_changed_views_until-requires-clause-visitable :
@@ -42,10 +43,10 @@ returns-in-Ok g c =
           let state = c.visit_changed_views_until.new.f in
           let result = c.visit_changed_views_until.result in
           let nodes = both.nodes in
-          diff-ends-weaker g.F.FnMut ByViewChange (changes g.V.PartialEq.eq m n)
+          ends-weaker g.F.FnMut ByViewChange (changes g.V.PartialEq.eq m n)
           (λ through. omega (arith, nodes, through))
-          (λ front last enters. diff-soon m n old new c.args.work.now between after _ both.counted
-          both.to both.held front last enters) c.args.f.now state result
+          (λ front rest last is enters. diff-soon m n old new c.args.work.now between after _
+          both.counted both.to both.held front last enters) c.args.f.now state result
           (subst (λ list. Ends g.F.FnMut ByViewChange
           (after.entered ≡ between.entered + nodes_ahead old new)
           (EntersTo old new between after) result c.args.f.now list state)

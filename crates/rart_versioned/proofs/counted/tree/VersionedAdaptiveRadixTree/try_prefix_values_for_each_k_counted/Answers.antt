@@ -3,8 +3,10 @@ use Rattle.rart_below.specs.declared.visit.VisitControl.TheVariants.{Continue}
 use Rattle.rart_maps.specs.Pairs.{under}
 use Rattle.rart_maps.specs.Visits.{ByValue, VisitableUntil, VisitsUntil}
 use Rattle.rart_maps.proofs.VisitLemmas.{up_to-start}
-use Rattle.rart_versioned.proofs.PrefixEndLemmas.{ends-soon, ends-weaker}
+use Rattle.rart_versioned.proofs.PrefixEndLemmas.{ends-soon}
 use Rattle.rart_node.proofs.CountingLemmas.{counts-most, counts-then, entered-then}
+use Rattle.rart_versioned.proofs.VersionVisitLemmas.{ends-weaker}
+use Rattle.rart_walks.specs.Ends.{ByPairValue}
 use Rattle.rart_versioned.proofs.counted.tree.VersionedAdaptiveRadixTree.try_prefix_values_for_each_k_counted.Goals as goal
 
 pub visit_values_until-requires : goal.visit_values_until-requires
@@ -52,7 +54,7 @@ returns-in-Ok g c =
       counted = counts-then way visit.counted (omega (arith, nodes)) (omega arith);
       counted_by_pairs = counts-then way visit.counted (omega (arith, by_pairs)) (omega arith);
       entered = λ keyed. entered-then c.args.work.now (walk.entered keyed) visit.counted;
-      ends = ends-weaker g.F.FnMut ByValue (under m p)
+      ends = ends-weaker g.F.FnMut ByPairValue (under m p)
           (λ through. omega (arith, through, hand))
           (λ front rest last is enters. ends-soon m p front rest last is _ _ c.args.work.now
           c.walk_under-walk.new.work c.visit_values_until.new.work way hand few enters)

@@ -69,6 +69,6 @@ returns g c =
       each =
           let hand = c.in_ok-walk.ensures.at_hand in
           let long = ap length same in
-          OnOk-weaker c.visit_views_up_to.result (λ least. omega (arith, least, hand, long))
-          c.visit_views_up_to.ensures.least;
+          OnOk-weaker c.visit_views_up_to.result (λ each. omega (arith, each, hand, long))
+          c.visit_views_up_to.ensures.each;
     }

@@ -1,7 +1,7 @@
 use Rattle.std.proofs.Common.{◌≡◌, ◌+◌, ◌≤◌, length}
 use Rattle.rart_walks.specs.ChangeFields.{IsChangeWalk, GoesFurther, changes_left, nodes_to_enter, hands}
 use Rattle.rart_walks.specs.SideFields.{pairs_left}
-use Rattle.rart_walks.proofs.DiffCountLemmas.{IsCounted}
+use Rattle.rart_walks.proofs.CountedLemmas.{IsCounted}
 use Rattle.rart_walks.proofs.diff.changes.ChangeWalk.next.Given as goal
 
 abbrev pub invariant-merging : goal.invariant-merging

@@ -18,7 +18,6 @@ returns g c =
           (cursor side.walk).pairs c.take.ensures.value c.take.ensures.after
           c.requires.ascends some;
       paths = refl;
-      nodes = refl;
       hand = λ some.
           let held = ap {B = ℕ} (λ b. cond b 1 0) some in
           let none = ap {B = ℕ} (λ v. cond (is_some v) 1 0) c.take.ensures.after in

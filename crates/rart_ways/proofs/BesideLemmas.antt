@@ -1,11 +1,13 @@
 -- The order of two strings is told by their prefixes, where these differ.
-use Rattle.std.proofs.Common.{◌≡◌, ℕ, Bool, true, false, List, [], ◌∷◌, ◌++◌, refl, sym, ap, ◌∙◌}
+use Rattle.std.proofs.Common.{◌≡◌, ℕ, true, false, List, [], ◌∷◌, ◌++◌, refl, sym, ap, ◌∙◌}
 use Rattle.std.specs.FinMap as finite
 use Rattle.std.specs.declared.cmp.Ordering.TheVariants.{Less, Equal, Greater}
 use Rattle.std.specs.Ordering.{ordering_then, nat_cmp, is_le, is_lt}
 use Rattle.std.specs.Cmp.{nat_cmp_is}
 use Rattle.rart_below.specs.Bytes.{byte_order}
 use Rattle.rart_ways.specs.Besides.{is_to}
+use Rattle.rart_ways.specs.declared.seeking.Edge.{Edge}
+use Rattle.rart_ways.specs.declared.seeking.Edge.TheVariants.{Included, Excluded}
 
 pub order-same : (u w : List ℕ) → byte_order u w ≡ Equal → u ≡ w
 order-same = finite.slice_cmp-IsAntisymmetric finite.nat_cmp-IsAntisymmetric
@@ -31,17 +33,17 @@ order-along (b ∷ p) u w =
     ∙ order-along p u w
 
 -- The order of a key beside an upper bound, both behind a path.
-pub is_to-along : (strict : Bool) (p high key : List ℕ)
-    → is_to strict (p ++ high) (p ++ key) ≡ is_to strict high key
-is_to-along true p high key = ap is_lt (order-along p key high)
-is_to-along false p high key = ap is_le (order-along p key high)
+pub is_to-along : (edge : Edge) (p high key : List ℕ)
+    → is_to edge (p ++ high) (p ++ key) ≡ is_to edge high key
+is_to-along Included p high key = ap is_le (order-along p key high)
+is_to-along Excluded p high key = ap is_lt (order-along p key high)
 
-pub is_to-before : (strict : Bool) (high key : List ℕ) → byte_order key high ≡ Less
-    → is_to strict high key ≡ true
-is_to-before true high key is = ap is_lt is
-is_to-before false high key is = ap is_le is
+pub is_to-before : (edge : Edge) (high key : List ℕ) → byte_order key high ≡ Less
+    → is_to edge high key ≡ true
+is_to-before Included high key is = ap is_le is
+is_to-before Excluded high key is = ap is_lt is
 
-pub is_to-behind : (strict : Bool) (high key : List ℕ) → byte_order key high ≡ Greater
-    → is_to strict high key ≡ false
-is_to-behind true high key is = ap is_lt is
-is_to-behind false high key is = ap is_le is
+pub is_to-behind : (edge : Edge) (high key : List ℕ) → byte_order key high ≡ Greater
+    → is_to edge high key ≡ false
+is_to-behind Included high key is = ap is_le is
+is_to-behind Excluded high key is = ap is_lt is

@@ -1,11 +1,12 @@
 -- The way down to where the first of the pairs from a bound on stands.
-use Rattle.std.proofs.Common.{◌≡◌, ℕ, suc, Bool, true, List, [], ◌∷◌, ◌++◌, Option, Some, None, length, take, refl, arith, sym, ap, subst, ◌∙◌}
+use Rattle.std.proofs.Common.{◌≡◌, ℕ, suc, true, List, [], ◌∷◌, ◌++◌, Option, Some, None, length, take, refl, arith, sym, ap, subst, ◌∙◌}
 use Rattle.std.specs.Prelude.{◌-◌, ◌^◌}
 use Rattle.std.proofs.lemmas.List.{append_assoc, append-nil, length-append}
 use Rattle.rart_below.specs.Children.{child_at, children_from}
 use Rattle.rart_node.specs.Counts.{Counts}
 use Rattle.rart_node.specs.Shape.{Shape, prefix_of, value_of, children_of}
 use Rattle.rart_ways.specs.Starts.{IsStart, StartAt, AreTurns, is_from}
+use Rattle.rart_ways.specs.declared.seeking.Edge.{Edge}
 use Rattle.rart_ways.proofs.FromLemmas.{from-goes}
 use Rattle.rart_ways.proofs.TurnLemmas.{tree-turns, later-turns}
 use Rattle.rart_node.specs.Trees.{IsTree, own_pair, pairs_of}
@@ -29,9 +30,9 @@ front-of low path rest is =
     take-front [] = refl
     take-front (b ∷ front) = ap (λ z. b ∷ z) (take-front front)
 
-module _ {V : Type 0} (strict : Bool) (low : List ℕ) where
+module _ {V : Type 0} (edge : Edge) (low : List ℕ) where
   abbrev pub from_low : Shape V → List (List ℕ × V)
-  from_low root = keeping (is_from strict low) (pairs_of root)
+  from_low root = keeping (is_from edge low) (pairs_of root)
 
   -- The way has come to the node s, with this rest of the string: from the bound on there are the
   -- pairs of the node from the rest on, behind the path, and then those ahead.
@@ -41,7 +42,7 @@ module _ {V : Type 0} (strict : Bool) (low : List ℕ) where
     pub path_is : low ≡ path ++ rest
     pub short : AreShort (Some (2 ^ 64 - 1)) (behind_path path (pairs_of s))
     pub kept :
-        from_low root ≡ behind_path path (keeping (is_from strict rest) (pairs_of s)) ++ ahead
+        from_low root ≡ behind_path path (keeping (is_from edge rest) (pairs_of s)) ++ ahead
 
   pub seek-start : (root : Shape V) (start : Counts) → IsTree root
       → AreShort (Some (2 ^ 64 - 1)) (pairs_of root) → IsSeekAt root start root low start [] []
@@ -55,12 +56,12 @@ module _ {V : Type 0} (strict : Bool) (low : List ℕ) where
   module _ (root : Shape V) (start : Counts) (s : Shape V) (rest : List ℕ) (now : Counts)
       (path : List ℕ) (ahead : List (List ℕ × V))
       (seek : IsSeekAt root start s rest now path ahead) where
-    parted : (part : List (List ℕ × V)) → keeping (is_from strict rest) (pairs_of s) ≡ part
+    parted : (part : List (List ℕ × V)) → keeping (is_from edge rest) (pairs_of s) ≡ part
         → from_low root ≡ behind_path path part ++ ahead
     parted part is = seek.kept ∙ ap (λ z. behind_path path z ++ ahead) is
 
     -- all of the node is kept
-    pub ends-with-all : keeping (is_from strict rest) (pairs_of s) ≡ pairs_of s
+    pub ends-with-all : keeping (is_from edge rest) (pairs_of s) ≡ pairs_of s
         → IsStart (from_low root) (take (length low - length rest) low) s
     ends-with-all all =
         subst (λ p. IsStart (from_low root) p s) (sym (front-of low path rest seek.path_is))
@@ -73,7 +74,7 @@ module _ {V : Type 0} (strict : Bool) (low : List ℕ) where
 
     -- nothing of it is
     pub ends-with-none : (turn : Option (List ℕ × Shape V)) → StartAt ahead turn
-        → keeping (is_from strict rest) (pairs_of s) ≡ [] → StartAt (from_low root) turn
+        → keeping (is_from edge rest) (pairs_of s) ≡ [] → StartAt (from_low root) turn
     ends-with-none turn at none = subst (λ z. StartAt z turn) (sym (parted [] none)) at
 
     children-short : AreShort (Some (2 ^ 64 - 1))
@@ -99,7 +100,7 @@ module _ {V : Type 0} (strict : Bool) (low : List ℕ) where
 
       pub ends-inside : (turn : Option (List ℕ × Shape V))
           → StartAt (behind_path low (pairs_of_all (children_of s)) ++ ahead) turn
-          → keeping (is_from strict rest) (pairs_of s) ≡ pairs_inside s
+          → keeping (is_from edge rest) (pairs_of s) ≡ pairs_inside s
           → StartAt (from_low root) turn
       ends-inside turn at inside =
           subst (λ z. StartAt z turn) (sym (parted (pairs_inside s) inside
@@ -144,16 +145,16 @@ module _ {V : Type 0} (strict : Bool) (low : List ℕ) where
       -- of the child under the byte, and then what is behind it
       goes-below : from_low root
           ≡ behind_path (path ++ prefix_of s)
-          (kept_at own_pair (is_from strict (byte ∷ more)) (child_at byte (children_of s)))
+          (kept_at own_pair (is_from edge (byte ∷ more)) (child_at byte (children_of s)))
           ++ passed
       goes-below =
           let deep = path ++ prefix_of s in
-          let below = kept_at own_pair (is_from strict (byte ∷ more))
+          let below = kept_at own_pair (is_from edge (byte ∷ more))
           (child_at byte (children_of s)) in
           parted (behind_path (prefix_of s) (below ++ pairs_of_all later))
-          (ap (λ r. keeping (is_from strict r) (pairs_of s)) goes
-          ∙ ap (keeping (is_from strict (prefix_of s ++ (byte ∷ more)))) (pairs-gathered s)
-          ∙ parted-below own_pair own_pair-ends (is_from strict) true (from-goes strict) s byte more
+          (ap (λ r. keeping (is_from edge r) (pairs_of s)) goes
+          ∙ ap (keeping (is_from edge (prefix_of s ++ (byte ∷ more)))) (pairs-gathered s)
+          ∙ parted-below own_pair own_pair-ends (is_from edge) true (from-goes edge) s byte more
           seek.at.tree
           ∙ ap (λ z. behind_path (prefix_of s) (below ++ z)) (sym (all-gathered later)))
           ∙ ap (λ z. z ++ ahead) (behind-behind path (prefix_of s) (below ++ pairs_of_all later)
@@ -165,7 +166,7 @@ module _ {V : Type 0} (strict : Bool) (low : List ℕ) where
       ends-missing turn at none =
           subst (λ z. StartAt z turn) (sym (goes-below
           ∙ ap (λ o. behind_path (path ++ prefix_of s)
-          (kept_at own_pair (is_from strict (byte ∷ more)) o) ++ passed) none)) at
+          (kept_at own_pair (is_from edge (byte ∷ more)) o) ++ passed) none)) at
 
       pub seek-child : (child : Shape V) (after : Counts)
           → IsSearchAt root low start child (byte ∷ more) after
@@ -179,7 +180,7 @@ module _ {V : Type 0} (strict : Bool) (low : List ℕ) where
             children-short;
         kept =
             goes-below ∙ ap (λ o. behind_path (path ++ prefix_of s)
-            (kept_at own_pair (is_from strict (byte ∷ more)) o) ++ passed) here
-            ∙ ap (λ z. behind_path (path ++ prefix_of s) (keeping (is_from strict (byte ∷ more)) z)
+            (kept_at own_pair (is_from edge (byte ∷ more)) o) ++ passed) here
+            ∙ ap (λ z. behind_path (path ++ prefix_of s) (keeping (is_from edge (byte ∷ more)) z)
             ++ passed) (sym (pairs-gathered child));
       }

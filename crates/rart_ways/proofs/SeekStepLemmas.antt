@@ -1,10 +1,11 @@
 -- A step of the way down to a start, as its calls know it.
-use Rattle.std.proofs.Common.{◌≡◌, ◌+◌, ◌<◌, ℕ, Bool, List, ◌∷◌, ◌++◌, Option, Some, None, suc, length, take, add-one, refl, arith, sym, ap, subst, ◌∙◌}
+use Rattle.std.proofs.Common.{◌≡◌, ◌+◌, ◌<◌, ℕ, List, ◌∷◌, ◌++◌, Option, Some, None, suc, length, take, add-one, refl, arith, sym, ap, subst, ◌∙◌}
 use Rattle.std.specs.Prelude.{◌-◌, ◌^◌}
 use Rattle.rart_below.specs.Children.{child_at, children_from}
 use Rattle.rart_node.specs.Counts.{Counts, CountsUpTo}
 use Rattle.rart_node.specs.Shape.{Shape, height, prefix_of, children_of}
 use Rattle.rart_ways.specs.Starts.{StartAt, AreTurns}
+use Rattle.rart_ways.specs.declared.seeking.Edge.{Edge}
 use Rattle.rart_ways.proofs.SeekStartLemmas.{IsSeekAt, from_low, passed, later-fits, later-brief, turn-passed, ends-missing, seek-child}
 use Rattle.rart_node.specs.Trees.{path_bound}
 use Rattle.rart_node.proofs.SearchLemmas.{IsSearchAt, search-counted, search-lower, search-child}
@@ -12,9 +13,9 @@ use Rattle.rart_walks.specs.Frames.{behind_path, pairs_of_all}
 use Rattle.rart_walks.specs.Walks.{AreShort}
 use Rattle.rart_walks.proofs.WalkStepLemmas.{GoesOn}
 
-module _ {V : Type 0} (strict : Bool) (low : List ℕ) (root : Shape V) (start : Counts)
+module _ {V : Type 0} (edge : Edge) (low : List ℕ) (root : Shape V) (start : Counts)
     (s : Shape V) (rest : List ℕ) (now : Counts) (path : List ℕ) (ahead : List (List ℕ × V))
-    (seek : IsSeekAt strict low root start s rest now path ahead) (o : Shape V) (after : Counts)
+    (seek : IsSeekAt edge low root start s rest now path ahead) (o : Shape V) (after : Counts)
     (opens : after ≡ record now { entered = now.entered + 1 }) (same : o ≡ s) where
   pub step-counted : CountsUpTo (path_bound root low) 0 start after
   step-counted = search-counted root low start s o rest now after seek.at opens same
@@ -28,7 +29,7 @@ module _ {V : Type 0} (strict : Bool) (low : List ℕ) (root : Shape V) (start :
     whole = goes.whole ∙ ap (λ z. prefix_of z ++ (byte ∷ goes.more)) same
 
     abbrev pub step_passed : List (List ℕ × V)
-    step_passed = passed strict low root start s rest now path ahead seek byte goes.more whole
+    step_passed = passed edge low root start s rest now path ahead seek byte goes.more whole
 
     pub step-lower : (child : Shape V) → Some child ≡ child_at byte (children_of o)
         → height child < height s
@@ -42,17 +43,17 @@ module _ {V : Type 0} (strict : Bool) (low : List ℕ) (root : Shape V) (start :
 
     pub step-missing : None ≡ child_at byte (children_of o)
         → (turn : Option (List ℕ × Shape V)) → StartAt step_passed turn
-        → StartAt (from_low strict low root) turn
+        → StartAt (from_low edge low root) turn
     step-missing missing turn at =
-        ends-missing strict low root start s rest now path ahead seek byte goes.more whole turn at
+        ends-missing edge low root start s rest now path ahead seek byte goes.more whole turn at
         (below None missing)
 
     pub step-child : (child : Shape V) → Some child ≡ child_at byte (children_of o)
-        → IsSeekAt strict low root start child left after (path ++ prefix_of s) step_passed
+        → IsSeekAt edge low root start child left after (path ++ prefix_of s) step_passed
     step-child child here =
-        subst (λ z. IsSeekAt strict low root start child z after (path ++ prefix_of s) step_passed)
+        subst (λ z. IsSeekAt edge low root start child z after (path ++ prefix_of s) step_passed)
         (sym goes.is)
-        (seek-child strict low root start s rest now path ahead seek byte goes.more whole child
+        (seek-child edge low root start s rest now path ahead seek byte goes.more whole child
         after
         (subst (λ z. IsSearchAt root low start child z after) goes.is
         (search-child root low start s o rest now after seek.at opens same (prefix_of o) refl left
@@ -71,7 +72,7 @@ module _ {V : Type 0} (strict : Bool) (low : List ℕ) (root : Shape V) (start :
         pub step-turns : AreTurns later
         step-turns =
             subst AreTurns (sym later-is)
-            (later-fits strict low root start s rest now path ahead seek byte goes.more whole)
+            (later-fits edge low root start s rest now path ahead seek byte goes.more whole)
 
         pub step-brief : AreShort (Some (2 ^ 64 - 1))
             (behind_path (take (length low - length left) low) (pairs_of_all later))
@@ -80,13 +81,13 @@ module _ {V : Type 0} (strict : Bool) (low : List ℕ) (root : Shape V) (start :
             (behind_path (take (length low - length left) low) (pairs_of_all z))) (sym later-is)
             (subst (λ p. AreShort (Some (2 ^ 64 - 1)) (behind_path p (pairs_of_all
             (children_from (suc byte) (children_of s))))) (sym front-is)
-            (later-brief strict low root start s rest now path ahead seek byte goes.more whole))
+            (later-brief edge low root start s rest now path ahead seek byte goes.more whole))
 
         pub step-turn : (turn : Option (List ℕ × Shape V))
             → StartAt (behind_path (take (length low - length left) low) (pairs_of_all later)
             ++ ahead) turn → StartAt step_passed turn
         step-turn turn at =
-            turn-passed strict low root start s rest now path ahead seek byte goes.more whole turn
+            turn-passed edge low root start s rest now path ahead seek byte goes.more whole turn
             (subst (λ p. StartAt (behind_path p (pairs_of_all
             (children_from (suc byte) (children_of s))) ++ ahead) turn) front-is
             (subst (λ z. StartAt (behind_path (take (length low - length left) low) (pairs_of_all z)

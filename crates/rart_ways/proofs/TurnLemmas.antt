@@ -1,15 +1,17 @@
 -- Children that a way passes: the first of them is where the pairs behind it begin.
-use Rattle.std.proofs.Common.{◌≡◌, ◌+◌, ◌<◌, ℕ, true, false, cond, List, [], ◌∷◌, ◌++◌, Option, Some, None, is_some, arith, sym, ap, subst, ◌∙◌}
+use Rattle.std.proofs.Common.{◌≡◌, ◌+◌, ◌<◌, ◌≤◌, ℕ, true, false, cond, List, [], ◌∷◌, ◌++◌, Option, Some, None, is_some, arith, sym, ap, subst, ◌∙◌}
 use Rattle.std.specs.Prelude.{nat_le, ◌-◌, ◌^◌}
 use Rattle.std.proofs.lemmas.List.{append_assoc}
 use Rattle.rart_below.specs.Children.{children_from}
 use Rattle.rart_node.specs.Counts.{Counts, CountsUpTo}
 use Rattle.rart_node.specs.Shape.{Shape, Forest, node, bare, grown, prefix_of, children_of, entries_of}
-use Rattle.rart_ways.specs.Starts.{IsStart, StartAt, AreTurns, FindsStart, IsDeep, OpensTurn, start_length}
+use Rattle.rart_ways.specs.Starts.{IsStart, StartAt, AreTurns, IsDeep, start_length}
 use Rattle.rart_node.specs.Trees.{IsTree, AreBranches, pairs_of}
+use Rattle.rart_node.proofs.CountingLemmas.{counts-then}
 use Rattle.rart_node.proofs.PrefixLemmas.{begins-long}
 use Rattle.rart_walks.specs.Frames.{behind_path, pairs_of_all}
 use Rattle.rart_walks.specs.Walks.{AreShort}
+use Rattle.rart_walks.proofs.CountedLemmas.{counts-none_made}
 use Rattle.rart_walks.proofs.WalkLemmas.{behind-append, short-front}
 
 module _ {V : Type 0} where
@@ -58,73 +60,38 @@ module _ {V : Type 0} where
               (behind_path path (pairs_of_all rest)) ahead;
         }
 
-  -- A node behind a turn is entered: its prefix makes up for it.
-  pub turn-counted : (most : ℕ) (before after later : Counts) → CountsUpTo most 0 before after
-      → (start : Option (List ℕ × Shape V)) → IsDeep start
-      → later.entered ≡ after.entered + cond (is_some start) 1 0 → later.made ≡ after.made
-      → CountsUpTo (most + start_length start) 0 before later
-  turn-counted most before after later counted None deep entered made =
-      let grows = counted.entered_grows in
-      let at_most = counted.entered_at_most in
-      let made_grows = counted.made_grows in
-      let made_most = counted.made_at_most in
-      record {
-        entered_grows = omega (arith, grows, entered);
-        entered_at_most = omega (arith, at_most, entered);
-        made_grows = omega (arith, made_grows, made);
-        made_at_most = omega (arith, made_most, made);
-      }
-  turn-counted most before after later counted (Some start) deep entered made =
-      let grows = counted.entered_grows in
-      let at_most = counted.entered_at_most in
-      let made_grows = counted.made_grows in
-      let made_most = counted.made_at_most in
-      record {
-        entered_grows = omega (arith, grows, entered);
-        entered_at_most = omega (arith, at_most, entered, deep);
-        made_grows = omega (arith, made_grows, made);
-        made_at_most = omega (arith, made_most, made);
-      }
+  -- A node behind a turn is at most one, and its prefix makes up for it.
+  one-turn : (start : Option (List ℕ × Shape V)) → cond (is_some start) 1 0 ≤ 1
+  one-turn None = omega arith
+  one-turn (Some start) = omega arith
 
-  -- Whatever is there, one node more.
-  pub turn-soon : (most : ℕ) (before after later : Counts) → CountsUpTo most 0 before after
-      → (start : Option (List ℕ × Shape V))
-      → later.entered ≡ after.entered + cond (is_some start) 1 0 → later.made ≡ after.made
-      → CountsUpTo (most + 1) 0 before later
-  turn-soon most before after later counted None entered made =
-      let grows = counted.entered_grows in
-      let at_most = counted.entered_at_most in
-      let made_grows = counted.made_grows in
-      let made_most = counted.made_at_most in
-      record {
-        entered_grows = omega (arith, grows, entered);
-        entered_at_most = omega (arith, at_most, entered);
-        made_grows = omega (arith, made_grows, made);
-        made_at_most = omega (arith, made_most, made);
-      }
-  turn-soon most before after later counted (Some start) entered made =
-      let grows = counted.entered_grows in
-      let at_most = counted.entered_at_most in
-      let made_grows = counted.made_grows in
-      let made_most = counted.made_at_most in
-      record {
-        entered_grows = omega (arith, grows, entered);
-        entered_at_most = omega (arith, at_most, entered);
-        made_grows = omega (arith, made_grows, made);
-        made_at_most = omega (arith, made_most, made);
-      }
+  deep-turn : (start : Option (List ℕ × Shape V)) → IsDeep start
+      → cond (is_some start) 1 0 ≤ start_length start
+  deep-turn None deep = omega arith
+  deep-turn (Some start) deep = omega (arith, deep)
+
+  -- The node where the first of these pairs stand is found. At most `most` nodes are entered, and
+  -- one more where its prefix has a byte; and one at least.
+  pub record FindsStart (pairs : List (List ℕ × V)) (most : ℕ)
+      (found : Option (List ℕ × Shape V)) (before after : Counts) : Type 0 where
+    pub start : StartAt pairs found
+    pub counted : CountsUpTo (most + start_length found) 0 before after
+    pub soon : CountsUpTo (most + 1) 0 before after
+    pub entered : before.entered < after.entered
 
   -- What a turn leads to is found, once the way has entered a node.
   pub found-turn : (pairs : List (List ℕ × V)) (most : ℕ) (before after later : Counts)
       → CountsUpTo most 0 before after → before.entered < after.entered
-      → (turn opened : Option (List ℕ × Shape V)) → OpensTurn turn opened after later
+      → (turn opened : Option (List ℕ × Shape V)) → opened ≡ turn
+      → later.entered ≡ after.entered + cond (is_some opened) 1 0 → later.made ≡ after.made
       → IsDeep turn → StartAt pairs turn → FindsStart pairs most opened before later
-  found-turn pairs most before after later counted first turn opened opens deep at =
-      let entered = opens.entered in
+  found-turn pairs most before after later counted first turn opened shown entered made deep at =
+      let one : CountsUpTo (cond (is_some opened) 1 0) 0 after later =
+      counts-none_made (omega (arith, entered)) (omega (arith, entered)) made in
+      let few = deep-turn opened (subst IsDeep (sym shown) deep) in
       record {
-        start = subst (StartAt pairs) (sym opens.shown) at;
-        counted = turn-counted most before after later counted opened
-            (subst IsDeep (sym opens.shown) deep) entered opens.made;
-        soon = turn-soon most before after later counted opened entered opens.made;
+        start = subst (StartAt pairs) (sym shown) at;
+        counted = counts-then counted one (omega (arith, few)) (omega arith);
+        soon = counts-then counted one (omega (arith, one-turn opened)) (omega arith);
         entered = omega (arith, first, entered);
       }

@@ -2,15 +2,16 @@
 //! The way down a tree to the first of the pairs whose keys meet a lower bound.
 //!
 //! It takes no memory: the key is written, prefix by prefix, into room that the caller has.
-ghost use Rattle.std.specs.Prelude.{◌+◌, ◌^◌, ◌-◌, Some, length};
+ghost use Rattle.std.specs.Prelude.{◌≡◌, ◌+◌, ◌^◌, ◌-◌, ◌<◌, Some, length};
 ghost use Rattle.std.specs.Ordering.{as_partial_cmp};
 ghost use Rattle.std.specs.Range.Bound.{is_up_to_end, bound_map};
 ghost use Rattle.rart_below.specs.Bytes.{byte_order};
+ghost use Rattle.rart_node.specs.Counts.{CountsUpTo};
 ghost use Rattle.rart_node.specs.Trees.{IsTree, pairs_of, path_bound};
 ghost use Rattle.rart_walks.specs.Parts.{start_of};
 ghost use Rattle.rart_walks.specs.Walks.{AreShort};
-ghost use Rattle.rart_ways.specs.Firsts.{FindsFirst, TellsOfFirst};
-ghost use Rattle.rart_ways.specs.Starts.{CanSeek, pairs_from, pairs_meeting};
+ghost use Rattle.rart_ways.specs.Firsts.{Finds, first_passes, found_length};
+ghost use Rattle.rart_ways.specs.Starts.{pairs_from, pairs_meeting};
 
 mod least;
 mod start;
@@ -22,6 +23,13 @@ use rart_node::{NodeRef, Work};
 use start::find_start;
 use std::ops::Bound;
 use within::least_meets;
+
+/// Whether the string that a bound names is itself within the bound.
+#[derive(Clone, Copy)]
+pub(crate) enum Edge {
+    Included,
+    Excluded,
+}
 
 /// The first of the pairs below a pointer whose keys meet a lower bound: how many bytes its key
 /// has, and a reference to its value. `None` where there is none.
@@ -37,30 +45,35 @@ pub fn first_from<'a, P: Partial, V: Drop>(
 ) -> Option<(usize, &'a V)>
     requires tree { IsTree root.now.shape }
     requires short { AreShort (Some (2 ^ 64 - 1)) (pairs_of root.now.shape) }
-    ensures { let from = bound_map (λ low. low.now) low.entry in
-        FindsFirst (pairs_meeting from root.now.shape) (path_bound root.now.shape (start_of from))
-        result room.old room.new work.old work.new }
+    ensures first { Finds (pairs_meeting (bound_map (λ low. low.now) low.entry) root.now.shape)
+        result room.old room.new }
+    ensures counted { let from = start_of (bound_map (λ low. low.now) low.entry) in
+        CountsUpTo (path_bound root.now.shape from + found_length result) 0 work.old work.new }
+    ensures entered { work.old.entered < work.new.entered }
 {
     match low {
-        Bound::Included(low) => first_behind(root, low, false, room, work),
-        Bound::Excluded(low) => first_behind(root, low, true, room, work),
-        Bound::Unbounded => first_behind(root, &[], false, room, work),
+        Bound::Included(low) => first_behind(root, low, Edge::Included, room, work),
+        Bound::Excluded(low) => first_behind(root, low, Edge::Excluded, room, work),
+        Bound::Unbounded => first_behind(root, &[], Edge::Included, room, work),
     }
 }
 
-// The first of the pairs from a string on, or behind it.
+/// The first of the pairs from a string on, or behind it.
 fn first_behind<'a, P: Partial, V: Drop>(
     root: &'a NodeRef<P, V>,
     low: &[u8],
-    is_strict: bool,
+    edge: Edge,
     room: &mut [u8],
     work: &mut Work,
 ) -> Option<(usize, &'a V)>
-    requires { CanSeek root.now.shape }
-    ensures { FindsFirst (pairs_from is_strict low.now root.now.shape)
-        (path_bound root.now.shape low.now) result room.old room.new work.old work.new }
+    requires tree { IsTree root.now.shape }
+    requires short { AreShort (Some (2 ^ 64 - 1)) (pairs_of root.now.shape) }
+    ensures first { Finds (pairs_from edge low.now root.now.shape) result room.old room.new }
+    ensures counted { CountsUpTo (path_bound root.now.shape low.now + found_length result) 0
+        work.old work.new }
+    ensures entered { work.old.entered < work.new.entered }
 {
-    let (path, start) = find_start(root, low, is_strict, work)?;
+    let (path, start) = find_start(root, low, edge, work)?;
     Some(least(start, path, room, work))
 }
 
@@ -76,40 +89,45 @@ pub fn has_within<P: Partial, V: Drop>(
 ) -> bool
     requires tree { IsTree root.now.shape }
     requires short { AreShort (Some (2 ^ 64 - 1)) (pairs_of root.now.shape) }
-    ensures { let from = bound_map (λ low. low.now) low.entry in
+    ensures passes { let from = bound_map (λ low. low.now) low.entry in
         let to = bound_map (λ high. high.now) high.entry in
-        TellsOfFirst (pairs_meeting from root.now.shape)
-        (is_up_to_end (as_partial_cmp byte_order) to)
-        (path_bound root.now.shape (start_of from) + length (start_of to) + 2)
-        result work.old work.new }
+        result ≡ first_passes (is_up_to_end (as_partial_cmp byte_order) to)
+        (pairs_meeting from root.now.shape) }
+    ensures counted { let from = start_of (bound_map (λ low. low.now) low.entry) in
+        let to = start_of (bound_map (λ high. high.now) high.entry) in
+        CountsUpTo (path_bound root.now.shape from + length to + 2) 0 work.old work.new }
+    ensures entered { work.old.entered < work.new.entered }
 {
     match low {
-        Bound::Included(low) => has_behind(root, low, false, high, work),
-        Bound::Excluded(low) => has_behind(root, low, true, high, work),
-        Bound::Unbounded => has_behind(root, &[], false, high, work),
+        Bound::Included(low) => has_behind(root, low, Edge::Included, high, work),
+        Bound::Excluded(low) => has_behind(root, low, Edge::Excluded, high, work),
+        Bound::Unbounded => has_behind(root, &[], Edge::Included, high, work),
     }
 }
 
-// Whether the first of the pairs from a string on, or behind it, meets an upper bound.
+/// Whether the first of the pairs from a string on, or behind it, meets an upper bound.
 fn has_behind<P: Partial, V: Drop>(
     root: &NodeRef<P, V>,
     low: &[u8],
-    is_strict: bool,
+    edge: Edge,
     high: Bound<&[u8]>,
     work: &mut Work,
 ) -> bool
-    requires { CanSeek root.now.shape }
-    ensures { let to = bound_map (λ high. high.now) high.entry in
-        TellsOfFirst (pairs_from is_strict low.now root.now.shape)
-        (is_up_to_end (as_partial_cmp byte_order) to)
-        (path_bound root.now.shape low.now + length (start_of to) + 2) result work.old work.new }
+    requires tree { IsTree root.now.shape }
+    requires short { AreShort (Some (2 ^ 64 - 1)) (pairs_of root.now.shape) }
+    ensures passes { let to = bound_map (λ high. high.now) high.entry in
+        result ≡ first_passes (is_up_to_end (as_partial_cmp byte_order) to)
+        (pairs_from edge low.now root.now.shape) }
+    ensures counted { let to = start_of (bound_map (λ high. high.now) high.entry) in
+        CountsUpTo (path_bound root.now.shape low.now + length to + 2) 0 work.old work.new }
+    ensures entered { work.old.entered < work.new.entered }
 {
-    let Some((path, start)) = find_start(root, low, is_strict, work) else {
+    let Some((path, start)) = find_start(root, low, edge, work) else {
         return false;
     };
     match high {
-        Bound::Included(high) => least_meets(start, path, high, false, work),
-        Bound::Excluded(high) => least_meets(start, path, high, true, work),
+        Bound::Included(high) => least_meets(start, path, high, Edge::Included, work),
+        Bound::Excluded(high) => least_meets(start, path, high, Edge::Excluded, work),
         Bound::Unbounded => true,
     }
 }

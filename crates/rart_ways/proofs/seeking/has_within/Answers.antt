@@ -1,9 +1,10 @@
-use Rattle.std.proofs.Common.{true, false, [], ap, ◌∙◌}
+use Rattle.std.proofs.Common.{true, [], ap, ◌∙◌}
 use Rattle.std.specs.Ordering.{as_partial_cmp}
 use Rattle.std.specs.Range.Bound.{is_up_to_end, bound_map}
 use Rattle.rart_below.specs.Bytes.{byte_order}
 use Rattle.rart_ways.specs.Firsts.{first_passes}
 use Rattle.rart_ways.specs.Starts.{is_from}
+use Rattle.rart_ways.specs.declared.seeking.Edge.TheVariants.{Included}
 use Rattle.rart_ways.proofs.FromLemmas.{from-itself}
 use Rattle.rart_node.specs.Trees.{pairs_of}
 use Rattle.rart_walks.proofs.GatherLemmas.{keeping-same}
@@ -16,7 +17,7 @@ returns-in-Unbounded g c =
       passes =
           told.passes ∙ ap (first_passes (is_up_to_end (as_partial_cmp byte_order)
           (bound_map (λ high. high.now) c.args.high)))
-          (keeping-same (is_from false []) (λ key. true)
+          (keeping-same (is_from Included []) (λ key. true)
           (pairs_of c.args.root.now.shape) from-itself);
       counted = told.counted;
       entered = told.entered;

@@ -5,6 +5,7 @@ use Rattle.rart_node.specs.Shape.{prefix_of}
 use Rattle.rart_ways.specs.Starts.{IsStart}
 use Rattle.rart_node.specs.Trees.{pairs_of}
 use Rattle.rart_walks.specs.Frames.{behind_path}
+use Rattle.rart_walks.proofs.CountedLemmas.{counts-none_made}
 use Rattle.rart_ways.proofs.LeastLemmas.{start-whole, start-fits, first-here, first-below, first-lower, first-deep, none-some}
 use Rattle.rart_ways.proofs.seeking.least.least.Goals as goal
 
@@ -42,7 +43,6 @@ returns-in-Some g c =
     let room = c.down.auto.room in
     let grows = c.down.invariant.grows in
     let most = c.down.invariant.most in
-    let made = c.down.invariant.made in
     record {
       first = first-here _ above s c.down.invariant.at c.in-Some.value.now
           (sym c.in-Some.ensures) len c.args.room.now c.write_at-len-in-down.new.room
@@ -54,12 +54,8 @@ returns-in-Some g c =
           (c.write_at-len-in-down.ensures.behind len (le_refl len)
           ∙ c.down.invariant.behind len (omega (arith, end)));
       longer = omega (arith, end, long, count, grows, most);
-      counted = record {
-        entered_grows = grows;
-        entered_at_most = omega (arith, end, long, count, grows, most);
-        made_grows = omega (arith, made);
-        made_at_most = omega (arith, made);
-      };
+      counted = counts-none_made grows (omega (arith, end, long, count, grows, most))
+          c.down.invariant.made;
     }
 
 pub down-smaller : goal.down-smaller

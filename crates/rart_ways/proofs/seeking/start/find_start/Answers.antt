@@ -2,7 +2,7 @@ use Rattle.std.proofs.Common.{◌≡◌, ◌-◌, ◌++◌, [], length, refl, ta
 use Rattle.rart_below.specs.Bytes.{common_length}
 use Rattle.rart_node.specs.Shape.{prefix_of, children_of}
 use Rattle.rart_node.specs.VersionedNodeIter.{children_left}
-use Rattle.rart_ways.specs.Starts.{IsStart, AreTurns, turn_shape}
+use Rattle.rart_ways.specs.Starts.{IsStart, AreTurns, start_shape}
 use Rattle.rart_ways.proofs.SeekStartLemmas.{from_low, seek-start, ends-with-all, ends-with-none, ends-inside, inside-short, children-turns}
 use Rattle.rart_ways.proofs.SeekStepLemmas.{step_passed, step-counted, step-entered, step-lower, step-missing, step-child, step-turns, step-brief, step-turn}
 use Rattle.rart_ways.proofs.TurnLemmas.{found-turn}
@@ -16,7 +16,7 @@ down-init g c = record {
   path = [];
   ahead = [];
   seek =
-      seek-start c.args.is_strict c.args.low.now c.args.root.now.shape c.args.work.now
+      seek-start c.args.edge c.args.low.now c.args.root.now.shape c.args.work.now
       c.requires.tree c.requires.short;
   turn = refl;
   deep = tt;
@@ -39,7 +39,7 @@ returns-in-All g c =
     let kept = rw same at c.in-All.ensures.kept in
     let way = step-counted _ _ _ _ _ _ _ _ _ seek _ _ work same in
     record {
-      start = subst (IsStart (from_low c.args.is_strict low c.args.root.now.shape)
+      start = subst (IsStart (from_low c.args.edge low c.args.root.now.shape)
           (take (length low - length c.down.rest.now) low)) (sym same)
           (ends-with-all _ _ _ _ _ _ _ _ _ seek kept);
       counted = counts-most way (omega arith) (omega arith);
@@ -60,10 +60,16 @@ returns-in-Inside g c =
     let turns = children-turns _ _ _ _ _ _ _ _ _ seek in
     let there = (rw is at c.turn_of.ensures.start) c.down.invariant.ahead c.down.invariant.turn
     turns (inside-short _ _ _ _ _ _ _ _ _ seek end) in
-    found-turn _ _ _ _ _ (step-counted _ _ _ _ _ _ _ _ _ seek _ _ work same)
-    (step-entered _ _ _ _ _ _ _ _ _ seek _ _ work same) _ _ c.open_turn.ensures
+    let opens = c.open_turn.ensures in
+    let done = found-turn _ _ _ _ _ (step-counted _ _ _ _ _ _ _ _ _ seek _ _ work same)
+    (step-entered _ _ _ _ _ _ _ _ _ seek _ _ work same) _ _ opens.shown opens.entered opens.made
     (c.turn_of.ensures.deep c.down.invariant.deep (subst AreTurns (sym is) turns))
-    (ends-inside _ _ _ _ _ _ _ _ _ seek end (turn_shape c.turn_of.result) there inside)
+    (ends-inside _ _ _ _ _ _ _ _ _ seek end (start_shape c.turn_of.result) there inside) in record {
+      start = done.start;
+      counted = done.counted;
+      soon = done.soon;
+      entered = done.entered;
+    }
 
 pub returns-in-Nothing : goal.returns-in-Nothing
 returns-in-Nothing g c =
@@ -72,11 +78,17 @@ returns-in-Nothing g c =
     let none = rw same at c.in-Nothing.ensures.kept in
     let seek = c.down.invariant.seek in
     let work = c.open-node.ensures.work in
-    found-turn _ _ _ _ _ (step-counted _ _ _ _ _ _ _ _ _ seek _ _ work same)
-    (step-entered _ _ _ _ _ _ _ _ _ seek _ _ work same) _ _ c.open_turn-in-Nothing.ensures
+    let opens = c.open_turn-in-Nothing.ensures in
+    let done = found-turn _ _ _ _ _ (step-counted _ _ _ _ _ _ _ _ _ seek _ _ work same)
+    (step-entered _ _ _ _ _ _ _ _ _ seek _ _ work same) _ _ opens.shown opens.entered opens.made
     c.down.invariant.deep
-    (ends-with-none _ _ _ _ _ _ _ _ _ seek (turn_shape c.down.turn) c.down.invariant.turn
-    none)
+    (ends-with-none _ _ _ _ _ _ _ _ _ seek (start_shape c.down.turn) c.down.invariant.turn
+    none) in record {
+      start = done.start;
+      counted = done.counted;
+      soon = done.soon;
+      entered = done.entered;
+    }
 
 pub rest_of-rest-requires : goal.rest_of-rest-requires
 rest_of-rest-requires g c =
@@ -114,7 +126,7 @@ returns-in-None g c =
     let seek = c.down.invariant.seek in
     let work = c.open-node.ensures.work in
     let later = children_left c.around.result.1 in
-    let turn = turn_shape c.turn_of-turn.result in
+    let turn = start_shape c.turn_of-turn.result in
     let missing = rw c.in-None.is at c.around.ensures.child in
     let turns =
     step-turns _ _ _ _ _ _ _ _ _ seek o c.open-node.new.work work same _ _ goes later
@@ -125,11 +137,18 @@ returns-in-None g c =
     (c.turn_of-turn.ensures.start c.down.invariant.ahead c.down.invariant.turn turns
     (step-brief _ _ _ _ _ _ _ _ _ seek o c.open-node.new.work work same _ _ goes later
     c.around.ensures.later)) in
-    found-turn _ _ _ _ _ (step-counted _ _ _ _ _ _ _ _ _ seek o c.open-node.new.work work same)
+    let opens = c.open_turn-in-None.ensures in
+    let done = found-turn _ _ _ _ _
+    (step-counted _ _ _ _ _ _ _ _ _ seek o c.open-node.new.work work same)
     (step-entered _ _ _ _ _ _ _ _ _ seek o c.open-node.new.work work same) _ _
-    c.open_turn-in-None.ensures (c.turn_of-turn.ensures.deep c.down.invariant.deep turns)
+    opens.shown opens.entered opens.made (c.turn_of-turn.ensures.deep c.down.invariant.deep turns)
     (step-missing _ _ _ _ _ _ _ _ _ seek o c.open-node.new.work work same _ _ goes missing turn
-    there)
+    there) in record {
+      start = done.start;
+      counted = done.counted;
+      soon = done.soon;
+      entered = done.entered;
+    }
 
 pub down-smaller : goal.down-smaller
 down-smaller g c =
@@ -177,7 +196,7 @@ down-preserved g c =
           c.in-Some.child.now.shape here;
       turn =
           step-turn _ _ _ _ _ _ _ _ _ seek o c.open-node.new.work work same _ _ goes later
-          c.around.ensures.later (turn_shape c.turn_of-turn.result)
+          c.around.ensures.later (start_shape c.turn_of-turn.result)
           (c.turn_of-turn.ensures.start c.down.invariant.ahead c.down.invariant.turn turns
           (step-brief _ _ _ _ _ _ _ _ _ seek o c.open-node.new.work work same _ _ goes later
           c.around.ensures.later));

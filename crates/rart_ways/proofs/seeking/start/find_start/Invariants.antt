@@ -1,6 +1,6 @@
 use Rattle.std.proofs.Common.{ℕ, List}
 use Rattle.rart_node.specs.Shape.{height}
-use Rattle.rart_ways.specs.Starts.{StartAt, IsDeep, turn_shape}
+use Rattle.rart_ways.specs.Starts.{StartAt, IsDeep, start_shape}
 use Rattle.rart_ways.proofs.SeekStartLemmas.{IsSeekAt}
 use Rattle.rart_ways.proofs.seeking.start.find_start.Given as goal
 
@@ -8,10 +8,10 @@ abbrev pub invariant-down : goal.invariant-down
 invariant-down g l = record {
   path : List ℕ;
   ahead : List (List ℕ × g.row.V.Denot);
-  seek : IsSeekAt l.is_strict l.fn.low l.fn.root.shape l.fn.work
+  seek : IsSeekAt l.edge l.fn.low l.fn.root.shape l.fn.work
       l.at.shape l.rest l.work path ahead;
-  turn : StartAt ahead (turn_shape l.turn);
-  deep : IsDeep (turn_shape l.turn);
+  turn : StartAt ahead (start_shape l.turn);
+  deep : IsDeep (start_shape l.turn);
 }
 
 abbrev pub decreases-down : goal.decreases-down

@@ -17,7 +17,7 @@ returns-then-rest-common g c =
     (λ all. omega (arith, all, short)) in
     record {
       kept =
-          end-above c.args.is_strict s c.args.rest.now _ _ parts
+          end-above c.args.edge s c.args.rest.now _ _ parts
           (subst (λ p. slice_index_or c.args.rest.now c.args.common 0
           < slice_index_or p c.args.common 0) c.prefix.ensures
           (subst (λ n. slice_index_or c.args.rest.now c.args.common 0 < n) c.at.ensures
@@ -34,7 +34,7 @@ returns-then-common-rest g c =
     (λ all. omega (arith, all, short)) in
     record {
       kept =
-          end-below c.args.is_strict s c.args.rest.now _ _ parts
+          end-below c.args.edge s c.args.rest.now _ _ parts
           (subst (λ p. slice_index_or p c.args.common 0
           ≤ slice_index_or c.args.rest.now c.args.common 0) c.prefix.ensures
           (subst (λ n. n ≤ slice_index_or c.args.rest.now c.args.common 0) c.at.ensures
@@ -43,20 +43,6 @@ returns-then-common-rest g c =
     }
 
 -- ---- the rest begins the prefix
-
-pub returns-then-not-is_strict : goal.returns-then-not-is_strict
-returns-then-not-is_strict g c =
-    let s = c.args.node.now.shape in
-    let within = (common-within (prefix_of s) c.args.rest.now).1 in
-    let is = c.requires.common in
-    let most = c.if-common-rest.false in
-    record {
-      kept =
-          end-weak c.args.is_strict s c.args.rest.now
-          (common-front (prefix_of s) c.args.rest.now (omega (arith, within, is, most)))
-          c.if-not-is_strict.true;
-      ended = λ is. cc;
-    }
 
 pub returns-then-common-len : goal.returns-then-common-len
 returns-then-common-len g c =
@@ -68,14 +54,28 @@ returns-then-common-len g c =
     let long = c.len.ensures ∙ ap length c.prefix-2.ensures in
     record {
       kept =
-          end-short c.args.is_strict s c.args.rest.now
+          end-short c.args.edge s c.args.rest.now
           (common-front (prefix_of s) c.args.rest.now (omega (arith, within, is, most)))
           (omega (arith, within, is, most, less, long));
       ended = λ is. cc;
     }
 
-pub returns : goal.returns
-returns g c =
+pub returns-in-Included : goal.returns-in-Included
+returns-in-Included g c =
+    let s = c.args.node.now.shape in
+    let within = (common-within (prefix_of s) c.args.rest.now).1 in
+    let is = c.requires.common in
+    let most = c.if-common-rest.false in
+    record {
+      kept =
+          end-weak c.args.edge s c.args.rest.now
+          (common-front (prefix_of s) c.args.rest.now (omega (arith, within, is, most)))
+          c.in-Included.is;
+      ended = λ is. cc;
+    }
+
+pub returns-in-Excluded : goal.returns-in-Excluded
+returns-in-Excluded g c =
     let s = c.args.node.now.shape in
     let within = common-within (prefix_of s) c.args.rest.now in
     let shorter = within.0 in
@@ -88,8 +88,8 @@ returns g c =
     common-front (prefix_of s) c.args.rest.now (omega (arith, fits, is, most)) in
     record {
       kept =
-          end-inside c.args.is_strict s c.args.rest.now front c.requires.tree
-          c.if-not-is_strict.false (omega (arith, shorter, fits, is, most, least, long));
-      ended = λ _. end-whole c.args.is_strict s c.args.rest.now front
+          end-inside c.args.edge s c.args.rest.now front c.requires.tree
+          c.in-Excluded.is (omega (arith, shorter, fits, is, most, least, long));
+      ended = λ _. end-whole c.args.edge s c.args.rest.now front
           (omega (arith, shorter, fits, is, most, least, long));
     }

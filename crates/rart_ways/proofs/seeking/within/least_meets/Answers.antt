@@ -1,12 +1,14 @@
-use Rattle.std.proofs.Common.{◌≡◌, ◌<◌, ⊎_elim, inl, inr, ◌++◌, ◌∙◌, ℕ, Bool, List, [], length, refl, arith, ap, subst, sym}
+use Rattle.std.proofs.Common.{◌≡◌, ◌<◌, ⊎_elim, inl, inr, ◌++◌, ◌∙◌, ℕ, List, [], length, refl, arith, ap, subst, sym}
 use Rattle.std.proofs.lemmas.List.{append_assoc, append-nil, length-append}
 use Rattle.std.specs.declared.cmp.Ordering.TheVariants.{Less, Greater}
 use Rattle.rart_below.specs.Bytes.{byte_order}
 use Rattle.rart_node.specs.Shape.{prefix_of}
 use Rattle.rart_ways.specs.Besides.{is_to}
 use Rattle.rart_ways.specs.Starts.{IsStart}
+use Rattle.rart_ways.specs.declared.seeking.Edge.{Edge}
 use Rattle.rart_node.specs.Trees.{pairs_of}
 use Rattle.rart_walks.specs.Frames.{behind_path}
+use Rattle.rart_walks.proofs.CountedLemmas.{counts-none_made}
 use Rattle.rart_ways.proofs.BesideLemmas.{is_to-along, is_to-before, is_to-behind}
 use Rattle.rart_ways.proofs.LeastLemmas.{start-whole, first-goes, first-ends, first-below, first-lower, first-deep, none-some}
 use Rattle.rart_ways.proofs.seeking.within.least_meets.Goals as goal
@@ -18,8 +20,8 @@ returns-in-Before-clause-meets g c pair others is =
     let high = c.args.high.now in
     let goes = first-goes _ path s (start-whole path s c.requires.tree c.requires.short) pair others
     is in
-    sym (ap (is_to c.args.is_strict high) goes.1
-    ∙ is_to-before c.args.is_strict high (path ++ (prefix_of s ++ goes.0))
+    sym (ap (is_to c.args.edge high) goes.1
+    ∙ is_to-before c.args.edge high (path ++ (prefix_of s ++ goes.0))
     (c.in-Before.ensures (prefix_of s ++ goes.0)))
 
 pub returns-in-Behind-clause-meets : goal.returns-in-Behind-clause-meets
@@ -29,8 +31,8 @@ returns-in-Behind-clause-meets g c pair others is =
     let high = c.args.high.now in
     let goes = first-goes _ path s (start-whole path s c.requires.tree c.requires.short) pair others
     is in
-    sym (ap (is_to c.args.is_strict high) goes.1
-    ∙ is_to-behind c.args.is_strict high (path ++ (prefix_of s ++ goes.0))
+    sym (ap (is_to c.args.edge high) goes.1
+    ∙ is_to-behind c.args.edge high (path ++ (prefix_of s ++ goes.0))
     (c.in-Behind.ensures (prefix_of s ++ goes.0)))
 
 pub down-init : goal.down-init
@@ -47,10 +49,10 @@ down-init g c = record {
 }
 
 -- Of the first pair, by what stands in front of it and the bound.
-module _ (strict : Bool) (high above rest : List ℕ) (stands : high ≡ above ++ rest)
+module _ (edge : Edge) (high above rest : List ℕ) (stands : high ≡ above ++ rest)
     (key more prefix : List ℕ) (goes : key ≡ above ++ (prefix ++ more)) where
-  beside : is_to strict high key ≡ is_to strict rest (prefix ++ more)
-  beside = (λ i. is_to strict (stands i) (goes i)) ∙ is_to-along strict above rest (prefix ++ more)
+  beside : is_to edge high key ≡ is_to edge rest (prefix ++ more)
+  beside = (λ i. is_to edge (stands i) (goes i)) ∙ is_to-along edge above rest (prefix ++ more)
 
 pub returns-in-Before-along-clause-meets : goal.returns-in-Before-along-clause-meets
 returns-in-Before-along-clause-meets g c pair others is =
@@ -58,23 +60,16 @@ returns-in-Before-along-clause-meets g c pair others is =
     let rest = c.down.rest.now in
     let goes = first-goes _ c.down.invariant.above s c.down.invariant.at pair others is in
     let segment = c.as_ref.ensures ∙ c.prefix.ensures in
-    sym (beside c.args.is_strict c.args.high.now c.down.invariant.above rest
+    sym (beside c.args.edge c.args.high.now c.down.invariant.above rest
     c.down.invariant.stands pair.0 goes.0 (prefix_of s) goes.1
-    ∙ is_to-before c.args.is_strict rest (prefix_of s ++ goes.0)
+    ∙ is_to-before c.args.edge rest (prefix_of s ++ goes.0)
     (subst (λ p. byte_order (p ++ goes.0) rest ≡ Less) segment
     (c.in-Before-along.ensures goes.0)))
 
 pub returns-in-Before-along-clause-counted : goal.returns-in-Before-along-clause-counted
 returns-in-Before-along-clause-counted g c =
-    let grows = c.down.invariant.grows in
     let most = c.down.invariant.most in
-    let made = c.down.invariant.made in
-    record {
-      entered_grows = grows;
-      entered_at_most = omega (arith, most);
-      made_grows = omega (arith, made);
-      made_at_most = omega (arith, made);
-    }
+    counts-none_made c.down.invariant.grows (omega (arith, most)) c.down.invariant.made
 
 pub returns-in-Behind-along-clause-meets : goal.returns-in-Behind-along-clause-meets
 returns-in-Behind-along-clause-meets g c pair others is =
@@ -82,23 +77,16 @@ returns-in-Behind-along-clause-meets g c pair others is =
     let rest = c.down.rest.now in
     let goes = first-goes _ c.down.invariant.above s c.down.invariant.at pair others is in
     let segment = c.as_ref.ensures ∙ c.prefix.ensures in
-    sym (beside c.args.is_strict c.args.high.now c.down.invariant.above rest
+    sym (beside c.args.edge c.args.high.now c.down.invariant.above rest
     c.down.invariant.stands pair.0 goes.0 (prefix_of s) goes.1
-    ∙ is_to-behind c.args.is_strict rest (prefix_of s ++ goes.0)
+    ∙ is_to-behind c.args.edge rest (prefix_of s ++ goes.0)
     (subst (λ p. byte_order (p ++ goes.0) rest ≡ Greater) segment
     (c.in-Behind-along.ensures goes.0)))
 
 pub returns-in-Behind-along-clause-counted : goal.returns-in-Behind-along-clause-counted
 returns-in-Behind-along-clause-counted g c =
-    let grows = c.down.invariant.grows in
     let most = c.down.invariant.most in
-    let made = c.down.invariant.made in
-    record {
-      entered_grows = grows;
-      entered_at_most = omega (arith, most);
-      made_grows = omega (arith, made);
-      made_at_most = omega (arith, made);
-    }
+    counts-none_made c.down.invariant.grows (omega (arith, most)) c.down.invariant.made
 
 pub returns-in-Some-clause-meets : goal.returns-in-Some-clause-meets
 returns-in-Some-clause-meets g c pair others is =
@@ -110,22 +98,15 @@ returns-in-Some-clause-meets g c pair others is =
     let goes = c.in-Along-along.ensures ∙ ap (λ z. z ++ c.in-Along-along.rest.now)
     (c.as_ref.ensures ∙ c.prefix.ensures) in
     c.ends_before.ensures
-    ∙ sym (beside c.args.is_strict c.args.high.now above c.down.rest.now
+    ∙ sym (beside c.args.edge c.args.high.now above c.down.rest.now
     c.down.invariant.stands pair.0 [] prefix ends
-    ∙ ap (λ z. is_to c.args.is_strict z (prefix ++ [])) goes
-    ∙ is_to-along c.args.is_strict prefix c.in-Along-along.rest.now [])
+    ∙ ap (λ z. is_to c.args.edge z (prefix ++ [])) goes
+    ∙ is_to-along c.args.edge prefix c.in-Along-along.rest.now [])
 
 pub returns-in-Some-clause-counted : goal.returns-in-Some-clause-counted
 returns-in-Some-clause-counted g c =
-    let grows = c.down.invariant.grows in
     let most = c.down.invariant.most in
-    let made = c.down.invariant.made in
-    record {
-      entered_grows = grows;
-      entered_at_most = omega (arith, most);
-      made_grows = omega (arith, made);
-      made_at_most = omega (arith, made);
-    }
+    counts-none_made c.down.invariant.grows (omega (arith, most)) c.down.invariant.made
 
 pub down-smaller : goal.down-smaller
 down-smaller g c =

@@ -114,6 +114,7 @@ impl<P: Partial, V: Drop> Content<P, V> {
 
     /// Takes the child of the least byte that is not below the number, which is then one more than
     /// that byte.
+    #[inline(always)]
     pub(crate) fn next_child(&self, from: &mut usize) -> Option<&NodeRef<P, V>>
         requires { IsTrue (content_shape self.now).in_order }
         ensures { TakesFirst (children_from from.old (content_shape self.now).children)

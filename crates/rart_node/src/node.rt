@@ -218,6 +218,7 @@ impl<P: Partial, V: Drop> VersionedNode<P, V> {
 
     /// Takes the child of the least byte that is not below the number, which is then one more than
     /// that byte.
+    #[inline(always)]
     pub(crate) fn next_child(&self, from: &mut usize) -> Option<&NodeRef<P, V>>
         requires { IsAscending self.now.shape }
         ensures { TakesFirst (children_from from.old (children_of self.now.shape))

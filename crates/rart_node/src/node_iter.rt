@@ -40,6 +40,7 @@ impl<'a, P: Partial, V: Drop> VersionedNodeIter<'a, P, V> {
     ghost use Rattle.rart_node.specs.VersionedNodeIter.{children_left};
 
     /// The pointer that `next` would give, without its byte. rart has no such call.
+    #[inline(always)]
     pub fn next_child(&mut self) -> Option<&'a NodeRef<P, V>>
         ensures { TakesFirst (children_left self.old) (option_map (λ child. child.now.shape) result)
             (children_left self.new) }

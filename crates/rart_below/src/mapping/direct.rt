@@ -90,6 +90,7 @@ impl<C: Drop> NodeMapping<C> for DirectMapping<C> {
     }
 
     // Where nearly all bytes have a child, it is quicker to look at the slot first.
+    #[inline(always)]
     fn next_child(&self, from: &mut usize) -> Option<&C> {
         if *from < 256 {
             if let Some(child) = &self.children.slots[*from] {

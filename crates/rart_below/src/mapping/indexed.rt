@@ -148,6 +148,7 @@ impl<C: Drop> NodeMapping<C> for IndexedMapping<C> {
     }
 
     // Where most bytes have a child, it is quicker to look at the entry first.
+    #[inline(always)]
     fn next_child(&self, from: &mut usize) -> Option<&C> {
         if *from < 256 {
             if let Some(child) = self.seek_child(*from as u8) {

@@ -120,6 +120,7 @@ impl<C: Drop, const WIDTH: usize> NodeMapping<C> for SortedKeyedMapping<C, WIDTH
         }
     }
 
+    #[inline(always)]
     fn next_child(&self, from: &mut usize) -> Option<&C> {
         let keys = self.keys.as_slice();
         let place = self.keys.rank_from(*from);

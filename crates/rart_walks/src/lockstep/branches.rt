@@ -57,6 +57,7 @@ impl<'a, P: Partial, V: Drop> Branches<'a, P, V> {
     }
 
     /// Takes the next step: the child of one side is entered, or that of either.
+    #[inline(always)]
     pub(crate) fn next(
         &mut self,
         work: &mut Work,

@@ -41,6 +41,7 @@ impl<'a, P: Partial, V: Drop> CommonChildren<'a, P, V> {
     }
 
     /// Takes the next two: the left node's child and the right one's.
+    #[inline(always)]
     pub(crate) fn next(&mut self) -> Option<(&'a NodeRef<P, V>, &'a NodeRef<P, V>)>
         ensures { TakesPair (pairs_left self.old) (option_map (λ pair. (
           pair.0.now.shape,

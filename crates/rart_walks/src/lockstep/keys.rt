@@ -75,10 +75,12 @@ impl<'a, K: KeyTrait, V> KeyPath<'a> for KeyMaker<'a, K, V> {
         }
     }
 
+    #[inline]
     fn push(&mut self, segment: &'a [u8]) -> Result<(), AllocError> {
         self.key_path.push(segment)
     }
 
+    #[inline]
     fn pop(&mut self, segment: &'a [u8]) {
         self.key_path.pop(segment);
     }
@@ -94,6 +96,7 @@ impl<'a, K: KeyTrait, V, F: FnMut(K, &'a V, &'a V)> IntersectionPath<'a, V, F>
 
     ghost Shows = { ByKeyPair K.bytes };
 
+    #[inline]
     fn meet(&self, left: &'a V, right: &'a V, f: &mut F) -> Result<(), AllocError> {
         let key = K::new_from_slice(self.alloc, self.key_path.as_slice())?;
         f(key, left, right);

@@ -23,6 +23,7 @@ impl<'a, P: Partial, V: Drop> TreeCursor<'a, P, V> {
     ghost use Rattle.rart_walks.specs.TreeCursors.{behind_bytes, value_here};
 
     /// The node with its whole prefix.
+    #[inline(always)]
     pub(crate) fn whole(node: &'a VersionedNode<P, V>) -> TreeCursor<'a, P, V>
         ensures shape { cursor_shape result ≡ node.now.shape }
         ensures from { result.from ≡ 0 }
@@ -77,6 +78,7 @@ impl<'a, P: Partial, V: Drop> TreeCursor<'a, P, V> {
     }
 
     /// How many bytes two sides have in common at their start. The prefix of one is whole.
+    #[inline(always)]
     pub(crate) fn common_with(&self, other: &TreeCursor<'_, P, V>) -> usize
         requires whole { (self.now.from ≡ 0) ⊎ (other.now.from ≡ 0) }
         ensures { result ≡ common_length (prefix_of (cursor_shape self.now))

@@ -124,6 +124,7 @@ impl<'a, P: Partial, V: Drop, T: KeyPath<'a>> PairCursor<V, T> for TreeCursors<'
         Branches::new(self.left, self.right)
     }
 
+    #[inline(always)]
     fn next(branches: &mut Branches<'a, P, V>, work: &mut Work) -> Option<Self> {
         let (left, right) = branches.next(work)?;
         Some(TreeCursors { left, right })

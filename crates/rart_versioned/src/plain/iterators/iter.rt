@@ -156,6 +156,7 @@ impl<'a, K: KeyTrait, P: Partial, V: Drop> Iterator for VersionedIter<'a, K, P, 
 
     ghost remaining = { items_left };
 
+    #[inline(always)]
     fn next(&mut self) -> Option<Result<(K, &'a V), AllocError>> {
         let Some(entries) = &mut self.entries else {
             return None;

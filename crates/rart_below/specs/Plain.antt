@@ -1,5 +1,5 @@
 -- What a plain tree stands for, and what its iterator has left.
-use Rattle.std.specs.Prelude.{ℕ, List, map}
+use Rattle.std.specs.Prelude.{ℕ, List, [], ◌∷◌, map}
 use Rattle.std.specs.Borrow.{Bor}
 use Rattle.std.specs.Coded.{Coded, coded_list, coded_ℕ}
 use Rattle.std.specs.FinMap as finite
@@ -11,6 +11,11 @@ PlainMap V = finite.FinMap byte_order V
 
 abbrev pub plain_code : {V : Type 0} → Coded V → Coded (PlainMap V)
 plain_code values = finite.code (coded_list coded_ℕ) values
+
+-- the map with these pairs put in, one after the other
+abbrev pub put_all : {V : Type 0} → PlainMap V → List (List ℕ × V) → PlainMap V
+put_all m [] = m
+put_all m (pair ∷ others) = put_all (finite.insert m pair.0 pair.1) others
 
 module _ {K V : Type 0} (bytes : K → List ℕ) where
   -- pairs, each key by its bytes

@@ -3,6 +3,7 @@
 ghost use Rattle.std.specs.Prelude.{◌≡◌, ◌==◌, IfOk, OnOk, OnErr};
 ghost use Rattle.std.specs.FinMap as finite;
 ghost use Rattle.std.specs.Option.{option_copied};
+ghost use Rattle.rart_below.specs.Plain.{by_bytes, put_all};
 
 use crate::key::KeyTrait;
 use std::alloc::{AllocError, Global};
@@ -44,6 +45,26 @@ impl<K: KeyTrait, V: Drop> AdaptiveRadixTree<K, V> {
             alloc,
             pairs: BTreeMap::new(alloc),
         }
+    }
+
+    /// The map of these pairs, of which none has to be in order: of equal keys the last stays.
+    /// Refused for memory, there is none, and the pairs are dropped.
+    ///
+    /// ```
+    /// let mut pairs = Vec::new(alloc);
+    /// pairs.push((tea, 300_u64))?;
+    /// let prices = AdaptiveRadixTree::from_pairs(alloc, pairs)?;
+    /// ```
+    pub fn from_pairs(
+        alloc: Global,
+        pairs: Vec<(K, V)>,
+    ) -> Result<AdaptiveRadixTree<K, V>, AllocError>
+        ensures { IfOk result (λ tree. tree ≡ put_all finite.empty (by_bytes K.bytes pairs.items)) }
+    {
+        Ok(AdaptiveRadixTree {
+            alloc,
+            pairs: BTreeMap::from_iter(alloc, pairs)?,
+        })
     }
 
     /// Sets a key to a value, and answers whether a value was replaced. The key is copied. Refused

@@ -7,17 +7,13 @@ use Rattle.std.specs.FinMap as finite
 use Rattle.std.specs.FinMap.Entries.{below_all, find, is_sorted}
 use Rattle.std.proofs.lemmas.Bool.{and_parts, false≢true}
 use Rattle.rart_below.specs.Bytes.{byte_order}
+use Rattle.rart_below.specs.Plain.{put_all}
 use Rattle.rart_maps.specs.Pairs.{pairs}
 use Rattle.rart_maps.specs.Versions.{Map}
 use Rattle.rart_maps.proofs.OrderLemmas.{byte_order-IsAntisymmetric}
 use Rattle.rart_maps.proofs.PairLawLemmas.{pairs_ascend}
 
 module _ {V : Type 0} where
-  -- the map with these pairs put in, one after the other
-  abbrev pub put_all : Map V → List (List ℕ × V) → Map V
-  put_all m [] = m
-  put_all m (pair ∷ others) = put_all (finite.insert m pair.0 pair.1) others
-
   -- the first of two answers that is one
   abbrev or_else : Option V → Option V → Option V
   or_else (Some x) other = Some x
@@ -77,21 +73,6 @@ module _ {V : Type 0} where
       ∙ ap (or_else (find byte_order q (pairs m))) (finite.get-empty byte_order q)
       ∙ or_else-none (find byte_order q (pairs m))
       ∙ sym (finite.get-entries m q))
-
-  -- ---- a loop over an iterator that puts in what comes
-
-  -- What is put in by now and what is still to come are, one behind the other, a whole map.
-  abbrev pub IsPutUpTo : Map V → Option (List (List ℕ × V)) → Map V → Type 0
-  IsPutUpTo whole left m =
-      (rest : List (List ℕ × V)) × (left ≡ Some rest) × (put_all m rest ≡ whole)
-
-  pub put-none : (whole m : Map V) (left : Option (List (List ℕ × V))) →
-      left ≡ Some (pairs whole) → m ≡ finite.empty → IsPutUpTo whole left m
-  put-none whole m left is none = (
-    pairs whole,
-    is,
-    ap (λ start. put_all start (pairs whole)) none ∙ put_all-pairs whole,
-  )
 
   -- how many pairs are still to come
   abbrev pub count_left : Option (List (List ℕ × V)) → ℕ

@@ -35,13 +35,13 @@ impl<K: KeyTrait, V: Clone + Drop> VersionedAdaptiveRadixTree<K, V> {
         requires clones { ClonesEqual V.is_clone }
         ensures { IfOk result (λ plain. plain ≡ self.now.content) }
     {
-        let mut plain = AdaptiveRadixTree::new(self.alloc);
+        let mut pairs = Vec::new(self.alloc);
         let mut items = self.iter()?;
         // (a `for` over an iterator of keys of any type gets no proof)
-        'putting: while let Some(item) = items.next() {
+        'gathering: while let Some(item) = items.next() {
             let (key, value) = item?;
-            plain.insert_k(&key, value.clone()?)?;
+            pairs.push((key, value.clone()?))?;
         }
-        Ok(plain)
+        AdaptiveRadixTree::from_pairs(self.alloc, pairs)
     }
 }

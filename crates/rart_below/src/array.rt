@@ -1,13 +1,19 @@
 // Ported from rart 0.11.0 (Apache-2.0), and rewritten.
 //! Keys and prefixes held inline, of a greatest length.
 ghost use Rattle.std.specs.Prelude.{◌≡◌, ◌+◌, ◌≤◌, ◌++◌, Some, length, take, drop, refl, IsOk, IfOk};
+ghost use Rattle.std.proofs.Common.{rules};
 ghost use Rattle.std.proofs.lemmas.Slice.Eq.{bytes_eq-Decides};
+ghost use Rattle.std.specs.Cmp.{partial_order_from_own_ties};
+ghost use Rattle.std.specs.Cmp.Rules.{comparing};
+ghost use Rattle.std.specs.Ordering.{as_partial_cmp, on};
+ghost use Rattle.rart_below.specs.Bytes.{byte_order};
 
 use crate::key::KeyTrait;
 use crate::partial::Partial;
-use crate::prefix_length::prefix_length;
+use crate::prefix_length::{compare_bytes, prefix_length};
 use arrayvec::ArrayVec;
 use std::alloc::{AllocError, Global};
+use std::cmp::Ordering;
 
 /// At most `N` bytes, held inline. No call takes memory, so none is refused.
 #[derive(Drop)]
@@ -114,10 +120,35 @@ impl<const N: usize> Partial for ArrPartial<N> {
 }
 
 /// A key of at most `N` bytes, held inline. No call takes memory, so none is refused.
-#[derive(PartialEq, Eq, PartialOrd, Ord, Drop)]
+#[derive(PartialEq, Eq, Drop)]
 pub struct ArrayKey<const N: usize> {
     bytes: ArrayVec<u8, N>,
     ghost fits: { length bytes.items ≤ N },
+}
+
+impl<const N: usize> PartialOrd for ArrayKey<N> {
+    ghost partial_cmp = { as_partial_cmp (on (λ key. key.bytes.items) byte_order) };
+
+    ghost laws = { partial_order_from_own_ties (Prim.search (comparing, rules))
+        (Prim.search (comparing, rules)) };
+
+    fn partial_cmp(&self, other: &ArrayKey<N>) -> Option<Ordering> {
+        Some(self.cmp(other))
+    }
+}
+
+impl<const N: usize> Ord for ArrayKey<N> {
+    ghost cmp = { on (λ key. key.bytes.items) byte_order };
+
+    ghost total = { Prim.search (comparing, rules) };
+
+    ghost matches_partial_cmp = { Prim.search (comparing, rules) };
+
+    ghost matches_eq = { Prim.search (comparing, rules) };
+
+    fn cmp(&self, other: &ArrayKey<N>) -> Ordering {
+        compare_bytes(self.bytes.as_slice(), other.bytes.as_slice())
+    }
 }
 
 impl<const N: usize> KeyTrait for ArrayKey<N> {

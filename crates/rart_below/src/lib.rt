@@ -21,6 +21,7 @@ pub use key::KeyTrait;
 pub use mapping::{Clear, DirectMapping, IndexedMapping, NodeMapping, SortedKeyedMapping};
 pub use partial::Partial;
 pub use plain::{AdaptiveRadixTree, PlainIter};
+pub use prefix_length::compare_bytes;
 pub use slot::{Refusal, Slot, SlotUpdate};
 pub use vector::{VectorKey, VectorPartial};
 pub use view::LendingKeyView;

@@ -1,8 +1,10 @@
 // Ported from rart 0.11.0 (Apache-2.0), and rewritten.
-//! How many bytes two byte strings have in common at their start.
+//! How many bytes two byte strings have in common at their start, and their order.
 ghost use Rattle.std.specs.Prelude.{◌≡◌, ◌+◌, ◌≤◌, length, take, drop};
 ghost use Rattle.std.specs.Int.{from_le_bytes, w32, w64};
-ghost use Rattle.rart_below.specs.Bytes.{common_length};
+ghost use Rattle.rart_below.specs.Bytes.{byte_order, common_length};
+
+use std::cmp::Ordering;
 
 /// The length of the longest common prefix.
 ///
@@ -22,6 +24,20 @@ pub(crate) fn prefix_length(left: &[u8], right: &[u8]) -> usize
         matched += 1;
     }
     matched
+}
+
+/// How two byte strings stand to one another, in lexicographic order. What they have in common at
+/// their start is compared in blocks.
+#[tactic(auto, using(crate::proofs::CommonLengthLemmas::byte_order_difference, crate::proofs::CommonLengthLemmas::byte_order_beginning))]
+pub fn compare_bytes(left: &[u8], right: &[u8]) -> Ordering
+    ensures { result ≡ byte_order left.now right.now }
+{
+    let common = prefix_length(left, right);
+    if common < left.len() && common < right.len() {
+        left[common].cmp(&right[common])
+    } else {
+        left.len().cmp(&right.len())
+    }
 }
 
 /// The length of a prefix that is the same in both: of all blocks before the first that differs,

@@ -5,6 +5,7 @@ ghost use Rattle.rart_below.specs.Bytes.{byte_order, IsAdmitted};
 ghost use Rattle.rart_below.specs.LendingKeyView.{joined_bytes};
 
 use crate::key::KeyTrait;
+use crate::prefix_length::compare_bytes;
 use arrayvec::ArrayVec;
 use std::alloc::{AllocError, Global};
 use std::cmp::Ordering;
@@ -99,10 +100,10 @@ impl<'a, 'view> LendingKeyView<'a, 'view> {
         let mut rest = slice;
         for segment in self.segments() {
             if rest.len() < segment.len() {
-                return segment.cmp(&rest);
+                return compare_bytes(segment, rest);
             }
             let (front, behind) = rest.split_at(segment.len());
-            match segment.cmp(&front) {
+            match compare_bytes(segment, front) {
                 Ordering::Equal => rest = behind,
                 unequal => return unequal,
             }

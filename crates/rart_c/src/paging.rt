@@ -12,6 +12,7 @@ use crate::answer::{ABSENT, DONE, TOO_SMALL};
 use crate::handle::RartTree;
 use crate::lent;
 use crate::table::Table;
+use rart_below::compare_bytes;
 use std::ops::Bound;
 
 /// The bound is a key that meets it.
@@ -191,8 +192,8 @@ fn meets(key: &[u8], high: Bound<&[u8]>) -> bool
         (bound_map (λ high. high.now) high.entry) key.now }
 {
     match high {
-        Bound::Included(high) => key <= high,
-        Bound::Excluded(high) => key < high,
+        Bound::Included(high) => compare_bytes(key, high).is_le(),
+        Bound::Excluded(high) => compare_bytes(key, high).is_lt(),
         Bound::Unbounded => true,
     }
 }

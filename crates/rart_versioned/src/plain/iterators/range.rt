@@ -10,7 +10,7 @@ ghost use Rattle.rart_walks.specs.WalkFields.{cursor};
 
 use crate::counted::VersionedAdaptiveRadixTree;
 use crate::counted::walks::bytes_of;
-use rart_below::KeyTrait;
+use rart_below::{KeyTrait, compare_bytes};
 use rart_node::Work;
 use rart_walks::{BytesPath, Walk};
 use std::alloc::{AllocError, Global};
@@ -139,8 +139,8 @@ fn meets<K: KeyTrait>(high: &Bound<K>, bytes: &[u8]) -> bool
         bytes.now }
 {
     match high {
-        Bound::Included(high) => bytes <= high.as_ref(),
-        Bound::Excluded(high) => bytes < high.as_ref(),
+        Bound::Included(high) => compare_bytes(bytes, high.as_ref()).is_le(),
+        Bound::Excluded(high) => compare_bytes(bytes, high.as_ref()).is_lt(),
         Bound::Unbounded => true,
     }
 }

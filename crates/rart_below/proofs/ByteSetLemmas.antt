@@ -182,6 +182,34 @@ holds-next byte (suc place) (key ∷ keys) lt =
     ap (λ (t : Bool). byte == key || t) (holds-next byte place keys (omega (arith, lt)))
     ∙ or-swaps (byte == key) (byte == get_or keys place 0) (holds_key byte (take place keys))
 
+-- A byte more, which is in another set too or isn't.
+pub both-next : (byte key : ℕ) (held : Bool) (has : ℕ → Bool) → has key ≡ true
+    → (byte == key || (held && has byte)) ≡ ((byte == key || held) && has byte)
+both-next byte key held has there = elim (cases_eq byte key) [
+  | inl same ↦
+      let yes = eq-eqb byte key same in
+      ap (λ (t : Bool). t || (held && has byte)) yes
+      ∙ sym (ap (λ (t : Bool). (t || held) && has byte) yes ∙ ap has same ∙ there)
+  | inr differ ↦
+      let no = ne_eqb byte key differ in
+      ap (λ (t : Bool). t || (held && has byte)) no
+      ∙ sym (ap (λ (t : Bool). (t || held) && has byte) no)
+]
+
+and-none : (held : Bool) → (held && false) ≡ false
+and-none true = refl
+and-none false = refl
+
+pub both-skips : (byte key : ℕ) (held : Bool) (has : ℕ → Bool) → has key ≡ false
+    → (held && has byte) ≡ ((byte == key || held) && has byte)
+both-skips byte key held has none = elim (cases_eq byte key) [
+  | inl same ↦
+      let missing = ap has same ∙ none in
+      ap (λ (t : Bool). held && t) missing ∙ and-none held
+      ∙ sym (ap (λ (t : Bool). (t || held) && has byte) (eq-eqb byte key same) ∙ missing)
+  | inr differ ↦ sym (ap (λ (t : Bool). (t || held) && has byte) (ne_eqb byte key differ))
+]
+
 -- the words of both sets
 abbrev pub common_words : List ℕ → List ℕ → List ℕ
 common_words one other =

@@ -38,3 +38,8 @@ marks_slots set byte (slot ∷ slots) =
 -- The set has each byte that has a child, and no other.
 abbrev pub AreBytesOf : {C : Type 0} → ByteSet → List (ℕ × C) → Type 0
 AreBytesOf set children = (byte : ℕ) → has_byte set byte ≡ is_some (child_at byte children)
+
+-- The set has each byte that has a child in both, and no other.
+abbrev pub AreBytesOfBoth : {C : Type 0} → ByteSet → List (ℕ × C) → List (ℕ × C) → Type 0
+AreBytesOfBoth set left right =
+    (byte : ℕ) → has_byte set byte ≡ (is_some (child_at byte left) && is_some (child_at byte right))

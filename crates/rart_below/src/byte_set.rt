@@ -1,6 +1,6 @@
 // Ported from rart 0.11.0 (Apache-2.0), and rewritten.
 //! Sets of bytes. rart has no such type: there children in common are found one by one.
-ghost use Rattle.std.specs.Prelude.{◌≡◌, ◌≤◌, ◌==◌, ◌||◌, ◌&&◌, ℕ, false, not};
+ghost use Rattle.std.specs.Prelude.{◌≡◌, ◌<◌, ◌≤◌, ◌==◌, ◌||◌, ◌&&◌, ℕ, false, not, slice_index_or};
 ghost use Rattle.rart_below.specs.ByteSets.{has_byte, IsLeastFrom, TakesFirst};
 
 /// A set of bytes: a bit for each, in four words.
@@ -44,21 +44,6 @@ impl ByteSet {
         }
     }
 
-    /// Takes the least byte out, if there is one.
-    #[inline]
-    pub fn take_first(&mut self) -> Option<u8>
-        ensures { TakesFirst self.old result self.new }
-    {
-        for place in 0..4 {
-            let word = self.words[place];
-            if word != 0 {
-                let bit = word.trailing_zeros();
-                self.words[place] = word & !(1 << bit);
-                return Some((place * 64) as u8 + bit as u8);
-            }
-        }
-        None
-    }
     /// Takes the byte out, if it is there.
     #[inline]
     pub(crate) fn remove(&mut self, byte: u8)
@@ -91,5 +76,46 @@ impl ByteSet {
         ensures bytes { (number : ℕ) → 256 ≤ number → has_byte result number ≡ false }
     {
         ByteSet { words: self.words }
+    }
+}
+
+/// The bytes of a set that are still to be taken, of which the least is next.
+///
+/// Contracts see by `left` the set of these.
+#[derive(Drop)]
+pub struct BytesLeft {
+    left: ByteSet,
+    // The first word that may have a byte.
+    place: usize,
+    ghost none_before: { (before : ℕ) → before < place → slice_index_or left.words before 0 ≡ 0 },
+}
+
+impl BytesLeft {
+    /// All bytes of the set.
+    #[inline(always)]
+    pub fn new(bytes: ByteSet) -> BytesLeft
+        ensures { result.left ≡ bytes }
+    {
+        BytesLeft {
+            left: bytes,
+            place: 0,
+        }
+    }
+
+    /// Takes the least byte, if there is one.
+    #[inline(always)]
+    pub fn take_first(&mut self) -> Option<u8>
+        ensures { TakesFirst self.old.left result self.new.left }
+    {
+        while self.place < 4 {
+            let word = self.left.words[self.place];
+            if word != 0 {
+                let bit = word.trailing_zeros();
+                self.left.words[self.place] = word & !(1 << bit);
+                return Some((self.place * 64) as u8 + bit as u8);
+            }
+            self.place += 1;
+        }
+        None
     }
 }

@@ -16,7 +16,7 @@ mod view;
 mod visit;
 
 pub use array::{ArrPartial, ArrayKey};
-pub use byte_set::ByteSet;
+pub use byte_set::{ByteSet, BytesLeft};
 pub use key::KeyTrait;
 pub use mapping::{Clear, DirectMapping, IndexedMapping, NodeMapping, SortedKeyedMapping};
 pub use partial::Partial;

@@ -3,9 +3,10 @@
 ghost use Rattle.std.specs.Prelude.{◌≡◌, ◌<◌, ◌+◌, ◌↔◌, None, Some, false, length, if◌then◌else◌, IfOk, IsOk, IsSome, IsTrue, OnOk, OnErr, option_copied};
 ghost use Rattle.std.specs.Borrow.{sem};
 ghost use Rattle.std.specs.Option.{option_copied_mut};
-ghost use Rattle.rart_below.specs.ByteSets.{AreBytesOf};
+ghost use Rattle.rart_below.specs.ByteSets.{AreBytesOf, AreBytesOfBoth};
 ghost use Rattle.rart_below.specs.Children.{child_at, children_from, first_of, with_child, without_child, TakesFirst};
 ghost use Rattle.rart_below.specs.Layouts.{entry_copied};
+ghost use Rattle.rart_below.specs.SortedKeyedMapping.{sorted_children, sorted_in_order};
 ghost use Rattle.rart_node.specs.Contents.{content_shape, Holds};
 ghost use Rattle.rart_node.specs.Shape.{IsFullAt, is_full_at, wider, widened};
 
@@ -86,6 +87,7 @@ impl<P: Partial, V: Drop> Content<P, V> {
         call_mapping!(self, 0, num_children())
     }
 
+    #[inline(always)]
     pub(crate) fn seek_child(&self, byte: u8) -> Option<&NodeRef<P, V>>
         requires { IsTrue (content_shape self.now).in_order }
         ensures { option_copied result ≡ child_at byte (content_shape self.now).children }
@@ -130,6 +132,42 @@ impl<P: Partial, V: Drop> Content<P, V> {
         ensures { AreBytesOf result (content_shape self.now).children }
     {
         call_mapping!(self, ByteSet::new(), bytes())
+    }
+
+    /// The bytes that have a child in both. Those of a narrow mapping are looked up in the other.
+    pub(crate) fn common_bytes(&self, other: &Content<P, V>) -> ByteSet
+        requires order { IsTrue (content_shape self.now).in_order }
+        requires other_order { IsTrue (content_shape other.now).in_order }
+        ensures { AreBytesOfBoth result (content_shape self.now).children
+            (content_shape other.now).children }
+    {
+        match self {
+            Layout::Leaf(_) => ByteSet::new(),
+            Layout::Node4(_, mapping) => other.bytes_among(&**mapping),
+            Layout::Node16(_, mapping) => other.bytes_among(&*mapping.boxed),
+            Layout::Node48(_, mapping) => mapping.boxed.bytes().common(&other.bytes()),
+            Layout::Node256(_, mapping) => mapping.boxed.bytes().common(&other.bytes()),
+        }
+    }
+
+    /// The bytes of a narrow mapping that have a child here too.
+    #[inline(always)]
+    fn bytes_among<const WIDTH: usize>(
+        &self,
+        narrow: &SortedKeyedMapping<NodeRef<P, V>, WIDTH>,
+    ) -> ByteSet
+        requires order { IsTrue (sorted_in_order narrow.now) }
+        requires here_order { IsTrue (content_shape self.now).in_order }
+        ensures { AreBytesOfBoth result (sorted_children narrow.now)
+            (content_shape self.now).children }
+    {
+        match self {
+            Layout::Leaf(_) => ByteSet::new(),
+            Layout::Node4(_, mapping) => narrow.common_bytes(&**mapping),
+            Layout::Node16(_, mapping) => narrow.common_bytes(&*mapping.boxed),
+            Layout::Node48(_, mapping) => narrow.common_bytes(&*mapping.boxed),
+            Layout::Node256(_, mapping) => narrow.common_bytes(&*mapping.boxed),
+        }
     }
 
     /// Puts a child under a byte that has none.

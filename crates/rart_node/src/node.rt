@@ -2,7 +2,7 @@
 //! The node: a prefix, an optional value, and children under bytes.
 ghost use Rattle.std.specs.Prelude.{◌≡◌, ◌==◌, ◌+◌, ◌↔◌, ℕ, IsErrOf, IsOk, IsSome, IsTrue, IfOk, OnOk, OnErr, Some, None, [], length, not};
 ghost use Rattle.std.specs.Option.{option_map, option_copied};
-ghost use Rattle.rart_below.specs.ByteSets.{AreBytesOf};
+ghost use Rattle.rart_below.specs.ByteSets.{AreBytesOf, AreBytesOfBoth};
 ghost use Rattle.rart_below.specs.Children.{child_at, children_from, first_of, TakesFirst};
 ghost use Rattle.rart_below.specs.Clones.{ClonesEqual};
 ghost use Rattle.rart_node.specs.Seen.{shape_of};
@@ -169,6 +169,7 @@ impl<P: Partial, V: Drop> VersionedNode<P, V> {
     }
 
     /// The pointer under the byte.
+    #[inline(always)]
     pub fn seek_child(&self, byte: u8) -> Option<&NodeRef<P, V>>
         requires { IsAscending self.now.shape }
         ensures { option_map (λ child. child.now.shape) result
@@ -205,6 +206,16 @@ impl<P: Partial, V: Drop> VersionedNode<P, V> {
         ensures { AreBytesOf result (children_of self.now.shape) }
     {
         self.content.bytes()
+    }
+
+    /// The bytes that have a child in both nodes. rart has no such call.
+    pub fn common_bytes(&self, other: &VersionedNode<P, V>) -> ByteSet
+        requires order { IsAscending self.now.shape }
+        requires other_order { IsAscending other.now.shape }
+        ensures { AreBytesOfBoth result (children_of self.now.shape)
+            (children_of other.now.shape) }
+    {
+        self.content.common_bytes(&other.content)
     }
 
     /// The child of the least byte that is not below the number.

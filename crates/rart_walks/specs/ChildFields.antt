@@ -12,5 +12,5 @@ module _ {P V : Type 0} {partial : _} where
   -- the pairs that are left, under the bytes that are
   abbrev pub pairs_left : CommonChildren P V partial → List (ℕ × (Shape V × Shape V))
   pairs_left it =
-      where_key nat_cmp (has_byte it.bytes) (common_children
+      where_key nat_cmp (has_byte it.bytes.left) (common_children
       (children_of it.left.now.shape) (children_of it.right.now.shape))

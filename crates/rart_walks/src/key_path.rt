@@ -61,6 +61,19 @@ impl BytesPath {
     {
         self.bytes.as_slice()
     }
+
+    /// As `push`, where one byte is common: that is no copy of a length that the compiler doesn't
+    /// know.
+    #[inline]
+    pub(crate) fn push_short(&mut self, bytes: &[u8]) -> Result<(), AllocError>
+        ensures { self.new ≡ (if is_ok result then self.old ++ bytes.now else self.old) }
+    {
+        if bytes.len() == 1 {
+            self.bytes.push(bytes[0])?;
+            return Ok(());
+        }
+        self.bytes.extend_from_slice(bytes)
+    }
 }
 
 impl<'a> KeyPath<'a> for BytesPath {

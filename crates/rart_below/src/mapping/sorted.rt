@@ -1,6 +1,7 @@
 // Ported from rart 0.11.0 (Apache-2.0), and rewritten.
 //! The mapping of width 4 and 16: bytes in ascending order, with a child beside each.
 ghost use Rattle.std.specs.Prelude.{◌≡◌, ◌≤◌, [], None, length, IsTrue};
+ghost use Rattle.rart_below.specs.ByteSets.{AreBytesOfBoth};
 ghost use Rattle.rart_below.specs.Layouts.{SameBytes};
 ghost use Rattle.rart_below.specs.SortedKeyedMapping.{sorted_children, sorted_in_order};
 
@@ -36,6 +37,23 @@ impl<C, const WIDTH: usize> SortedKeyedMapping<C, WIDTH> {
 }
 
 impl<C: Drop, const WIDTH: usize> SortedKeyedMapping<C, WIDTH> {
+    /// The bytes that have a child here and in another mapping, which is asked for each of the few
+    /// here.
+    #[inline(always)]
+    pub fn common_bytes<M: NodeMapping<C>>(&self, other: &M) -> ByteSet
+        requires order { IsTrue (sorted_in_order self.now) }
+        requires other_order { IsTrue (M.in_order other.now) }
+        ensures { AreBytesOfBoth result (sorted_children self.now) (M.children other.now) }
+    {
+        let mut bytes = ByteSet::new();
+        for key in self.keys.as_slice() {
+            if other.seek_child(*key).is_some() {
+                bytes.insert(*key);
+            }
+        }
+        bytes
+    }
+
     /// Moves the children into another mapping, which is empty and has room for them, in one walk
     /// over the slots. This one is left empty.
     pub fn move_into<M: NodeMapping<C>>(&mut self, to: &mut M)

@@ -30,6 +30,7 @@ impl<'a, P: Partial, V: Drop> Branches<'a, P, V> {
     ghost use Rattle.rart_walks.specs.TreeCursorFields.{cursor_shape};
     ghost use Rattle.rart_walks.specs.TreeCursors.{next_children, children_next};
 
+    #[inline(always)]
     pub(crate) fn new(left: TreeCursor<'a, P, V>, right: TreeCursor<'a, P, V>) -> Branches<'a, P, V>
         requires left { IsAscending (cursor_shape left) }
         requires right { IsAscending (cursor_shape right) }

@@ -5,7 +5,7 @@ ghost use Rattle.std.specs.Option.{option_map};
 ghost use Rattle.rart_node.specs.Shape.{IsAscending, children_of};
 ghost use Rattle.rart_walks.specs.Children.{HaveBoth};
 
-use rart_below::{ByteSet, Partial};
+use rart_below::{BytesLeft, Partial};
 use rart_node::{NodeRef, VersionedNode};
 
 /// The children of two nodes under the same bytes, two at a time, in the order of these: those
@@ -14,16 +14,17 @@ use rart_node::{NodeRef, VersionedNode};
 pub(crate) struct CommonChildren<'a, P: Partial, V> {
     left: &'a VersionedNode<P, V>,
     right: &'a VersionedNode<P, V>,
-    bytes: ByteSet,
+    bytes: BytesLeft,
     ghost left_order: { IsAscending left.now.shape },
     ghost right_order: { IsAscending right.now.shape },
-    ghost both: { HaveBoth bytes (children_of left.now.shape) (children_of right.now.shape) },
+    ghost both: { HaveBoth bytes.left (children_of left.now.shape) (children_of right.now.shape) },
 }
 
 impl<'a, P: Partial, V: Drop> CommonChildren<'a, P, V> {
     ghost use Rattle.rart_walks.specs.ChildFields.{pairs_left};
     ghost use Rattle.rart_walks.specs.Children.{TakesPair, common_children};
 
+    #[inline(always)]
     pub(crate) fn new(
         left: &'a VersionedNode<P, V>,
         right: &'a VersionedNode<P, V>,
@@ -36,7 +37,7 @@ impl<'a, P: Partial, V: Drop> CommonChildren<'a, P, V> {
         CommonChildren {
             left,
             right,
-            bytes: left.bytes().common(&right.bytes()),
+            bytes: BytesLeft::new(left.common_bytes(right)),
         }
     }
 

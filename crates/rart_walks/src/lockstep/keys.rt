@@ -77,7 +77,7 @@ impl<'a, K: KeyTrait, V> KeyPath<'a> for KeyMaker<'a, K, V> {
 
     #[inline]
     fn push(&mut self, segment: &'a [u8]) -> Result<(), AllocError> {
-        self.key_path.push(segment)
+        self.key_path.push_short(segment)
     }
 
     #[inline]

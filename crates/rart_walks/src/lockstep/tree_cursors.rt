@@ -2,6 +2,8 @@
 //! A cursor in either of two trees.
 ghost use Rattle.std.specs.Prelude.{◌≡◌, ◌⊎◌, ◌+◌};
 ghost use Rattle.std.specs.Option.{option_map};
+ghost use Rattle.rart_below.specs.Bytes.{common_length};
+ghost use Rattle.rart_node.specs.Shape.{prefix_of};
 ghost use Rattle.rart_walks.specs.Entries.{both};
 ghost use Rattle.rart_walks.specs.TreeCursors.{value_here};
 
@@ -48,6 +50,21 @@ impl<'a, P: Partial, V: Drop> TreeCursors<'a, P, V> {
     {
         Some((self.left.value_here()?, self.right.value_here()?))
     }
+
+    /// How many bytes the two have in common at their start. Few are compared without a call.
+    #[inline(always)]
+    fn common_length(&self) -> usize
+        requires whole { (self.now.left.from ≡ 0) ⊎ (self.now.right.from ≡ 0) }
+        ensures { result ≡ common_length (prefix_of (cursor_shape self.now.left))
+            (prefix_of (cursor_shape self.now.right)) }
+    {
+        let left = self.left.rest();
+        if left.len() < 4 {
+            short_common(left, self.right.rest())
+        } else {
+            self.left.common_with(&self.right)
+        }
+    }
 }
 
 impl<'a, P: Partial, V: Drop, T: KeyPath<'a>> PairCursor<V, T> for TreeCursors<'a, P, V> {
@@ -87,13 +104,14 @@ impl<'a, P: Partial, V: Drop, T: KeyPath<'a>> PairCursor<V, T> for TreeCursors<'
     #[inline]
     fn same(&self) -> Option<usize> {
         let len = self.left.rest().len();
-        if self.right.rest().len() == len && self.left.common_with(&self.right) == len {
+        if self.right.rest().len() == len && self.common_length() == len {
             Some(len)
         } else {
             None
         }
     }
 
+    #[inline(always)]
     fn common(&self) -> Option<usize> {
         let common = self.left.common_with(&self.right);
         if !self.left.is_longer(common) {
@@ -120,6 +138,7 @@ impl<'a, P: Partial, V: Drop, T: KeyPath<'a>> PairCursor<V, T> for TreeCursors<'
         }
     }
 
+    #[inline(always)]
     fn branches(self) -> Branches<'a, P, V> {
         Branches::new(self.left, self.right)
     }
@@ -129,4 +148,21 @@ impl<'a, P: Partial, V: Drop, T: KeyPath<'a>> PairCursor<V, T> for TreeCursors<'
         let (left, right) = branches.next(work)?;
         Some(TreeCursors { left, right })
     }
+}
+
+/// How many bytes two strings have in common at their start, one by one.
+#[inline(always)]
+#[tactic(auto, using(rart_below::proofs::CommonLengthLemmas::common_step, rart_below::proofs::CommonLengthLemmas::common_stop, rart_below::proofs::CommonLengthLemmas::common_stop_left, rart_below::proofs::CommonLengthLemmas::common_stop_right))]
+fn short_common(left: &[u8], right: &[u8]) -> usize
+    ensures { result ≡ common_length left.now right.now }
+{
+    let shorter = left.len().min(right.len());
+    let mut common = 0;
+    while common < shorter {
+        if left[common] != right[common] {
+            return common;
+        }
+        common += 1;
+    }
+    common
 }

@@ -5,7 +5,6 @@ use Rattle.std.specs.List.{cons_option}
 use Rattle.std.specs.Option.{unwrap_or}
 use Rattle.std.specs.Prelude.{Contains, ◌||◌}
 use Rattle.std.specs.Ordering.{eq_by_cmp}
-use Rattle.std.proofs.lemmas.Bool.{false≢true}
 use Rattle.std.proofs.lemmas.List.{length-map}
 use Rattle.std.proofs.lemmas.List.Sums.{count_by-le-length, sum_by-append, sum_by-cons}
 use Rattle.std.proofs.lemmas.Cmp.{nat_list_cmp_total}
@@ -17,15 +16,14 @@ use Rattle.rart_maps.specs.Versions.{Map, has_key, without_key}
 use Rattle.rart_maps.specs.FoundLaws.{KeysAscend}
 use Rattle.rart_maps.specs.Order.{IsBefore}
 use Rattle.rart_maps.proofs.ElementLemmas.{All-from_contains, AllPairs-first, AllPairs-rest, Contains-filter_map, Contains-map, Contains-here, Contains-later, Contains-cases, Contains-nil}
-use Rattle.rart_maps.proofs.FoundLemmas.{Contains-pairs, pairs_ascend_by_key}
+use Rattle.rart_maps.proofs.FoundLemmas.{pairs_ascend_by_key}
 use Rattle.rart_maps.proofs.OrderLemmas.{IsBefore-itself, byte_order-IsAntisymmetric}
-use Rattle.rart_maps.proofs.PointLemmas.{map-contains}
 use Rattle.rart_maps.proofs.VersionLemmas.{same_key}
 use Rattle.rart_maps.specs.ChangeLists.{Change, change_of, effects, patched, takes_effect}
 use Rattle.rart_maps.proofs.ChangeLemmas.{KeysAscend-kept, change_of-is, filter_map-all, patched-elsewhere}
 use Rattle.rart_changes.specs.ChangeVisits.{changes_at}
-use Rattle.rart_changes.specs.Rebasing.{IsSetTo}
-use Rattle.rart_changes.specs.Tracking.{Tracking, after_insertion, after_removal, is_in, listed, no_key, touching}
+use Rattle.rart_changes.specs.Rebasing.{IsTrackedSetTo}
+use Rattle.rart_changes.specs.Tracking.{Tracking, after_insertion, after_removal, listed, touching}
 use Rattle.rart_changes.proofs.ShowLemmas.{changes_at-cons}
 use Rattle.rart_changes.proofs.TrackingLemmas.{in-with}
 
@@ -53,56 +51,47 @@ module _ {V : Type 0} where
       ] refl)
 
   pub set-by-insertion : (t after : Tracking V) (w : List ℕ) (x y : V)
-      → after ≡ after_insertion t w y → y ≡ x → IsSetTo t w (Some x) after
+      → after ≡ after_insertion t w y → y ≡ x → IsTrackedSetTo t w (Some x) after
   set-by-insertion t after w x y is same =
-      subst (IsSetTo t w (Some x)) (sym is)
-      (subst (λ z. IsSetTo t w (Some z) (after_insertion t w y)) same (record {
+      subst (IsTrackedSetTo t w (Some x)) (sym is)
+      (subst (λ z. IsTrackedSetTo t w (Some z) (after_insertion t w y)) same (record {
         base = refl;
-        content = refl;
-        number = refl;
+        current = record { content = refl; number = refl };
         touched = in-with t.touched w;
       }))
 
   deleted : (t : Tracking V) (w : List ℕ) (there : Bool) → has_key t.current w ≡ there
-      → IsSetTo t w None (cond there (touching t w (without_key t.current w 1)) t)
+      → IsTrackedSetTo t w None (cond there (touching t w (without_key t.current w 1)) t)
   deleted t w true is =
       record {
         base = refl;
-        content = refl;
-        number = let one = ap {B = ℕ} (λ there. cond there 1 0) is in omega (arith, one);
+        current = record {
+          content = refl;
+          number = let one = ap {B = ℕ} (λ there. cond there 1 0) is in omega (arith, one);
+        };
         touched = in-with t.touched w;
       }
   deleted t w false is =
       record {
         base = refl;
-        content = sym (removed-absent t.current.content w is);
-        number = let none = ap {B = ℕ} (λ there. cond there 1 0) is in omega (arith, none);
+        current = record {
+          content = sym (removed-absent t.current.content w is);
+          number = let none = ap {B = ℕ} (λ there. cond there 1 0) is in omega (arith, none);
+        };
         touched = λ q there. inr there;
       }
 
   pub set-by-deletion : (t after : Tracking V) (w : List ℕ) → after ≡ after_removal t w
-      → IsSetTo t w None after
+      → IsTrackedSetTo t w None after
   set-by-deletion t after w is =
-      subst (IsSetTo t w None) (sym is) (deleted t w (has_key t.current w) refl)
+      subst (IsTrackedSetTo t w None) (sym is) (deleted t w (has_key t.current w) refl)
 
--- As many keys are listed as are in the set,
+-- As many keys are listed as are in the set.
 pub keys-counted : {K : Type 0} (bytes : K → List ℕ) (items : List K) (keys : Strings)
     → map bytes items ≡ listed keys → length items ≡ finite.len keys
 keys-counted bytes items keys is =
     sym (length-map items bytes) ∙ ap length is
     ∙ length-map (finite.entries keys) (λ entry. entry.0) ∙ sym (finite.len-entries keys)
-
--- those that are listed are in it,
-pub listed-in : (keys : Strings) (q : List ℕ) → Contains (listed keys) q → is_in keys q ≡ true
-listed-in keys q there =
-    let found = map-contains (λ (pair : List ℕ × Unit {0}). pair.0) (pairs keys) q there in
-    ap (is_in keys) (sym found.2)
-    ∙ ap is_some ((Contains-pairs keys found.0.0 tt).0 found.1)
-
--- and in the empty one is none.
-pub nothing-in : (q : List ℕ) → is_in no_key q ≡ true → ⊥
-nothing-in q there =
-    false≢true (ap is_some (sym (finite.get-empty byte_order q)) ∙ there)
 
 -- ---- how many changes take effect
 

@@ -1,18 +1,19 @@
 -- Showing the changes at some keys, one after the other: the calls, and the counts.
-use Rattle.std.proofs.Common.{◌≡◌, ◌+◌, ◌*◌, ◌≤◌, ◌<◌, ℕ, Bool, true, List, [], ◌∷◌, ◌++◌, Option, length, refl, sym, ap, subst, ◌∙◌, cond, arith}
+use Rattle.std.proofs.Common.{◌≡◌, ◌+◌, ◌*◌, ◌≤◌, ℕ, suc, Bool, true, List, [], ◌∷◌, ◌++◌, Option, length, refl, sym, ap, subst, ◌∙◌, cond, arith}
 use Rattle.std.specs.Prelude.{Some, None}
 use Rattle.std.specs.Fn.{Mut}
 use Rattle.std.specs.List.{cons_option}
 use Rattle.std.specs.FinMap as finite
 use Rattle.std.proofs.lemmas.List.Elements.{filter_map-append}
 use Rattle.std.proofs.lemmas.List.Sums.{sum_by-cons}
+use Rattle.std.proofs.Math.Nat.{mul-suc, suc-mul, zero-mul}
 use Rattle.rart_maps.specs.Bounds.{lookup_bound}
 use Rattle.rart_maps.specs.Versions.{Map}
 use Rattle.rart_maps.specs.Visits.{AnswersUpTo}
 use Rattle.rart_maps.proofs.VisitLemmas.{up_to-start}
 use Rattle.rart_maps.specs.ChangeLists.{change_of, differ}
 use Rattle.rart_versioned.specs.Counts.{Counts, CountsUpTo}
-use Rattle.rart_changes.specs.ChangeVisits.{changes_at, lookups_bound, lookups_least}
+use Rattle.rart_changes.specs.ChangeVisits.{changes_at, lookups_bound}
 
 module _ {V : Type 0} (same : V → V → Bool) (old new : Map V) where
   -- Of one key there is a change where the maps differ.
@@ -43,7 +44,7 @@ up_to-all g Shows {answer} f members left is =
 pub record AreCounted (maps least : ℕ) (all left : List (List ℕ)) (start now : Counts)
     : Type 0 where
   pub most : now.entered + lookups_bound maps left ≤ start.entered + lookups_bound maps all
-  pub few : start.entered + lookups_least least all ≤ now.entered + lookups_least least left
+  pub few : start.entered + length all * least ≤ now.entered + length left * least
   pub grows : start.entered ≤ now.entered
   pub made : now.made ≡ start.made
 
@@ -52,9 +53,9 @@ pub counted-next : {maps least : ℕ} {all left : List (List ℕ)} {start now af
     → AreCounted maps least all left start now
     → CountsUpTo (maps * lookup_bound w) 0 now after → now.entered + least ≤ after.entered
     → AreCounted maps least all rest start after
-counted-next {maps} {least} w rest comes before counted more_entered =
+counted-next {maps} {least} {left = left} w rest comes before counted more_entered =
     let bound = ap (lookups_bound maps) comes ∙ sum_by-cons (λ v. maps * lookup_bound v) w rest in
-    let fewest = ap (lookups_least least) comes ∙ sum_by-cons (λ v. least) w rest in
+    let fewest = ap (λ keys. length keys * least) comes ∙ suc-mul (length rest) least in
     let most = before.most in
     let few = before.few in
     let grows = before.grows in
@@ -85,17 +86,23 @@ counted-end before =
 
 pub counted-least : {maps least : ℕ} {all left : List (List ℕ)} {start now : Counts} → left ≡ []
     → AreCounted maps least all left start now
-    → start.entered + lookups_least least all ≤ now.entered
-counted-least {least = least} none before =
-    let over = ap (lookups_least least) none in
+    → start.entered + length all * least ≤ now.entered
+counted-least {least = least} {left = left} none before =
+    let over = ap (λ keys. length keys * least) none ∙ zero-mul least in
     let few = before.few in
     omega (arith, over, few)
+
+-- One for each key, and then so many for each, are one more for each.
+pub counted-each : (many one each start mid after : ℕ) → each ≡ suc one
+    → start + many ≤ mid → mid + many * one ≤ after → start + many * each ≤ after
+counted-each many one each start mid after is listed shown =
+    let whole = ap (λ n. many * n) is ∙ mul-suc many one in omega (arith, listed, shown, whole)
 
 pub counted-start : (maps least : ℕ) {all left : List (List ℕ)} {start : Counts} → left ≡ all
     → AreCounted maps least all left start start
 counted-start maps least {all} {left} {start} is =
     let bound = ap (lookups_bound maps) is in
-    let fewest = ap (lookups_least least) is in
+    let fewest = ap (λ keys. length keys * least) is in
     record {
       most = omega (arith, bound);
       few = omega (arith, fewest);

@@ -21,7 +21,7 @@ use Rattle.rart_maps.proofs.SetLemmas.{contains-kept, len-retain-weaker}
 use Rattle.rart_versioned.specs.Counts.{Counts, CountsUpTo}
 use Rattle.rart_versioned.specs.Keys.{IsKeyLength}
 use Rattle.rart_changes.specs.KeptKeys.{Kept}
-use Rattle.rart_changes.proofs.RebaseLemmas.{listed-in}
+use Rattle.rart_changes.proofs.TrackingLemmas.{listed-in}
 
 Contains-mid : {A : Type 0} (front : List A) (x : A) (rest : List A) →
     Contains (front ++ x ∷ rest) x

@@ -1,5 +1,5 @@
 -- What a loan from the current version makes of a tracked version.
-use Rattle.std.proofs.Common.{◌≡◌, ◌≤◌, ℕ, List, Some, Result, Ok, Err, OnOk, OnErr, refl, subst, sym, ap}
+use Rattle.std.proofs.Common.{◌≡◌, ℕ, List, Some, Result, Ok, Err, IfOk, OnOk, OnErr, refl, subst, sym, ap, is_some}
 use Rattle.std.specs.Result.{IsOk}
 use Rattle.std.specs.declared.alloc.AllocError.{AllocError}
 use Rattle.rart_maps.specs.Versions.{Version, value_at, with_key}
@@ -18,16 +18,17 @@ module _ {A V X : Type 0} {base now after : Version V} {touched marked : Version
       keeps-touched w (Some left) keeps
       (replacement-sets now after w {E = AllocError} left (Ok (value_at now w))
       (refl, holds.0 refl))
-      is.keys is.number is.counted (ap (λ (v : Version V). v.number) (holds.0 refl))
+      is.keys is.counted (ap (λ (v : Version V). v.number) (holds.0 refl))
   keeps-lent (Err error) left keeps is kept holds =
       subst (λ v. Keeps base v marked) (sym holds.1) (subst (Keeps base now) (sym kept) keeps)
 
-  pub keeps-unlent : (result : Result A X) → Keeps base now touched
-      → OnOk result (IsMarked touched w marked) → OnOk result (marked.number ≤ now.number)
+  pub keeps-unlent : (result : Result A X) (seen : A → V) → Keeps base now touched
+      → OnOk result (IsMarked touched w marked)
+      → IfOk result (λ lent. value_at now w ≡ Some (seen lent))
       → OnErr result (marked ≡ touched) → after ≡ now → Keeps base after marked
-  keeps-unlent (Ok lent) keeps is few kept same =
-      subst (λ v. Keeps base v marked) (sym same) (keeps-more w keeps is few)
-  keeps-unlent (Err error) keeps is few kept same =
+  keeps-unlent (Ok lent) seen keeps is there kept same =
+      subst (λ v. Keeps base v marked) (sym same) (keeps-more w keeps (ap is_some there) is)
+  keeps-unlent (Err error) seen keeps is there kept same =
       subst (λ v. Keeps base v marked) (sym same) (subst (Keeps base now) (sym kept) keeps)
 
 -- What is seen of the trees inside afterwards.

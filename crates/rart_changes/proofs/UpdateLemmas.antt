@@ -1,5 +1,5 @@
 -- What an update makes of a tracked version.
-use Rattle.std.proofs.Common.{◌≡◌, ◌+◌, ◌≤◌, ℕ, List, Bool, true, cond, Option, Some, None, is_some, Result, Ok, Err, ap, subst, sym, ◌∙◌, arith}
+use Rattle.std.proofs.Common.{◌≡◌, ◌+◌, ◌≤◌, ℕ, List, Bool, true, Option, Some, None, is_some, Result, Ok, Err, ap, subst, sym, ◌∙◌, arith}
 use Rattle.std.specs.Borrow.{MutBor}
 use Rattle.std.specs.FinMap as finite
 use Rattle.std.specs.Fn.{Once}
@@ -11,8 +11,7 @@ use Rattle.rart_below.specs.declared.slot.SlotUpdate.TheVariants.{Keep, Insert, 
 use Rattle.rart_maps.specs.Changes.{slot_update_from, slot_attempt_from}
 use Rattle.rart_maps.specs.Versions.{Version, has_key, value_at}
 use Rattle.rart_maps.proofs.LookupLemmas.{updated-sets, tried-sets}
-use Rattle.rart_maps.specs.Pairs.{Strings}
-use Rattle.rart_changes.specs.Tracking.{Keeps, Tracking, updated, with_string}
+use Rattle.rart_changes.specs.Tracking.{Keeps, with_string}
 use Rattle.rart_changes.proofs.TrackingLemmas.{keeps-raised}
 use Rattle.rart_versioned.specs.Updates.{Answers, Updates}
 
@@ -91,14 +90,13 @@ module _ {F E V : Type 0} (callback : Once F (MutBor (Slot V) × Unit {0})
 module _ {V : Type 0} {base now after : Version V} {touched marked : Version (Unit {0})}
     (w : List ℕ) (keeps : Keeps base now touched) where
   module _ (keys : marked.content ≡ with_string touched.content w)
-      (more : marked.number ≤ touched.number + 1)
       (counted : marked.number ≡ finite.len marked.content) where
     pub keeps-update : {F : Type 0} (callback : Once F (MutBor (Slot V) × Unit {0})
         (SlotUpdate V × (MutBor (Slot V) × Unit {0}))) (f : F) (answer : Bool) → answer ≡ true
         → Updates callback f now w answer after → Keeps base after marked
     keeps-update callback f answer is updates =
         keeps-raised w _ keeps (updated-sets now after w updates.0 updates.1 answer updates.3)
-        keys more counted
+        keys counted
         (update-raises-from now after w (value_at now w) updates.0 updates.1
         ((λ i. (sym is i, after)) ∙ updates.3))
 
@@ -107,7 +105,7 @@ module _ {V : Type 0} {base now after : Version V} {touched marked : Version (Un
         → answer ≡ true → Answers callback f now w (Ok answer) after → Keeps base after marked
     keeps-attempt callback f answer is answers =
         let outcome = tried-sets now after w answers.0 answers.1 answer answers.3 in
-        keeps-raised w _ keeps outcome.2 keys more counted
+        keeps-raised w _ keeps outcome.2 keys counted
         (attempt-raises-from now after w (value_at now w) answers.0 answers.1
         ((λ i. (Ok (sym is i), after)) ∙ answers.3))
 

@@ -5,15 +5,21 @@ use Rattle.std.specs.FinMap as finite
 use Rattle.std.proofs.lemmas.Bool.{false≢true}
 use Rattle.rart_maps.proofs.MapLemmas.{maps}
 use Rattle.rart_changes.specs.Tracking.{is_in, no_key}
-use Rattle.rart_changes.specs.WorkedBounds.{ChangesOfTwo, ConflictsOfTwo, OneWithinTwo, one_key, two_keys}
-use Rattle.rart_changes.proofs.RebaseLemmas.{nothing-in}
-use Rattle.rart_changes.proofs.TrackingLemmas.{in-with}
+use Rattle.rart_changes.specs.WorkedBounds.{ChangesOfTwo, ConflictsOfTwo, LeastOfTwo, OneWithinTwo, one_key, two_keys}
+use Rattle.rart_changes.proofs.TrackingLemmas.{in-with, nothing-in}
 
 pub changes_of_two : ChangesOfTwo
 changes_of_two = simp (maps, finite.len-insert, finite.len-empty) refl
 
 pub conflicts_of_two : ConflictsOfTwo
 conflicts_of_two = simp (maps, finite.len-insert, finite.len-empty) refl
+
+pub least_of_two : LeastOfTwo
+least_of_two = (
+  simp (maps, finite.len-insert, finite.len-empty) refl,
+  simp (maps, finite.len-insert, finite.len-empty) refl,
+  simp (maps, finite.len-insert, finite.len-empty) refl,
+)
 
 first-in-two : is_in two_keys (codes "a") ≡ true
 first-in-two = simp maps refl

@@ -1,21 +1,11 @@
--- How a closure is shown a change, and how many nodes it takes to find the changes, at most and at
--- least.
-use Rattle.std.specs.Prelude.{◌≡◌, ℕ, ◌+◌, ◌*◌, Bool, List, Option, sum_by, filter_map, if◌then◌else◌}
-use Rattle.std.specs.Borrow.{Bor}
-use Rattle.std.specs.Option.{option_copied}
+-- The changes at some keys, and how many nodes it takes to find them, at most and at least.
+use Rattle.std.specs.Prelude.{ℕ, ◌+◌, ◌*◌, Bool, List, sum_by, filter_map, if◌then◌else◌}
 use Rattle.std.specs.FinMap as finite
 use Rattle.rart_maps.specs.Bounds.{lookup_bound}
 use Rattle.rart_maps.specs.Pairs.{Strings}
 use Rattle.rart_maps.specs.Versions.{Map, Version, has_no_key}
 use Rattle.rart_maps.specs.ChangeLists.{Change, change_of}
 use Rattle.rart_changes.specs.Tracking.{Tracking, listed}
-
--- a change, by a key with these bytes, and references to the values before and after where there
--- are any
-abbrev pub ByChange : {K V : Type 0} → (K → List ℕ) →
-    K × (Option (Bor V) × (Option (Bor V) × Unit {0})) → Change V → Type 0
-ByChange bytes shown change = (bytes shown.0 ≡ change.0)
-    × (option_copied shown.1.0 ≡ change.1) × (option_copied shown.1.1.0 ≡ change.2)
 
 -- the changes at these keys
 abbrev pub changes_at : {V : Type 0} → (V → V → Bool) → Map V → Map V → List (List ℕ)
@@ -35,12 +25,7 @@ changes_bound keys = 2 * finite.len keys + lookups_bound 2 (listed keys)
 abbrev pub lookup_least : {V : Type 0} → Version V → ℕ
 lookup_least v = if has_no_key v then 0 else 1
 
--- the same for each of these keys, where that is so much for one
-abbrev pub lookups_least : ℕ → List (List ℕ) → ℕ
-lookups_least one keys = sum_by (λ w. one) keys
-
--- the fewest that finding the changes enters: one for each touched key, and one more for each in
--- each of the two maps that has a key
+-- the fewest that finding the changes enters: for each touched key itself one, and one in each of
+-- the two maps that has a key
 abbrev pub changes_least : {V : Type 0} → Tracking V → ℕ
-changes_least t = finite.len t.touched
-    + lookups_least (lookup_least t.base + lookup_least t.current) (listed t.touched)
+changes_least t = finite.len t.touched * (1 + lookup_least t.base + lookup_least t.current)

@@ -7,7 +7,7 @@ use Rattle.std.specs.FinMap as finite
 use Rattle.rart_maps.specs.Pairs.{Strings}
 use Rattle.rart_maps.specs.Versions.{Map, Version}
 use Rattle.rart_maps.specs.Merges.{Conflict, in_conflict}
-use Rattle.rart_changes.specs.ChangeVisits.{lookup_least, lookups_bound, lookups_least}
+use Rattle.rart_changes.specs.ChangeVisits.{lookup_least, lookups_bound}
 use Rattle.rart_changes.specs.Tracking.{Tracking, listed}
 
 -- a conflict, by a key with these bytes, and references to the values of the base, ours and theirs
@@ -34,9 +34,7 @@ module _ {V : Type 0} (same : V → V → Bool) where
 abbrev pub conflicts_bound : Strings → ℕ
 conflicts_bound keys = 2 * finite.len keys + lookups_bound 3 (listed keys)
 
--- the fewest: one for each touched key, and one more for each in each of the three maps that has a
--- key
+-- the fewest: for each touched key itself one, and one in each of the three maps that has a key
 abbrev pub conflicts_least : {V : Type 0} → Tracking V → Version V → ℕ
 conflicts_least t theirs = finite.len t.touched
-    + lookups_least (lookup_least t.base + lookup_least t.current + lookup_least theirs)
-    (listed t.touched)
+    * (1 + lookup_least t.base + lookup_least t.current + lookup_least theirs)

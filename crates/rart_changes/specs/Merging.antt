@@ -1,5 +1,5 @@
 -- How a closure is asked at the conflicts, and what a merge makes of its answers.
-use Rattle.std.specs.Prelude.{◌≡◌, ℕ, List, ◌∷◌, ◌++◌, ◌||◌, Option, Bool, map}
+use Rattle.std.specs.Prelude.{◌≡◌, ◌↔◌, ℕ, List, [], ◌∷◌, ◌++◌, ◌||◌, Option, Bool, map}
 use Rattle.std.specs.Borrow.{Bor}
 use Rattle.std.specs.Fn.{Mut}
 use Rattle.std.specs.FinMap as finite
@@ -9,14 +9,24 @@ use Rattle.rart_maps.specs.Versions.{Map}
 use Rattle.rart_maps.specs.Visits.{CalledOn, CallableOn}
 use Rattle.rart_maps.specs.ChangeLists.{Change, changes, patched}
 use Rattle.rart_maps.specs.Merges.{Conflict, Answers, conflicts, merged}
+use Rattle.rart_changes.specs.ConflictVisits.{ByConflict}
 
--- a conflict, by a key with these bytes, and references to the values of the base, of ours and of
--- theirs, where there are any
-abbrev pub ByConflict : {K V : Type 0} → (K → List ℕ) →
+-- a conflict, as `ByConflict` shows it, by a reference to the key
+abbrev pub ByLentConflict : {K V : Type 0} → (K → List ℕ) →
     Bor K × (Option (Bor V) × (Option (Bor V) × (Option (Bor V) × Unit {0}))) → Conflict V → Type 0
-ByConflict bytes shown conflict = (bytes shown.0.now ≡ conflict.0)
-    × (option_copied shown.1.0 ≡ conflict.1) × (option_copied shown.1.1.0 ≡ conflict.2)
-    × (option_copied shown.1.1.1.0 ≡ conflict.3)
+ByLentConflict bytes = ByConflict (λ key. bytes key.now)
+
+-- What a closure is shown of a conflict: its key, by one of these bytes, and references to the values
+-- of the base, of ours and of theirs, where there are any.
+abbrev pub ArgumentsShowTheirConflicts : (K V : Type 0) → (K → List ℕ) → Type 0
+ArgumentsShowTheirConflicts K V bytes = (k : K) (lent : Bor K) (base ours theirs : Option (Bor V))
+    (w : List ℕ) (x y z : Option V) →
+    (ByConflict bytes (k, (base, (ours, (theirs, tt)))) (w, x, y, z)
+    ↔ ((bytes k ≡ w) × (option_copied base ≡ x) × (option_copied ours ≡ y)
+    × (option_copied theirs ≡ z)))
+    × (ByLentConflict bytes (lent, (base, (ours, (theirs, tt)))) (w, x, y, z)
+    ↔ ((bytes lent.now ≡ w) × (option_copied base ≡ x) × (option_copied ours ≡ y)
+    × (option_copied theirs ≡ z)))
 
 -- a conflict, and what its key is to have
 abbrev pub Reply : Type 0 → Type 0
@@ -75,3 +85,24 @@ module _ {F A V : Type 0} (g : Mut F A (Option V)) (Shows : A → Conflict V →
   AnswersAreMerged same = (answers : Answers V) → AnswersBy answers →
       (base ours theirs after : Map V) (f f' : F) →
       MergesTo same f base ours theirs f' after → after ≡ merged same answers base ours theirs
+
+  -- To say what it was asked: a closure that keeps a list of the conflicts, one more with each call.
+  -- A merge asks it about each conflict once, in order; one that is refused about those of a prefix.
+  abbrev pub KeepsAsked : (F → List (Conflict V)) → Type 0
+  KeepsAsked asked = (f : F) (conflict : Conflict V) (answer : Option V) (f' : F) →
+      CalledOn g Shows f conflict answer f' → asked f' ≡ asked f ++ conflict ∷ []
+
+  abbrev pub AsksInOrder : (V → V → Bool) → Type 0
+  AsksInOrder same = (asked : F → List (Conflict V)) → KeepsAsked asked → (f f' : F) →
+      ((base ours theirs after : Map V) → MergesTo same f base ours theirs f' after
+      → asked f' ≡ asked f ++ conflicts same base ours theirs)
+      × ((all : List (Conflict V)) → IsAskedUpTo f all f'
+      → (rest : List (Conflict V)) × (asked f ++ all ≡ asked f' ++ rest))
+
+  -- What may be asked about the conflicts may be asked about the first, and, whatever that leaves,
+  -- about the others.
+  abbrev pub AnswerableStepByStep : Type 0
+  AnswerableStepByStep = (f : F) (conflict : Conflict V) (rest : List (Conflict V)) →
+      Answerable f (conflict ∷ rest) ↔ (CallableOn g Shows f conflict
+      × ((answer : Option V) (f' : F) → CalledOn g Shows f conflict answer f'
+      → Answerable f' rest))

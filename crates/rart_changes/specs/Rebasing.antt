@@ -1,9 +1,8 @@
 -- What making changes, or putting one value or none at a key, makes of a tracked version.
-use Rattle.std.specs.Prelude.{◌≡◌, ℕ, ◌+◌, ◌⊎◌, ◌||◌, Bool, List, Option, Result, IsTrue, OnOk, OnErr, is_some, if◌then◌else◌}
-use Rattle.rart_maps.specs.ChangeLists.{Change, changes, effects, patched}
-use Rattle.rart_maps.specs.Lookups.{with_value}
+use Rattle.std.specs.Prelude.{◌≡◌, ℕ, ◌+◌, ◌⊎◌, List, Option, IsTrue}
+use Rattle.rart_maps.specs.ChangeLists.{Change, effects, patched}
 use Rattle.rart_maps.specs.Pairs.{Strings}
-use Rattle.rart_maps.specs.Versions.{Version, has_key}
+use Rattle.rart_changes.specs.Setting.{IsSetTo}
 use Rattle.rart_changes.specs.Tracking.{Tracking, is_in}
 
 -- Each string of the one set is in the other.
@@ -11,14 +10,11 @@ abbrev pub IsWithin : Strings → Strings → Type 0
 IsWithin few many = (q : List ℕ) → IsTrue (is_in few q) → IsTrue (is_in many q)
 
 module _ {V : Type 0} where
-  -- The key has the value, or none, and no other key is touched. The number is one greater where
-  -- the key is set, or taken out where it is there.
-  pub record IsSetTo (before : Tracking V) (w : List ℕ) (value : Option V) (after : Tracking V)
-      : Type 0 where
+  -- The key of the current version is set so, and no other key is touched.
+  pub record IsTrackedSetTo (before : Tracking V) (w : List ℕ) (value : Option V)
+      (after : Tracking V) : Type 0 where
     pub base : after.base ≡ before.base
-    pub content : after.current.content ≡ with_value before.current.content w value
-    pub number : after.current.number ≡ before.current.number
-        + (if is_some value || has_key before.current w then 1 else 0)
+    pub current : IsSetTo before.current w value after.current
     pub touched : (q : List ℕ) → IsTrue (is_in after.touched q)
         → (q ≡ w) ⊎ IsTrue (is_in before.touched q)
 
@@ -31,15 +27,3 @@ module _ {V : Type 0} where
     pub number : after.current.number ≡ before.current.number + effects before.current.content made
     pub touched : (q : List ℕ) → IsTrue (is_in after.touched q)
         → Among q ⊎ IsTrue (is_in before.touched q)
-
-  -- The version is the base, and has the changes from the old base to the old current version. No
-  -- other key is touched than before. Refused, all is as before.
-  pub record Rebases {A E : Type 0} (same : V → V → Bool) (result : Result A E)
-      (before : Tracking V) (onto : Version V) (after : Tracking V) : Type 0 where
-    pub base : OnOk result (after.base ≡ onto)
-    pub current : OnOk result (after.current.content ≡ patched onto.content
-        (changes same before.base.content before.current.content))
-    pub number : OnOk result (after.current.number ≡ onto.number + effects onto.content
-        (changes same before.base.content before.current.content))
-    pub touched : OnOk result (IsWithin after.touched before.touched)
-    pub refused : OnErr result (after ≡ before)

@@ -1,6 +1,6 @@
 -- A tracked version: the version that it began with, the current one, and the keys that were
 -- touched in between. What a change makes of it.
-use Rattle.std.specs.Prelude.{◌≡◌, ◌+◌, ℕ, ◌≤◌, Bool, false, List, refl, if◌then◌else◌}
+use Rattle.std.specs.Prelude.{◌≡◌, ◌⊎◌, ℕ, ◌≤◌, Bool, false, List, IsTrue, refl, if◌then◌else◌}
 use Rattle.std.specs.Coded.{Coded, code_by, coded×, coded_ℕ, coded_list}
 use Rattle.std.specs.FinMap as finite
 use Rattle.std.specs.FinSet as set
@@ -68,16 +68,22 @@ module _ {V : Type 0} where
 pub record IsMarked (before : Version (Unit {0})) (w : List ℕ) (after : Version (Unit {0}))
     : Type 0 where
   pub keys : after.content ≡ with_string before.content w
-  pub number : after.number ≤ before.number + 1
   pub counted : after.number ≡ finite.len after.content
 
 -- The trees inside: a key that was not touched is as in the base. The number of the tree of touched
--- keys is how many there are, and no greater than the current number.
+-- keys is how many there are. These and the keys of the base together are at most as many as the
+-- current number says, since it was one for each of the base's, and each touch of another raised it.
 module _ {V : Type 0} where
   abbrev pub tracking_of : Version V → Version V → Version (Unit {0}) → Tracking V
   tracking_of base now touched = record { base = base; current = now; touched = touched.content }
 
+  -- It was touched, or is a key of the base.
+  abbrev pub IsKnown : Version V → Strings → List ℕ → Type 0
+  IsKnown base touched q = IsTrue (is_in touched q) ⊎ IsTrue (has_key base q)
+
   pub record Keeps (base now : Version V) (touched : Version (Unit {0})) : Type 0 where
     pub tracked : IsTracked (tracking_of base now touched)
-    pub few : touched.number ≤ now.number
     pub counted : touched.number ≡ finite.len touched.content
+    pub known : (keys : Strings)
+        → ((q : List ℕ) → IsTrue (is_in keys q) → IsKnown base touched.content q)
+        → finite.len keys ≤ now.number

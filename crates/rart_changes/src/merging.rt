@@ -1,7 +1,7 @@
 //! Patches and merges, as methods of a version.
 ghost use Rattle.std.specs.Prelude.{◌≡◌, ◌+◌, OnErr, OnOk, length};
 ghost use Rattle.rart_below.specs.Clones.{ClonesEqual};
-ghost use Rattle.rart_changes.specs.Merging.{Answerable, ByConflict, IsAskedUpTo, MergesTo, held_in_either};
+ghost use Rattle.rart_changes.specs.Merging.{Answerable, ByLentConflict, IsAskedUpTo, MergesTo, held_in_either};
 ghost use Rattle.rart_maps.specs.ChangeLists.{changes, effects, patched};
 ghost use Rattle.rart_maps.specs.Merges.{conflicts};
 ghost use Rattle.rart_maps.specs.Versions.{Version, HasRoom};
@@ -79,17 +79,17 @@ pub trait Merging<K: KeyTrait, V: Clone + Drop + Eq> {
         requires clones { ClonesEqual V.is_clone }
         requires room { HasRoom (version self.old)
             (length (changes V.eq (version base.now).content (version theirs.now).content)) }
-        requires answerable { Answerable F.FnMut (ByConflict K.bytes) f.old
+        requires answerable { Answerable F.FnMut (ByLentConflict K.bytes) f.old
             (conflicts V.eq (version base.now).content (version self.old).content
             (version theirs.now).content) }
-        ensures merged { OnOk result (MergesTo F.FnMut (ByConflict K.bytes) V.eq f.old
+        ensures merged { OnOk result (MergesTo F.FnMut (ByLentConflict K.bytes) V.eq f.old
             (version base.now).content (version self.old).content (version theirs.now).content
             f.new (version self.new).content) }
         ensures number { OnOk result ((version self.new).number ≡ (version self.old).number
             + held_in_either (version self.old).content (version self.new).content
             (changes V.eq (version base.now).content (version theirs.now).content)) }
         ensures refused { OnErr result (self.new ≡ self.old) }
-        ensures asked { OnErr result (IsAskedUpTo F.FnMut (ByConflict K.bytes) f.old
+        ensures asked { OnErr result (IsAskedUpTo F.FnMut (ByLentConflict K.bytes) f.old
             (conflicts V.eq (version base.now).content (version self.old).content
             (version theirs.now).content) f.new) };
 }

@@ -68,6 +68,7 @@ impl<K: KeyTrait, V: Clone + Drop> TrackedTree<K, V> {
     ) -> Result<TrackedTree<K, V>, AllocError>
         ensures { IfOk result (λ tracked. tracked ≡ tracking_from tree.now) }
     {
+        tree.know_keys_for_proof();
         Ok(TrackedTree {
             alloc,
             base: tree.clone()?,

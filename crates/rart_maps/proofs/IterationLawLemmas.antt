@@ -1,11 +1,13 @@
 -- The laws of iterations.
-use Rattle.std.proofs.Common.{◌≡◌, ◌⊎◌, ℕ, zero, suc, List, [], ◌∷◌, ◌++◌, Option, Some, None, Result, Ok, Err, refl, sym, ap, subst, ◌∙◌, inl, inr, ⊎_elim, append-nil}
+use Rattle.std.proofs.Common.{◌≡◌, ◌⊎◌, ℕ, zero, suc, List, [], ◌∷◌, ◌++◌, drop, length, take, Option, Some, None, Result, Ok, Err, refl, sym, ap, subst, ◌∙◌, inl, inr, ⊎_elim, append-nil}
 use Rattle.std.specs.List.{AllZip}
+use Rattle.std.proofs.Math.Seq.{take-append_seam, drop-append_seam}
 use Rattle.std.proofs.lemmas.Bool.{false≢true}
+use Rattle.std.proofs.lemmas.List.{take-append-drop}
 use Rattle.std.proofs.lemmas.Option.{same_Some, none-some}
 use Rattle.std.specs.declared.alloc.AllocError.{AllocError}
 use Rattle.rart_maps.specs.Iterations.{IsOver}
-use Rattle.rart_maps.specs.IterationLaws.{Gives, items_given, nothing_given, GivesFirst, GivesAll, GivesUntilRefused, MembersAreGiven, NothingIsGivenBehind}
+use Rattle.rart_maps.specs.IterationLaws.{Gives, TakenAreFirst, items_given, nothing_given, GivesFirst, GivesAll, GivesUntilRefused, MembersAreGiven, NothingIsGivenBehind}
 
 module _ {A X : Type 0} (Shows : A → X → Type 0) where
   abbrev Answer : Type 0
@@ -171,3 +173,18 @@ module _ {A X : Type 0} (Shows : A → X → Type 0) where
   pub members_are_given : MembersAreGiven Shows
   members_are_given members answers after =
       (given-one_of answers members after, one_of-given members answers after)
+
+pub taken_are_first : (X : Type 0) → TakenAreFirst X
+taken_are_first X members taken left = (
+  λ from. (
+    ap (take (length taken)) (sym from.2) ∙ take-append_seam taken from.0,
+    from.1 ∙ ap (λ rest. Some rest) (sym (drop-append_seam taken from.0)
+        ∙ ap (drop (length taken)) from.2),
+  ),
+  λ parts. (
+    drop (length taken) members,
+    parts.1,
+    ap (λ front. front ++ drop (length taken) members) (sym parts.0)
+        ∙ take-append-drop (length taken) members,
+  ),
+)

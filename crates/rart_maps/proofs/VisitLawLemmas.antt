@@ -4,7 +4,7 @@ use Rattle.std.specs.Fn.{Mut, Called}
 use Rattle.rart_below.specs.declared.visit.VisitControl.{VisitControl}
 use Rattle.rart_below.specs.declared.visit.VisitControl.TheVariants.{Continue, Stop}
 use Rattle.rart_maps.specs.Visits.{CalledOn, CallableOn, Answers, AnswersUpTo, CallableInTurn, VisitUpTo, VisitUntil}
-use Rattle.rart_maps.specs.VisitLaws.{ArgumentsShowTheirMembers, VisitsTell, VisitOfNothing, VisitOfOne, VisitableOfOne, VisitOfParts, FrontOfVisit, VisitableStepByStep, IfContinues, UntilNothing, UntilStepByStep, FrontOfUntil, UntilCallableStepByStep, EndsOnOne, UntilDone, UntilCallbackRefuses, UntilMemoryIsRefused}
+use Rattle.rart_maps.specs.VisitLaws.{ArgumentsShowTheirChanges, ArgumentsShowTheirMembers, VisitsTell, VisitOfNothing, VisitOfOne, VisitableOfOne, VisitOfParts, FrontOfVisit, VisitableStepByStep, IfContinues, UntilNothing, UntilStepByStep, FrontOfUntil, UntilCallableStepByStep, EndsOnOne, UntilDone, UntilCallbackRefuses, UntilMemoryIsRefused}
 use Rattle.rart_maps.proofs.VisitLemmas.{answers-append}
 
 same_first : {A : Type 0} {x y : A} {xs ys : List A} → x ∷ xs ≡ y ∷ ys → x ≡ y
@@ -226,4 +226,11 @@ arguments_show_their_members K V bytes key k slice r s w x y = (
   (λ v. v, λ v. v),
   (λ v. v, λ v. v),
   (λ v. v, λ v. v),
+)
+
+pub arguments_show_their_changes : (K V : Type 0) (bytes : K → List ℕ) →
+    ArgumentsShowTheirChanges K V bytes
+arguments_show_their_changes K V bytes key k before after w x y = (
+  (λ v. (v.0, v.1.0, v.1.1), λ v. (v.0, (v.1, v.2))),
+  (λ v. (v.0, v.1.0, v.1.1), λ v. (v.0, (v.1, v.2))),
 )

@@ -1,9 +1,9 @@
 -- What an iterator gives, call after call.
-use Rattle.std.specs.Prelude.{◌≡◌, ◌↔◌, ◌⊎◌, ℕ, List, [], ◌∷◌, ◌++◌, map, replicate, Option, Some, None, Result, Ok, Err}
+use Rattle.std.specs.Prelude.{◌≡◌, ◌↔◌, ◌⊎◌, ℕ, List, [], ◌∷◌, ◌++◌, drop, length, map, replicate, take, Option, Some, None, Result, Ok, Err}
 use Rattle.std.specs.List.{AllZip, FoldsTo}
 use Rattle.std.specs.declared.alloc.AllocError.{AllocError}
 use Rattle.std.specs.Iterator.{at_most}
-use Rattle.rart_maps.specs.Iterations.{ByKey, ByReference, NextGives, items_left}
+use Rattle.rart_maps.specs.Iterations.{ByKey, ByReference, IsTakenFrom, NextGives, items_left}
 
 module _ {A X : Type 0} (Shows : A → X → Type 0) where
   -- Calls in turn gave these answers.
@@ -57,6 +57,12 @@ module _ {A X : Type 0} (Shows : A → X → Type 0) where
 -- Of two members three items come at most, the third of them a refusal; behind the end, none.
 abbrev pub ItemsLeftOfTwo : Type 0 → Type 0
 ItemsLeftOfTwo X = (x y : X) → items_left (Some (x ∷ y ∷ [])) ≡ at_most 3
+
+-- What was taken are the first members, and the others are still to come.
+abbrev pub TakenAreFirst : Type 0 → Type 0
+TakenAreFirst X = (members taken : List X) (left : Option (List X)) →
+    IsTakenFrom members taken left
+    ↔ ((take (length taken) members ≡ taken) × (left ≡ Some (drop (length taken) members)))
 
 abbrev pub ItemsLeftBehind : Type 0 → Type 0
 ItemsLeftBehind X = items_left {X = X} None ≡ at_most 0

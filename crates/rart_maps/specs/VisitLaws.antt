@@ -1,11 +1,13 @@
 -- What visits are, a call at a time and part by part.
-use Rattle.std.specs.Prelude.{◌≡◌, ◌↔◌, ◌⊎◌, ℕ, List, [], ◌∷◌, ◌++◌, Result, Ok, Err}
+use Rattle.std.specs.Prelude.{◌≡◌, ◌↔◌, ◌⊎◌, ℕ, List, [], ◌∷◌, ◌++◌, Option, Result, Ok, Err}
 use Rattle.std.specs.Borrow.{Bor}
 use Rattle.std.specs.Fn.{Mut, Called, Takes}
+use Rattle.std.specs.Option.{option_copied}
 use Rattle.std.specs.declared.alloc.AllocError.{AllocError}
 use Rattle.rart_below.specs.declared.slot.Refusal.TheVariants.{Callback, Memory}
 use Rattle.rart_below.specs.declared.visit.VisitControl.{VisitControl}
 use Rattle.rart_below.specs.declared.visit.VisitControl.TheVariants.{Continue, Stop}
+use Rattle.rart_maps.specs.ChangeVisits.{ByKeyChange, ByViewChange}
 use Rattle.rart_maps.specs.Iterations.{ByKey, ByReference}
 use Rattle.rart_maps.specs.Visits.{CalledOn, CallableOn, Visit, VisitFront, Visits, ByView, BySlice, ByValue, ByViewPair, ByKeyPair, ByValuePair, Visitable, VisitUntil, VisitUntilFront, VisitsUntil, VisitableUntil}
 
@@ -121,3 +123,13 @@ module _ (K V : Type 0) (bytes : K → List ℕ) where
       × (ByValuePair (r, (s, tt)) (x, y) ↔ ((r.now ≡ x) × (s.now ≡ y)))
       × (ByKey bytes (k, r) (w, x) ↔ ((bytes k ≡ w) × (r.now ≡ x)))
       × (ByReference r x ↔ (r.now ≡ x))
+
+  -- Of a change, a view or a key of these bytes, and references to the values before and after,
+  -- where there are any.
+  abbrev pub ArgumentsShowTheirChanges : Type 0
+  ArgumentsShowTheirChanges = (key : List ℕ) (k : K) (before after : Option (Bor V))
+      (w : List ℕ) (x y : Option V) →
+      (ByViewChange (key, (before, (after, tt))) (w, x, y)
+      ↔ ((key ≡ w) × (option_copied before ≡ x) × (option_copied after ≡ y)))
+      × (ByKeyChange bytes (k, (before, (after, tt))) (w, x, y)
+      ↔ ((bytes k ≡ w) × (option_copied before ≡ x) × (option_copied after ≡ y)))

@@ -6,4 +6,4 @@
 mod differing;
 pub mod laws;
 
-pub use differing::do_differ;
+pub use differing::{are_in_conflict, do_differ};

@@ -1,5 +1,5 @@
 //! What the words on merges mean: laws, each the contract of a function that does nothing.
-ghost use Rattle.rart_changes.specs.Merging.{AnswersAreMerged, ByConflict};
+ghost use Rattle.rart_changes.specs.Merging.{AnswersAreMerged, AnswerableStepByStep, ArgumentsShowTheirConflicts, AsksInOrder, ByLentConflict};
 
 use rart_below::KeyTrait;
 
@@ -11,5 +11,22 @@ pub fn answers_are_merged<
     V: Eq,
     F: FnMut(&K, Option<&V>, Option<&V>, Option<&V>) -> Option<V>,
 >()
-    ensures { AnswersAreMerged F.FnMut (ByConflict K.bytes) V.eq }
+    ensures { AnswersAreMerged F.FnMut (ByLentConflict K.bytes) V.eq }
+{}
+
+/// The closure is asked about each conflict once, in order; where the merge is refused, about the
+/// first ones. It must take the first of them, and then, whatever it leaves, the others.
+pub fn merges_ask_in_order<
+    K: KeyTrait,
+    V: Eq,
+    F: FnMut(&K, Option<&V>, Option<&V>, Option<&V>) -> Option<V>,
+>()
+    ensures asked { AsksInOrder F.FnMut (ByLentConflict K.bytes) V.eq }
+    ensures answerable { AnswerableStepByStep F.FnMut (ByLentConflict K.bytes) }
+{}
+
+/// What closures are shown of a conflict: its key, by value or lent, and references to the three
+/// values, where there are any.
+pub fn arguments_show_their_conflicts<K: KeyTrait, V>()
+    ensures { ArgumentsShowTheirConflicts K V K.bytes }
 {}

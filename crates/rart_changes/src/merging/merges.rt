@@ -2,7 +2,7 @@
 ghost use Rattle.std.specs.Prelude.{◌≡◌, ◌+◌, OnErr, IfOk, IsOk, OnOk, Option, length};
 ghost use Rattle.std.specs.Option.{option_copied};
 ghost use Rattle.rart_below.specs.Clones.{ClonesEqual};
-ghost use Rattle.rart_changes.specs.Merging.{Answerable, ByConflict, IsAskedUpTo, MergesTo, held_in_either};
+ghost use Rattle.rart_changes.specs.Merging.{Answerable, ByLentConflict, IsAskedUpTo, MergesTo, held_in_either};
 ghost use Rattle.rart_changes.specs.Setting.{IsSetTo};
 ghost use Rattle.rart_changes.specs.Settling.{Askable, AskableIn, Settles, SettlesIn, three_at};
 ghost use Rattle.rart_maps.specs.ChangeLists.{changes};
@@ -12,7 +12,7 @@ ghost use Rattle.rart_maps.specs.Versions.{HasRoom, value_at};
 use crate::merging::drafts::Draft;
 use crate::merging::setting::{put, put_copy};
 use rart_below::KeyTrait;
-use rart_maps::do_differ;
+use rart_maps::are_in_conflict;
 use rart_versioned::VersionedAdaptiveRadixTree;
 use std::alloc::AllocError;
 
@@ -31,14 +31,14 @@ pub(crate) fn merged_copy<
     requires clones { ClonesEqual V.is_clone }
     requires room { HasRoom ours.now
         (length (changes V.eq base.now.content theirs.now.content)) }
-    requires answerable { Answerable F.FnMut (ByConflict K.bytes) f.old
+    requires answerable { Answerable F.FnMut (ByLentConflict K.bytes) f.old
         (conflicts V.eq base.now.content ours.now.content theirs.now.content) }
-    ensures merges { IfOk result (λ after. MergesTo F.FnMut (ByConflict K.bytes) V.eq f.old
+    ensures merges { IfOk result (λ after. MergesTo F.FnMut (ByLentConflict K.bytes) V.eq f.old
         base.now.content ours.now.content theirs.now.content f.new after.content) }
     ensures number { IfOk result (λ after. after.number ≡ ours.now.number
         + held_in_either ours.now.content after.content
         (changes V.eq base.now.content theirs.now.content)) }
-    ensures refused { OnErr result (IsAskedUpTo F.FnMut (ByConflict K.bytes) f.old
+    ensures refused { OnErr result (IsAskedUpTo F.FnMut (ByLentConflict K.bytes) f.old
         (conflicts V.eq base.now.content ours.now.content theirs.now.content) f.new) }
 {
     let mut draft = Draft::of(ours)?;
@@ -47,9 +47,9 @@ pub(crate) fn merged_copy<
         &mut |key: K, before: Option<&V>, their: Option<&V>|
             requires clones { ClonesEqual V.is_clone }
             requires room { IsOk draft.made → HasRoom draft.next 1 }
-            requires askable { AskableIn F.FnMut (ByConflict K.bytes) V.eq draft.made f.now
+            requires askable { AskableIn F.FnMut (ByLentConflict K.bytes) V.eq draft.made f.now
                 (three_at K.bytes ours.now key before their) }
-            ensures settles { SettlesIn F.FnMut (ByConflict K.bytes) V.eq draft.entry.made
+            ensures settles { SettlesIn F.FnMut (ByLentConflict K.bytes) V.eq draft.entry.made
                 draft.entry.next f.entry.now
                 (three_at K.bytes ours.entry.now key before.entry their.entry)
                 draft.exit.made draft.exit.next f.exit.now }
@@ -74,9 +74,9 @@ impl<K: KeyTrait, V: Clone + Drop + Eq> Draft<K, V> {
     )
         requires clones { ClonesEqual V.is_clone }
         requires room { IsOk self.old.made → HasRoom self.old.next 1 }
-        requires askable { AskableIn F.FnMut (ByConflict K.bytes) V.eq self.old.made f.old
+        requires askable { AskableIn F.FnMut (ByLentConflict K.bytes) V.eq self.old.made f.old
             (three_at K.bytes ours.now key before their) }
-        ensures { SettlesIn F.FnMut (ByConflict K.bytes) V.eq self.old.made self.old.next f.old
+        ensures { SettlesIn F.FnMut (ByLentConflict K.bytes) V.eq self.old.made self.old.next f.old
             (three_at K.bytes ours.now key before.entry their.entry)
             self.new.made self.new.next f.new }
     {
@@ -102,10 +102,10 @@ fn settle_in<
 ) -> Result<(), AllocError>
     requires clones { ClonesEqual V.is_clone }
     requires room { HasRoom next.old 1 }
-    requires askable { Askable F.FnMut (ByConflict K.bytes)
+    requires askable { Askable F.FnMut (ByLentConflict K.bytes)
         (in_conflict V.eq (option_copied before) (value_at ours.now (K.bytes key))
         (option_copied their)) f.old (three_at K.bytes ours.now key before their) }
-    ensures { (answer : Option V) × Settles F.FnMut (ByConflict K.bytes)
+    ensures { (answer : Option V) × Settles F.FnMut (ByLentConflict K.bytes)
         (in_conflict V.eq (option_copied before.entry) (value_at ours.now (K.bytes key))
         (option_copied their.entry)) f.old
         (three_at K.bytes ours.now key before.entry their.entry) answer f.new
@@ -118,12 +118,4 @@ fn settle_in<
     } else {
         put_copy(next, key, their)
     }
-}
-
-/// Whether both sides differ from the base, and from each other.
-fn are_in_conflict<V: Eq>(before: Option<&V>, our: Option<&V>, their: Option<&V>) -> bool
-    ensures { result ≡ in_conflict V.eq (option_copied before.entry) (option_copied our.entry)
-        (option_copied their.entry) }
-{
-    do_differ(before, our) && do_differ(before, their) && do_differ(our, their)
 }

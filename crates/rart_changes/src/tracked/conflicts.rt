@@ -1,18 +1,17 @@
 //! Where a tracked version and another one are in conflict: keys that both changed since the base,
 //! and not to the same.
-ghost use Rattle.std.specs.Prelude.{◌≡◌, ◌≤◌, ◌+◌, ◌*◌, [], ◌∷◌, map, OnErr, OnOk};
-ghost use Rattle.std.specs.Option.{option_copied};
+ghost use Rattle.std.specs.Prelude.{◌≡◌, ◌≤◌, ◌+◌, ◌*◌, [], ◌∷◌, length, map, OnErr, OnOk};
 ghost use Rattle.rart_maps.specs.Bounds.{lookup_bound};
 ghost use Rattle.rart_maps.specs.Visits.{Visit, Visits, Visitable};
-ghost use Rattle.rart_maps.specs.Merges.{conflicts, in_conflict};
-ghost use Rattle.rart_changes.specs.ChangeVisits.{lookup_least, lookups_bound, lookups_least};
+ghost use Rattle.rart_maps.specs.Merges.{conflicts};
+ghost use Rattle.rart_changes.specs.ChangeVisits.{lookup_least, lookups_bound};
 ghost use Rattle.rart_changes.specs.ConflictVisits.{ByConflict, conflicts_at, conflicts_bound, conflicts_least};
 ghost use Rattle.rart_versioned.specs.Counts.{CountsUpTo};
 
 use crate::tracked::TrackedTree;
 use crate::tracked::keys::keys_of;
 use rart_below::KeyTrait;
-use rart_maps::do_differ;
+use rart_maps::are_in_conflict;
 use rart_versioned::{VersionedAdaptiveRadixTree, Work};
 use std::alloc::AllocError;
 
@@ -60,9 +59,9 @@ fn show_conflicts<
     ensures visits { Visit F.FnMut (ByConflict K.bytes) f.old (conflicts_at V.eq base.now.content
         ours.now.content theirs.now.content (map K.bytes keys.items)) f.new }
     ensures counted { CountsUpTo (lookups_bound 3 (map K.bytes keys.items)) 0 work.old work.new }
-    ensures each { work.old.entered + lookups_least
-        (lookup_least base.now + lookup_least ours.now + lookup_least theirs.now)
-        (map K.bytes keys.items) ≤ work.new.entered }
+    ensures each { work.old.entered + length keys.items
+        * (lookup_least base.now + lookup_least ours.now + lookup_least theirs.now)
+        ≤ work.new.entered }
 {
     for key in keys {
         show_conflict(base, ours, theirs, key, f, work);
@@ -97,12 +96,4 @@ fn show_conflict<
     if are_in_conflict(before, our, their) {
         f(key, before, our, their);
     }
-}
-
-// Whether both sides differ from the base, and from each other.
-fn are_in_conflict<V: Eq>(before: Option<&V>, our: Option<&V>, their: Option<&V>) -> bool
-    ensures { result ≡ in_conflict V.eq (option_copied before.entry) (option_copied our.entry)
-        (option_copied their.entry) }
-{
-    do_differ(before, our) && do_differ(before, their) && do_differ(our, their)
 }

@@ -13,7 +13,6 @@ ghost use Rattle.rart_versioned.specs.Missing.{Explains};
 use crate::tracked::{TrackedTree, marked};
 use rart_below::KeyTrait;
 use rart_versioned::{Missing, VersionedAdaptiveRadixTree, Work};
-use std::alloc::AllocError;
 
 impl<K: KeyTrait, V: Clone + Drop> TrackedTree<K, V> {
     /// As `value_mut_k`, with the nodes entered and made counted into `work`: at most five more
@@ -60,7 +59,6 @@ fn lend_in<'a, K: KeyTrait, V: Clone + Drop>(
     ensures missing { IfErr result
         (λ missing. Explains missing (value_at current.old (K.bytes key.now))) }
     ensures marked { OnOk result (IsMarked touched.old (K.bytes key.now) touched.new) }
-    ensures few { OnOk result (touched.new.number ≤ current.old.number) }
     ensures kept { OnErr result (touched.new ≡ touched.old) }
     ensures counted { CountsUpTo (5 * lookup_bound (K.bytes key.now))
         (2 * change_bound (K.bytes key.now)) work.old work.new }
@@ -89,7 +87,6 @@ fn marked_there<K: KeyTrait, V: Clone + Drop>(
 ) -> Result<VersionedAdaptiveRadixTree<K, ()>, Missing>
     requires { CanMark touched.now }
     ensures marked { IfOk result (IsMarked touched.now (K.bytes key.now)) }
-    ensures few { IfOk result (λ marked. marked.number ≤ current.now.number) }
     ensures there { OnOk result (IsTrue (has_key current.now (K.bytes key.now))) }
     ensures missing { IfErr result
         (λ missing. Explains missing (value_at current.now (K.bytes key.now))) }
@@ -103,10 +100,7 @@ fn marked_there<K: KeyTrait, V: Clone + Drop>(
         return Err(Missing::Absent);
     }
     match marked(touched, key, work) {
-        Err(refused) => Err(Missing::Memory(refused)),
-        // It can't be greater, since a touched key is there or was taken out, and the number counts
-        // both. The test stands for a proof of that.
-        Ok(marked) if marked.version() > current.version() => Err(Missing::Memory(AllocError)),
         Ok(marked) => Ok(marked),
+        Err(refused) => Err(Missing::Memory(refused)),
     }
 }

@@ -1,10 +1,11 @@
 //! What changed from the base to the current version: a visit of the touched keys.
-ghost use Rattle.std.specs.Prelude.{◌≡◌, ◌≤◌, ◌+◌, ◌*◌, [], ◌∷◌, map, OnErr, OnOk};
+ghost use Rattle.std.specs.Prelude.{◌≡◌, ◌≤◌, ◌+◌, ◌*◌, [], ◌∷◌, length, map, OnErr, OnOk};
 ghost use Rattle.rart_versioned.specs.Counts.{CountsUpTo};
 ghost use Rattle.rart_maps.specs.Bounds.{lookup_bound};
 ghost use Rattle.rart_maps.specs.Visits.{Visit, Visits, Visitable};
 ghost use Rattle.rart_maps.specs.ChangeLists.{changes};
-ghost use Rattle.rart_changes.specs.ChangeVisits.{ByChange, changes_at, changes_bound, changes_least, lookup_least, lookups_bound, lookups_least};
+ghost use Rattle.rart_changes.specs.ChangeVisits.{changes_at, changes_bound, changes_least, lookup_least, lookups_bound};
+ghost use Rattle.rart_maps.specs.ChangeVisits.{ByKeyChange};
 
 use crate::tracked::TrackedTree;
 use crate::tracked::keys::keys_of;
@@ -23,9 +24,9 @@ impl<K: KeyTrait, V: Clone + Drop + Eq> TrackedTree<K, V> {
         f: &mut F,
         work: &mut Work,
     ) -> Result<(), AllocError>
-        requires { Visitable F.FnMut (ByChange K.bytes) f.old
+        requires { Visitable F.FnMut (ByKeyChange K.bytes) f.old
             (changes V.eq self.now.base.content self.now.current.content) }
-        ensures visits { Visits F.FnMut (ByChange K.bytes) result f.old
+        ensures visits { Visits F.FnMut (ByKeyChange K.bytes) result f.old
             (changes V.eq self.now.base.content self.now.current.content) f.new }
         ensures refused { OnErr result (f.new ≡ f.old) }
         ensures counted { CountsUpTo (changes_bound self.now.touched) 0 work.old work.new }
@@ -46,13 +47,13 @@ fn show_changes<K: KeyTrait, V: Clone + Drop + Eq, F: FnMut(K, Option<&V>, Optio
     f: &mut F,
     work: &mut Work,
 )
-    requires { Visitable F.FnMut (ByChange K.bytes) f.old
+    requires { Visitable F.FnMut (ByKeyChange K.bytes) f.old
         (changes_at V.eq old.now.content new.now.content (map K.bytes keys.items)) }
-    ensures visits { Visit F.FnMut (ByChange K.bytes) f.old
+    ensures visits { Visit F.FnMut (ByKeyChange K.bytes) f.old
         (changes_at V.eq old.now.content new.now.content (map K.bytes keys.items)) f.new }
     ensures counted { CountsUpTo (lookups_bound 2 (map K.bytes keys.items)) 0 work.old work.new }
-    ensures each { work.old.entered + lookups_least (lookup_least old.now + lookup_least new.now)
-        (map K.bytes keys.items) ≤ work.new.entered }
+    ensures each { work.old.entered
+        + length keys.items * (lookup_least old.now + lookup_least new.now) ≤ work.new.entered }
 {
     for key in keys {
         show_change(old, new, key, f, work);
@@ -67,9 +68,9 @@ fn show_change<K: KeyTrait, V: Clone + Drop + Eq, F: FnMut(K, Option<&V>, Option
     f: &mut F,
     work: &mut Work,
 )
-    requires { Visitable F.FnMut (ByChange K.bytes) f.old
+    requires { Visitable F.FnMut (ByKeyChange K.bytes) f.old
         (changes_at V.eq old.now.content new.now.content (K.bytes key ∷ [])) }
-    ensures visits { Visit F.FnMut (ByChange K.bytes) f.old
+    ensures visits { Visit F.FnMut (ByKeyChange K.bytes) f.old
         (changes_at V.eq old.now.content new.now.content (K.bytes key ∷ [])) f.new }
     ensures counted { CountsUpTo (2 * lookup_bound (K.bytes key)) 0 work.old work.new }
     ensures entered { work.old.entered + (lookup_least old.now + lookup_least new.now)

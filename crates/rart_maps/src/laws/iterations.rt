@@ -1,5 +1,5 @@
 //! What iterators give, call after call.
-ghost use Rattle.rart_maps.specs.IterationLaws.{ItemsLeftOfTwo, ItemsLeftBehind, ValuesAreGiven, NoValueIsGivenBehind, PairsAreGiven, NoPairIsGivenBehind};
+ghost use Rattle.rart_maps.specs.IterationLaws.{ItemsLeftOfTwo, ItemsLeftBehind, TakenAreFirst, ValuesAreGiven, NoValueIsGivenBehind, PairsAreGiven, NoPairIsGivenBehind};
 
 use rart_below::KeyTrait;
 
@@ -14,7 +14,9 @@ pub fn iterators_give_their_members<K: KeyTrait, V>()
 {}
 
 /// How many items an iterator gives at most: its members and a refusal, and behind its end none.
+/// What was taken of its members are the first ones.
 pub fn items_left_are_counted<V>()
     ensures two { ItemsLeftOfTwo V }
     ensures behind { ItemsLeftBehind V }
+    ensures taken { TakenAreFirst V }
 {}

@@ -1,6 +1,6 @@
 //! What visits are, a call at a time and part by part.
 ghost use Rattle.rart_maps.specs.Visits.{ByValue};
-ghost use Rattle.rart_maps.specs.VisitLaws.{ArgumentsShowTheirMembers, VisitsTell, VisitOfNothing, VisitOfOne, VisitableOfOne, VisitOfParts, FrontOfVisit, VisitableStepByStep, UntilNothing, UntilStepByStep, FrontOfUntil, UntilCallableStepByStep, UntilDone, UntilCallbackRefuses, UntilMemoryIsRefused};
+ghost use Rattle.rart_maps.specs.VisitLaws.{ArgumentsShowTheirChanges, ArgumentsShowTheirMembers, VisitsTell, VisitOfNothing, VisitOfOne, VisitableOfOne, VisitOfParts, FrontOfVisit, VisitableStepByStep, UntilNothing, UntilStepByStep, FrontOfUntil, UntilCallableStepByStep, UntilDone, UntilCallbackRefuses, UntilMemoryIsRefused};
 
 use rart_below::{KeyTrait, VisitControl};
 
@@ -40,7 +40,8 @@ pub fn visits_tell_where_they_end<V, E, F: FnMut(&V) -> Result<VisitControl, E>>
 {}
 
 /// What closures are shown, and iterators give: the key of a member, by a view, a slice or a key of
-/// its bytes, and references to its values, in their order.
+/// its bytes, and references to its values, in their order; of a change those that there are.
 pub fn arguments_show_their_members<K: KeyTrait, V>()
-    ensures { ArgumentsShowTheirMembers K V K.bytes }
+    ensures members { ArgumentsShowTheirMembers K V K.bytes }
+    ensures changes { ArgumentsShowTheirChanges K V K.bytes }
 {}

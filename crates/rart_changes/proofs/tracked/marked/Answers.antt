@@ -1,4 +1,4 @@
-use Rattle.std.proofs.Common.{sym, ap, ◌∙◌, arith, rules, is_some}
+use Rattle.std.proofs.Common.{sym, ap, ◌∙◌, rules, is_some}
 use Rattle.std.specs.FinMap as finite
 use Rattle.rart_maps.specs.Versions.{Version, value_at}
 use Rattle.rart_changes.proofs.TrackingLemmas.{copied-some, one-more, with-again}
@@ -21,17 +21,6 @@ returns-clause-marked g c =
             ∙ sym (ap is_some c.get_k_counted.ensures.value)
             ∙ sym (copied-some c.get_k_counted.result)
             ∙ branch.if-is_none.ensures))
-      ];
-      number = elim c.if-is_none.branch [
-        | then-is_none+in_ok-insert_k_counted branch ↦
-            let more = ap (λ (v : Version (Unit {0})). v.number)
-            (branch.marked-is ∙ branch.in_ok-insert_k_counted.ensures.set) in
-            let was = ap (λ (v : Version (Unit {0})). v.number) c.in_ok-marked.ensures in
-            omega (arith, more, was)
-        | else-is_none branch ↦
-            let same = ap (λ (v : Version (Unit {0})). v.number)
-            (branch.marked-is ∙ c.in_ok-marked.ensures) in
-            omega (arith, same)
       ];
       counted = elim c.if-is_none.branch [
         | then-is_none+in_ok-insert_k_counted branch ↦

@@ -120,6 +120,7 @@ impl<K: KeyTrait, V: Clone + Drop> TrackedTree<K, V> {
         ensures refused { OnErr result (self.new ≡ self.old) }
     {
         let base = self.base.clone()?;
+        base.know_keys_for_proof();
         self.current = base;
         self.touched = no_keys(self.alloc);
         Ok(())
@@ -132,6 +133,7 @@ impl<K: KeyTrait, V: Clone + Drop> TrackedTree<K, V> {
         ensures refused { OnErr result (self.new ≡ self.old) }
     {
         let current = self.current.clone()?;
+        current.know_keys_for_proof();
         self.base = current;
         self.touched = no_keys(self.alloc);
         Ok(())

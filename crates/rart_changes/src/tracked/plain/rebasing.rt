@@ -1,11 +1,12 @@
 //! The same changes, made on another base.
-ghost use Rattle.std.specs.Prelude.{◌≡◌, [], ◌∷◌, map, Contains, OnOk};
+ghost use Rattle.std.specs.Prelude.{◌≡◌, ◌+◌, [], ◌∷◌, map, Contains, OnErr, OnOk};
 ghost use Rattle.std.specs.Option.{option_copied};
 ghost use Rattle.std.specs.FinMap as finite;
 ghost use Rattle.rart_below.specs.Clones.{ClonesEqual};
 ghost use Rattle.rart_changes.specs.Asks.{CanReplay};
 ghost use Rattle.rart_changes.specs.ChangeVisits.{changes_at};
-ghost use Rattle.rart_changes.specs.Rebasing.{IsSetTo, Rebases, Replays};
+ghost use Rattle.rart_changes.specs.Rebasing.{IsTrackedSetTo, IsWithin, Replays};
+ghost use Rattle.rart_maps.specs.ChangeLists.{changes, effects, patched};
 ghost use Rattle.rart_maps.specs.Versions.{HasRoom};
 
 use crate::tracked::TrackedTree;
@@ -27,7 +28,14 @@ impl<K: KeyTrait, V: Clone + Drop + Eq> TrackedTree<K, V> {
     pub fn rebase(&mut self, onto: &VersionedAdaptiveRadixTree<K, V>) -> Result<(), AllocError>
         requires clones { ClonesEqual V.is_clone }
         requires room { HasRoom onto.now (finite.len self.old.touched) }
-        ensures { Rebases V.eq result self.old onto.now self.new }
+        ensures base { OnOk result (self.new.base ≡ onto.now) }
+        ensures current { OnOk result (self.new.current.content ≡ patched onto.now.content
+            (changes V.eq self.old.base.content self.old.current.content)) }
+        ensures number { OnOk result (self.new.current.number ≡ onto.now.number
+            + effects onto.now.content
+            (changes V.eq self.old.base.content self.old.current.content)) }
+        ensures touched { OnOk result (IsWithin self.new.touched self.old.touched) }
+        ensures refused { OnErr result (self.new ≡ self.old) }
     {
         let keys = keys_of(self.alloc, &self.touched, &mut Work::new())?;
         let mut next = TrackedTree::begin(self.alloc, onto)?;
@@ -78,7 +86,7 @@ impl<K: KeyTrait, V: Clone + Drop + Eq> TrackedTree<K, V> {
     fn set_to(&mut self, key: K, value: Option<&V>) -> Result<(), AllocError>
         requires clones { ClonesEqual V.is_clone }
         requires room { HasRoom self.old.current 1 }
-        ensures { OnOk result (IsSetTo self.old (K.bytes key) (option_copied value.entry)
+        ensures { OnOk result (IsTrackedSetTo self.old (K.bytes key) (option_copied value.entry)
             self.new) }
     {
         match value {

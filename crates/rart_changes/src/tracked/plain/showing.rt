@@ -3,7 +3,7 @@ ghost use Rattle.std.specs.Prelude.{◌≡◌, OnErr};
 ghost use Rattle.rart_maps.specs.Visits.{Visits, Visitable};
 ghost use Rattle.rart_maps.specs.ChangeLists.{changes};
 ghost use Rattle.rart_maps.specs.Merges.{conflicts};
-ghost use Rattle.rart_changes.specs.ChangeVisits.{ByChange};
+ghost use Rattle.rart_maps.specs.ChangeVisits.{ByKeyChange};
 ghost use Rattle.rart_changes.specs.ConflictVisits.{ByConflict};
 
 use crate::tracked::TrackedTree;
@@ -21,9 +21,9 @@ impl<K: KeyTrait, V: Clone + Drop + Eq> TrackedTree<K, V> {
         &self,
         f: &mut F,
     ) -> Result<(), AllocError>
-        requires { Visitable F.FnMut (ByChange K.bytes) f.old
+        requires { Visitable F.FnMut (ByKeyChange K.bytes) f.old
             (changes V.eq self.now.base.content self.now.current.content) }
-        ensures visits { Visits F.FnMut (ByChange K.bytes) result f.old
+        ensures visits { Visits F.FnMut (ByKeyChange K.bytes) result f.old
             (changes V.eq self.now.base.content self.now.current.content) f.new }
         ensures refused { OnErr result (f.new ≡ f.old) }
     {

@@ -1,11 +1,14 @@
 use Rattle.rart_changes.proofs.laws.tracked.worked_bounds.Goals as goal
-use Rattle.rart_changes.proofs.WorkedChangeBoundLemmas.{changes_of_two, conflicts_of_two, one_within_two}
+use Rattle.rart_changes.proofs.WorkedChangeBoundLemmas.{changes_of_two, conflicts_of_two, least_of_two, one_within_two}
 
 pub returns-clause-changes : goal.returns-clause-changes
 returns-clause-changes c = changes_of_two
 
 pub returns-clause-conflicts : goal.returns-clause-conflicts
 returns-clause-conflicts c = conflicts_of_two
+
+pub returns-clause-least : goal.returns-clause-least
+returns-clause-least c = least_of_two
 
 pub returns-clause-within : goal.returns-clause-within
 returns-clause-within c = one_within_two

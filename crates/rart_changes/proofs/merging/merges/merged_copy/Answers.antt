@@ -1,13 +1,13 @@
 use Rattle.std.proofs.Common.{◌≡◌, refl, ap, rules, of_calls}
 use Rattle.rart_maps.proofs.VisitLemmas.{answers-keep}
-use Rattle.rart_changes.specs.Merging.{ByConflict}
+use Rattle.rart_changes.specs.Merging.{ByLentConflict}
 use Rattle.rart_changes.proofs.SettlingLemmas.{merge-askable, merge-asked, merge-front, merge-room, merge-visit}
 use Rattle.rart_changes.proofs.merging.merges.merged_copy.Goals as goal
 
 pub diff_with-requires : goal.diff_with-requires
 diff_with-requires g c =
     let bytes = g.K.KeyTrait.bytes in
-    let Shows = ByConflict {V = g.row.V.Denot} bytes in
+    let Shows = ByLentConflict {V = g.row.V.Denot} bytes in
     let base = c.args.base.now.content in
     let theirs = c.args.theirs.now.content in
     let begins = c.in_ok-draft.ensures.next in
@@ -34,7 +34,7 @@ diff_with-requires g c =
 pub returns-in_err-diff_with-clause-refused : goal.returns-in_err-diff_with-clause-refused
 returns-in_err-diff_with-clause-refused g c =
     let bytes = g.K.KeyTrait.bytes in
-    let Shows = ByConflict {V = g.row.V.Denot} bytes in
+    let Shows = ByLentConflict {V = g.row.V.Denot} bytes in
     let base = c.args.base.now.content in
     let theirs = c.args.theirs.now.content in
     let begins = c.in_ok-draft.ensures.next in
@@ -54,7 +54,7 @@ returns-in_err-diff_with-clause-refused g c =
 pub returns-in_err-draft-2-clause-refused : goal.returns-in_err-draft-2-clause-refused
 returns-in_err-draft-2-clause-refused g c =
     let bytes = g.K.KeyTrait.bytes in
-    let Shows = ByConflict {V = g.row.V.Denot} bytes in
+    let Shows = ByLentConflict {V = g.row.V.Denot} bytes in
     let base = c.args.base.now.content in
     let theirs = c.args.theirs.now.content in
     let begins = c.in_ok-draft.ensures.next in
@@ -73,7 +73,7 @@ returns-in_err-draft-2-clause-refused g c =
 pub returns-clause-merges : goal.returns-clause-merges
 returns-clause-merges g c =
     let bytes = g.K.KeyTrait.bytes in
-    let Shows = ByConflict {V = g.row.V.Denot} bytes in
+    let Shows = ByLentConflict {V = g.row.V.Denot} bytes in
     let base = c.args.base.now.content in
     let theirs = c.args.theirs.now.content in
     let begins = c.in_ok-draft.ensures.next in
@@ -92,7 +92,7 @@ returns-clause-merges g c =
 pub returns-clause-number : goal.returns-clause-number
 returns-clause-number g c =
     let bytes = g.K.KeyTrait.bytes in
-    let Shows = ByConflict {V = g.row.V.Denot} bytes in
+    let Shows = ByLentConflict {V = g.row.V.Denot} bytes in
     let base = c.args.base.now.content in
     let theirs = c.args.theirs.now.content in
     let begins = c.in_ok-draft.ensures.next in

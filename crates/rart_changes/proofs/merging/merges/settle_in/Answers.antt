@@ -3,14 +3,14 @@ use Rattle.std.specs.Prelude.{OnOk, Option}
 use Rattle.std.specs.Option.{option_copied}
 use Rattle.rart_maps.specs.Versions.{value_at}
 use Rattle.rart_maps.specs.Merges.{in_conflict}
-use Rattle.rart_changes.specs.Merging.{ByConflict}
+use Rattle.rart_changes.specs.Merging.{ByLentConflict}
 use Rattle.rart_changes.specs.Setting.{IsSetTo}
 use Rattle.rart_changes.specs.Settling.{Settles}
 use Rattle.rart_changes.proofs.merging.merges.settle_in.Goals as goal
 
 pub returns-then-are_in_conflict : goal.returns-then-are_in_conflict
 returns-then-are_in_conflict g c =
-    let Shows = ByConflict {V = g.row.V.Denot} g.K.KeyTrait.bytes in
+    let Shows = ByLentConflict {V = g.row.V.Denot} g.K.KeyTrait.bytes in
     let w = g.K.KeyTrait.bytes c.args.key in
     let before = option_copied c.args.before in
     let our = value_at c.args.ours.now w in

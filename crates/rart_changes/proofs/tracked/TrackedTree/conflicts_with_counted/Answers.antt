@@ -1,9 +1,12 @@
-use Rattle.std.proofs.Common.{sym, ap, subst, ◌∙◌}
+use Rattle.std.proofs.Common.{◌+◌, ◌≤◌, arith, sym, ap, subst, ◌∙◌}
+use Rattle.std.specs.FinMap as finite
 use Rattle.rart_maps.specs.Visits.{CallableInTurn, Visit}
 use Rattle.rart_maps.proofs.VisitLemmas.{up_to-start, visits-refused}
 use Rattle.rart_maps.specs.Merges.{conflicts}
-use Rattle.rart_changes.specs.ConflictVisits.{ByConflict, conflicts_at}
+use Rattle.rart_changes.specs.ConflictVisits.{ByConflict, conflicts_at, conflicts_least}
 use Rattle.rart_changes.proofs.ConflictLemmas.{conflicts-at-touched}
+use Rattle.rart_changes.proofs.RebaseLemmas.{keys-counted}
+use Rattle.rart_changes.proofs.ShowLemmas.{counted-each}
 use Rattle.rart_changes.proofs.tracked.TrackedTree.conflicts_with_counted.Goals as goal
 
 pub returns-in_err-keys-clause-visits : goal.returns-in_err-keys-clause-visits
@@ -38,3 +41,14 @@ returns-clause-visits g c =
     ∙ ap (λ t. conflicts same t.base.content t.current.content theirs) c.self.view_is in
     subst (λ cs. Visit g.F.FnMut Shows c.args.f.now cs c.show_conflicts.new.f) all
     c.show_conflicts.ensures.visits
+
+pub returns-clause-each : goal.returns-clause-each
+returns-clause-each g c =
+    let inside = c.self.inside in
+    let touched = inside.touched.content in
+    let listed = c.in_ok-keys.ensures.each in
+    let shown = c.show_conflicts.ensures.each in
+    let many = keys-counted g.K.KeyTrait.bytes c.in_ok-keys.keys.items touched
+    c.in_ok-keys.ensures.keys in
+    subst (λ t. c.args.work.now.entered + conflicts_least t c.args.theirs.now ≤ c.show_conflicts.new.work.entered) c.self.view_is
+    (counted-each (finite.len touched) _ _ _ _ _ (omega arith) listed (rw many at shown))

@@ -11,4 +11,4 @@ invariant_of-self-2 g c =
     let marked = c.in_ok-touched.ensures.marked in
     keeps-touched w _ c.self.invariant
     (replacement-sets _ _ w {E = AllocError} _ (Ok _) (replaced.answer, replaced.set))
-    marked.keys marked.number marked.counted (ap (λ v. v.number) replaced.set)
+    marked.keys marked.counted (ap (λ v. v.number) replaced.set)

@@ -6,7 +6,8 @@ use Rattle.rart_maps.specs.ChangeLists.{changes, effects, patched}
 use Rattle.rart_changes.specs.ChangeVisits.{changes_at}
 use Rattle.rart_changes.specs.Tracking.{is_in}
 use Rattle.rart_changes.proofs.ChangesAtLemmas.{changes-at-touched}
-use Rattle.rart_changes.proofs.RebaseLemmas.{KeysAscend-of, keys-counted, listed-ascends, listed-in, nothing-in}
+use Rattle.rart_changes.proofs.RebaseLemmas.{KeysAscend-of, keys-counted, listed-ascends}
+use Rattle.rart_changes.proofs.TrackingLemmas.{listed-in, nothing-in}
 use Rattle.rart_changes.proofs.tracked.TrackedTree.rebase.Goals as goal
 
 pub replay-requires : goal.replay-requires

@@ -13,5 +13,5 @@ invariant_of-self-2 g c =
     let marked = c.in_ok-touched.ensures.marked in
     keeps-touched w _ c.self.invariant
     (removal-sets _ _ w {E = AllocError} (Ok _) (removed.answer, removed.removed))
-    marked.keys marked.number marked.counted
+    marked.keys marked.counted
     (removal-number c.self.inside.current c.remove_k_counted.new.self w there removed.removed)

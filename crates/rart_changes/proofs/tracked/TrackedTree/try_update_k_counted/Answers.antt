@@ -57,7 +57,7 @@ invariant_of-self-2 g c =
     let updates = c.in_ok-is_there.ensures.updates in
     let there : has_key v w ≡ true = sym (ap is_some c.get_k_counted.ensures.value)
     ∙ sym (copied-some c.get_k_counted.result) ∙ c.if-is_none.ensures in
-    keeps-attempt w c.self.invariant marked.keys marked.number marked.counted g.F.FnOnce c.args.f _
+    keeps-attempt w c.self.invariant marked.keys marked.counted g.F.FnOnce c.args.f _
     (there-tried g.F.FnOnce c.args.f v _ w _ there updates) updates
 
 pub returns-clause-lookups : goal.returns-clause-lookups

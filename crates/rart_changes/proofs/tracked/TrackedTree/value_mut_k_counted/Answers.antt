@@ -14,8 +14,8 @@ invariant_of-self-lent g c =
     λ result. (
       (λ value. keeps-lent w c.lend_in.result value c.self.invariant told.marked told.kept
           (c.lend_in.follows.holds value)),
-      keeps-unlent w c.lend_in.result c.self.invariant told.marked told.few told.kept
-          c.lend_in.follows.holds-at-none,
+      keeps-unlent w c.lend_in.result (λ value. value.now) c.self.invariant told.marked told.value
+          told.kept c.lend_in.follows.holds-at-none,
     )
 
 pub returns : goal.returns

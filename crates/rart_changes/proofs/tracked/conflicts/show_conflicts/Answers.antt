@@ -1,5 +1,6 @@
 use Rattle.std.proofs.Common.{map, sym, ap, ◌∙◌, arith, length, rules}
 use Rattle.std.specs.Vec.Iter.{into_iter_items}
+use Rattle.std.proofs.lemmas.List.{length-map}
 use Rattle.rart_maps.proofs.VisitLemmas.{callable-part, up_to-part, up_to-over}
 use Rattle.rart_changes.specs.ConflictVisits.{ByConflict, conflicts_at}
 use Rattle.rart_changes.proofs.ConflictLemmas.{conflicts_at-cons}
@@ -75,4 +76,5 @@ pub returns-clause-each : goal.returns-clause-each
 returns-clause-each g c =
     let before = c.loop-key.invariant in
     let none = nothing-left _ (sym before.length ∙ c.in-None.ensures.steps.0) in
-    counted-least (ap (map g.K.KeyTrait.bytes) none) before.counted
+    let many = length-map c.args.keys.items g.K.KeyTrait.bytes in
+    rw (← many) (counted-least (ap (map g.K.KeyTrait.bytes) none) before.counted)

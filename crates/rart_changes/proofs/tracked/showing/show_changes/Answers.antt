@@ -1,7 +1,9 @@
 use Rattle.std.proofs.Common.{map, sym, ap, ◌∙◌, arith, length, rules}
 use Rattle.std.specs.Vec.Iter.{into_iter_items}
+use Rattle.std.proofs.lemmas.List.{length-map}
 use Rattle.rart_maps.proofs.VisitLemmas.{callable-part, up_to-part, up_to-over}
-use Rattle.rart_changes.specs.ChangeVisits.{ByChange, changes_at}
+use Rattle.rart_changes.specs.ChangeVisits.{changes_at}
+use Rattle.rart_maps.specs.ChangeVisits.{ByKeyChange}
 use Rattle.rart_changes.proofs.ShowLemmas.{changes_at-cons, counted-start, counted-next, counted-end, counted-least, up_to-all, nothing-left}
 use Rattle.rart_changes.proofs.tracked.showing.show_changes.Goals as goal
 
@@ -13,7 +15,7 @@ loop-key-init g c =
     let same = ap (map bytes) gives.0 in
     record {
       length = search rules;
-      calls = up_to-all g.F.FnMut (ByChange {V = g.row.V.Denot} bytes) _ _ _ (ap at same);
+      calls = up_to-all g.F.FnMut (ByKeyChange {V = g.row.V.Denot} bytes) _ _ _ (ap at same);
       counted = counted-start 2 _ same;
     }
 
@@ -26,7 +28,7 @@ show_change-requires g c =
     let w = bytes c.in-Some.key in
     let comes = ap at (ap (map bytes) c.in-Some.ensures.steps.0)
     ∙ changes_at-cons same c.args.old.now.content c.args.new.now.content w rest in
-    callable-part g.F.FnMut (ByChange {V = g.row.V.Denot} bytes) tt _ (at rest) comes c.requires
+    callable-part g.F.FnMut (ByKeyChange {V = g.row.V.Denot} bytes) tt _ (at rest) comes c.requires
     c.loop-key.invariant.calls
 
 pub loop-key-preserved : goal.loop-key-preserved
@@ -46,7 +48,7 @@ loop-key-preserved g c =
     let counts = before.length in
     record {
       length = omega (arith, more, count, counts);
-      calls = up_to-part g.F.FnMut (ByChange {V = g.row.V.Denot} bytes) tt _ (at rest) comes
+      calls = up_to-part g.F.FnMut (ByKeyChange {V = g.row.V.Denot} bytes) tt _ (at rest) comes
           before.calls c.show_change.ensures.visits;
       counted = counted-next w rest keys before.counted c.show_change.ensures.counted
           c.show_change.ensures.entered;
@@ -58,7 +60,7 @@ returns-clause-visits g c =
     let at = changes_at g.V.PartialEq.eq c.args.old.now.content c.args.new.now.content in
     let before = c.loop-key.invariant in
     let none = nothing-left _ (sym before.length ∙ c.in-None.ensures.steps.0) in
-    up_to-over g.F.FnMut (ByChange {V = g.row.V.Denot} bytes) tt (ap at (ap (map bytes) none))
+    up_to-over g.F.FnMut (ByKeyChange {V = g.row.V.Denot} bytes) tt (ap at (ap (map bytes) none))
     before.calls
 
 pub returns-clause-counted : goal.returns-clause-counted
@@ -68,4 +70,5 @@ pub returns-clause-each : goal.returns-clause-each
 returns-clause-each g c =
     let before = c.loop-key.invariant in
     let none = nothing-left _ (sym before.length ∙ c.in-None.ensures.steps.0) in
-    counted-least (ap (map g.K.KeyTrait.bytes) none) before.counted
+    let many = length-map c.args.keys.items g.K.KeyTrait.bytes in
+    rw (← many) (counted-least (ap (map g.K.KeyTrait.bytes) none) before.counted)

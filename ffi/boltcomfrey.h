@@ -7,6 +7,8 @@
 #ifndef BOLTCOMFREY_H
 #define BOLTCOMFREY_H
 
+#define RART_VERSION "0.1.0"
+
 #include <assert.h>
 #include <stdbool.h>
 #include <stddef.h>
@@ -62,15 +64,40 @@ enum {
     // The call was done. Where it answers a value, there was one, and it is written.
     RART_DONE = 0,
     // There was no such key, and no value is written. An insertion has set it. Of a page: no pair
-    // is left behind it.
+    // is there.
     RART_ABSENT = 1,
-    // The number is 2^64 - 1 and can't be raised. Nothing changed.
-    RART_NO_ROOM = 2,
+    // The number is the last one, 2^64 - 1, and can't be raised. Nothing changed.
+    RART_LAST_NUMBER = 2,
     // Memory was refused. Nothing changed.
     RART_NO_MEMORY = 3,
     // The buffer is too small for what is read, whose length is written.
     RART_TOO_SMALL = 4,
+    // The page has no room for an entry, and a pair is there.
+    RART_NO_ENTRIES = 5,
 };
+
+// Whether a change was done: of a key that was there, or of one that wasn't.
+#define RART_OK(answer) ((answer) <= RART_ABSENT)
+
+// What an answer says, in a few words.
+static inline const char *rart_answer_text(rart_answer answer) {
+    switch (answer) {
+    case RART_DONE:
+        return "done";
+    case RART_ABSENT:
+        return "no such key";
+    case RART_LAST_NUMBER:
+        return "the number can't be raised";
+    case RART_NO_MEMORY:
+        return "out of memory";
+    case RART_TOO_SMALL:
+        return "the buffer is too small";
+    case RART_NO_ENTRIES:
+        return "the page has no room for an entry";
+    default:
+        return "no answer";
+    }
+}
 
 // Of what kind a bound of a page is.
 enum {
@@ -93,12 +120,9 @@ enum {
 // - rattle_alloc, rattle_realloc and rattle_dealloc are one allocator, safe on each thread that has
 //   trees, and a block is aligned as it is asked for, which is to 16 bytes at most;
 // - a key is at most some 2,000 bytes where a thread has 2 MiB of stack.
-//
-// A page wants room for one entry at least. Without, rart_page answers RART_TOO_SMALL where there
-// is a pair, and what it writes to needed may fit already: who only lengthens bytes never ends.
 
-// Makes copy the same map, its number one greater, and frees what copy was. RART_NO_ROOM says that
-// the number can't be raised, RART_NO_MEMORY that memory was refused: copy is as before then.
+// Makes copy the same map, its number one greater, and frees what copy was. RART_LAST_NUMBER says
+// that the number can't be raised, RART_NO_MEMORY that memory was refused: copy is as before then.
 RART_NONNULL RART_MUST_USE RART_CHANGES(1) RART_CHANGES(2)
 rart_answer rart_snapshot(rart_tree *RART_ALONE tree, rart_tree *RART_ALONE copy);
 
@@ -182,7 +206,7 @@ RART_NONNULL RART_CHANGES(1)
 void rart_clear(rart_tree *tree);
 
 // Sets a key to a value, the number then one greater. Answers RART_DONE and writes the value that
-// was replaced, or answers RART_ABSENT where the key is new. RART_NO_ROOM says that the number
+// was replaced, or answers RART_ABSENT where the key is new. RART_LAST_NUMBER says that the number
 // can't be raised, RART_NO_MEMORY that memory was refused: nothing changed then.
 RART_NONNULL RART_MUST_USE RART_CHANGES(1) RART_READS(2, 3) RART_WRITES(5)
 rart_answer rart_insert(
@@ -194,7 +218,7 @@ rart_answer rart_insert(
 );
 
 // Takes a key out, the number then one greater. Answers RART_DONE and writes its value, or answers
-// RART_ABSENT, and then nothing changed. RART_NO_ROOM says that the key is there and the number
+// RART_ABSENT, and then nothing changed. RART_LAST_NUMBER says that the key is there and the number
 // can't be raised, RART_NO_MEMORY that it is there and memory was refused: nothing changed then.
 RART_NONNULL RART_MUST_USE RART_CHANGES(1) RART_READS(2, 3) RART_WRITES(4)
 rart_answer rart_remove(
@@ -206,11 +230,11 @@ rart_answer rart_remove(
 
 // Writes the first pairs within two bounds, as many as there is room for: their keys one behind the
 // other to the front of bytes, an entry of each to the front of entries, and how many they are to
-// count. What bytes has behind the keys is not told; entries is as before there. Answers
-// RART_ABSENT where no pair within the bounds is left behind them, RART_DONE where one is: the next
-// page begins RART_EXCLUDED at a copy of the last key. RART_TOO_SMALL says that not even the first
-// has room, and writes the length of its key to needed. A bound is of the kind RART_INCLUDED,
-// RART_EXCLUDED or RART_UNBOUNDED. It takes no memory.
+// count. What bytes has behind the keys is not told; entries is as before there. Answers RART_DONE
+// where it has a pair: the next page begins RART_EXCLUDED at a copy of the last key, and pages are
+// asked for until none is there, which answers RART_ABSENT. RART_NO_ENTRIES says that entries has
+// no room, RART_TOO_SMALL that the first key is longer than bytes, and writes its length to needed.
+// A bound is of the kind RART_INCLUDED, RART_EXCLUDED or RART_UNBOUNDED. It takes no memory.
 RART_NONNULL RART_MUST_USE RART_CHANGES(1) RART_READS(2, 3) RART_READS(5, 6) RART_WRITES(8, 9)
 RART_WRITES(10, 11) RART_WRITES(12) RART_WRITES(13)
 rart_answer rart_page(
@@ -229,8 +253,8 @@ rart_answer rart_page(
     size_t *RART_ALONE needed
 );
 
-// Makes copy the same map, its number one greater, and frees what copy was. RART_NO_ROOM says that
-// the number can't be raised, RART_NO_MEMORY that memory was refused: copy is as before then.
+// Makes copy the same map, its number one greater, and frees what copy was. RART_LAST_NUMBER says
+// that the number can't be raised, RART_NO_MEMORY that memory was refused: copy is as before then.
 RART_NONNULL RART_MUST_USE RART_CHANGES(1) RART_CHANGES(2)
 rart_answer rart_bytes_snapshot(rart_bytes *RART_ALONE tree, rart_bytes *RART_ALONE copy);
 
@@ -326,7 +350,7 @@ RART_NONNULL RART_CHANGES(1)
 void rart_bytes_clear(rart_bytes *tree);
 
 // Sets a key to a copy of the value, the number then one greater. Answers RART_DONE where a value
-// was replaced, RART_ABSENT where the key is new. RART_NO_ROOM says that the number can't be
+// was replaced, RART_ABSENT where the key is new. RART_LAST_NUMBER says that the number can't be
 // raised, RART_NO_MEMORY that memory was refused: nothing changed then.
 RART_NONNULL RART_MUST_USE RART_CHANGES(1) RART_READS(2, 3) RART_READS(4, 5)
 rart_answer rart_bytes_insert(
@@ -338,8 +362,8 @@ rart_answer rart_bytes_insert(
 );
 
 // Takes a key out, the number then one greater. Answers RART_DONE, or RART_ABSENT where there is no
-// such key, and then nothing changed. RART_NO_ROOM says that the key is there and the number can't
-// be raised, RART_NO_MEMORY that it is there and memory was refused: nothing changed then.
+// such key, and then nothing changed. RART_LAST_NUMBER says that the key is there and the number
+// can't be raised, RART_NO_MEMORY that it is there and memory was refused: nothing changed then.
 RART_NONNULL RART_MUST_USE RART_CHANGES(1) RART_READS(2, 3)
 rart_answer rart_bytes_remove(
     rart_bytes *RART_ALONE tree,

@@ -107,8 +107,9 @@ static void expect_kept(const struct page *page) {
     }
 }
 
-// Reads a page of any length. Where a pair is left it is full, and one without a pair says how long
-// the key of that is. Tells whether one is left; the lower bound goes on.
+// Reads a page of any length. Where a pair is left it is full, and one without a pair has no room
+// for an entry, or says how long the key of that is. Tells whether one is left; the lower bound goes
+// on.
 static bool read_page(size_t at, struct bound *low, const struct bound *high) {
     struct page page = {.room = random_below(MOST_PAGE + 1),
                         .most = random_below(MOST_ENTRIES + 1),
@@ -122,7 +123,8 @@ static bool read_page(size_t at, struct bound *low, const struct bound *high) {
     size_t end = expect_pairs(at, &page, low, high), next = first_within(at, low, high);
     size_t len = next < KEYS ? key_of(next).len : NO_NUMBER;
     EXPECT(next == KEYS || page.count == page.most || page.room - end < len);
-    EXPECT(answer == (next == KEYS ? RART_ABSENT : page.count > 0 ? RART_DONE : RART_TOO_SMALL));
+    rart_answer empty = page.most == 0 ? RART_NO_ENTRIES : RART_TOO_SMALL;
+    EXPECT(answer == (page.count > 0 ? RART_DONE : next == KEYS ? RART_ABSENT : empty));
     EXPECT(page.needed == (answer == RART_TOO_SMALL ? len : NO_NUMBER));
     expect_kept(&page);
     return next < KEYS;

@@ -24,7 +24,7 @@ static bool set_price(struct prices *prices, const char *name, uint64_t price) {
     }
     rart_answer answer =
         rart_insert(&prices->now, (const uint8_t *)name, strlen(name), price, &replaced);
-    if (answer != RART_DONE && answer != RART_ABSENT) {
+    if (!RART_OK(answer)) {
         rart_clear(before);
         return false;
     }

@@ -51,7 +51,7 @@ static void read_numbers(rart_tree *tree, rart_tree *same, size_t keys) {
     EXPECT(rart_seek(tree, te, 2, room, 8, &len, &value) == (keys ? RART_DONE : RART_ABSENT));
     EXPECT(rart_next(tree, te, 2, room, 8, &len, &value) == (keys ? RART_DONE : RART_ABSENT));
     EXPECT(rart_page(tree, none, 0, RART_UNBOUNDED, none, 0, RART_UNBOUNDED, room, 8, entries, 2,
-                     &count, &needed) == RART_ABSENT);
+                     &count, &needed) == (keys ? RART_DONE : RART_ABSENT));
     EXPECT(count == keys && rart_common(tree, same) == keys);
     EXPECT(rart_snapshot(tree, &copy) == RART_DONE && rart_clone(tree, &copy) == RART_DONE);
     rart_clear(&copy);

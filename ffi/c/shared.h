@@ -196,14 +196,14 @@ static void expect_state(size_t at, const struct key *key) {
 // change.
 static rart_answer answer_of_change(size_t at, const struct key *key, bool must_rise) {
     if (must_rise && tables[at].number == UINT64_MAX) {
-        return RART_NO_ROOM;
+        return RART_LAST_NUMBER;
     }
     return tables[at].has[key->number] ? RART_DONE : RART_ABSENT;
 }
 
 static void expect_insert(size_t at, const struct key *key, uint64_t value) {
     rart_answer wanted = answer_of_change(at, key, true);
-    if (!is_refused(insert(at, key, value), wanted) && wanted != RART_NO_ROOM) {
+    if (!is_refused(insert(at, key, value), wanted) && wanted != RART_LAST_NUMBER) {
         tables[at].len += wanted == RART_ABSENT;
         tables[at].number++;
         tables[at].has[key->number] = true;
@@ -230,7 +230,7 @@ static void expect_copy(size_t at, size_t to, bool is_snapshot) {
     bool has_room = !is_snapshot || tables[at].number < UINT64_MAX;
     rart_answer answer =
         is_snapshot ? CALL(snapshot)(&trees[at], &trees[to]) : CALL(clone)(&trees[at], &trees[to]);
-    if (!is_refused(answer, has_room ? RART_DONE : RART_NO_ROOM) && has_room) {
+    if (!is_refused(answer, has_room ? RART_DONE : RART_LAST_NUMBER) && has_room) {
         tables[to] = tables[at];
         tables[to].number += is_snapshot;
     }

@@ -3,7 +3,6 @@
 use crate::map::{Tally, add_lent};
 use std::ptr::null_mut;
 
-const DONE: u8 = 0;
 const EXCLUDED: u8 = 1;
 const UNBOUNDED: u8 = 2;
 
@@ -61,11 +60,11 @@ impl Pages {
         }
     }
 
-    /// Writes the first page behind a bound. Gives how many pairs it has, and whether that's all.
-    fn turn(&mut self, low: &[u8], kind: u8) -> (usize, bool) {
+    /// Writes the first page behind a bound. Gives how many pairs it has.
+    fn turn(&mut self, low: &[u8], kind: u8) -> usize {
         let (mut count, bytes, entries) = (0, &mut self.bytes, &mut self.entries);
         // SAFETY: as above.
-        let answer = unsafe {
+        unsafe {
             rart_page(
                 &mut self.tree,
                 low.as_ptr(),
@@ -80,21 +79,21 @@ impl Pages {
                 entries.len(),
                 &mut count,
                 &mut 0,
-            )
-        };
-        (count, answer != DONE)
+            );
+        }
+        count
     }
 
     pub fn walk(&mut self) -> Tally {
         let (mut tally, mut low, mut kind) = ((0, 0), Vec::new(), UNBOUNDED);
         loop {
-            let (count, is_all) = self.turn(&low, kind);
+            let count = self.turn(&low, kind);
             let (mut start, mut end) = (0, 0);
             for entry in &self.entries[..count] {
                 (start, end) = (end, entry.end);
                 tally = add_lent(tally, end - start, entry.value);
             }
-            if is_all {
+            if count == 0 {
                 return tally;
             }
             (low, kind) = (self.bytes[start..end].to_vec(), EXCLUDED);

@@ -1,8 +1,8 @@
 -- What the numbers that exports answer say.
 use Rattle.std.specs.Prelude.{◌≡◌, ℕ, ◌⊎◌, Bool, true, false, Option, Some, None}
-use Rattle.rart_c.specs.declared.answer.TheConstants.{DONE, ABSENT, NO_ROOM, NO_MEMORY}
+use Rattle.rart_c.specs.declared.answer.TheConstants.{DONE, ABSENT, LAST_NUMBER, NO_MEMORY}
 use Rattle.rart_c.specs.declared.answer.Refusal.{Refusal}
-use Rattle.rart_c.specs.declared.answer.Refusal.TheVariants.{NoRoom, NoMemory}
+use Rattle.rart_c.specs.declared.answer.Refusal.TheVariants.{LastNumber, NoMemory}
 use Rattle.rart_maps.specs.Versions.{Version, HasRoom}
 
 -- The answer tells a value, which is then written to a place, or that there is none, and then the
@@ -18,14 +18,14 @@ told_there false = ABSENT
 
 -- The answer says that the call was not done.
 abbrev pub IsRefused : ℕ → Type 0
-IsRefused answer = (answer ≡ NO_ROOM) ⊎ (answer ≡ NO_MEMORY)
+IsRefused answer = (answer ≡ LAST_NUMBER) ⊎ (answer ≡ NO_MEMORY)
 
 -- the number that says so
 abbrev pub number_of : Refusal → ℕ
-number_of NoRoom = NO_ROOM
+number_of LastNumber = LAST_NUMBER
 number_of NoMemory = NO_MEMORY
 
 -- A change was refused for room where there is none, else for memory.
 abbrev pub Explains : {V : Type 0} → Version V → Refusal → Type 0
-Explains v NoRoom = ¬ (HasRoom v 1)
+Explains v LastNumber = ¬ (HasRoom v 1)
 Explains v NoMemory = HasRoom v 1

@@ -3,7 +3,7 @@ use Rattle.std.specs.Prelude.{◌≡◌, ◌+◌, ◌<◌, ◌⊎◌, ◌++◌, 
 use Rattle.std.specs.List.{flat_map}
 use Rattle.std.specs.declared.ops.Bound.{Bound}
 use Rattle.std.specs.declared.ops.Bound.TheVariants.{Included, Excluded, Unbounded}
-use Rattle.rart_c.specs.declared.answer.TheConstants.{DONE, ABSENT, TOO_SMALL}
+use Rattle.rart_c.specs.declared.answer.TheConstants.{DONE, ABSENT, TOO_SMALL, NO_ENTRIES}
 use Rattle.rart_c.specs.declared.paging.RartEntry.{RartEntry}
 use Rattle.rart_c.specs.declared.paging.TheConstants.{INCLUDED, EXCLUDED}
 use Rattle.rart_ways.specs.Firsts.{IsFirst}
@@ -44,12 +44,15 @@ pub record WritesPage (range left : List (List ℕ × ℕ)) (count : ℕ) (bytes
   pub entries : after ≡ entries_from 0 page ++ drop count before
   pub full : IsFull left count (length (keys_of page)) bytes after
 
--- The answer says whether pairs are left, or that not even the first has room: the length of its
--- key is then written to a place, which else is as before.
-abbrev pub TellsLeft : List (List ℕ × ℕ) → ℕ → ℕ → ℕ → ℕ → Type 0
-TellsLeft [] count answer before after = (answer ≡ ABSENT) × (after ≡ before)
-TellsLeft (pair ∷ pairs) zero answer before after = (answer ≡ TOO_SMALL) × (after ≡ length pair.0)
-TellsLeft (pair ∷ pairs) (suc count) answer before after = (answer ≡ DONE) × (after ≡ before)
+-- The answer says that pairs are written, so many of room for so many. Or none is: since none is
+-- there, there is no room for an entry, or the key of the first of those that are left is too long,
+-- whose length is then written to a place, which else is as before.
+abbrev pub TellsPage : ℕ → ℕ → List (List ℕ × ℕ) → ℕ → ℕ → ℕ → Type 0
+TellsPage (suc count) room left answer before after = (answer ≡ DONE) × (after ≡ before)
+TellsPage zero room [] answer before after = (answer ≡ ABSENT) × (after ≡ before)
+TellsPage zero zero (pair ∷ pairs) answer before after = (answer ≡ NO_ENTRIES) × (after ≡ before)
+TellsPage zero (suc room) (pair ∷ pairs) answer before after =
+    (answer ≡ TOO_SMALL) × (after ≡ length pair.0)
 
 -- how long the key is of the first of these pairs, if there is one
 abbrev pub first_length : List (List ℕ × ℕ) → Option ℕ

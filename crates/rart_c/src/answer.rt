@@ -9,11 +9,11 @@ ghost use Rattle.rart_ways.specs.Firsts.{Finds};
 pub const DONE: u8 = 0;
 
 /// There was no such key, and no value is written. An insertion has set it. Of a page: no pair is
-/// left behind it.
+/// there.
 pub const ABSENT: u8 = 1;
 
-/// The number is 2^64 - 1 and can't be raised. Nothing changed.
-pub const NO_ROOM: u8 = 2;
+/// The number is the last one, 2^64 - 1, and can't be raised. Nothing changed.
+pub const LAST_NUMBER: u8 = 2;
 
 /// Memory was refused. Nothing changed.
 pub const NO_MEMORY: u8 = 3;
@@ -21,10 +21,13 @@ pub const NO_MEMORY: u8 = 3;
 /// The buffer is too small for what is read, whose length is written.
 pub const TOO_SMALL: u8 = 4;
 
+/// The page has no room for an entry, and a pair is there.
+pub const NO_ENTRIES: u8 = 5;
+
 /// Why a call isn't done.
 #[derive(Drop)]
 pub(crate) enum Refusal {
-    NoRoom,
+    LastNumber,
     NoMemory,
 }
 
@@ -34,7 +37,7 @@ impl Refusal {
         ensures { result ≡ number_of self.now }
     {
         match self {
-            Refusal::NoRoom => NO_ROOM,
+            Refusal::LastNumber => LAST_NUMBER,
             Refusal::NoMemory => NO_MEMORY,
         }
     }

@@ -1,7 +1,7 @@
 //! What C calls to change a tree.
 ghost use Rattle.std.specs.Prelude.{◌≡◌, ◌⊎◌, ◌↔◌, IsTrue};
 ghost use Rattle.rart_c.specs.Answers.{IsRefused, Tells};
-ghost use Rattle.rart_c.specs.declared.answer.TheConstants.{NO_ROOM};
+ghost use Rattle.rart_c.specs.declared.answer.TheConstants.{LAST_NUMBER};
 ghost use Rattle.rart_maps.specs.Changes.{after_removal};
 ghost use Rattle.rart_maps.specs.Versions.{HasRoom, empty_at, has_key, value_at, with_key};
 
@@ -18,7 +18,7 @@ pub extern "C" fn rart_clear(alloc: Global, tree: &mut RartTree)
 }
 
 /// Sets a key to a value, the number then one greater. Answers `DONE` and writes the value that was
-/// replaced, or answers `ABSENT` where the key is new. `NO_ROOM` says that the number can't be
+/// replaced, or answers `ABSENT` where the key is new. `LAST_NUMBER` says that the number can't be
 /// raised, `NO_MEMORY` that memory was refused: nothing changed then.
 #[unsafe(no_mangle)]
 pub extern "C" fn rart_insert(
@@ -32,7 +32,7 @@ pub extern "C" fn rart_insert(
         × Tells (value_at tree.old.shows key.now) result replaced.old replaced.new) }
     ensures refused { IsRefused result
         → (tree.new.shows ≡ tree.old.shows) × (replaced.new ≡ replaced.old) }
-    ensures room { (result ≡ NO_ROOM) ↔ ¬ (HasRoom tree.old.shows 1) }
+    ensures room { (result ≡ LAST_NUMBER) ↔ ¬ (HasRoom tree.old.shows 1) }
 {
     match tree.insert(alloc, key, value) {
         Ok(was) => tell(was, replaced),
@@ -41,7 +41,7 @@ pub extern "C" fn rart_insert(
 }
 
 /// Takes a key out, the number then one greater. Answers `DONE` and writes its value, or answers
-/// `ABSENT`, and then nothing changed. `NO_ROOM` says that the key is there and the number can't be
+/// `ABSENT`, and then nothing changed. `LAST_NUMBER` says that the key is there and the number can't be
 /// raised, `NO_MEMORY` that it is there and memory was refused: nothing changed then.
 #[unsafe(no_mangle)]
 pub extern "C" fn rart_remove(tree: &mut RartTree, key: &[u8], value: &mut u64) -> u8
@@ -50,7 +50,7 @@ pub extern "C" fn rart_remove(tree: &mut RartTree, key: &[u8], value: &mut u64) 
     ensures refused { IsRefused result
         → (tree.new.shows ≡ tree.old.shows) × (value.new ≡ value.old)
         × IsTrue (has_key tree.old.shows key.now) }
-    ensures room { (result ≡ NO_ROOM)
+    ensures room { (result ≡ LAST_NUMBER)
         ↔ (IsTrue (has_key tree.old.shows key.now) × ¬ (HasRoom tree.old.shows 1)) }
 {
     match tree.remove(key) {

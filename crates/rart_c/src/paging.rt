@@ -4,11 +4,11 @@ ghost use Rattle.std.specs.Option.{ForSome};
 ghost use Rattle.std.specs.Ordering.{as_partial_cmp};
 ghost use Rattle.std.specs.Range.Bound.{bound_map, is_up_to_end};
 ghost use Rattle.rart_below.specs.Bytes.{byte_order};
-ghost use Rattle.rart_c.specs.Pages.{FindsFirst, TellsLeft, WritesPage, bound_behind, bound_of, first_length};
+ghost use Rattle.rart_c.specs.Pages.{FindsFirst, TellsPage, WritesPage, bound_behind, bound_of, first_length};
 ghost use Rattle.rart_c.specs.Shown.{shown};
 ghost use Rattle.rart_maps.specs.Pairs.{within};
 
-use crate::answer::{ABSENT, DONE, TOO_SMALL};
+use crate::answer::{ABSENT, DONE, NO_ENTRIES, TOO_SMALL};
 use crate::handle::RartTree;
 use crate::lent;
 use crate::table::Table;
@@ -35,10 +35,11 @@ pub struct RartEntry {
 /// Writes the first pairs within two bounds, as many as there is room for: their keys one behind
 /// the other to the front of `bytes`, an entry of each to the front of `entries`, and how many they
 /// are to `count`. What `bytes` has behind the keys is not told; `entries` is as before there.
-/// Answers `ABSENT` where no pair within the bounds is left behind them, `DONE` where one is: the
-/// next page begins `EXCLUDED` at a copy of the last key. `TOO_SMALL` says that not even the first
-/// has room, and writes the length of its key to `needed`. A bound is of the kind `INCLUDED`,
-/// `EXCLUDED` or `UNBOUNDED`. It takes no memory.
+/// Answers `DONE` where it has a pair: the next page begins `EXCLUDED` at a copy of the last key,
+/// and pages are asked for until none is there, which answers `ABSENT`. `NO_ENTRIES` says that
+/// `entries` has no room, `TOO_SMALL` that the first key is longer than `bytes`, and writes its
+/// length to `needed`. A bound is of the kind `INCLUDED`, `EXCLUDED` or `UNBOUNDED`. It takes no
+/// memory.
 #[unsafe(no_mangle)]
 pub extern "C" fn rart_page(
     tree: &mut RartTree,
@@ -54,13 +55,13 @@ pub extern "C" fn rart_page(
     ensures page { (left : List (List ℕ × ℕ))
         × WritesPage (within tree.old.shows.content (bound_of low_kind low.now)
         (bound_of high_kind high.now)) left count.new bytes.new entries.old entries.new
-        × TellsLeft left count.new result needed.old needed.new }
+        × TellsPage count.new (length entries.old) left result needed.old needed.new }
     ensures same { tree.new.shows ≡ tree.old.shows }
 {
     let (low, high) = (bound_of(low_kind, low), bound_of(high_kind, high));
     let (written, next) = write_page(tree.table(), low, high, bytes, entries);
     *count = written;
-    tell_left(written, next, needed)
+    tell_page(written, entries.len(), next, needed)
 }
 
 /// The bound of this kind at a key.
@@ -76,16 +77,19 @@ fn bound_of(kind: u8, key: &[u8]) -> Bound<&[u8]>
     Bound::Unbounded
 }
 
-/// Tells whether a pair is left behind `count` pairs, by how long its key is.
-fn tell_left(count: usize, next: Option<usize>, needed: &mut usize) -> u8
+/// Tells whether a page has pairs, or why it has none, by how long the key is of the next pair.
+fn tell_page(count: usize, room: usize, next: Option<usize>, needed: &mut usize) -> u8
     ensures { (left : List (List ℕ × ℕ)) → next ≡ first_length left
-        → TellsLeft left count result needed.old needed.new }
+        → TellsPage count room left result needed.old needed.new }
 {
+    if count > 0 {
+        return DONE;
+    }
     let Some(len) = next else {
         return ABSENT;
     };
-    if count > 0 {
-        return DONE;
+    if room == 0 {
+        return NO_ENTRIES;
     }
     *needed = len;
     TOO_SMALL

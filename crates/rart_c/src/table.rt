@@ -49,7 +49,7 @@ impl<V: Clone + Drop> Table<V> {
         ensures room { MatchResult result (λ _. HasRoom self.old 1) (Explains self.old) }
     {
         if self.tree.version() == u64::MAX {
-            return Err(Refusal::NoRoom);
+            return Err(Refusal::LastNumber);
         }
         let Ok(replaced) = self.tree.insert_and_replace_slice(key, value) else {
             return Err(Refusal::NoMemory);
@@ -71,7 +71,7 @@ impl<V: Clone + Drop> Table<V> {
         if self.tree.version() == u64::MAX {
             return match self.tree.get_slice(key) {
                 None => Ok(None),
-                Some(_) => Err(Refusal::NoRoom),
+                Some(_) => Err(Refusal::LastNumber),
             };
         }
         let Ok(removed) = self.tree.remove_slice(key) else {
@@ -89,7 +89,7 @@ impl<V: Clone + Drop> Table<V> {
         ensures room { MatchResult result (λ _. HasRoom self.now 1) (Explains self.now) }
     {
         if self.tree.version() == u64::MAX {
-            return Err(Refusal::NoRoom);
+            return Err(Refusal::LastNumber);
         }
         match self.tree.snapshot() {
             Ok(tree) => Ok(Table {

@@ -73,7 +73,7 @@ fn pages_are_read(rt: HostRuntime) {
         &mut count,
         &mut needed,
     );
-    assert_eq!(rt; (page, count, needed, &bytes), (ABSENT, 2, 7, b"abcb"));
+    assert_eq!(rt; (page, count, needed, &bytes), (DONE, 2, 7, b"abcb"));
     assert_eq!(rt;
         (entries[0].end, entries[1].end, entries[1].value),
         (3, 4, 3)

@@ -1,7 +1,7 @@
 //! What C calls to have one tree more.
 ghost use Rattle.std.specs.Prelude.{◌≡◌, ◌⊎◌, ◌↔◌};
 ghost use Rattle.rart_c.specs.Answers.{IsRefused};
-ghost use Rattle.rart_c.specs.declared.answer.TheConstants.{NO_ROOM};
+ghost use Rattle.rart_c.specs.declared.answer.TheConstants.{LAST_NUMBER};
 ghost use Rattle.rart_maps.specs.Versions.{HasRoom, empty_at, with_rise};
 
 use crate::answer::{DONE, NO_MEMORY};
@@ -10,14 +10,14 @@ use crate::lent;
 use crate::table::Table;
 use std::alloc::Global;
 
-/// Makes `copy` the same map, its number one greater, and frees what `copy` was. `NO_ROOM` says
+/// Makes `copy` the same map, its number one greater, and frees what `copy` was. `LAST_NUMBER` says
 /// that the number can't be raised, `NO_MEMORY` that memory was refused: `copy` is as before then.
 #[unsafe(no_mangle)]
 pub extern "C" fn rart_snapshot(alloc: Global, tree: &mut RartTree, copy: &mut RartTree) -> u8
     ensures done { IsRefused result
         ⊎ ((result ≡ DONE) × (copy.new.shows ≡ with_rise tree.old.shows 1)) }
     ensures refused { IsRefused result → copy.new.shows ≡ copy.old.shows }
-    ensures room { (result ≡ NO_ROOM) ↔ ¬ (HasRoom tree.old.shows 1) }
+    ensures room { (result ≡ LAST_NUMBER) ↔ ¬ (HasRoom tree.old.shows 1) }
     ensures same { tree.new.shows ≡ tree.old.shows }
 {
     match lent::snapshot(alloc, tree.table()) {

@@ -1,7 +1,7 @@
 //! What C calls to change a tree of byte strings.
 ghost use Rattle.std.specs.Prelude.{◌≡◌, ◌⊎◌, ◌↔◌, IsTrue, MatchResult};
 ghost use Rattle.rart_c.specs.Answers.{Explains, IsRefused, told_there};
-ghost use Rattle.rart_c.specs.declared.answer.TheConstants.{NO_ROOM};
+ghost use Rattle.rart_c.specs.declared.answer.TheConstants.{LAST_NUMBER};
 ghost use Rattle.rart_maps.specs.Changes.{Changes, after_removal, replacement};
 ghost use Rattle.rart_maps.specs.Versions.{HasRoom, empty_at, has_key, with_key};
 
@@ -20,7 +20,7 @@ pub extern "C" fn rart_bytes_clear(alloc: Global, tree: &mut RartBytes)
 }
 
 /// Sets a key to a copy of the value, the number then one greater. Answers `DONE` where a value was
-/// replaced, `ABSENT` where the key is new. `NO_ROOM` says that the number can't be raised,
+/// replaced, `ABSENT` where the key is new. `LAST_NUMBER` says that the number can't be raised,
 /// `NO_MEMORY` that memory was refused: nothing changed then.
 #[unsafe(no_mangle)]
 pub extern "C" fn rart_bytes_insert(
@@ -33,7 +33,7 @@ pub extern "C" fn rart_bytes_insert(
         ⊎ ((tree.new.shows ≡ with_key tree.old.shows key.now value.now 1)
         × (result ≡ told_there (has_key tree.old.shows key.now))) }
     ensures refused { IsRefused result → tree.new.shows ≡ tree.old.shows }
-    ensures room { (result ≡ NO_ROOM) ↔ ¬ (HasRoom tree.old.shows 1) }
+    ensures room { (result ≡ LAST_NUMBER) ↔ ¬ (HasRoom tree.old.shows 1) }
 {
     match set(alloc, tree, key, value) {
         Ok(was) => tell_there(was.is_some()),
@@ -42,7 +42,7 @@ pub extern "C" fn rart_bytes_insert(
 }
 
 /// Takes a key out, the number then one greater. Answers `DONE`, or `ABSENT` where there is no such
-/// key, and then nothing changed. `NO_ROOM` says that the key is there and the number can't be
+/// key, and then nothing changed. `LAST_NUMBER` says that the key is there and the number can't be
 /// raised, `NO_MEMORY` that it is there and memory was refused: nothing changed then.
 #[unsafe(no_mangle)]
 pub extern "C" fn rart_bytes_remove(tree: &mut RartBytes, key: &[u8]) -> u8
@@ -50,7 +50,7 @@ pub extern "C" fn rart_bytes_remove(tree: &mut RartBytes, key: &[u8]) -> u8
         × (result ≡ told_there (has_key tree.old.shows key.now))) }
     ensures refused { IsRefused result
         → (tree.new.shows ≡ tree.old.shows) × IsTrue (has_key tree.old.shows key.now) }
-    ensures room { (result ≡ NO_ROOM)
+    ensures room { (result ≡ LAST_NUMBER)
         ↔ (IsTrue (has_key tree.old.shows key.now) × ¬ (HasRoom tree.old.shows 1)) }
 {
     match tree.remove(key) {
@@ -72,7 +72,7 @@ fn set(
     ensures room { MatchResult result (λ _. HasRoom tree.old.shows 1) (Explains tree.old.shows) }
 {
     if lent::version(tree.table()) == u64::MAX {
-        return Err(Refusal::NoRoom);
+        return Err(Refusal::LastNumber);
     }
     let Ok(value) = Bytes::new(alloc, value) else {
         return Err(Refusal::NoMemory);

@@ -7,7 +7,7 @@ use std::{fmt, io};
 #[non_exhaustive]
 pub enum Refusal {
     /// The number of the map is `u64::MAX`: neither it nor a snapshot's can be greater.
-    NoRoom,
+    LastNumber,
     /// Memory was refused.
     NoMemory,
 }
@@ -15,7 +15,7 @@ pub enum Refusal {
 impl fmt::Display for Refusal {
     fn fmt(&self, f: &mut fmt::Formatter<'_>) -> fmt::Result {
         f.write_str(match self {
-            Refusal::NoRoom => "the number of the map can't be raised",
+            Refusal::LastNumber => "the number of the map can't be raised",
             Refusal::NoMemory => "out of memory",
         })
     }
@@ -26,7 +26,7 @@ impl Error for Refusal {}
 impl From<Refusal> for io::Error {
     fn from(refusal: Refusal) -> io::Error {
         let kind = match refusal {
-            Refusal::NoRoom => io::ErrorKind::Other,
+            Refusal::LastNumber => io::ErrorKind::Other,
             Refusal::NoMemory => io::ErrorKind::OutOfMemory,
         };
         io::Error::new(kind, refusal)

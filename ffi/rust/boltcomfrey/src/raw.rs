@@ -1,7 +1,7 @@
 //! The proved calls as safe functions. All `unsafe` of this crate stands here and in `sys`.
 use crate::error::Refusal;
 use crate::sys::{
-    self, ABSENT, DONE, EXCLUDED, INCLUDED, NO_ROOM, RartBytes, RartEntry, RartTree, TOO_SMALL,
+    self, ABSENT, DONE, EXCLUDED, INCLUDED, LAST_NUMBER, RartBytes, RartEntry, RartTree, TOO_SMALL,
     UNBOUNDED,
 };
 use crate::walk::Page;
@@ -349,7 +349,7 @@ fn found<V>(answer: u8, value: V) -> Result<Option<V>, Refusal> {
 fn done(answer: u8) -> Result<(), Refusal> {
     match answer {
         DONE => Ok(()),
-        NO_ROOM => Err(Refusal::NoRoom),
+        LAST_NUMBER => Err(Refusal::LastNumber),
         _ => Err(Refusal::NoMemory),
     }
 }

@@ -27,9 +27,10 @@ pub struct RartEntry {
 
 pub const DONE: u8 = 0;
 pub const ABSENT: u8 = 1;
-pub const NO_ROOM: u8 = 2;
+pub const LAST_NUMBER: u8 = 2;
 pub const NO_MEMORY: u8 = 3;
 pub const TOO_SMALL: u8 = 4;
+pub const NO_ENTRIES: u8 = 5;
 pub const INCLUDED: u8 = 0;
 pub const EXCLUDED: u8 = 1;
 pub const UNBOUNDED: u8 = 2;

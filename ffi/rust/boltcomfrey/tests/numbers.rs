@@ -5,10 +5,10 @@ use boltcomfrey::{Refusal, VersionedBytes, VersionedMap};
 fn greatest_number_has_no_room() -> Result<(), Refusal> {
     let mut map = VersionedMap::with_number(u64::MAX - 1)?;
     assert_eq!(map.insert("tea", 300)?, None);
-    assert_eq!(map.insert("tea", 350), Err(Refusal::NoRoom));
-    assert_eq!(map.remove("tea"), Err(Refusal::NoRoom));
+    assert_eq!(map.insert("tea", 350), Err(Refusal::LastNumber));
+    assert_eq!(map.remove("tea"), Err(Refusal::LastNumber));
     assert_eq!(map.remove("milk")?, None);
-    assert_eq!(map.snapshot().err(), Some(Refusal::NoRoom));
+    assert_eq!(map.snapshot().err(), Some(Refusal::LastNumber));
     assert_eq!(map.try_clone()?.get("tea"), Some(300));
     assert_eq!((map.get("tea"), map.version()), (Some(300), u64::MAX));
     Ok(())
@@ -18,12 +18,12 @@ fn greatest_number_has_no_room() -> Result<(), Refusal> {
 fn nor_has_it_among_byte_strings() -> Result<(), Refusal> {
     let mut map = VersionedBytes::with_number(u64::MAX - 1)?;
     assert_eq!(map.insert("tea", "Tea")?, None);
-    assert_eq!(map.insert("tea", "Green tea"), Err(Refusal::NoRoom));
-    assert_eq!(map.set("tea", "Green tea"), Err(Refusal::NoRoom));
-    assert_eq!(map.remove("tea"), Err(Refusal::NoRoom));
+    assert_eq!(map.insert("tea", "Green tea"), Err(Refusal::LastNumber));
+    assert_eq!(map.set("tea", "Green tea"), Err(Refusal::LastNumber));
+    assert_eq!(map.remove("tea"), Err(Refusal::LastNumber));
     assert_eq!(map.remove("milk")?, None);
     assert!(!map.delete("milk")?);
-    assert_eq!(map.snapshot().err(), Some(Refusal::NoRoom));
+    assert_eq!(map.snapshot().err(), Some(Refusal::LastNumber));
     assert_eq!(map.try_clone()?.get("tea"), Some(b"Tea".to_vec()));
     assert_eq!((map.get("milk"), map.version()), (None, u64::MAX));
     Ok(())
@@ -33,7 +33,7 @@ fn nor_has_it_among_byte_strings() -> Result<(), Refusal> {
 fn what_was_set_before_stays() -> Result<(), Refusal> {
     let mut map = VersionedMap::with_number(u64::MAX - 2)?;
     let pairs = [("milk", 100), ("salt", 50), ("tea", 300)];
-    assert_eq!(map.try_extend(pairs), Err(Refusal::NoRoom));
+    assert_eq!(map.try_extend(pairs), Err(Refusal::LastNumber));
     assert!(
         map.iter()
             .eq([(b"milk".to_vec(), 100), (b"salt".to_vec(), 50)])
@@ -41,7 +41,7 @@ fn what_was_set_before_stays() -> Result<(), Refusal> {
     let mut bytes = VersionedBytes::with_number(u64::MAX - 1)?;
     assert_eq!(
         bytes.try_extend([("milk", "Milk"), ("tea", "Tea")]),
-        Err(Refusal::NoRoom)
+        Err(Refusal::LastNumber)
     );
     assert!(bytes.iter().eq([(b"milk".to_vec(), b"Milk".to_vec())]));
     Ok(())
@@ -51,7 +51,7 @@ fn what_was_set_before_stays() -> Result<(), Refusal> {
 fn refusals_say_what_lacks() {
     assert_eq!(Refusal::NoMemory.to_string(), "out of memory");
     assert_eq!(
-        Refusal::NoRoom.to_string(),
+        Refusal::LastNumber.to_string(),
         "the number of the map can't be raised"
     );
 }

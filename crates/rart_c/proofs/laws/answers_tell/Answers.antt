@@ -1,4 +1,4 @@
-use Rattle.rart_c.proofs.AnswerLawLemmas.{answers_tell, reads_tell, firsts_tell}
+use Rattle.rart_c.proofs.AnswerLawLemmas.{answers_tell, reads_tell, firsts_tell, first_strings_tell, page_answers_tell, pages_tell, refusals_tell}
 use Rattle.rart_c.proofs.laws.answers_tell.Goals as goal
 
 pub returns-clause-values : goal.returns-clause-values
@@ -9,3 +9,15 @@ returns-clause-strings g c = reads_tell
 
 pub returns-clause-firsts : goal.returns-clause-firsts
 returns-clause-firsts g c = firsts_tell
+
+pub returns-clause-first_strings : goal.returns-clause-first_strings
+returns-clause-first_strings g c = first_strings_tell
+
+pub returns-clause-pages : goal.returns-clause-pages
+returns-clause-pages g c = pages_tell
+
+pub returns-clause-page_answers : goal.returns-clause-page_answers
+returns-clause-page_answers g c = page_answers_tell
+
+pub returns-clause-refusals : goal.returns-clause-refusals
+returns-clause-refusals g c = refusals_tell

@@ -1,9 +1,14 @@
 -- Worked values of the tree's counts, for keys of two bytes.
-use Rattle.std.specs.Prelude.{◌≡◌, ℕ, [], ◌∷◌, codes, Some, None}
+use Rattle.std.specs.Prelude.{◌≡◌, ◌+◌, ◌<◌, ◌≤◌, ℕ, List, [], ◌∷◌, codes, length, Some, None}
+use Rattle.rart_maps.specs.Bounds.{node_count}
+use Rattle.rart_maps.specs.ChangeLists.{Change}
+use Rattle.rart_maps.specs.Versions.{Map}
+use Rattle.rart_maps.specs.WorkedBounds.{map_of}
 use Rattle.rart_versioned.specs.declared.Slot.TheVariants.{Vacant, Occupied}
 use Rattle.rart_versioned.specs.SlotUpdate.TheVariants.{Keep, Insert, Remove}
 use Rattle.rart_versioned.specs.UpdateCounts.{update_enters, update_makes}
-use Rattle.rart_versioned.specs.VisitCounts.{end_bound}
+use Rattle.rart_versioned.specs.VisitCounts.{DiffEndsSoon, EndsAtFirst, EndsSoon, end_bound, node_count_to}
+use Rattle.rart_versioned.specs.Counts.{Counts}
 use Rattle.rart_versioned.specs.Iterators.{members_left}
 
 -- Nodes that an update enters at most: a key that is absent, and one that is there.
@@ -31,6 +36,34 @@ UpdatesMake =
 -- Nodes entered at most under `ab` by a visit that ends on `abc`, its second value.
 abbrev pub EndedVisitsEnter : Type 0
 EndedVisitsEnter = end_bound (codes "ab") (codes "abc") 2 ≡ 11
+
+-- How many of the nodes of ac, ad and b, which are "" and a beside these, are not behind the first
+-- key from another one on; all, where there is none.
+abbrev pub EndedDiffsEnter : Type 0
+EndedDiffsEnter =
+    (node_count_to (map_of (codes "ac" ∷ codes "ad" ∷ codes "b" ∷ [])) (codes "aa") ≡ 3)
+    × (node_count_to (map_of (codes "ac" ∷ codes "ad" ∷ codes "b" ∷ [])) (codes "ad") ≡ 4)
+    × (node_count_to (map_of (codes "ac" ∷ codes "ad" ∷ codes "b" ∷ [])) (codes "c") ≡ 5)
+
+-- A visit or a diff that ends on its last member has entered one at least for each, and no more
+-- than is told; a search for a difference where there is none, each node of either map.
+abbrev pub EndedVisitsTell : Type 0
+EndedVisitsTell = (p : List ℕ) (before after : Counts) (front : List (List ℕ × ℕ))
+    (last : List ℕ × ℕ) → EndsSoon p before after front last
+    → (before.entered + length front < after.entered)
+    × (after.entered ≤ before.entered + end_bound p last.0 (length front + 1))
+    × (after.made ≡ before.made)
+
+abbrev pub EndedDiffsTell : Type 0
+EndedDiffsTell = (old new : Map ℕ) (before after : Counts) (front : List (Change ℕ))
+    (last : Change ℕ) → DiffEndsSoon old new before after front last
+    → (before.entered + length front < after.entered)
+    × (after.entered ≤ before.entered + (node_count_to old last.0 + node_count_to new last.0))
+    × (after.made ≡ before.made)
+
+abbrev pub EqualMapsTell : Type 0
+EqualMapsTell = (old new : Map ℕ) (before after : Counts) → EndsAtFirst old new before after []
+    → after.entered ≡ before.entered + (node_count old + node_count new)
 
 -- What an iterator has left that is to give two numbers, none, or is over.
 abbrev pub MembersAreLeft : Type 0

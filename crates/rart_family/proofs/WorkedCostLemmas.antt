@@ -79,8 +79,12 @@ refused_memory_is_a_run =
                   inr (refl, refl, simp gets refl),
                   (
                     with_ab,
-                    inr (refl, refl, refl),
-                    (with_ab, inl (refl, refl), (with_ab, inl (refl, refl), refl)),
+                    inr (refl, refl, simp gets refl),
+                    (
+                      with_ab,
+                      inr (refl, refl, refl),
+                      (with_ab, inl (refl, refl), (with_ab, inl (refl, refl), refl)),
+                    ),
                   ),
                 ),
               ),

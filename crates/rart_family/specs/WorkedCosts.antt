@@ -195,10 +195,10 @@ RefusalsCost = Costs refusals 0 0 0 0 0
 abbrev pub refused_memory : WorkedRun
 refused_memory = (
   New ∷ Insert 0 (codes "a") 1 ∷ Get 0 (codes "a") ∷ Insert 0 (codes "ab") 2 ∷
-      Get 0 (codes "ab") ∷ Remove 0 (codes "ab") ∷ GetMut 0 (codes "ab") 3 ∷ Get 1 (codes "a") ∷
-      Delete 1 (codes "a") ∷ [],
-  Place 0 ∷ NoMemory ∷ Value None ∷ Flag false ∷ NoMemory ∷ NoMemory ∷ NoMemory ∷ NoVersion ∷
-      NoVersion ∷ [],
+      Get 0 (codes "ab") ∷ Remove 0 (codes "ab") ∷ Delete 0 (codes "ab") ∷
+      GetMut 0 (codes "ab") 3 ∷ Get 1 (codes "a") ∷ Delete 1 (codes "a") ∷ [],
+  Place 0 ∷ NoMemory ∷ Value None ∷ Flag false ∷ NoMemory ∷ NoMemory ∷ NoMemory ∷ NoMemory ∷
+      NoVersion ∷ NoVersion ∷ [],
 )
 
 -- This too is a run.
@@ -206,9 +206,9 @@ abbrev pub RefusedMemoryIsARun : Type 0
 RefusedMemoryIsARun = (new : Family ℕ) × Run (λ key. key) [] refused_memory.0 refused_memory.1 new
 
 -- What is refused for memory counts in what a run costs at most, and not in what it costs at least,
--- but for a removal, which enters a node before memory can be refused.
+-- but for removals, which enter a node before memory can be refused.
 abbrev pub RefusedMemoryCosts : Type 0
-RefusedMemoryCosts = Costs refused_memory 0 5 1 15 1
+RefusedMemoryCosts = Costs refused_memory 0 5 1 19 2
 
 -- The worked runs cost what was found by hand, and out of memory may be replied in one.
 pub record CostsAreWorked : Type 0 where

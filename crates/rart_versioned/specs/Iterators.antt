@@ -127,7 +127,8 @@ module _ {X : Type 0} where
   members_left (Some members) = length members
 
   -- The lower bound is at most how many members are still to come, and the upper one, if there is
-  -- one, at least.
+  -- one, at least. Behind the end both are none.
   pub record IsHintOf (left : Option (List X)) (hint : ℕ × Option ℕ) : Type 0 where
     pub lower : hint.0 ≤ members_left left
     pub upper : IfSome hint.1 (λ most. members_left left ≤ most)
+    pub over : left ≡ None → hint ≡ (0, Some 0)

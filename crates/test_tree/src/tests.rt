@@ -8,6 +8,7 @@ mod lists;
 mod merging;
 mod pairs;
 mod texts;
+mod tracked;
 mod trees;
 mod versions;
 mod visits;

@@ -1,5 +1,5 @@
 -- Tuples, their order and their keys; and an index, which is a finite set of tuples and a number.
-use Rattle.std.specs.Prelude.{ℕ, ◌+◌, ◌<◌, ◌^◌, Bool, List, [], ◌∷◌, refl}
+use Rattle.std.specs.Prelude.{◌≡◌, ℕ, ◌+◌, ◌-◌, ◌<◌, ◌^◌, Bool, List, [], ◌∷◌, refl}
 use Rattle.std.specs.declared.cmp.Ordering.{Ordering}
 use Rattle.std.specs.Int.{w32, to_be_bytes}
 use Rattle.std.specs.List.{flat_map}
@@ -72,3 +72,8 @@ index_code =
 -- The number can be raised by so much and stay below 2^64.
 abbrev pub HasRoom : Index → ℕ → Type 0
 HasRoom index more = index.number + more < 2 ^ 64
+
+-- A number of 2^64 - 2 can be raised by one, and not by two.
+abbrev pub RoomIsBelowTheLast : Type 0
+RoomIsBelowTheLast = (index : Index) → index.number ≡ 2 ^ 64 - 2
+    → HasRoom index 1 × (HasRoom index 2 → ⊥)

@@ -1,10 +1,15 @@
 //! What tuples and their keys have to do with one another: laws, each the contract of a function.
 ghost use Rattle.std.specs.Prelude.{◌≡◌};
 ghost use Rattle.rart_versioned.specs.Bytes.{byte_order};
-ghost use Rattle.tuple_index.specs.Tuples.{key_of, tuple_order};
+ghost use Rattle.tuple_index.specs.Tuples.{RoomIsBelowTheLast, key_of, tuple_order};
 
 use crate::tuple::Tuple;
 use std::cmp::Ordering;
+
+/// An index has room up to the last number, 2^64 - 1.
+pub fn room_is_below_the_last()
+    ensures { RoomIsBelowTheLast }
+{}
 
 /// Different tuples have different keys.
 pub fn tuples_have_keys_of_their_own(one: Tuple, other: Tuple)

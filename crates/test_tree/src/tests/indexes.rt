@@ -1,4 +1,4 @@
-//! A worked index: what its calls answer where there is memory.
+//! Worked indexes: what their calls answer where there is memory.
 ghost use Rattle.std.specs.Prelude.{IsTrue};
 ghost use Rattle.tuple_index.specs.Tuples.{HasRoom};
 
@@ -81,5 +81,20 @@ fn index_of_four_tuples_is_asked(rt: HostRuntime) -> Result<(), Fail> {
     let older = taken(&rt, &mut index, S)?;
     let common = index.join(&older)?;
     assert!(rt; common.as_slice() == [T, U, V].as_slice());
+    Ok(())
+}
+
+#[test]
+fn index_of_many_tuples_is_asked(rt: HostRuntime) -> Result<(), Fail> {
+    let mut index = TupleIndex::new(rt.alloc());
+    for entity in 0..300 {
+        assert!(rt; has_room(&index));
+        assert!(rt; !index.add(Tuple { entity, ..S })?);
+    }
+    for entity in 0..300 {
+        assert!(rt; index.has(Tuple { entity, ..S })?);
+    }
+    assert_eq!(rt; index.query(&[1])?.len(), 300);
+    assert_eq!(rt; index.query(&[1, 299])?.len(), 1);
     Ok(())
 }

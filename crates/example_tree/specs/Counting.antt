@@ -1,12 +1,18 @@
 -- Worked values of the tree's counts, for keys of two bytes.
-use Rattle.std.specs.Prelude.{◌≡◌, ◌+◌, ◌<◌, ◌≤◌, ℕ, List, [], ◌∷◌, codes, length, Some, None}
-use Rattle.rart_maps.specs.Bounds.{node_count}
+use Rattle.std.specs.Prelude.{◌≡◌, ◌+◌, ◌<◌, ◌≤◌, ℕ, List, [], ◌∷◌, codes, length, Result, Some, None, Err}
+use Rattle.std.specs.Borrow.{MutBor}
+use Rattle.std.specs.Fn.{Once}
+use Rattle.rart_maps.specs.Bounds.{lookup_bound, node_count}
 use Rattle.rart_maps.specs.ChangeLists.{Change}
-use Rattle.rart_maps.specs.Versions.{Map}
+use Rattle.rart_maps.specs.Versions.{Map, Version}
 use Rattle.rart_maps.specs.WorkedBounds.{map_of}
+use Rattle.rart_versioned.specs.ChangeCounts.{MakesToTryInsert}
+use Rattle.rart_versioned.specs.Refusal.TheVariants.{Callback}
+use Rattle.rart_versioned.specs.declared.Slot.{Slot}
 use Rattle.rart_versioned.specs.declared.Slot.TheVariants.{Vacant, Occupied}
+use Rattle.rart_versioned.specs.SlotUpdate.{SlotUpdate}
 use Rattle.rart_versioned.specs.SlotUpdate.TheVariants.{Keep, Insert, Remove}
-use Rattle.rart_versioned.specs.UpdateCounts.{update_enters, update_makes}
+use Rattle.rart_versioned.specs.UpdateCounts.{CountsTry, update_enters, update_makes}
 use Rattle.rart_versioned.specs.VisitCounts.{DiffEndsSoon, EndsAtFirst, EndsSoon, end_bound, node_count_to}
 use Rattle.rart_versioned.specs.Counts.{Counts}
 use Rattle.rart_versioned.specs.Iterators.{members_left}
@@ -64,6 +70,15 @@ EndedDiffsTell = (old new : Map ℕ) (before after : Counts) (front : List (Chan
 abbrev pub EqualMapsTell : Type 0
 EqualMapsTell = (old new : Map ℕ) (before after : Counts) → EndsAtFirst old new before after []
     → after.entered ≡ before.entered + (node_count old + node_count new)
+
+-- An update whose callback fails enters what a look-up does, and makes none.
+abbrev pub FailedUpdatesTell : {F V E : Type 0} → Once F (MutBor (Slot V) × Unit {0})
+    (Result (SlotUpdate V) E × (MutBor (Slot V) × Unit {0})) → Type 0
+FailedUpdatesTell {F} {V} {E} callback = (f : F) (v after : Version V) (w : List ℕ) (e : E)
+    (start now : Counts) →
+    (CountsTry callback f v w (Err (Callback e)) after start now
+    → (now.entered ≤ start.entered + lookup_bound w) × (now.made ≡ start.made))
+    × (MakesToTryInsert (Err (Callback e)) start now → now.made ≡ start.made)
 
 -- What an iterator has left that is to give two numbers, none, or is over.
 abbrev pub MembersAreLeft : Type 0

@@ -1,7 +1,9 @@
 //! What the counts of the tree's calls come to, in values found by hand: laws, each the contract of
 //! a function that does nothing.
 ghost use Rattle.example_tree.specs.Counting.{UpdatesEnter, UpdatesMake, EndedVisitsEnter, EndedDiffsEnter, MembersAreLeft};
-ghost use Rattle.example_tree.specs.Counting.{EndedVisitsTell, EndedDiffsTell, EqualMapsTell};
+ghost use Rattle.example_tree.specs.Counting.{EndedVisitsTell, EndedDiffsTell, EqualMapsTell, FailedUpdatesTell};
+
+use rart_versioned::{Slot, SlotUpdate};
 
 /// How many nodes an update of a key of two bytes enters and makes at most, by what its callback
 /// left and answered.
@@ -23,4 +25,9 @@ pub fn ends_tell_their_counts()
     ensures visits { EndedVisitsTell }
     ensures diffs { EndedDiffsTell }
     ensures equal { EqualMapsTell }
+{}
+
+/// What the counts of an update are whose callback fails.
+pub fn failed_updates_tell_their_counts<V, E, F: FnOnce(&mut Slot<V>) -> Result<SlotUpdate<V>, E>>()
+    ensures { FailedUpdatesTell F.FnOnce }
 {}

@@ -24,12 +24,12 @@ fn has_room_for(onto: &Tree, tracked: &Tracked) -> bool
     tracked.touched_count() < u64::MAX - onto.version()
 }
 
-// Writes 9 over the value of a key, if it is there.
+// Writes 1000 over the value of a key, if it is there.
 fn write_over(rt: &impl Abort, tracked: &mut Tracked, key: &VectorKey) -> bool {
     assert!(rt; has_room(tracked));
     match tracked.value_mut_k(key) {
         Ok(value) => {
-            *value = 9;
+            *value = 1000;
             true
         }
         Err(_) => false,
@@ -43,7 +43,7 @@ fn touch_all(rt: &impl Abort, alloc: Global, tracked: &mut Tracked) -> Result<()
         let key = VectorKey::new_from_slice(alloc, bytes.as_slice())?;
         assert!(rt; has_room(tracked));
         let was_there = match length % 3 {
-            0 => tracked.insert_k(&key, 9)?,
+            0 => tracked.insert_k(&key, 1000)?,
             1 => tracked.delete_k(&key)?,
             _ => write_over(rt, tracked, &key),
         };

@@ -1,4 +1,4 @@
-use Rattle.std.proofs.Common.{◌+◌, arith}
+use Rattle.std.proofs.Common.{arith}
 use Rattle.example_tree.proofs.counting.ends_tell_their_counts.Goals as goal
 
 pub returns-clause-visits : goal.returns-clause-visits

@@ -37,7 +37,7 @@ fn lend_in<'a, P: Partial, V: Clone + Drop>(
     ensures kept { OnErr result (number.new ≡ number.old) }
     ensures counted { CountsUpTo (2 * lookup_bound key.now) (lookup_bound key.now) work.old
         work.new }
-    ensures entered_least { IsSome root.old → work.old.entered < work.new.entered }
+    ensures entered { IsSome root.old → work.old.entered < work.new.entered }
     ensures absent_makes_none { found_in (below_root root.old) key.now ≡ None
         → work.new.made ≡ work.old.made }
 {

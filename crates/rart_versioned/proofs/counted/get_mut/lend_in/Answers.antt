@@ -32,7 +32,7 @@ returns-in-None-path_length g c =
         kept = refl;
         counted =
             counts-most c.in-None-path_length.ensures.counted (omega (arith, few)) (omega arith);
-        entered_least = λ rooted. c.in-None-path_length.ensures.entered;
+        entered = λ rooted. c.in-None-path_length.ensures.entered;
         absent_makes_none = λ absent. made-none c.in-None-path_length.ensures.counted;
       },
     )
@@ -69,7 +69,7 @@ returns-in-Ok g c =
         counted =
             counts-then c.in-Some-path_length.ensures.counted c.in-Ok.ensures.counted
             (omega (arith, most-path, few)) (omega (arith, most-path, few));
-        entered_least =
+        entered =
             λ rooted. entered-then c.args.work.now c.in-Some-path_length.ensures.entered
             c.in-Ok.ensures.counted;
         absent_makes_none =
@@ -106,7 +106,7 @@ returns-in-Err g c =
         counted =
             counts-then c.in-Some-path_length.ensures.counted c.in-Err.ensures.counted
             (omega (arith, most-path, few)) (omega (arith, most-path, few));
-        entered_least =
+        entered =
             λ rooted. entered-then c.args.work.now c.in-Some-path_length.ensures.entered
             c.in-Err.ensures.counted;
         absent_makes_none =

@@ -68,7 +68,7 @@ returns g c =
           at_most =
               counts-most c.lend_in.ensures.counted (omega (arith, long)) (omega (arith, long));
           at_least =
-              λ keyed. c.lend_in.ensures.entered_least
+              λ keyed. c.lend_in.ensures.entered
               (has-root shape_of c.self.inside.root n c.args.self.now c.self.view_is keyed);
         };
         absent_makes_none = λ absent. c.lend_in.ensures.absent_makes_none (sym here ∙ absent);

@@ -20,7 +20,7 @@ use Rattle.rart_walks.specs.Diffs.{Leads}
 use Rattle.rart_walks.specs.DiffEnds.{pairs_from, is_up_to_first}
 use Rattle.rart_walks.specs.ChangeFields.{IsChangeWalk, GoesFurther, ComesTo}
 use Rattle.rart_walks.specs.Passes.{PassesToFirst, GoesTo, GoesOnTo}
-use Rattle.rart_walks.specs.SideFields.{pairs_left, paths_left}
+use Rattle.rart_walks.specs.SideFields.{pairs_to_give, paths_left}
 use Rattle.rart_walks.specs.declared.diff.changes.ChangeWalk.{ChangeWalk}
 use Rattle.rart_walks.proofs.SideLemmas.{before-before}
 
@@ -251,8 +251,8 @@ module _ {P V : Type 0} {partial : _} where
   pub gone-still : (walk : ChangeWalk P V partial) → GoesFurther walk walk
   gone-still walk =
       record {
-        before = on-still (pairs_left walk.before) (paths_left walk.before);
-        after = on-still (pairs_left walk.after) (paths_left walk.after);
+        before = on-still (pairs_to_give walk.before) (paths_left walk.before);
+        after = on-still (pairs_to_give walk.after) (paths_left walk.after);
         still = λ key left. (left, refl, refl);
       }
 
@@ -270,11 +270,11 @@ module _ {P V : Type 0} {partial : _} where
 
   -- The next key of either was taken.
   module _ (old new : ChangeWalk P V partial) {key : List ℕ} {value other : Option V}
-      (first : Leads key value (pairs_left old.before) (pairs_left new.before))
-      (second : Leads key other (pairs_left old.after) (pairs_left new.after))
+      (first : Leads key value (pairs_to_give old.before) (pairs_to_give new.before))
+      (second : Leads key other (pairs_to_give old.after) (pairs_to_give new.after))
       (walk : IsChangeWalk old)
-      (goes : GoesTo (pairs_left old.before) (paths_left old.before) (paths_left new.before))
-      (also : GoesTo (pairs_left old.after) (paths_left old.after) (paths_left new.after)) where
+      (goes : GoesTo (pairs_to_give old.before) (paths_left old.before) (paths_left new.before))
+      (also : GoesTo (pairs_to_give old.after) (paths_left old.after) (paths_left new.after)) where
     pub gone-next : GoesFurther old new
     gone-next =
         let one = walk.before.ascends in

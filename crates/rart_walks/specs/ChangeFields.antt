@@ -7,14 +7,14 @@ use Rattle.rart_walks.specs.declared.diff.changes.ChangeWalk.{ChangeWalk}
 use Rattle.rart_walks.specs.Diffs.{Leads, changes_between}
 use Rattle.rart_walks.specs.DiffEnds.{pairs_from}
 use Rattle.rart_walks.specs.Passes.{GoesTo, GoesOnTo, IsLeft}
-use Rattle.rart_walks.specs.SideFields.{IsSide, key_at, pairs_left, paths_left, nodes_left, pairs_at_hand}
+use Rattle.rart_walks.specs.SideFields.{IsSide, key_at, pairs_to_give, paths_left, nodes_left, pairs_at_hand}
 
 -- `partial` is what is known of prefixes, which the types take for a ghost field
 module _ {P V : Type 0} {partial : _} where
   -- the changes that are left
   abbrev pub changes_left : (V → V → Bool) → ChangeWalk P V partial → List (Change V)
   changes_left same walk =
-      changes_between same (pairs_left walk.before) (pairs_left walk.after)
+      changes_between same (pairs_to_give walk.before) (pairs_to_give walk.after)
 
   -- the key that was given last
   abbrev pub key_given : ChangeWalk P V partial → List ℕ
@@ -37,12 +37,13 @@ module _ {P V : Type 0} {partial : _} where
   abbrev pub TakesKey : ChangeWalk P V partial → ChangeWalk P V partial →
       Option (Option (Bor V) × Option (Bor V)) → Type 0
   TakesKey start next None =
-      (pairs_left start.before ≡ []) × (pairs_left start.after ≡ []) × (nodes_to_enter next ≡ 0)
+      (pairs_to_give start.before ≡ []) × (pairs_to_give start.after ≡ [])
+      × (nodes_to_enter next ≡ 0)
   TakesKey start next (Some values) =
       Leads (key_given next) (option_copied values.0)
-      (pairs_left start.before) (pairs_left next.before)
+      (pairs_to_give start.before) (pairs_to_give next.before)
       × Leads (key_given next) (option_copied values.1)
-      (pairs_left start.after) (pairs_left next.after)
+      (pairs_to_give start.after) (pairs_to_give next.after)
       × (IsSome values.0 ⊎ IsSome values.1)
 
   -- The first change was given, or there was none, and all nodes are entered.
@@ -56,21 +57,21 @@ module _ {P V : Type 0} {partial : _} where
 
   -- It has gone on: whichever key is left then, from it on nothing is gone.
   pub record GoesFurther (old new : ChangeWalk P V partial) : Type 0 where
-    pub before : GoesOnTo (pairs_left old.before) (paths_left old.before)
-        (pairs_left new.before) (paths_left new.before)
-    pub after : GoesOnTo (pairs_left old.after) (paths_left old.after)
-        (pairs_left new.after) (paths_left new.after)
-    pub still : (key : List ℕ) → IsLeft key (pairs_left new.before) (pairs_left new.after)
-        → IsLeft key (pairs_left old.before) (pairs_left old.after)
-        × (pairs_from key (pairs_left old.before) ≡ pairs_from key (pairs_left new.before))
-        × (pairs_from key (pairs_left old.after) ≡ pairs_from key (pairs_left new.after))
+    pub before : GoesOnTo (pairs_to_give old.before) (paths_left old.before)
+        (pairs_to_give new.before) (paths_left new.before)
+    pub after : GoesOnTo (pairs_to_give old.after) (paths_left old.after)
+        (pairs_to_give new.after) (paths_left new.after)
+    pub still : (key : List ℕ) → IsLeft key (pairs_to_give new.before) (pairs_to_give new.after)
+        → IsLeft key (pairs_to_give old.before) (pairs_to_give old.after)
+        × (pairs_from key (pairs_to_give old.before) ≡ pairs_from key (pairs_to_give new.before))
+        × (pairs_from key (pairs_to_give old.after) ≡ pairs_from key (pairs_to_give new.after))
 
   -- A key was left, and both sides have come to it.
   pub record ComesTo (key : List ℕ) (old new : ChangeWalk P V partial) : Type 0 where
-    pub left : IsLeft key (pairs_left old.before) (pairs_left old.after)
-    pub before : GoesTo (pairs_from key (pairs_left old.before)) (paths_left old.before)
+    pub left : IsLeft key (pairs_to_give old.before) (pairs_to_give old.after)
+    pub before : GoesTo (pairs_from key (pairs_to_give old.before)) (paths_left old.before)
         (paths_left new.before)
-    pub after : GoesTo (pairs_from key (pairs_left old.after)) (paths_left old.after)
+    pub after : GoesTo (pairs_from key (pairs_to_give old.after)) (paths_left old.after)
         (paths_left new.after)
 
   -- It has gone on, to the key of the change that it gave, if it gave one.

@@ -17,9 +17,9 @@ module _ {P V : Type 0} {partial : _} where
   abbrev pub key_at : Side P V partial → List ℕ
   key_at side = path_to side.walk
 
-  -- the pairs that are left, that of this key first
-  abbrev pub pairs_left : Side P V partial → List (List ℕ × V)
-  pairs_left side =
+  -- the pairs that are left to give, that of this key first
+  abbrev pub pairs_to_give : Side P V partial → List (List ℕ × V)
+  pairs_to_give side =
       pending_pair (key_at side) (option_copied side.value) ++ (cursor side.walk).pairs
 
   -- the paths of the nodes that are left to enter
@@ -37,7 +37,7 @@ module _ {P V : Type 0} {partial : _} where
   -- Its walk keeps the bytes of its key, and the keys that are left ascend.
   pub record IsSide (side : Side P V partial) : Type 0 where
     pub walk : IsWalk HoldsBytes None side.walk
-    pub ascends : KeysAscend (λ pair. pair.0) (pairs_left side)
+    pub ascends : KeysAscend (λ pair. pair.0) (pairs_to_give side)
 
   -- It stands at the first of the pairs that are left, if there is one, and else has entered all
   -- nodes.
@@ -48,15 +48,15 @@ module _ {P V : Type 0} {partial : _} where
 
   -- Which side has the first key: the old one, both, or the new one; or there is none.
   abbrev pub ComesFirst : Side P V partial → Side P V partial → Option Ordering → Type 0
-  ComesFirst old new None = (pairs_left old ≡ []) × (pairs_left new ≡ [])
-  ComesFirst old new (Some Less) = IsSome old.value × AreBehind (key_at old) (pairs_left new)
+  ComesFirst old new None = (pairs_to_give old ≡ []) × (pairs_to_give new ≡ [])
+  ComesFirst old new (Some Less) = IsSome old.value × AreBehind (key_at old) (pairs_to_give new)
   ComesFirst old new (Some Equal) =
       IsSome old.value × IsSome new.value × (key_at old ≡ key_at new)
-  ComesFirst old new (Some Greater) = IsSome new.value × AreBehind (key_at new) (pairs_left old)
+  ComesFirst old new (Some Greater) = IsSome new.value × AreBehind (key_at new) (pairs_to_give old)
 
   -- It has left what the walk has.
   pub record HasLeft (walk : Walk P V (List ℕ) partial) (made : Side P V partial) : Type 0 where
     pub side : IsSide made
-    pub pairs : pairs_left made ≡ (cursor walk).pairs
+    pub pairs : pairs_to_give made ≡ (cursor walk).pairs
     pub paths : paths_left made ≡ (cursor walk).paths
     pub hand : pairs_at_hand made ≡ at_hand walk

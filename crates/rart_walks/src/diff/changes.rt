@@ -29,7 +29,7 @@ pub(crate) struct ChangeWalk<'a, P: Partial, V> {
 
 impl<'a, P: Partial, V: Drop + Eq> ChangeWalk<'a, P, V> {
     ghost use Rattle.rart_walks.specs.ChangeFields.{IsChangeWalk, GivesChange, ComesToChange, TakesKey, changes_left, nodes_to_enter, key_given, hands};
-    ghost use Rattle.rart_walks.specs.SideFields.{pairs_left, paths_left};
+    ghost use Rattle.rart_walks.specs.SideFields.{pairs_to_give, paths_left};
 
     /// The changes from the pairs that the one walk has left to those of the other. It enters no
     /// node.
@@ -96,9 +96,9 @@ impl<'a, P: Partial, V: Drop + Eq> ChangeWalk<'a, P, V> {
         requires { IsChangeWalk self.old }
         ensures walk { OnOk result (IsChangeWalk self.new) }
         ensures takes { IfOk result (TakesKey self.old self.new) }
-        ensures before { OnOk result (GoesTo (pairs_left self.old.before)
+        ensures before { OnOk result (GoesTo (pairs_to_give self.old.before)
             (paths_left self.old.before) (paths_left self.new.before)) }
-        ensures after { OnOk result (GoesTo (pairs_left self.old.after)
+        ensures after { OnOk result (GoesTo (pairs_to_give self.old.after)
             (paths_left self.old.after) (paths_left self.new.after)) }
         ensures exact { OnOk result (work.new.entered + nodes_to_enter self.new
             ≡ work.old.entered + nodes_to_enter self.old) }

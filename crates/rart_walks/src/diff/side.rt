@@ -13,8 +13,8 @@ use std::alloc::AllocError;
 
 /// A walk over one of two trees, and the value of the key that it stands at until that is taken.
 ///
-/// Contracts see the pairs that are left by `pairs_left`, and how many nodes are left to enter by
-/// `nodes_left`.
+/// Contracts see the pairs that are left to give by `pairs_to_give`, and how many nodes are left to
+/// enter by `nodes_left`.
 #[derive(Drop)]
 pub(crate) struct Side<'a, P: Partial, V> {
     walk: Walk<'a, P, V, BytesPath>,
@@ -23,7 +23,7 @@ pub(crate) struct Side<'a, P: Partial, V> {
 
 impl<'a, P: Partial, V: Drop> Side<'a, P, V> {
     ghost use Rattle.rart_walks.specs.Passes.{GoesTo};
-    ghost use Rattle.rart_walks.specs.SideFields.{IsSide, IsAtFirst, HasLeft, key_at, pairs_left, paths_left, nodes_left, pairs_at_hand};
+    ghost use Rattle.rart_walks.specs.SideFields.{IsSide, IsAtFirst, HasLeft, key_at, pairs_to_give, paths_left, nodes_left, pairs_at_hand};
 
     /// The tree as far as the walk has it left. It enters no node.
     pub(crate) fn new(walk: Walk<'a, P, V, BytesPath>) -> Side<'a, P, V>
@@ -39,8 +39,8 @@ impl<'a, P: Partial, V: Drop> Side<'a, P, V> {
     pub(crate) fn advance(&mut self, work: &mut Work) -> Result<(), AllocError>
         requires { IsSide self.old }
         ensures first { OnOk result (IsAtFirst self.new) }
-        ensures pairs { OnOk result (pairs_left self.new ≡ pairs_left self.old) }
-        ensures way { OnOk result (GoesTo (pairs_left self.old) (paths_left self.old)
+        ensures pairs { OnOk result (pairs_to_give self.new ≡ pairs_to_give self.old) }
+        ensures way { OnOk result (GoesTo (pairs_to_give self.old) (paths_left self.old)
             (paths_left self.new)) }
         ensures exact { OnOk result
             (work.new.entered + nodes_left self.new ≡ work.old.entered + nodes_left self.old) }
@@ -76,7 +76,7 @@ impl<'a, P: Partial, V: Drop> Side<'a, P, V> {
         ensures value { option_copied result ≡ option_copied self.old.value }
         ensures key { key_at self.new ≡ key_at self.old }
         ensures leads { IsSome result → Leads (key_at self.old) (option_copied result)
-            (pairs_left self.old) (pairs_left self.new) }
+            (pairs_to_give self.old) (pairs_to_give self.new) }
         ensures paths { paths_left self.new ≡ paths_left self.old }
         ensures hand { IsSome self.old.value → pairs_at_hand self.new + 1
             ≡ pairs_at_hand self.old }

@@ -58,7 +58,7 @@ pub fn visit_values_until<
     ensures counted { CountsUpTo (length (cursor walk.entry).paths) 0 work.old work.new }
     ensures ends { let left = cursor walk.entry in
         let through = work.old.entered + length left.pairs
-            ≤ work.new.entered + at_hand walk.entry in
+        ≤ work.new.entered + at_hand walk.entry in
         let ended = EntersUpTo left.paths (at_hand walk.entry) work.old work.new in
         Ends F.FnMut ByPairValue through ended result f.old left.pairs f.new }
 {

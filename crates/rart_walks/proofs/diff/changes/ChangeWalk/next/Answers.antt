@@ -1,5 +1,5 @@
 use Rattle.std.proofs.Common.{⊎_elim, inl, inr, arith, refl, sym, ◌∙◌}
-use Rattle.rart_walks.specs.SideFields.{pairs_left}
+use Rattle.rart_walks.specs.SideFields.{pairs_to_give}
 use Rattle.rart_walks.proofs.CountedLemmas.{counted-start, counted-next}
 use Rattle.rart_walks.proofs.DiffLemmas.{changes-agree, changes-differ, no-changes}
 use Rattle.rart_walks.proofs.DiffPassLemmas.{gone-still, gone-next, gone-through, come-next, come-through, some-copied}
@@ -33,7 +33,7 @@ returns-clause-gives g c =
     let walk = c.merging.self in
     let none = rw c.in_default.is at c.in_ok-before.ensures.takes in (
       c.merging.invariant.changes ∙ no-changes g.V.PartialEq.eq
-          (pairs_left walk.before) (pairs_left walk.after) none.0 none.1,
+          (pairs_to_give walk.before) (pairs_to_give walk.after) none.0 none.1,
       none.2,
     )
 

@@ -1,6 +1,6 @@
 use Rattle.std.proofs.Common.{◌≡◌, ◌+◌, ◌≤◌, length}
 use Rattle.rart_walks.specs.ChangeFields.{IsChangeWalk, GoesFurther, changes_left, nodes_to_enter, hands}
-use Rattle.rart_walks.specs.SideFields.{pairs_left}
+use Rattle.rart_walks.specs.SideFields.{pairs_to_give}
 use Rattle.rart_walks.proofs.CountedLemmas.{IsCounted}
 use Rattle.rart_walks.proofs.diff.changes.ChangeWalk.next.Given as goal
 
@@ -18,4 +18,4 @@ invariant-merging g l =
 
 abbrev pub decreases-merging : goal.decreases-merging
 decreases-merging g l =
-    length (pairs_left l.self.before) + length (pairs_left l.self.after)
+    length (pairs_to_give l.self.before) + length (pairs_to_give l.self.after)

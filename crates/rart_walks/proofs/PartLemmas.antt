@@ -38,13 +38,14 @@ begins-goes = record {
   inside = λ b w. refl;
 }
 
-order-along : (p u w : List ℕ) → byte_order (p ++ u) (p ++ w) ≡ byte_order u w
+-- Behind a path strings are ordered as without it.
+pub order-along : (p u w : List ℕ) → byte_order (p ++ u) (p ++ w) ≡ byte_order u w
 order-along [] u w = refl
 order-along (b ∷ p) u w =
     ap (λ r. ordering_then r (byte_order (p ++ u) (p ++ w))) (sym (nat_cmp_is b b Equal refl))
     ∙ order-along p u w
 
-order-goes : (told : Ordering → Bool) → told Less ≡ true → told Greater ≡ false
+pub order-goes : (told : Ordering → Bool) → told Less ≡ true → told Greater ≡ false
     → GoesAlong (λ u w. told (byte_order u w)) true
 order-goes told less greater = record {
   along = λ p u w. ap told (order-along p u w);

@@ -3,8 +3,8 @@ use Rattle.std.proofs.Common.{◌≡◌, ℕ, true, false, List, [], ◌∷◌, 
 use Rattle.std.specs.FinMap as finite
 use Rattle.std.specs.declared.cmp.Ordering.TheVariants.{Less, Equal, Greater}
 use Rattle.std.specs.Ordering.{ordering_then, nat_cmp, is_le, is_lt}
-use Rattle.std.specs.Cmp.{nat_cmp_is}
 use Rattle.rart_below.specs.Bytes.{byte_order}
+use Rattle.rart_walks.proofs.PartLemmas.{order-along}
 use Rattle.rart_ways.specs.Besides.{is_to}
 use Rattle.rart_ways.specs.declared.seeking.Edge.{Edge}
 use Rattle.rart_ways.specs.declared.seeking.Edge.TheVariants.{Included, Excluded}
@@ -25,12 +25,6 @@ order-goes (b ∷ u) (c ∷ w) more differs =
           ((λ i. sym (finite.nat_cmp-IsAntisymmetric b c same) i ∷ w) ∙ ap (λ z. b ∷ z) is))
       | Greater ↦ λ _. refl
     ] refl
-
-order-along : (p u w : List ℕ) → byte_order (p ++ u) (p ++ w) ≡ byte_order u w
-order-along [] u w = refl
-order-along (b ∷ p) u w =
-    ap (λ r. ordering_then r (byte_order (p ++ u) (p ++ w))) (sym (nat_cmp_is b b Equal refl))
-    ∙ order-along p u w
 
 -- The order of a key beside an upper bound, both behind a path.
 pub is_to-along : (edge : Edge) (p high key : List ℕ)

@@ -1,11 +1,7 @@
 -- Which keys are from a string on, or behind it, one node at a time.
-use Rattle.std.proofs.Common.{◌≡◌, ◌<◌, ◌≤◌, ℕ, Bool, true, false, List, [], ◌∷◌, ◌++◌, length, refl, arith, sym, ap, ◌∙◌}
-use Rattle.std.specs.declared.cmp.Ordering.{Ordering}
-use Rattle.std.specs.declared.cmp.Ordering.TheVariants.{Less, Equal, Greater}
-use Rattle.std.specs.Ordering.{ordering_then, is_le, is_lt}
-use Rattle.std.specs.Cmp.{nat_cmp_is}
+use Rattle.std.proofs.Common.{◌≡◌, ◌<◌, ◌≤◌, ℕ, true, List, [], ◌∷◌, ◌++◌, length, refl, arith, sym, ap, ◌∙◌}
+use Rattle.std.specs.Ordering.{is_le, is_lt}
 use Rattle.std.proofs.lemmas.List.{append-nil, length-append}
-use Rattle.rart_below.specs.Bytes.{byte_order}
 use Rattle.rart_node.specs.Shape.{Shape, prefix_of, children_of}
 use Rattle.rart_ways.specs.Starts.{is_from}
 use Rattle.rart_ways.specs.declared.seeking.Edge.{Edge}
@@ -14,27 +10,7 @@ use Rattle.rart_node.specs.Trees.{IsTree, own_pair, pairs_of}
 use Rattle.rart_walks.specs.Frames.{behind_path, pairs_inside}
 use Rattle.rart_walks.proofs.EndLemmas.{IsFront, PartsAt}
 use Rattle.rart_walks.proofs.GatherLemmas.{keeping, gathered, pairs-gathered, all-gathered}
-use Rattle.rart_walks.proofs.PartLemmas.{GoesAlong, own_pair-ends, parted-lower, parted-upper, parted-all, parted-inside}
-
-order-along : (p u w : List ℕ) → byte_order (p ++ u) (p ++ w) ≡ byte_order u w
-order-along [] u w = refl
-order-along (b ∷ p) u w =
-    ap (λ r. ordering_then r (byte_order (p ++ u) (p ++ w))) (sym (nat_cmp_is b b Equal refl))
-    ∙ order-along p u w
-
-order-goes : (told : Ordering → Bool) → told Less ≡ true → told Greater ≡ false
-    → GoesAlong (λ u w. told (byte_order u w)) true
-order-goes told less greater = record {
-  along = λ p u w. ap told (order-along p u w);
-  ended = λ b u. greater;
-  lower =
-      λ b u c w lt. ap (λ r. told (ordering_then r (byte_order u w)))
-      (sym (nat_cmp_is b c Greater lt)) ∙ greater;
-  upper =
-      λ b u c w lt. ap (λ r. told (ordering_then r (byte_order u w))) (sym (nat_cmp_is b c Less lt))
-      ∙ less;
-  inside = λ b w. less;
-}
+use Rattle.rart_walks.proofs.PartLemmas.{GoesAlong, order-goes, own_pair-ends, parted-lower, parted-upper, parted-all, parted-inside}
 
 pub from-goes : (edge : Edge) → GoesAlong (is_from edge) true
 from-goes Included = order-goes is_le refl refl

@@ -8,7 +8,7 @@ use Rattle.rart_below.specs.Children.{children_from, first_of, IsAscending, Take
 use Rattle.rart_below.proofs.AscendingLemmas.{ascending_parts, children_from-kept, children_from-passed, children_from-below}
 
 module _ {X : Type 0} where
-  from-here : (n : ℕ) (e : ℕ × X) (es : List (ℕ × X)) → n ≤ e.0
+  pub from-here : (n : ℕ) (e : ℕ × X) (es : List (ℕ × X)) → n ≤ e.0
       → children_from n (e ∷ es) ≡ e ∷ children_from n es
   from-here n e es h = let kept : nat_le n e.0 ≡ true = grind (arith, nat_tests) in rw kept refl
 

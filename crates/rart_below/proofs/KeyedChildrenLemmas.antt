@@ -1,13 +1,15 @@
 -- Children in slots that stand beside their keys.
-use Rattle.std.proofs.Common.{◌≡◌, ◌<◌, ◌≤◌, ◌≢◌, inl, inr, ℕ, zero, suc, length, ◌+◌, true, false, cond, List, [], ◌∷◌, ◌++◌, refl, ap, sym, ◌∙◌, arith, get_or, take, set, Option, None, Some}
+use Rattle.std.proofs.Common.{◌≡◌, ◌<◌, ◌≤◌, ◌≢◌, inl, inr, ℕ, zero, suc, length, ◌+◌, true, false, cond, List, [], ◌∷◌, ◌++◌, refl, ap, sym, ◌∙◌, arith, get_or, drop, take, set, Option, None, Some}
 use Rattle.std.specs.List.{insert, remove}
 use Rattle.std.specs.Prelude.{nat_lt}
 use Rattle.std.proofs.lemmas.Bool.{cases_lt, lt-ltb, le-ltb}
+use Rattle.std.proofs.lemmas.Option.{same_Some}
 use Rattle.std.proofs.lemmas.List.Sums.{count_by-le-length, sum_by-cons}
 use Rattle.rart_below.specs.Children.{child_at, with_child, without_child, children_from, first_of, IsAscending}
 use Rattle.rart_below.specs.Layouts.{rank, keyed_children, is_filled}
 use Rattle.rart_below.specs.Laws.{IsBelow, below_from}
-use Rattle.rart_below.proofs.AscendingLemmas.{held_and_not, below_parts, below_lower, ascending_parts, child_at-later, child_at-here, child_at-below, with_child-later, with_child-before, with_child-here, without_child-other, without_child-here, without_child-below, children_from-kept, children_from-passed}
+use Rattle.rart_below.proofs.AscendingLemmas.{held_and_not, below_parts, below_lower, ascending_parts, child_at-later, child_at-here, child_at-below, with_child-later, with_child-before, with_child-here, without_child-other, without_child-here, without_child-below, children_from-below, children_from-kept, children_from-passed}
+use Rattle.rart_below.proofs.ChildrenFromLemmas.{from-here}
 
 rank-later : (byte key : ℕ) (keys : List ℕ) → key < byte
     → rank byte (key ∷ keys) ≡ suc (rank byte keys)
@@ -318,3 +320,38 @@ module _ {C : Type 0} where
   held_beside (key ∷ keys) (Some child ∷ slots) zero h lt = λ q. cc
   held_beside (key ∷ keys) (Some child ∷ slots) (suc place) h lt =
       held_beside keys slots place h (omega arith)
+
+  -- behind as many children as there are keys below a number come those from there on
+  pub drop-rank : (from : ℕ) (keys : List ℕ) (slots : List (Option C)) → IsFilled keys slots
+      → IsAscending (keyed_children keys slots)
+      → drop (rank from keys) (keyed_children keys slots)
+      ≡ children_from from (keyed_children keys slots)
+  drop-rank from [] slots h order = refl
+  drop-rank from (key ∷ keys) [] h order = cc
+  drop-rank from (key ∷ keys) (None ∷ slots) h order = cc
+  drop-rank from (key ∷ keys) (Some held ∷ slots) h order =
+      let children = keyed_children keys slots in
+      let sorted = ascending_parts (key, held) children order in
+      elim (cases_lt key from) [
+        | inl less ↦
+            rw (rank-later from key keys less) (drop-rank from keys slots h sorted.1
+            ∙ sym (children_from-passed from (key, held) children less))
+        | inr more ↦
+            rw (rank-stop from key held keys slots h order more)
+            (sym (from-here from (key, held) children more
+            ∙ ap (λ (rest : List (ℕ × C)). (key, held) ∷ rest)
+            (children_from-below from key children (omega (arith, more)) sorted.0)))
+      ]
+
+  -- the child at a place, and those behind it
+  pub drop-held : (keys : List ℕ) (slots : List (Option C)) (place : ℕ) (child : C)
+      → IsFilled keys slots → place < length keys → get_or slots place None ≡ Some child
+      → drop place (keyed_children keys slots)
+      ≡ (get_or keys place 0, child) ∷ drop (suc place) (keyed_children keys slots)
+  drop-held [] slots place child h lt is = absurd (omega arith)
+  drop-held (key ∷ keys) [] place child h lt is = cc
+  drop-held (key ∷ keys) (None ∷ slots) place child h lt is = cc
+  drop-held (key ∷ keys) (Some held ∷ slots) zero child h lt is =
+      ap (λ (c : C). (key, c) ∷ keyed_children keys slots) (same_Some held child is)
+  drop-held (key ∷ keys) (Some held ∷ slots) (suc place) child h lt is =
+      drop-held keys slots place child h (omega arith) is

@@ -1,17 +1,16 @@
 -- A mapping by keys, as its methods know it.
-use Rattle.std.proofs.Common.{◌≡◌, ◌<◌, ◌≤◌, ℕ, length, ◌+◌, Bool, true, List, ◌++◌, ap, sym, ◌∙◌, subst, arith, get_or, drop, take, set, Option, None, Some}
+use Rattle.std.proofs.Common.{◌≡◌, ◌<◌, ◌≤◌, ℕ, length, ◌+◌, Bool, true, List, [], ◌∷◌, ◌++◌, add-one, ap, sym, ◌∙◌, subst, arith, get_or, drop, take, set, Option, None, Some}
 use Rattle.std.specs.Prelude.{◌&&◌, nat_le, not, ◌==◌}
 use Rattle.std.specs.List.{insert, remove}
 use Rattle.std.specs.Ordering.{nat_cmp}
 use Rattle.std.specs.FinMap.Entries.{is_sorted}
 use Rattle.std.proofs.lemmas.Bool.{and_parts, and_from, leb-true, le-leb}
-use Rattle.std.proofs.lemmas.List.{get_or_default}
+use Rattle.std.proofs.lemmas.List.{drop_all, get_or_default}
 use Rattle.rart_below.specs.Children.{child_at, with_child, without_child, children_from, first_of, IsAscending, TakesFirst}
 use Rattle.rart_below.specs.Layouts.{rank, keyed_children, is_filled, IsPlaceOf, IsAbsent}
 use Rattle.rart_below.specs.Laws.{length-keyed_children}
 use Rattle.rart_below.proofs.AscendingLemmas.{ascending-with_child, ascending-where_key, without_child-absent}
-use Rattle.rart_below.proofs.ChildrenFromLemmas.{takes_first}
-use Rattle.rart_below.proofs.KeyedChildrenLemmas.{slots_enough, rank-small, child_at-rank, child_at-no_rank, keyed-insert, keyed-set, keyed-remove, children_from-rank, children_from-past, held_beside}
+use Rattle.rart_below.proofs.KeyedChildrenLemmas.{slots_enough, rank-small, child_at-rank, child_at-no_rank, keyed-insert, keyed-set, keyed-remove, children_from-rank, children_from-past, drop-held, drop-rank, held_beside}
 
 module _ {C : Type 0} where
   -- the test of a mapping by keys
@@ -128,17 +127,40 @@ module _ {C : Type 0} where
   next_none width from keys slots place kept e le =
       sym (children_from-past from keys slots kept.filled (subst (λ (i : ℕ). length keys ≤ i) e le))
 
-  -- what stands at the rank of a number is the first child from there on
-  pub next_taken : (width from : ℕ) (keys : List ℕ) (slots : List (Option C)) (place : ℕ)
-      (o other : Option C) → IsKept width keys slots → place ≡ rank from keys
-      → place < length keys → o ≡ get_or slots place other
-      → TakesFirst (children_from from (keyed_children keys slots)) o
-      (children_from (get_or keys place 0 + 1) (keyed_children keys slots))
-  next_taken width from keys slots place None other kept e lt is =
+  -- ---- the children from a place on
+  pub left_at-rank : (width from : ℕ) (keys : List ℕ) (slots : List (Option C))
+      → IsKept width keys slots → drop (rank from keys) (keyed_children keys slots)
+      ≡ children_from from (keyed_children keys slots)
+  left_at-rank width from keys slots kept = drop-rank from keys slots kept.filled kept.ascending
+
+  -- the first of them
+  pub place_left : (width : ℕ) (keys : List ℕ) (slots : List (Option C)) (place : ℕ) (o : Option C)
+      (child : C) → IsKept width keys slots → place < length keys → get_or slots place o ≡ Some child
+      → drop place (keyed_children keys slots)
+      ≡ (get_or keys place 0, child) ∷ drop (place + 1) (keyed_children keys slots)
+  place_left width keys slots place o child kept lt is =
+      let held : get_or slots place None ≡ Some child =
+      get_or_default slots place None o (omega (arith, slots_enough keys slots kept.filled))
+      ∙ is in
+      drop-held keys slots place child kept.filled lt held
+      ∙ ap (λ (n : ℕ). (get_or keys place 0, child) ∷ drop n (keyed_children keys slots))
+      (sym (add-one place))
+
+  pub place_taken : (width : ℕ) (keys : List ℕ) (slots : List (Option C)) (place : ℕ)
+      (o other : Option C) → IsKept width keys slots → place < length keys
+      → o ≡ get_or slots place other
+      → TakesFirst (drop place (keyed_children keys slots)) o
+      (drop (place + 1) (keyed_children keys slots))
+  place_taken width keys slots place None other kept lt is =
       absurd (never_empty width keys slots place other kept lt (sym is))
-  next_taken width from keys slots place (Some child) other kept e lt is =
-      takes_first from (get_or keys place 0) child (keyed_children keys slots) kept.ascending
-      (next_found width from keys slots place other child kept e lt (sym is))
+  place_taken width keys slots place (Some child) other kept lt is =
+      (get_or keys place 0, place_left width keys slots place other child kept lt (sym is))
+
+  pub none_left : (width : ℕ) (keys : List ℕ) (slots : List (Option C)) (place : ℕ)
+      → IsKept width keys slots → length keys ≤ place → drop place (keyed_children keys slots) ≡ []
+  none_left width keys slots place kept le =
+      drop_all place (keyed_children keys slots)
+      (omega (arith, length-kept width keys slots kept))
 
   -- ---- the lists after each change
   pub added : (width byte : ℕ) (child : C) (keys keys' : List ℕ) (slots slots' : List (Option C))

@@ -29,6 +29,11 @@ module _ {C : Type 0} where
   TakesFirst before None after = (before ≡ []) × (after ≡ [])
   TakesFirst before (Some child) after = (byte : ℕ) × (before ≡ (byte, child) ∷ after)
 
+  -- The same, with its byte.
+  abbrev pub TakesEntry : List (ℕ × C) → Option (ℕ × C) → List (ℕ × C) → Type 0
+  TakesEntry before None after = (before ≡ []) × (after ≡ [])
+  TakesEntry before (Some entry) after = before ≡ entry ∷ after
+
   -- The bytes strictly rise.
   abbrev pub IsAscending : List (ℕ × C) → Type 0
   IsAscending children = IsTrue (is_sorted nat_cmp children)

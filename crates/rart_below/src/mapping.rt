@@ -4,7 +4,7 @@ ghost use Rattle.std.specs.Prelude.{◌≡◌, ℕ, ◌<◌, ◌≤◌, Bool, Li
 ghost use Rattle.std.specs.Borrow.{sem};
 ghost use Rattle.std.specs.Option.{option_copied_mut};
 ghost use Rattle.rart_below.specs.ByteSets.{AreBytesOf};
-ghost use Rattle.rart_below.specs.Children.{child_at, with_child, without_child, children_from, first_of, IsAscending, TakesFirst};
+ghost use Rattle.rart_below.specs.Children.{child_at, with_child, without_child, children_from, first_of, IsAscending, TakesEntry, TakesFirst};
 ghost use Rattle.rart_below.specs.Layouts.{AreEmpty, entry_copied};
 ghost use Rattle.rart_below.specs.Lent.{LendsChild};
 
@@ -58,6 +58,9 @@ pub trait NodeMapping<C: Drop> {
     /// How many children there is room for.
     ghost width: { ℕ };
 
+    /// The children that a walk has left where its cursor stands.
+    ghost left: { ℕ → List (ℕ × C) → List (ℕ × C) };
+
     /// The child under the byte.
     fn seek_child(&self, byte: u8) -> Option<&C>
         requires { IsTrue (in_order self.now) }
@@ -106,13 +109,23 @@ pub trait NodeMapping<C: Drop> {
         requires { IsTrue (in_order self.now) }
         ensures { entry_copied result ≡ first_of (children_from from (children self.now)) };
 
-    /// Takes the child of the least byte that is not below the number, which is then one more than
-    /// that byte. Where there is none the number stays. It gives no byte, so that a walk has the
-    /// child in a register.
+    /// Where a walk over the children from a byte on begins: a place among sorted bytes, else the
+    /// byte. rart has no such call.
+    fn cursor_from(&self, least: u8) -> usize
+        requires { IsTrue (in_order self.now) }
+        ensures { left result (children self.now) ≡ children_from least (children self.now) };
+
+    /// Takes the next child of a walk. It gives no byte, so that a walk has the child in a register.
     fn next_child(&self, from: &mut usize) -> Option<&C>
         requires { IsTrue (in_order self.now) }
-        ensures { TakesFirst (children_from from.old (children self.now)) (option_copied result)
-            (children_from from.new (children self.now)) };
+        ensures { TakesFirst (left from.old (children self.now)) (option_copied result)
+            (left from.new (children self.now)) };
+
+    /// Takes the next child of a walk, with its byte.
+    fn next_entry(&self, from: &mut usize) -> Option<(u8, &C)>
+        requires { IsTrue (in_order self.now) }
+        ensures { TakesEntry (left from.old (children self.now)) (entry_copied result)
+            (left from.new (children self.now)) };
 
     /// The bytes that have a child. rart has no such call.
     fn bytes(&self) -> ByteSet

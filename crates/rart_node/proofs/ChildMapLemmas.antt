@@ -1,12 +1,22 @@
 -- What maps children commutes with what is done to one under its byte.
-use Rattle.std.proofs.Common.{◌≡◌, ℕ, List, [], ◌∷◌, true, false, not, Option, Some, None, cond, length, refl, ap}
-use Rattle.std.specs.Prelude.{◌==◌, nat_le, is_some}
+use Rattle.std.proofs.Common.{◌≡◌, ℕ, List, [], ◌∷◌, true, false, not, Option, Some, None, cond, drop, length, refl, ap}
+use Rattle.std.specs.Prelude.{◌==◌, nat_le, nat_lt, is_some}
 use Rattle.std.specs.Option.{option_map}
-use Rattle.std.proofs.lemmas.List.{length-map}
+use Rattle.std.proofs.lemmas.List.{drop-map, length-map}
 use Rattle.std.specs.Ordering.{nat_cmp, eq_by_cmp}
 use Rattle.std.specs.FinMap.Entries.{find, put, by_order}
 use Rattle.std.specs.declared.cmp.Ordering.TheVariants.{Less, Equal, Greater}
-use Rattle.rart_below.specs.Children.{child_at, with_child, without_child, children_from, first_of, map_children, TakesFirst}
+use Rattle.rart_below.specs.Children.{child_at, with_child, without_child, children_from, first_of, map_children, TakesEntry, TakesFirst}
+use Rattle.rart_below.proofs.MoveLemmas.{children_from-zero}
+use Rattle.rart_node.specs.Contents.{left_at}
+
+-- at its beginning a walk has all
+pub left_at-zero : {X : Type 0} (width : ℕ) (es : List (ℕ × X)) → left_at width 0 es ≡ es
+left_at-zero width es =
+    elim (nat_lt width 17) as (λ t. cond t (drop 0 es) (children_from 0 es) ≡ es) [
+      | true ↦ refl
+      | false ↦ children_from-zero es
+    ]
 
 module _ {X Y : Type 0} (f : X → Y) where
   pub length-map_children : (children : List (ℕ × X))
@@ -58,6 +68,24 @@ module _ {X Y : Type 0} (f : X → Y) where
         | true ↦ ap (λ rest. (e.0, f e.1) ∷ rest) (children_from-map_children n es)
         | false ↦ children_from-map_children n es
       ]
+
+  pub left_at-map_children : (width from : ℕ) (es : List (ℕ × X))
+      → left_at width from (map_children f es) ≡ map_children f (left_at width from es)
+  left_at-map_children width from es =
+      elim (nat_lt width 17) as (λ t.
+      cond t (drop from (map_children f es)) (children_from from (map_children f es))
+      ≡ map_children f (cond t (drop from es) (children_from from es))) [
+        | true ↦ drop-map (λ e. (e.0, f e.1)) from es
+        | false ↦ children_from-map_children from es
+      ]
+
+  pub takes_entry-map_children : (before : List (ℕ × X)) (o : Option (ℕ × X)) (after : List (ℕ × X))
+      → TakesEntry before o after
+      → TakesEntry (map_children f before) (option_map (λ e. (e.0, f e.1)) o)
+      (map_children f after)
+  takes_entry-map_children before None after takes =
+      (ap (map_children f) takes.0, ap (map_children f) takes.1)
+  takes_entry-map_children before (Some entry) after takes = ap (map_children f) takes
 
   pub takes-map_children : (before : List (ℕ × X)) (o : Option X) (after : List (ℕ × X))
       → TakesFirst before o after

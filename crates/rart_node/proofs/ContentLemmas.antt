@@ -4,13 +4,13 @@ use Rattle.std.specs.Prelude.{◌↔◌, IsTrue, option_copied}
 use Rattle.std.specs.Borrow.{Bor, MutBor}
 use Rattle.std.specs.Option.{option_map, option_copied_mut, OnSome}
 use Rattle.std.proofs.lemmas.Option.{none-some}
-use Rattle.rart_below.specs.Children.{child_at, with_child, without_child, children_from, first_of, map_children, TakesFirst, IsAscending as IsRising}
+use Rattle.rart_below.specs.Children.{child_at, with_child, without_child, children_from, first_of, map_children, TakesEntry, TakesFirst, IsAscending as IsRising}
 use Rattle.rart_below.specs.Layouts.{entry_copied}
-use Rattle.rart_node.specs.Contents.{Content, content_shape, Holds}
+use Rattle.rart_node.specs.Contents.{Content, content_shape, left_at, Holds}
 use Rattle.rart_node.specs.Shape.{Shape, node, node_of, prefix_of, value_of, width_of, children_of, with_children, with_value, with_replaced, with_deleted, with_added, widened, widenings, is_full_at, entries_of-forest_of, IsAscending, IsFull, IsFullAt}
 use Rattle.rart_node.specs.Seen.{Seen, shape_of}
 use Rattle.rart_node.specs.NodeShapes.{seen_node, entry_shape, shapes_of_content, node_of_content, if_in_order}
-use Rattle.rart_node.proofs.ChildMapLemmas.{length-map_children, child_at-map_children, with_child-map_children, without_child-map_children, children_from-map_children, first_of-map_children, takes-map_children}
+use Rattle.rart_node.proofs.ChildMapLemmas.{length-map_children, child_at-map_children, with_child-map_children, without_child-map_children, children_from-map_children, first_of-map_children, left_at-map_children, takes-map_children, takes_entry-map_children}
 
 -- a list that ascends is none that stands for disorder
 in_order-ascending : {V : Type 0} (in_order : Bool) (children : List (ℕ × Shape V))
@@ -99,17 +99,43 @@ module _ {V : Type 0} {prefix : List ℕ} {value : Option V} (content : Content 
       ∙ ap first_of (children_from-map_children shape_of from children_in)
       ∙ first_of-map_children shape_of (children_from from children_in)
 
-  -- the first child from a byte on is taken
+  -- what a walk has left
+  pub left-seen : (from : ℕ) → IsAscending seen.shape
+      → left_at (width_of seen.shape) from (children_of seen.shape)
+      ≡ map_children shape_of (left_at (content_shape content).width from children_in)
+  left-seen from order =
+      (λ i. left_at (width-seen i) from (children-ascending order i))
+      ∙ left_at-map_children shape_of (content_shape content).width from children_in
+
+  -- the first of them is taken
   pub takes-seen : (from later : ℕ) (o : Option (Seen V)) → IsAscending seen.shape
-      → TakesFirst (children_from from children_in) o (children_from later children_in)
-      → TakesFirst (children_from from (children_of seen.shape)) (option_map shape_of o)
-      (children_from later (children_of seen.shape))
+      → TakesFirst (left_at (content_shape content).width from children_in) o
+      (left_at (content_shape content).width later children_in)
+      → TakesFirst (left_at (width_of seen.shape) from (children_of seen.shape))
+      (option_map shape_of o) (left_at (width_of seen.shape) later (children_of seen.shape))
   takes-seen from later o order takes =
-      let at : (k : ℕ) → map_children shape_of (children_from k children_in)
-      ≡ children_from k (children_of seen.shape) =
-      λ k. sym (ap (children_from k) (children-ascending order)
-      ∙ children_from-map_children shape_of k children_in) in
-      rw (sym (at from), sym (at later)) (takes-map_children shape_of _ o _ takes)
+      rw (left-seen from order, left-seen later order)
+      (takes-map_children shape_of _ o _ takes)
+
+  pub takes_entry-seen : (from later : ℕ) (o : Option (ℕ × Seen V)) → IsAscending seen.shape
+      → TakesEntry (left_at (content_shape content).width from children_in) o
+      (left_at (content_shape content).width later children_in)
+      → TakesEntry (left_at (width_of seen.shape) from (children_of seen.shape))
+      (option_map (λ e. (e.0, shape_of e.1)) o)
+      (left_at (width_of seen.shape) later (children_of seen.shape))
+  takes_entry-seen from later o order takes =
+      rw (left-seen from order, left-seen later order)
+      (takes_entry-map_children shape_of _ o _ takes)
+
+  -- from a cursor on a walk has the children from its byte on
+  pub cursor-seen : (least from : ℕ) → IsAscending seen.shape
+      → left_at (content_shape content).width from children_in ≡ children_from least children_in
+      → left_at (width_of seen.shape) from (children_of seen.shape)
+      ≡ children_from least (children_of seen.shape)
+  cursor-seen least from order is =
+      left-seen from order ∙ ap (map_children shape_of) is
+      ∙ sym (ap (children_from least) (children-ascending order)
+      ∙ children_from-map_children shape_of least children_in)
 
   -- ---- with another content
   module _ (after : Content (Seen V)) (width : ℕ) (entries : List (ℕ × Seen V))

@@ -1,6 +1,7 @@
 -- What a node holds of its own, and what a content holds, whatever stands for the pointers.
-use Rattle.std.specs.Prelude.{◌≡◌, ℕ, List, [], Bool, true, Option, Some, None}
+use Rattle.std.specs.Prelude.{◌≡◌, ℕ, List, [], Bool, true, Option, Some, None, drop, nat_lt, if◌then◌else◌}
 use Rattle.std.specs.Global.{Box}
+use Rattle.rart_below.specs.Children.{children_from}
 use Rattle.rart_below.specs.declared.mapping.sorted.SortedKeyedMapping.{SortedKeyedMapping}
 use Rattle.rart_below.specs.declared.mapping.indexed.IndexedMapping.{IndexedMapping}
 use Rattle.rart_below.specs.declared.mapping.direct.DirectMapping.{DirectMapping}
@@ -12,6 +13,12 @@ use Rattle.rart_node.specs.declared.held.Held.TheVariants.{Vacant, Occupied}
 use Rattle.rart_node.specs.declared.content.Layout.{Layout}
 use Rattle.rart_node.specs.declared.content.Layout.TheVariants.{Leaf, Node4, Node16, Node48, Node256}
 use Rattle.rart_node.specs.declared.wide_box.WideBox.{WideBox}
+
+-- the children that a walk over those of this width has left: of few, which are sorted, those from a
+-- place on, else those from a byte on
+abbrev pub left_at : {C : Type 0} → ℕ → ℕ → List (ℕ × C) → List (ℕ × C)
+left_at width from children =
+    if nat_lt width 17 then drop from children else children_from from children
 
 -- the value, where there is one: the half of the number beside it says nothing
 abbrev pub held_value : {V : Type 0} → Held V → Option V

@@ -4,10 +4,10 @@ ghost use Rattle.std.specs.Prelude.{◌≡◌, ◌<◌, ◌+◌, ◌↔◌, None
 ghost use Rattle.std.specs.Borrow.{sem};
 ghost use Rattle.std.specs.Option.{option_copied_mut};
 ghost use Rattle.rart_below.specs.ByteSets.{AreBytesOf, AreBytesOfBoth};
-ghost use Rattle.rart_below.specs.Children.{child_at, children_from, first_of, with_child, without_child, TakesFirst};
+ghost use Rattle.rart_below.specs.Children.{child_at, children_from, first_of, with_child, without_child, TakesEntry, TakesFirst};
 ghost use Rattle.rart_below.specs.Layouts.{entry_copied};
 ghost use Rattle.rart_below.specs.SortedKeyedMapping.{sorted_children, sorted_in_order};
-ghost use Rattle.rart_node.specs.Contents.{content_shape, Holds};
+ghost use Rattle.rart_node.specs.Contents.{content_shape, left_at, Holds};
 ghost use Rattle.rart_node.specs.Shape.{IsFullAt, is_full_at, wider, widened};
 
 use crate::node_ref::NodeRef;
@@ -114,15 +114,36 @@ impl<P: Partial, V: Drop> Content<P, V> {
         call_mapping!(self, None, next_from(from))
     }
 
-    /// Takes the child of the least byte that is not below the number, which is then one more than
-    /// that byte.
+    /// Where a walk over the children from a byte on begins.
+    pub(crate) fn cursor_from(&self, least: u8) -> usize
+        requires { IsTrue (content_shape self.now).in_order }
+        ensures { left_at (content_shape self.now).width result (content_shape self.now).children
+            ≡ children_from least (content_shape self.now).children }
+    {
+        call_mapping!(self, 0, cursor_from(least))
+    }
+
+    /// Takes the next child of a walk.
     #[inline(always)]
     pub(crate) fn next_child(&self, from: &mut usize) -> Option<&NodeRef<P, V>>
         requires { IsTrue (content_shape self.now).in_order }
-        ensures { TakesFirst (children_from from.old (content_shape self.now).children)
-            (option_copied result) (children_from from.new (content_shape self.now).children) }
+        ensures { TakesFirst
+            (left_at (content_shape self.now).width from.old (content_shape self.now).children)
+            (option_copied result)
+            (left_at (content_shape self.now).width from.new (content_shape self.now).children) }
     {
         call_mapping!(self, None, next_child(from))
+    }
+
+    /// Takes the next child of a walk, with its byte.
+    pub(crate) fn next_entry(&self, from: &mut usize) -> Option<(u8, &NodeRef<P, V>)>
+        requires { IsTrue (content_shape self.now).in_order }
+        ensures { TakesEntry
+            (left_at (content_shape self.now).width from.old (content_shape self.now).children)
+            (entry_copied result)
+            (left_at (content_shape self.now).width from.new (content_shape self.now).children) }
+    {
+        call_mapping!(self, None, next_entry(from))
     }
 
     /// The bytes that have a child.

@@ -3,8 +3,9 @@
 ghost use Rattle.std.specs.Prelude.{◌≡◌, ◌==◌, ◌+◌, ◌↔◌, ℕ, IsErrOf, IsOk, IsSome, IsTrue, IfOk, OnOk, OnErr, Some, None, [], length, not};
 ghost use Rattle.std.specs.Option.{option_map, option_copied};
 ghost use Rattle.rart_below.specs.ByteSets.{AreBytesOf, AreBytesOfBoth};
-ghost use Rattle.rart_below.specs.Children.{child_at, children_from, first_of, TakesFirst};
+ghost use Rattle.rart_below.specs.Children.{child_at, children_from, first_of, TakesEntry, TakesFirst};
 ghost use Rattle.rart_below.specs.Clones.{ClonesEqual};
+ghost use Rattle.rart_node.specs.Contents.{left_at};
 ghost use Rattle.rart_node.specs.Seen.{shape_of};
 ghost use Rattle.rart_node.specs.Shape.{node_of, prefix_of, value_of, width_of, children_of, with_value, with_prefix, with_replaced, with_deleted, with_added, with_width, widenings, wider, FitsWidth, IsAscending, IsFull};
 
@@ -184,7 +185,10 @@ impl<P: Partial, V: Drop> VersionedNode<P, V> {
         ensures order { IsAscending result.node.now.shape }
         ensures children { children_left result ≡ children_of self.now.shape }
     {
-        self.iter_from(0)
+        VersionedNodeIter {
+            node: self,
+            from: 0,
+        }
     }
 
     /// The children from a byte on, each with its byte, ascending. rart has no such call: there
@@ -196,7 +200,7 @@ impl<P: Partial, V: Drop> VersionedNode<P, V> {
     {
         VersionedNodeIter {
             node: self,
-            from: least as usize,
+            from: self.content.cursor_from(least),
         }
     }
 
@@ -227,16 +231,27 @@ impl<P: Partial, V: Drop> VersionedNode<P, V> {
         self.content.next_from(from)
     }
 
-    /// Takes the child of the least byte that is not below the number, which is then one more than
-    /// that byte.
+    /// Takes the next child of a walk.
     #[inline(always)]
     pub(crate) fn next_child(&self, from: &mut usize) -> Option<&NodeRef<P, V>>
         requires { IsAscending self.now.shape }
-        ensures { TakesFirst (children_from from.old (children_of self.now.shape))
+        ensures { TakesFirst
+            (left_at (width_of self.now.shape) from.old (children_of self.now.shape))
             (option_map (λ child. child.now.shape) result)
-            (children_from from.new (children_of self.now.shape)) }
+            (left_at (width_of self.now.shape) from.new (children_of self.now.shape)) }
     {
         self.content.next_child(from)
+    }
+
+    /// Takes the next child of a walk, with its byte.
+    pub(crate) fn next_entry(&self, from: &mut usize) -> Option<(u8, &NodeRef<P, V>)>
+        requires { IsAscending self.now.shape }
+        ensures { TakesEntry
+            (left_at (width_of self.now.shape) from.old (children_of self.now.shape))
+            (option_map entry_shape result)
+            (left_at (width_of self.now.shape) from.new (children_of self.now.shape)) }
+    {
+        self.content.next_entry(from)
     }
 
     /// The pointer under the byte, for writing. The node then has that child as it was left.

@@ -28,9 +28,7 @@ impl<'a, P: Partial, V: Drop> Iterator for VersionedNodeIter<'a, P, V> {
     ghost remaining = { item_count children_left };
 
     fn next(&mut self) -> Option<(u8, &'a NodeRef<P, V>)> {
-        let (byte, child) = self.node.next_from(self.from)?;
-        self.from = byte as usize + 1;
-        Some((byte, child))
+        self.node.next_entry(&mut self.from)
     }
 }
 

@@ -1,6 +1,7 @@
 // Ported from rart 0.11.0 (Apache-2.0), and rewritten.
 //! The mapping of width 256: a slot for each byte.
 ghost use Rattle.std.specs.Prelude.{◌≡◌, [], None, IsTrue};
+ghost use Rattle.rart_below.specs.Children.{children_from};
 ghost use Rattle.rart_below.specs.Layouts.{SameBytes};
 ghost use Rattle.rart_below.specs.DirectMapping.{direct_children, direct_in_order};
 
@@ -49,6 +50,8 @@ impl<C: Drop> NodeMapping<C> for DirectMapping<C> {
 
     ghost width = { 256 };
 
+    ghost left = { children_from };
+
     fn seek_child(&self, byte: u8) -> Option<&C> {
         self.children.slots[byte as usize].as_ref()
     }
@@ -89,6 +92,11 @@ impl<C: Drop> NodeMapping<C> for DirectMapping<C> {
         }
     }
 
+    #[inline]
+    fn cursor_from(&self, least: u8) -> usize {
+        usize::from(least)
+    }
+
     // Where nearly all bytes have a child, it is quicker to look at the slot first.
     #[inline(always)]
     fn next_child(&self, from: &mut usize) -> Option<&C> {
@@ -101,6 +109,12 @@ impl<C: Drop> NodeMapping<C> for DirectMapping<C> {
         let byte = self.bytes.least_from(*from)?;
         *from = byte as usize + 1;
         self.children.slots[byte as usize].as_ref()
+    }
+
+    fn next_entry(&self, from: &mut usize) -> Option<(u8, &C)> {
+        let (byte, child) = self.next_from(*from)?;
+        *from = usize::from(byte) + 1;
+        Some((byte, child))
     }
 
     #[inline]

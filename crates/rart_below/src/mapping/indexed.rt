@@ -3,7 +3,7 @@
 ghost use Rattle.std.specs.Int.{bit_at};
 ghost use Rattle.std.specs.Prelude.{◌≡◌, ◌+◌, ◌<◌, ◌≤◌, ℕ, [], length, IsTrue, is_some, if◌then◌else◌, nat_lt, slice_index_or};
 ghost use Rattle.rart_below.specs.ByteSets.{IsLeastFrom};
-ghost use Rattle.rart_below.specs.Children.{child_at};
+ghost use Rattle.rart_below.specs.Children.{child_at, children_from};
 ghost use Rattle.rart_below.specs.Layouts.{SameBytes};
 ghost use Rattle.rart_below.specs.IndexedMapping.{indexed_children, indexed_in_order};
 
@@ -98,6 +98,8 @@ impl<C: Drop> NodeMapping<C> for IndexedMapping<C> {
 
     ghost width = { 48 };
 
+    ghost left = { children_from };
+
     fn seek_child(&self, byte: u8) -> Option<&C> {
         child_in(&self.children.slots, self.index[byte as usize] as usize)
     }
@@ -147,6 +149,11 @@ impl<C: Drop> NodeMapping<C> for IndexedMapping<C> {
         }
     }
 
+    #[inline]
+    fn cursor_from(&self, least: u8) -> usize {
+        usize::from(least)
+    }
+
     // Where most bytes have a child, it is quicker to look at the entry first.
     #[inline(always)]
     fn next_child(&self, from: &mut usize) -> Option<&C> {
@@ -159,6 +166,12 @@ impl<C: Drop> NodeMapping<C> for IndexedMapping<C> {
         let byte = self.least_from(*from)?;
         *from = byte as usize + 1;
         self.seek_child(byte)
+    }
+
+    fn next_entry(&self, from: &mut usize) -> Option<(u8, &C)> {
+        let (byte, child) = self.next_from(*from)?;
+        *from = usize::from(byte) + 1;
+        Some((byte, child))
     }
 
     #[inline]

@@ -1,6 +1,6 @@
 // Ported from rart 0.11.0 (Apache-2.0), and rewritten.
 //! The mapping of width 4 and 16: bytes in ascending order, with a child beside each.
-ghost use Rattle.std.specs.Prelude.{◌≡◌, ◌≤◌, [], None, length, IsTrue};
+ghost use Rattle.std.specs.Prelude.{◌≡◌, ◌≤◌, [], None, drop, length, IsTrue};
 ghost use Rattle.rart_below.specs.ByteSets.{AreBytesOfBoth};
 ghost use Rattle.rart_below.specs.Layouts.{SameBytes};
 ghost use Rattle.rart_below.specs.SortedKeyedMapping.{sorted_children, sorted_in_order};
@@ -85,6 +85,8 @@ impl<C: Drop, const WIDTH: usize> NodeMapping<C> for SortedKeyedMapping<C, WIDTH
 
     ghost width = { WIDTH };
 
+    ghost left = { drop };
+
     fn seek_child(&self, byte: u8) -> Option<&C> {
         let place = self.keys.place_of(byte)?;
         self.children.slots[place].as_ref()
@@ -138,13 +140,32 @@ impl<C: Drop, const WIDTH: usize> NodeMapping<C> for SortedKeyedMapping<C, WIDTH
         }
     }
 
+    #[inline]
+    fn cursor_from(&self, least: u8) -> usize {
+        self.keys.rank_of(least)
+    }
+
+    // The way from child to child leads over the place alone, not over a search for a byte.
     #[inline(always)]
     fn next_child(&self, from: &mut usize) -> Option<&C> {
-        let keys = self.keys.as_slice();
-        let place = self.keys.rank_from(*from);
-        if place < keys.len() {
-            *from = usize::from(keys[place]) + 1;
+        let place = *from;
+        if place < self.keys.len() {
+            *from = place + 1;
             self.children.slots[place].as_ref()
+        } else {
+            None
+        }
+    }
+
+    fn next_entry(&self, from: &mut usize) -> Option<(u8, &C)> {
+        let place = *from;
+        let keys = self.keys.as_slice();
+        if place < keys.len() {
+            *from = place + 1;
+            match &self.children.slots[place] {
+                Some(child) => Some((keys[place], child)),
+                None => unreachable!(),
+            }
         } else {
             None
         }

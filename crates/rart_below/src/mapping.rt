@@ -115,7 +115,8 @@ pub trait NodeMapping<C: Drop> {
         requires { IsTrue (in_order self.now) }
         ensures { left result (children self.now) ≡ children_from least (children self.now) };
 
-    /// Takes the next child of a walk. It gives no byte, so that a walk has the child in a register.
+    /// Takes the next child of a walk. It gives no byte, so that a walk has the child in a
+    /// register.
     fn next_child(&self, from: &mut usize) -> Option<&C>
         requires { IsTrue (in_order self.now) }
         ensures { TakesFirst (left from.old (children self.now)) (option_copied result)

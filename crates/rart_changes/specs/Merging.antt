@@ -16,8 +16,8 @@ abbrev pub ByLentConflict : {K V : Type 0} → (K → List ℕ) →
     Bor K × (Option (Bor V) × (Option (Bor V) × (Option (Bor V) × Unit {0}))) → Conflict V → Type 0
 ByLentConflict bytes = ByConflict (λ key. bytes key.now)
 
--- What a closure is shown of a conflict: its key, by one of these bytes, and references to the values
--- of the base, of ours and of theirs, where there are any.
+-- What a closure is shown of a conflict: its key, by one of these bytes, and references to the
+-- values of the base, of ours and of theirs, where there are any.
 abbrev pub ArgumentsShowTheirConflicts : (K V : Type 0) → (K → List ℕ) → Type 0
 ArgumentsShowTheirConflicts K V bytes = (k : K) (lent : Bor K) (base ours theirs : Option (Bor V))
     (w : List ℕ) (x y z : Option V) →
@@ -86,8 +86,9 @@ module _ {F A V : Type 0} (g : Mut F A (Option V)) (Shows : A → Conflict V →
       (base ours theirs after : Map V) (f f' : F) →
       MergesTo same f base ours theirs f' after → after ≡ merged same answers base ours theirs
 
-  -- To say what it was asked: a closure that keeps a list of the conflicts, one more with each call.
-  -- A merge asks it about each conflict once, in order; one that is refused about those of a prefix.
+  -- To say what it was asked: a closure that keeps a list of the conflicts, one more with each
+  -- call. A merge asks it about each conflict once, in order; one that is refused about those of a
+  -- prefix.
   abbrev pub KeepsAsked : (F → List (Conflict V)) → Type 0
   KeepsAsked asked = (f : F) (conflict : Conflict V) (answer : Option V) (f' : F) →
       CalledOn g Shows f conflict answer f' → asked f' ≡ asked f ++ conflict ∷ []

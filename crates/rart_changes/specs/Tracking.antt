@@ -72,7 +72,8 @@ pub record IsMarked (before : Version (Unit {0})) (w : List ℕ) (after : Versio
 
 -- The trees inside: a key that was not touched is as in the base. The number of the tree of touched
 -- keys is how many there are. These and the keys of the base together are at most as many as the
--- current number says, since it was one for each of the base's, and each touch of another raised it.
+-- current number says, since it was one for each of the base's, and each touch of another raised
+-- it.
 module _ {V : Type 0} where
   abbrev pub tracking_of : Version V → Version V → Version (Unit {0}) → Tracking V
   tracking_of base now touched = record { base = base; current = now; touched = touched.content }

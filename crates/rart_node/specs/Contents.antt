@@ -14,8 +14,8 @@ use Rattle.rart_node.specs.declared.content.Layout.{Layout}
 use Rattle.rart_node.specs.declared.content.Layout.TheVariants.{Leaf, Node4, Node16, Node48, Node256}
 use Rattle.rart_node.specs.declared.wide_box.WideBox.{WideBox}
 
--- the children that a walk over those of this width has left: of few, which are sorted, those from a
--- place on, else those from a byte on
+-- the children that a walk over those of this width has left: of few, which are sorted, those from
+-- a place on, else those from a byte on
 abbrev pub left_at : {C : Type 0} → ℕ → ℕ → List (ℕ × C) → List (ℕ × C)
 left_at width from children =
     if nat_lt width 17 then drop from children else children_from from children

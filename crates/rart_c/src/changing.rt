@@ -41,8 +41,8 @@ pub extern "C" fn rart_insert(
 }
 
 /// Takes a key out, the number then one greater. Answers `DONE` and writes its value, or answers
-/// `ABSENT`, and then nothing changed. `LAST_NUMBER` says that the key is there and the number can't
-/// be raised, `NO_MEMORY` that it is there and memory was refused: nothing changed then.
+/// `ABSENT`, and then nothing changed. `LAST_NUMBER` says that the key is there and the number
+/// can't be raised, `NO_MEMORY` that it is there and memory was refused: nothing changed then.
 #[unsafe(no_mangle)]
 pub extern "C" fn rart_remove(tree: &mut RartTree, key: &[u8], value: &mut u64) -> u8
     ensures done { IsRefused result ⊎ ((tree.new.shows ≡ after_removal tree.old.shows key.now)

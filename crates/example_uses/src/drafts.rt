@@ -1,7 +1,12 @@
 //! Three drafts of a price list, merged one after another. The last one is in conflict with the
 //! first, and gives way.
+ghost use Rattle.std.specs.Prelude.{◌≡◌, IfErr, OnErr, OnOk};
+ghost use Rattle.rart_changes.specs.Tracking.{after_insertion};
+ghost use Rattle.rart_maps.specs.Versions.{HasRoom, value_at};
+ghost use Rattle.rart_versioned.specs.Missing.{Explains};
+
 use rart_changes::TrackedTree;
-use rart_versioned::{KeyTrait, VectorKey, VersionedAdaptiveRadixTree};
+use rart_versioned::{KeyTrait, Missing, VectorKey, VersionedAdaptiveRadixTree};
 use std::alloc::{AllocError, Global};
 
 type Prices = VersionedAdaptiveRadixTree<VectorKey, u64>;
@@ -34,6 +39,19 @@ fn set(draft: &mut Draft, name: VectorKey, price: Option<u64>) -> Result<(), All
             }
         }
     }
+    Ok(())
+}
+
+/// Gives a name of the draft another price where it stands, so that the name counts as touched. Or
+/// it tells why not: the draft has no such name, or memory was refused; then all is as before.
+pub fn reprice(draft: &mut Draft, name: &VectorKey, price: u64) -> Result<(), Missing>
+    requires room { HasRoom draft.old.current 1 }
+    ensures set { OnOk result (draft.new ≡ after_insertion draft.old name.now.bytes.items price) }
+    ensures refused { OnErr result (draft.new ≡ draft.old) }
+    ensures missing { IfErr result
+        (λ missing. Explains missing (value_at draft.old.current name.now.bytes.items)) }
+{
+    *draft.value_mut_k(name)? = price;
     Ok(())
 }
 

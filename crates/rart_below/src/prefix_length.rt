@@ -26,12 +26,16 @@ pub(crate) fn prefix_length(left: &[u8], right: &[u8]) -> usize
     matched
 }
 
-/// How two byte strings stand to one another, in lexicographic order. What they have in common at
-/// their start is compared in blocks.
-#[tactic(auto, using(crate::proofs::CommonLengthLemmas::byte_order_difference, crate::proofs::CommonLengthLemmas::byte_order_beginning))]
+/// How two byte strings stand to one another, in lexicographic order. Keys that don't begin alike
+/// are told apart by their first bytes; what two have in common at their start is compared in
+/// blocks.
+#[tactic(auto, using(crate::proofs::CommonLengthLemmas::byte_order_first, crate::proofs::CommonLengthLemmas::byte_order_difference, crate::proofs::CommonLengthLemmas::byte_order_beginning))]
 pub fn compare_bytes(left: &[u8], right: &[u8]) -> Ordering
     ensures { result ≡ byte_order left.now right.now }
 {
+    if !left.is_empty() && !right.is_empty() && left[0] != right[0] {
+        return left[0].cmp(&right[0]);
+    }
     let common = prefix_length(left, right);
     if common < left.len() && common < right.len() {
         left[common].cmp(&right[common])

@@ -117,7 +117,7 @@ module _ {C : Type 0} where
   pub held_and_not : (c : C) → Some c ≢ None
   held_and_not c e = cc
 
-  absent_later : (test : Bool) (c : C) (o : Option C) → cond test (Some c) o ≡ None → o ≡ None
+  pub absent_later : (test : Bool) (c : C) (o : Option C) → cond test (Some c) o ≡ None → o ≡ None
   absent_later true c o e = cc
   absent_later false c o e = e
 

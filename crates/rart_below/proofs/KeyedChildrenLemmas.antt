@@ -5,10 +5,11 @@ use Rattle.std.specs.Prelude.{nat_lt}
 use Rattle.std.proofs.lemmas.Bool.{cases_lt, lt-ltb, le-ltb}
 use Rattle.std.proofs.lemmas.Option.{same_Some}
 use Rattle.std.proofs.lemmas.List.Sums.{count_by-le-length, sum_by-cons}
-use Rattle.rart_below.specs.Children.{child_at, with_child, without_child, children_from, first_of, IsAscending}
+use Rattle.rart_below.specs.Children.{child_at, with_child, without_child, children_below, children_from, first_of, IsAscending}
 use Rattle.rart_below.specs.Layouts.{rank, keyed_children, is_filled}
 use Rattle.rart_below.specs.Laws.{IsBelow, below_from}
 use Rattle.rart_below.proofs.AscendingLemmas.{held_and_not, below_parts, below_lower, ascending_parts, child_at-later, child_at-here, child_at-below, with_child-later, with_child-before, with_child-here, without_child-other, without_child-here, without_child-below, children_from-below, children_from-kept, children_from-passed}
+use Rattle.rart_below.proofs.ChildrenBelowLemmas.{below-kept, below-none, below-passed}
 use Rattle.rart_below.proofs.ChildrenFromLemmas.{from-here}
 
 rank-later : (byte key : ℕ) (keys : List ℕ) → key < byte
@@ -342,6 +343,42 @@ module _ {C : Type 0} where
             ∙ ap (λ (rest : List (ℕ × C)). (key, held) ∷ rest)
             (children_from-below from key children (omega (arith, more)) sorted.0)))
       ]
+
+  -- those below a byte stand before its rank
+  pub take-rank : (end : ℕ) (keys : List ℕ) (slots : List (Option C)) → IsFilled keys slots
+      → IsAscending (keyed_children keys slots)
+      → take (rank end keys) (keyed_children keys slots)
+      ≡ children_below end (keyed_children keys slots)
+  take-rank end [] slots h order = refl
+  take-rank end (key ∷ keys) [] h order = cc
+  take-rank end (key ∷ keys) (None ∷ slots) h order = cc
+  take-rank end (key ∷ keys) (Some held ∷ slots) h order =
+      let children = keyed_children keys slots in
+      let sorted = ascending_parts (key, held) children order in
+      elim (cases_lt key end) [
+        | inl less ↦
+            rw (rank-later end key keys less)
+            (ap (λ (rest : List (ℕ × C)). (key, held) ∷ rest) (take-rank end keys slots h sorted.1)
+            ∙ sym (below-kept end (key, held) children less))
+        | inr more ↦
+            rw (rank-stop end key held keys slots h order more)
+            (sym (below-passed end (key, held) children more
+            ∙ below-none end key children (omega (arith, more)) sorted.0))
+      ]
+
+  -- the child at a place, and those before it
+  pub take-held : (keys : List ℕ) (slots : List (Option C)) (place : ℕ) (child : C)
+      → IsFilled keys slots → place < length keys → get_or slots place None ≡ Some child
+      → take (suc place) (keyed_children keys slots)
+      ≡ take place (keyed_children keys slots) ++ (get_or keys place 0, child) ∷ []
+  take-held [] slots place child h lt is = absurd (omega arith)
+  take-held (key ∷ keys) [] place child h lt is = cc
+  take-held (key ∷ keys) (None ∷ slots) place child h lt is = cc
+  take-held (key ∷ keys) (Some held ∷ slots) zero child h lt is =
+      ap (λ (c : C). (key, c) ∷ []) (same_Some held child is)
+  take-held (key ∷ keys) (Some held ∷ slots) (suc place) child h lt is =
+      ap (λ (rest : List (ℕ × C)). (key, held) ∷ rest)
+      (take-held keys slots place child h (omega arith) is)
 
   -- the child at a place, and those behind it
   pub drop-held : (keys : List ℕ) (slots : List (Option C)) (place : ℕ) (child : C)

@@ -113,17 +113,18 @@ least_out from first holds before none =
     ]
 
 -- ---- the child of the least byte that has one
+pub not-some : {C : Type 0} (slot : Option C) → is_some slot ≡ false → slot ≡ None
+not-some None is = refl
+not-some (Some child) is = cc
+
+pub some : {C : Type 0} (slot : Option C) → is_some slot ≡ true
+    → (child : C) × (slot ≡ Some child)
+some None is = cc
+some (Some child) is = (child, refl)
+
 module _ {C : Type 0} (from : ℕ) (holds : ℕ → Bool) (children : List (ℕ × C))
     (each : (byte : ℕ) → byte < 256 → holds byte ≡ is_some (child_at byte children))
     (past : (byte : ℕ) → 256 ≤ byte → child_at byte children ≡ None) where
-  not-some : (slot : Option C) → is_some slot ≡ false → slot ≡ None
-  not-some None is = refl
-  not-some (Some child) is = cc
-
-  some : (slot : Option C) → is_some slot ≡ true → (child : C) × (slot ≡ Some child)
-  some None is = cc
-  some (Some child) is = (child, refl)
-
   missing : (byte : ℕ) → holds byte ≡ false → child_at byte children ≡ None
   missing byte none = elim (cases_lt byte 256) [
     | inl low ↦ not-some (child_at byte children) (sym (each byte low) ∙ none)

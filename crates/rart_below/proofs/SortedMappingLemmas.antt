@@ -1,16 +1,16 @@
 -- A mapping by keys, as its methods know it.
-use Rattle.std.proofs.Common.{◌≡◌, ◌<◌, ◌≤◌, ℕ, length, ◌+◌, Bool, true, List, [], ◌∷◌, ◌++◌, add-one, ap, sym, ◌∙◌, subst, arith, get_or, drop, take, set, Option, None, Some}
-use Rattle.std.specs.Prelude.{◌&&◌, nat_le, not, ◌==◌}
+use Rattle.std.proofs.Common.{◌≡◌, ◌<◌, ◌≤◌, ℕ, suc, length, ◌+◌, inl, inr, Bool, true, List, [], ◌∷◌, ◌++◌, add-one, ap, sym, ◌∙◌, subst, arith, get_or, drop, take, set, Option, None, Some}
+use Rattle.std.specs.Prelude.{◌&&◌, min, nat_le, not, ◌==◌}
 use Rattle.std.specs.List.{insert, remove}
 use Rattle.std.specs.Ordering.{nat_cmp}
 use Rattle.std.specs.FinMap.Entries.{is_sorted}
-use Rattle.std.proofs.lemmas.Bool.{and_parts, and_from, leb-true, le-leb}
-use Rattle.std.proofs.lemmas.List.{drop_all, get_or_default}
-use Rattle.rart_below.specs.Children.{child_at, with_child, without_child, children_from, first_of, IsAscending, TakesFirst}
+use Rattle.std.proofs.lemmas.Bool.{and_parts, and_from, cases_lt, leb-true, le-leb}
+use Rattle.std.proofs.lemmas.List.{drop_all, get_or_default, take_all}
+use Rattle.rart_below.specs.Children.{child_at, with_child, without_child, children_below, children_from, first_of, IsAscending, TakesFirst, TakesLast}
 use Rattle.rart_below.specs.Layouts.{rank, keyed_children, is_filled, IsPlaceOf, IsAbsent}
 use Rattle.rart_below.specs.Laws.{length-keyed_children}
 use Rattle.rart_below.proofs.AscendingLemmas.{ascending-with_child, ascending-where_key, without_child-absent}
-use Rattle.rart_below.proofs.KeyedChildrenLemmas.{slots_enough, rank-small, child_at-rank, child_at-no_rank, keyed-insert, keyed-set, keyed-remove, children_from-rank, children_from-past, drop-held, drop-rank, held_beside}
+use Rattle.rart_below.proofs.KeyedChildrenLemmas.{slots_enough, rank-small, child_at-rank, child_at-no_rank, keyed-insert, keyed-set, keyed-remove, children_from-rank, children_from-past, drop-held, drop-rank, take-held, take-rank, held_beside}
 
 module _ {C : Type 0} where
   -- the test of a mapping by keys
@@ -161,6 +161,42 @@ module _ {C : Type 0} where
   none_left width keys slots place kept le =
       drop_all place (keyed_children keys slots)
       (omega (arith, length-kept width keys slots kept))
+
+  -- ---- the children before a place
+  pub before-rank : (width end : ℕ) (keys : List ℕ) (slots : List (Option C))
+      → IsKept width keys slots → take (rank end keys) (keyed_children keys slots)
+      ≡ children_below end (keyed_children keys slots)
+  before-rank width end keys slots kept = take-rank end keys slots kept.filled kept.ascending
+
+  take-least : (width end : ℕ) (keys : List ℕ) (slots : List (Option C)) → IsKept width keys slots
+      → take end (keyed_children keys slots)
+      ≡ take (min (length keys) end) (keyed_children keys slots)
+  take-least width end keys slots kept = elim (cases_lt end (length keys)) [
+    | inl lt ↦ ap (λ (n : ℕ). take n (keyed_children keys slots)) (grind (arith, lt))
+    | inr le ↦
+        let count = length-kept width keys slots kept in
+        take_all end (keyed_children keys slots) (omega (arith, count, le))
+        ∙ sym (take_all (min (length keys) end) (keyed_children keys slots)
+        (grind (arith, count, le)))
+  ]
+
+  -- the last of those before a number, of which there are this many and one
+  pub last_taken : (width end : ℕ) (keys : List ℕ) (slots : List (Option C)) (place : ℕ)
+      (o other : Option C) → IsKept width keys slots → min (length keys) end ≡ suc place
+      → o ≡ get_or slots place other
+      → TakesLast (take end (keyed_children keys slots)) o
+      (take place (keyed_children keys slots))
+  last_taken width end keys slots place None other kept last is =
+      absurd (never_empty width keys slots place other kept (grind (arith, last)) (sym is))
+  last_taken width end keys slots place (Some child) other kept last is =
+      let within : place < length keys = grind (arith, last) in
+      let held : get_or slots place None ≡ Some child =
+      get_or_default slots place None other
+      (omega (arith, within, slots_enough keys slots kept.filled)) ∙ sym is in (
+        get_or keys place 0,
+        take-least width end keys slots kept ∙ ap (λ (n : ℕ). take n (keyed_children keys slots)) last
+            ∙ take-held keys slots place child kept.filled within held,
+      )
 
   -- ---- the lists after each change
   pub added : (width byte : ℕ) (child : C) (keys keys' : List ℕ) (slots slots' : List (Option C))

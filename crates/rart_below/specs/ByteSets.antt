@@ -27,6 +27,13 @@ IsLeastFrom first holds (Some least) =
     (first ≤ least) × (holds least ≡ true)
     × ((byte : ℕ) → first ≤ byte → byte < least → holds byte ≡ false)
 
+-- This is the greatest number below the end at which the test holds, or there is none.
+abbrev pub IsGreatestBelow : ℕ → (ℕ → Bool) → Option ℕ → Type 0
+IsGreatestBelow end holds None = (byte : ℕ) → byte < end → holds byte ≡ false
+IsGreatestBelow end holds (Some greatest) =
+    (greatest < end) × (holds greatest ≡ true)
+    × ((byte : ℕ) → greatest < byte → byte < end → holds byte ≡ false)
+
 -- whether the set has the bytes of the slots that have a child and not those of the others, where
 -- the first slot stands under this byte
 abbrev pub marks_slots : {C : Type 0} → ByteSet → ℕ → List (Option C) → Bool

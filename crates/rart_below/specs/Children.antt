@@ -1,5 +1,5 @@
 -- Children: a list of things, each under its byte. A mapping or a node shows one.
-use Rattle.std.specs.Prelude.{◌≡◌, ℕ, List, [], ◌∷◌, Option, Some, None, IsTrue, not, ◌==◌, nat_le, map}
+use Rattle.std.specs.Prelude.{◌≡◌, ℕ, List, [], ◌∷◌, ◌++◌, Option, Some, None, IsTrue, not, ◌==◌, nat_le, nat_lt, map}
 use Rattle.std.specs.Ordering.{nat_cmp}
 use Rattle.std.specs.FinMap.Entries.{find, put, where_key, is_sorted}
 
@@ -20,6 +20,10 @@ module _ {C : Type 0} where
   abbrev pub children_from : ℕ → List (ℕ × C) → List (ℕ × C)
   children_from least children = where_key nat_cmp (λ k. nat_le least k) children
 
+  -- the children whose byte is below the number
+  abbrev pub children_below : ℕ → List (ℕ × C) → List (ℕ × C)
+  children_below end children = where_key nat_cmp (λ k. nat_lt k end) children
+
   abbrev pub first_of : List (ℕ × C) → Option (ℕ × C)
   first_of [] = None
   first_of (child ∷ children) = Some child
@@ -33,6 +37,17 @@ module _ {C : Type 0} where
   abbrev pub TakesEntry : List (ℕ × C) → Option (ℕ × C) → List (ℕ × C) → Type 0
   TakesEntry before None after = (before ≡ []) × (after ≡ [])
   TakesEntry before (Some entry) after = before ≡ entry ∷ after
+
+  -- The last child was taken, and the others are left, or there was none.
+  abbrev pub TakesLast : List (ℕ × C) → Option C → List (ℕ × C) → Type 0
+  TakesLast before None after = (before ≡ []) × (after ≡ [])
+  TakesLast before (Some child) after = (byte : ℕ) × (before ≡ after ++ (byte, child) ∷ [])
+
+  -- This is the last child, or there is none.
+  abbrev pub IsLastOf : List (ℕ × C) → Option C → Type 0
+  IsLastOf children None = children ≡ []
+  IsLastOf children (Some child) =
+      (others : List (ℕ × C)) × (byte : ℕ) × (children ≡ others ++ (byte, child) ∷ [])
 
   -- The bytes strictly rise.
   abbrev pub IsAscending : List (ℕ × C) → Type 0

@@ -1,7 +1,7 @@
 // Ported from rart 0.11.0 (Apache-2.0), and rewritten.
 //! Sets of bytes. rart has no such type: there children in common are found one by one.
 ghost use Rattle.std.specs.Prelude.{◌≡◌, ◌<◌, ◌≤◌, ◌==◌, ◌||◌, ◌&&◌, ℕ, false, not, slice_index_or};
-ghost use Rattle.rart_below.specs.ByteSets.{has_byte, IsLeastFrom, TakesFirst};
+ghost use Rattle.rart_below.specs.ByteSets.{has_byte, IsGreatestBelow, IsLeastFrom, TakesFirst};
 
 /// A set of bytes: a bit for each, in four words.
 ///
@@ -65,6 +65,23 @@ impl ByteSet {
                 return Some((first + word.trailing_zeros() as usize) as u8);
             }
             first = first / 64 * 64 + 64;
+        }
+        None
+    }
+
+    /// The greatest byte that is below the number.
+    #[inline]
+    pub(crate) fn greatest_below(&self, end: usize) -> Option<u8>
+        ensures { IsGreatestBelow end (λ byte. has_byte self.now byte) result }
+    {
+        let mut unseen = end.min(256);
+        while unseen > 0 {
+            let last = unseen - 1;
+            let word = self.words[last / 64] & (u64::MAX >> (63 - last % 64));
+            if word != 0 {
+                return Some((last / 64 * 64 + 63 - word.leading_zeros() as usize) as u8);
+            }
+            unseen = last / 64 * 64;
         }
         None
     }

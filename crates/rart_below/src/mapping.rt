@@ -4,7 +4,7 @@ ghost use Rattle.std.specs.Prelude.{◌≡◌, ℕ, ◌<◌, ◌≤◌, Bool, Li
 ghost use Rattle.std.specs.Borrow.{sem};
 ghost use Rattle.std.specs.Option.{option_copied_mut};
 ghost use Rattle.rart_below.specs.ByteSets.{AreBytesOf};
-ghost use Rattle.rart_below.specs.Children.{child_at, with_child, without_child, children_from, first_of, IsAscending, TakesEntry, TakesFirst};
+ghost use Rattle.rart_below.specs.Children.{child_at, with_child, without_child, children_below, children_from, first_of, IsAscending, TakesEntry, TakesFirst, TakesLast};
 ghost use Rattle.rart_below.specs.Layouts.{AreEmpty, entry_copied};
 ghost use Rattle.rart_below.specs.Lent.{LendsChild};
 
@@ -60,6 +60,9 @@ pub trait NodeMapping<C: Drop> {
 
     /// The children that a walk has left where its cursor stands.
     ghost left: { ℕ → List (ℕ × C) → List (ℕ × C) };
+
+    /// The children that a walk back has left where its cursor stands.
+    ghost before: { ℕ → List (ℕ × C) → List (ℕ × C) };
 
     /// The child under the byte.
     fn seek_child(&self, byte: u8) -> Option<&C>
@@ -127,6 +130,19 @@ pub trait NodeMapping<C: Drop> {
         requires { IsTrue (in_order self.now) }
         ensures { TakesEntry (left from.old (children self.now)) (entry_copied result)
             (left from.new (children self.now)) };
+
+    /// Where a walk back over the children below a number begins: a place among sorted bytes, else
+    /// the number. Below 256 all children stand. rart has no such call.
+    fn cursor_below(&self, end: usize) -> usize
+        requires { IsTrue (in_order self.now) }
+        ensures below { before result (children self.now) ≡ children_below end (children self.now) }
+        ensures all { 255 < end → before result (children self.now) ≡ children self.now };
+
+    /// Takes the last child of a walk back. rart has no such call.
+    fn prev_child(&self, end: &mut usize) -> Option<&C>
+        requires { IsTrue (in_order self.now) }
+        ensures { TakesLast (before end.old (children self.now)) (option_copied result)
+            (before end.new (children self.now)) };
 
     /// The bytes that have a child. rart has no such call.
     fn bytes(&self) -> ByteSet

@@ -1,7 +1,7 @@
 // Ported from rart 0.11.0 (Apache-2.0), and rewritten.
 //! The mapping of width 256: a slot for each byte.
 ghost use Rattle.std.specs.Prelude.{◌≡◌, [], None, IsTrue};
-ghost use Rattle.rart_below.specs.Children.{children_from};
+ghost use Rattle.rart_below.specs.Children.{children_below, children_from};
 ghost use Rattle.rart_below.specs.Layouts.{SameBytes};
 ghost use Rattle.rart_below.specs.DirectMapping.{direct_children, direct_in_order};
 
@@ -51,6 +51,8 @@ impl<C: Drop> NodeMapping<C> for DirectMapping<C> {
     ghost width = { 256 };
 
     ghost left = { children_from };
+
+    ghost before = { children_below };
 
     fn seek_child(&self, byte: u8) -> Option<&C> {
         self.children.slots[byte as usize].as_ref()
@@ -115,6 +117,17 @@ impl<C: Drop> NodeMapping<C> for DirectMapping<C> {
         let (byte, child) = self.next_from(*from)?;
         *from = usize::from(byte) + 1;
         Some((byte, child))
+    }
+
+    #[inline]
+    fn cursor_below(&self, end: usize) -> usize {
+        end
+    }
+
+    fn prev_child(&self, end: &mut usize) -> Option<&C> {
+        let byte = self.bytes.greatest_below(*end)?;
+        *end = byte as usize;
+        self.children.slots[byte as usize].as_ref()
     }
 
     #[inline]

@@ -3,7 +3,7 @@
 ghost use Rattle.std.specs.Int.{bit_at};
 ghost use Rattle.std.specs.Prelude.{◌≡◌, ◌+◌, ◌<◌, ◌≤◌, ℕ, [], length, IsTrue, is_some, if◌then◌else◌, nat_lt, slice_index_or};
 ghost use Rattle.rart_below.specs.ByteSets.{IsLeastFrom};
-ghost use Rattle.rart_below.specs.Children.{child_at, children_from};
+ghost use Rattle.rart_below.specs.Children.{child_at, children_below, children_from};
 ghost use Rattle.rart_below.specs.Layouts.{SameBytes};
 ghost use Rattle.rart_below.specs.IndexedMapping.{indexed_children, indexed_in_order};
 
@@ -100,6 +100,8 @@ impl<C: Drop> NodeMapping<C> for IndexedMapping<C> {
 
     ghost left = { children_from };
 
+    ghost before = { children_below };
+
     fn seek_child(&self, byte: u8) -> Option<&C> {
         child_in(&self.children.slots, self.index[byte as usize] as usize)
     }
@@ -172,6 +174,17 @@ impl<C: Drop> NodeMapping<C> for IndexedMapping<C> {
         let (byte, child) = self.next_from(*from)?;
         *from = usize::from(byte) + 1;
         Some((byte, child))
+    }
+
+    #[inline]
+    fn cursor_below(&self, end: usize) -> usize {
+        end
+    }
+
+    fn prev_child(&self, end: &mut usize) -> Option<&C> {
+        let byte = self.bytes().greatest_below(*end)?;
+        *end = byte as usize;
+        self.seek_child(byte)
     }
 
     #[inline]

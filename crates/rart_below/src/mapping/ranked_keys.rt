@@ -129,6 +129,7 @@ impl<const WIDTH: usize> RankedKeys<WIDTH> {
         requires { (byte : ℕ) → rank byte self.now.items ≤ byte }
         ensures value { result ≡ rank from self.now.items }
         ensures fits { result ≤ length self.now.items }
+        ensures all { 255 < from → result ≡ length self.now.items }
     {
         if from > usize::from(u8::MAX) {
             return rank_past(self.as_slice(), from);

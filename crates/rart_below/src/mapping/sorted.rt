@@ -1,6 +1,6 @@
 // Ported from rart 0.11.0 (Apache-2.0), and rewritten.
 //! The mapping of width 4 and 16: bytes in ascending order, with a child beside each.
-ghost use Rattle.std.specs.Prelude.{◌≡◌, ◌≤◌, [], None, drop, length, IsTrue};
+ghost use Rattle.std.specs.Prelude.{◌≡◌, ◌≤◌, [], None, drop, take, length, IsTrue};
 ghost use Rattle.rart_below.specs.ByteSets.{AreBytesOfBoth};
 ghost use Rattle.rart_below.specs.Layouts.{SameBytes};
 ghost use Rattle.rart_below.specs.SortedKeyedMapping.{sorted_children, sorted_in_order};
@@ -87,6 +87,8 @@ impl<C: Drop, const WIDTH: usize> NodeMapping<C> for SortedKeyedMapping<C, WIDTH
 
     ghost left = { drop };
 
+    ghost before = { take };
+
     fn seek_child(&self, byte: u8) -> Option<&C> {
         let place = self.keys.place_of(byte)?;
         self.children.slots[place].as_ref()
@@ -169,6 +171,21 @@ impl<C: Drop, const WIDTH: usize> NodeMapping<C> for SortedKeyedMapping<C, WIDTH
         } else {
             None
         }
+    }
+
+    #[inline]
+    fn cursor_below(&self, end: usize) -> usize {
+        self.keys.rank_from(end)
+    }
+
+    #[inline(always)]
+    fn prev_child(&self, end: &mut usize) -> Option<&C> {
+        let places = self.keys.len().min(*end);
+        if places == 0 {
+            return None;
+        }
+        *end = places - 1;
+        self.children.slots[places - 1].as_ref()
     }
 
     #[inline]

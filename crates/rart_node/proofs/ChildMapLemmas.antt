@@ -1,12 +1,12 @@
 -- What maps children commutes with what is done to one under its byte.
-use Rattle.std.proofs.Common.{◌≡◌, ℕ, List, [], ◌∷◌, true, false, not, Option, Some, None, cond, drop, length, refl, ap}
+use Rattle.std.proofs.Common.{◌≡◌, ℕ, List, [], ◌∷◌, ◌++◌, true, false, not, Option, Some, None, cond, drop, length, refl, ap, ◌∙◌}
 use Rattle.std.specs.Prelude.{◌==◌, nat_le, nat_lt, is_some}
 use Rattle.std.specs.Option.{option_map}
-use Rattle.std.proofs.lemmas.List.{drop-map, length-map}
+use Rattle.std.proofs.lemmas.List.{drop-map, length-map, map-append}
 use Rattle.std.specs.Ordering.{nat_cmp, eq_by_cmp}
 use Rattle.std.specs.FinMap.Entries.{find, put, by_order}
 use Rattle.std.specs.declared.cmp.Ordering.TheVariants.{Less, Equal, Greater}
-use Rattle.rart_below.specs.Children.{child_at, with_child, without_child, children_from, first_of, map_children, TakesEntry, TakesFirst}
+use Rattle.rart_below.specs.Children.{child_at, with_child, without_child, children_below, children_from, first_of, map_children, IsLastOf, TakesEntry, TakesFirst, TakesLast}
 use Rattle.rart_below.proofs.MoveLemmas.{children_from-zero}
 use Rattle.rart_node.specs.Contents.{left_at}
 
@@ -68,6 +68,27 @@ module _ {X Y : Type 0} (f : X → Y) where
         | true ↦ ap (λ rest. (e.0, f e.1) ∷ rest) (children_from-map_children n es)
         | false ↦ children_from-map_children n es
       ]
+
+  pub children_below-map_children : (n : ℕ) (es : List (ℕ × X))
+      → children_below n (map_children f es) ≡ map_children f (children_below n es)
+  children_below-map_children n [] = refl
+  children_below-map_children n (e ∷ es) =
+      elim (nat_lt e.0 n) as (λ t. cond t ((e.0, f e.1) ∷ children_below n (map_children f es))
+      (children_below n (map_children f es))
+      ≡ map_children f (cond t (e ∷ children_below n es) (children_below n es))) [
+        | true ↦ ap (λ rest. (e.0, f e.1) ∷ rest) (children_below-map_children n es)
+        | false ↦ children_below-map_children n es
+      ]
+
+  -- the last that is taken is the last
+  pub last-map_children : (before : List (ℕ × X)) (o : Option X) (after : List (ℕ × X))
+      → TakesLast before o after → IsLastOf (map_children f before) (option_map f o)
+  last-map_children before None after takes = ap (map_children f) takes.0
+  last-map_children before (Some x) after takes = (
+    map_children f after,
+    takes.0,
+    ap (map_children f) takes.1 ∙ map-append (λ e. (e.0, f e.1)) after ((takes.0, x) ∷ []),
+  )
 
   pub left_at-map_children : (width from : ℕ) (es : List (ℕ × X))
       → left_at width from (map_children f es) ≡ map_children f (left_at width from es)

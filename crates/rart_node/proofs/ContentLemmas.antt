@@ -4,13 +4,13 @@ use Rattle.std.specs.Prelude.{◌↔◌, IsTrue, option_copied}
 use Rattle.std.specs.Borrow.{Bor, MutBor}
 use Rattle.std.specs.Option.{option_map, option_copied_mut, OnSome}
 use Rattle.std.proofs.lemmas.Option.{none-some}
-use Rattle.rart_below.specs.Children.{child_at, with_child, without_child, children_from, first_of, map_children, TakesEntry, TakesFirst, IsAscending as IsRising}
+use Rattle.rart_below.specs.Children.{child_at, with_child, without_child, children_below, children_from, first_of, map_children, IsLastOf, TakesEntry, TakesFirst, TakesLast, IsAscending as IsRising}
 use Rattle.rart_below.specs.Layouts.{entry_copied}
-use Rattle.rart_node.specs.Contents.{Content, content_shape, left_at, Holds}
+use Rattle.rart_node.specs.Contents.{Content, before_at, content_shape, left_at, Holds}
 use Rattle.rart_node.specs.Shape.{Shape, node, node_of, prefix_of, value_of, width_of, children_of, with_children, with_value, with_replaced, with_deleted, with_added, widened, widenings, is_full_at, entries_of-forest_of, IsAscending, IsFull, IsFullAt}
 use Rattle.rart_node.specs.Seen.{Seen, shape_of}
 use Rattle.rart_node.specs.NodeShapes.{seen_node, entry_shape, shapes_of_content, node_of_content, if_in_order}
-use Rattle.rart_node.proofs.ChildMapLemmas.{length-map_children, child_at-map_children, with_child-map_children, without_child-map_children, children_from-map_children, first_of-map_children, left_at-map_children, takes-map_children, takes_entry-map_children}
+use Rattle.rart_node.proofs.ChildMapLemmas.{length-map_children, child_at-map_children, with_child-map_children, without_child-map_children, children_below-map_children, children_from-map_children, first_of-map_children, last-map_children, left_at-map_children, takes-map_children, takes_entry-map_children}
 
 -- a list that ascends is none that stands for disorder
 in_order-ascending : {V : Type 0} (in_order : Bool) (children : List (ℕ × Shape V))
@@ -136,6 +136,28 @@ module _ {V : Type 0} {prefix : List ℕ} {value : Option V} (content : Content 
       left-seen from order ∙ ap (map_children shape_of) is
       ∙ sym (ap (children_from least) (children-ascending order)
       ∙ children_from-map_children shape_of least children_in)
+
+  -- what a walk back takes first is the last of the children below its number
+  pub last-of-all : (from later : ℕ) (o : Option (Seen V)) → IsAscending seen.shape
+      → before_at (content_shape content).width from children_in ≡ children_in
+      → TakesLast (before_at (content_shape content).width from children_in) o
+      (before_at (content_shape content).width later children_in)
+      → IsLastOf (children_of seen.shape) (option_map shape_of o)
+  last-of-all from later o order is takes =
+      subst (λ all. IsLastOf all (option_map shape_of o))
+      (ap (map_children shape_of) is ∙ sym (children-ascending order))
+      (last-map_children shape_of _ o _ takes)
+
+  pub last-seen : (end from later : ℕ) (o : Option (Seen V)) → IsAscending seen.shape
+      → before_at (content_shape content).width from children_in ≡ children_below end children_in
+      → TakesLast (before_at (content_shape content).width from children_in) o
+      (before_at (content_shape content).width later children_in)
+      → IsLastOf (children_below end (children_of seen.shape)) (option_map shape_of o)
+  last-seen end from later o order is takes =
+      subst (λ below. IsLastOf below (option_map shape_of o))
+      (ap (map_children shape_of) is ∙ sym (ap (children_below end) (children-ascending order)
+      ∙ children_below-map_children shape_of end children_in))
+      (last-map_children shape_of _ o _ takes)
 
   -- ---- with another content
   module _ (after : Content (Seen V)) (width : ℕ) (entries : List (ℕ × Seen V))

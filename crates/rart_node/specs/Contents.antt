@@ -1,7 +1,7 @@
 -- What a node holds of its own, and what a content holds, whatever stands for the pointers.
-use Rattle.std.specs.Prelude.{◌≡◌, ℕ, List, [], Bool, true, Option, Some, None, drop, nat_lt, if◌then◌else◌}
+use Rattle.std.specs.Prelude.{◌≡◌, ℕ, List, [], Bool, true, Option, Some, None, drop, take, nat_lt, if◌then◌else◌}
 use Rattle.std.specs.Global.{Box}
-use Rattle.rart_below.specs.Children.{children_from}
+use Rattle.rart_below.specs.Children.{children_below, children_from}
 use Rattle.rart_below.specs.declared.mapping.sorted.SortedKeyedMapping.{SortedKeyedMapping}
 use Rattle.rart_below.specs.declared.mapping.indexed.IndexedMapping.{IndexedMapping}
 use Rattle.rart_below.specs.declared.mapping.direct.DirectMapping.{DirectMapping}
@@ -19,6 +19,12 @@ use Rattle.rart_node.specs.declared.wide_box.WideBox.{WideBox}
 abbrev pub left_at : {C : Type 0} → ℕ → ℕ → List (ℕ × C) → List (ℕ × C)
 left_at width from children =
     if nat_lt width 17 then drop from children else children_from from children
+
+-- the children that a walk back over those of this width has left: of few, which are sorted, those
+-- before a place, else those below a byte
+abbrev pub before_at : {C : Type 0} → ℕ → ℕ → List (ℕ × C) → List (ℕ × C)
+before_at width end children =
+    if nat_lt width 17 then take end children else children_below end children
 
 -- the value, where there is one: the half of the number beside it says nothing
 abbrev pub held_value : {V : Type 0} → Held V → Option V

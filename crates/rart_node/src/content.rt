@@ -4,10 +4,10 @@ ghost use Rattle.std.specs.Prelude.{◌≡◌, ◌<◌, ◌+◌, ◌↔◌, None
 ghost use Rattle.std.specs.Borrow.{sem};
 ghost use Rattle.std.specs.Option.{option_copied_mut};
 ghost use Rattle.rart_below.specs.ByteSets.{AreBytesOf, AreBytesOfBoth};
-ghost use Rattle.rart_below.specs.Children.{child_at, children_from, first_of, with_child, without_child, TakesEntry, TakesFirst};
+ghost use Rattle.rart_below.specs.Children.{child_at, children_below, children_from, first_of, with_child, without_child, TakesEntry, TakesFirst, TakesLast};
 ghost use Rattle.rart_below.specs.Layouts.{entry_copied};
 ghost use Rattle.rart_below.specs.SortedKeyedMapping.{sorted_children, sorted_in_order};
-ghost use Rattle.rart_node.specs.Contents.{content_shape, left_at, Holds};
+ghost use Rattle.rart_node.specs.Contents.{before_at, content_shape, left_at, Holds};
 ghost use Rattle.rart_node.specs.Shape.{IsFullAt, is_full_at, wider, widened};
 
 use crate::node_ref::NodeRef;
@@ -144,6 +144,30 @@ impl<P: Partial, V: Drop> Content<P, V> {
             (left_at (content_shape self.now).width from.new (content_shape self.now).children) }
     {
         call_mapping!(self, None, next_entry(from))
+    }
+
+    /// Where a walk back over the children below a number begins.
+    pub(crate) fn cursor_below(&self, end: usize) -> usize
+        requires { IsTrue (content_shape self.now).in_order }
+        ensures below { before_at (content_shape self.now).width result
+            (content_shape self.now).children
+            ≡ children_below end (content_shape self.now).children }
+        ensures all { 255 < end → before_at (content_shape self.now).width result
+            (content_shape self.now).children ≡ (content_shape self.now).children }
+    {
+        call_mapping!(self, 0, cursor_below(end))
+    }
+
+    /// Takes the last child of a walk back.
+    #[inline(always)]
+    pub(crate) fn prev_child(&self, end: &mut usize) -> Option<&NodeRef<P, V>>
+        requires { IsTrue (content_shape self.now).in_order }
+        ensures { TakesLast
+            (before_at (content_shape self.now).width end.old (content_shape self.now).children)
+            (option_copied result)
+            (before_at (content_shape self.now).width end.new (content_shape self.now).children) }
+    {
+        call_mapping!(self, None, prev_child(end))
     }
 
     /// The bytes that have a child.

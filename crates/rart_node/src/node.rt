@@ -1,9 +1,9 @@
 // Ported from rart 0.11.0 (Apache-2.0), and rewritten.
 //! The node: a prefix, an optional value, and children under bytes.
-ghost use Rattle.std.specs.Prelude.{◌≡◌, ◌==◌, ◌+◌, ◌↔◌, ℕ, IsErrOf, IsOk, IsSome, IsTrue, IfOk, OnOk, OnErr, Some, None, [], length, not};
+ghost use Rattle.std.specs.Prelude.{◌≡◌, ◌<◌, ◌==◌, ◌+◌, ◌↔◌, ℕ, IsErrOf, IsOk, IsSome, IsTrue, IfOk, OnOk, OnErr, Some, None, [], length, not};
 ghost use Rattle.std.specs.Option.{option_map, option_copied};
 ghost use Rattle.rart_below.specs.ByteSets.{AreBytesOf, AreBytesOfBoth};
-ghost use Rattle.rart_below.specs.Children.{child_at, children_from, first_of, TakesEntry, TakesFirst};
+ghost use Rattle.rart_below.specs.Children.{child_at, children_below, children_from, first_of, IsLastOf, TakesEntry, TakesFirst};
 ghost use Rattle.rart_below.specs.Clones.{ClonesEqual};
 ghost use Rattle.rart_node.specs.Contents.{left_at};
 ghost use Rattle.rart_node.specs.Seen.{shape_of};
@@ -202,6 +202,19 @@ impl<P: Partial, V: Drop> VersionedNode<P, V> {
             node: self,
             from: self.content.cursor_from(least),
         }
+    }
+
+    /// The pointer of the greatest byte that is below the number: below 256, of all. rart has no
+    /// such call.
+    pub fn last_child_below(&self, end: usize) -> Option<&NodeRef<P, V>>
+        requires { IsAscending self.now.shape }
+        ensures below { IsLastOf (children_below end (children_of self.now.shape))
+            (option_map (λ child. child.now.shape) result) }
+        ensures all { 255 < end → IsLastOf (children_of self.now.shape)
+            (option_map (λ child. child.now.shape) result) }
+    {
+        let mut cursor = self.content.cursor_below(end);
+        self.content.prev_child(&mut cursor)
     }
 
     /// The bytes that have a child. rart has no such call.

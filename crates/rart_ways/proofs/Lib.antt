@@ -1,8 +1,10 @@
+pub mod BackLemmas
 pub mod BesideLemmas
 pub mod CutLemmas
 pub mod EditLemmas
 pub mod FromLemmas
 pub mod InsertionStepLemmas
+pub mod LastLemmas
 pub mod LeastLemmas
 pub mod LentPathLemmas
 pub mod LookupPathLemmas
@@ -11,4 +13,5 @@ pub mod RemovalLemmas
 pub mod SeekStartLemmas
 pub mod SeekStepLemmas
 pub mod StepLemmas
+pub mod ToLemmas
 pub mod TurnLemmas

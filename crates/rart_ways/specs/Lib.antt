@@ -6,5 +6,6 @@ pub mod Paths
 pub mod Plans
 pub mod Removals
 pub mod Searches
+pub mod Lasts
 pub mod Starts
 pub mod Steps

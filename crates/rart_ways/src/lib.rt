@@ -18,4 +18,4 @@ pub use removal::{Removed, remove_below};
 pub use search::{
     Passed, get_below, longest_prefix_match, path_length, step, visit_prefix_matches,
 };
-pub use seeking::{first_from, has_within};
+pub use seeking::{first_from, has_within, last_to};

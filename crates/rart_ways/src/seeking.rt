@@ -1,5 +1,6 @@
 // Ported from rart 0.11.0 (Apache-2.0), and rewritten.
-//! The way down a tree to the first of the pairs whose keys meet a lower bound.
+//! The way down a tree to the first of the pairs whose keys meet a lower bound, and to the last of
+//! those whose keys meet an upper one.
 //!
 //! It takes no memory: the key is written, prefix by prefix, into room that the caller has.
 ghost use Rattle.std.specs.Prelude.{◌≡◌, ◌+◌, ◌^◌, ◌-◌, ◌<◌, Some, length};
@@ -11,13 +12,18 @@ ghost use Rattle.rart_node.specs.Trees.{IsTree, pairs_of, path_bound};
 ghost use Rattle.rart_walks.specs.Parts.{start_of};
 ghost use Rattle.rart_walks.specs.Walks.{AreShort};
 ghost use Rattle.rart_ways.specs.Firsts.{Finds, first_passes, found_length};
+ghost use Rattle.rart_ways.specs.Lasts.{FindsLast, pairs_reaching, pairs_to};
 ghost use Rattle.rart_ways.specs.Starts.{pairs_from, pairs_meeting};
 
+mod end;
+mod greatest;
 mod least;
 mod start;
 mod within;
 
-use least::least;
+use end::{Last, find_end};
+use greatest::greatest;
+use least::{least, write_at};
 use rart_below::Partial;
 use rart_node::{NodeRef, Work};
 use start::find_start;
@@ -75,6 +81,52 @@ fn first_behind<'a, P: Partial, V: Drop>(
 {
     let (path, start) = find_start(root, low, edge, work)?;
     Some(least(start, path, room, work))
+}
+
+/// The last of the pairs below a pointer whose keys meet an upper bound, told as by `first_from`:
+/// at most one node is entered for each byte of the bound and of the key, and one; and the first at
+/// least. It takes no memory.
+pub fn last_to<'a, P: Partial, V: Drop>(
+    root: &'a NodeRef<P, V>,
+    high: Bound<&[u8]>,
+    room: &mut [u8],
+    work: &mut Work,
+) -> Option<(usize, &'a V)>
+    requires tree { IsTree root.now.shape }
+    requires short { AreShort (Some (2 ^ 64 - 1)) (pairs_of root.now.shape) }
+    ensures last { FindsLast (pairs_reaching (bound_map (λ high. high.now) high.entry)
+        root.now.shape) result room.old room.new }
+    ensures counted { let to = start_of (bound_map (λ high. high.now) high.entry) in
+        CountsUpTo (path_bound root.now.shape to + found_length result) 0 work.old work.new }
+    ensures entered { work.old.entered < work.new.entered }
+{
+    match high {
+        Bound::Included(high) => last_before(root, high, Edge::Included, room, work),
+        Bound::Excluded(high) => last_before(root, high, Edge::Excluded, room, work),
+        Bound::Unbounded => Some(greatest(root.open(work), &[], room, work)),
+    }
+}
+
+/// The last of the pairs up to a string, or before it.
+fn last_before<'a, P: Partial, V: Drop>(
+    root: &'a NodeRef<P, V>,
+    high: &[u8],
+    edge: Edge,
+    room: &mut [u8],
+    work: &mut Work,
+) -> Option<(usize, &'a V)>
+    requires tree { IsTree root.now.shape }
+    requires short { AreShort (Some (2 ^ 64 - 1)) (pairs_of root.now.shape) }
+    ensures last { FindsLast (pairs_to edge high.now root.now.shape) result room.old room.new }
+    ensures counted { CountsUpTo (path_bound root.now.shape high.now + found_length result) 0
+        work.old work.new }
+    ensures entered { work.old.entered < work.new.entered }
+{
+    let (path, last) = find_end(root, high, edge, work)?;
+    match last {
+        Last::Value(value) => Some((write_at(room, 0, path), value)),
+        Last::Below(node) => Some(greatest(node, path, room, work)),
+    }
 }
 
 /// Whether the first of the pairs below a pointer whose keys meet a lower bound meets an upper one.

@@ -45,7 +45,7 @@ pub(crate) fn least<'a, P: Partial, V: Drop>(
 
 /// Writes bytes behind the first ones, if they fit there, and gives where they end. What is behind
 /// that is as before.
-fn write_at(room: &mut [u8], at: usize, bytes: &[u8]) -> usize
+pub(crate) fn write_at(room: &mut [u8], at: usize, bytes: &[u8]) -> usize
     requires { at + length bytes.now < 2 ^ 64 }
     ensures end { result ≡ at + length bytes.now }
     ensures written { result ≤ length room.old

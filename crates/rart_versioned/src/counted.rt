@@ -7,6 +7,7 @@ mod first;
 mod get_mut;
 mod insert;
 mod intersect;
+mod last;
 mod longest;
 mod lookup;
 pub(crate) mod missing;

@@ -8,6 +8,7 @@ mod get_mut;
 mod insert;
 mod intersect;
 mod iterators;
+mod last;
 mod longest;
 mod lookup;
 mod remove;

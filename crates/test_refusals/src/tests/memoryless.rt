@@ -49,6 +49,7 @@ fn read(
         base.first_slice(Bound::Excluded(b"ab"), &mut room)
             .is_some()
     );
+    assert!(rt; base.last_slice(Bound::Unbounded, &mut room).is_some());
     assert!(rt; matches!(base.longest_prefix_match_k(absent), Ok(None)));
     base.prefix_match_for_each_k(
         present,

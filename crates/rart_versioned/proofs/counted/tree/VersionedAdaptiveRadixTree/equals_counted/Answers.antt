@@ -1,4 +1,4 @@
-use Rattle.std.proofs.Common.{arith, ◌≡◌, ◌↔◌, [], IsTrue, subst}
+use Rattle.std.proofs.Common.{◌≡◌, ◌↔◌, [], IsTrue, subst}
 use Rattle.std.proofs.lemmas.Result.{IfOk-weaker}
 use Rattle.rart_node.proofs.CountingLemmas.{entered-then}
 use Rattle.rart_maps.specs.ChangeLists.{changes}

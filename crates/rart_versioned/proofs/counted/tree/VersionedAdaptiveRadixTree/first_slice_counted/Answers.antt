@@ -2,28 +2,21 @@ use Rattle.std.proofs.Common.{◌≡◌, ℕ, List, [], ◌∷◌, arith, refl, 
 use Rattle.std.specs.Prelude.{◌-◌, ◌^◌, Some, filter, length}
 use Rattle.std.specs.Ordering.{as_partial_cmp}
 use Rattle.std.specs.Range.Bound.{bound_map, bounds_contain}
-use Rattle.std.specs.declared.ops.Bound.{Bound}
-use Rattle.std.specs.declared.ops.Bound.TheVariants.{Included, Excluded, Unbounded}
+use Rattle.std.specs.declared.ops.Bound.TheVariants.{Unbounded}
 use Rattle.rart_below.specs.Bytes.{byte_order}
 use Rattle.rart_node.specs.Seen.{shape_of}
 use Rattle.rart_maps.proofs.RangeLemmas.{from, up_to, within-from}
-use Rattle.rart_maps.specs.Bounds.{bound_string}
 use Rattle.rart_ways.specs.Firsts.{Finds}
 use Rattle.rart_node.proofs.CountingLemmas.{counts-most, path-most}
 use Rattle.rart_walks.specs.Parts.{start_of}
 use Rattle.rart_versioned.proofs.VersionIterationLemmas.{no-pairs, root-sound, root-pairs, root-short}
-use Rattle.rart_versioned.proofs.VersionVisitLemmas.{none-keyed}
+use Rattle.rart_versioned.proofs.VersionVisitLemmas.{none-keyed, start-is}
 use Rattle.rart_versioned.proofs.counted.tree.VersionedAdaptiveRadixTree.first_slice_counted.Goals as goal
 
 -- without an upper bound all are kept
 up_to-all : {V : Type 0} (list : List (List ℕ × V)) → up_to Unbounded list ≡ list
 up_to-all [] = refl
 up_to-all (pair ∷ list) = ap (λ rest. pair ∷ rest) (up_to-all list)
-
-start-is : (low : Bound (List ℕ)) → start_of low ≡ bound_string low
-start-is (Included low) = refl
-start-is (Excluded low) = refl
-start-is Unbounded = refl
 
 pub first_from-requires-clause-tree : goal.first_from-requires-clause-tree
 first_from-requires-clause-tree g c =

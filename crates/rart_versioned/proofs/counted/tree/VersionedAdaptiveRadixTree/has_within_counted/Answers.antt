@@ -4,24 +4,17 @@ use Rattle.std.specs.Prelude.{◌-◌, ◌^◌, ◌==◌, Some, not, filter}
 use Rattle.std.specs.Ordering.{as_partial_cmp}
 use Rattle.std.specs.Range.Bound.{bound_map, bounds_contain}
 use Rattle.std.specs.declared.ops.Bound.{Bound}
-use Rattle.std.specs.declared.ops.Bound.TheVariants.{Included, Excluded, Unbounded}
 use Rattle.rart_below.specs.Bytes.{byte_order}
 use Rattle.rart_node.specs.Seen.{shape_of}
 use Rattle.rart_maps.proofs.RangeLemmas.{from, from-ascends, is_below, up_to, up_to-first, up_to-past, within-from}
-use Rattle.rart_maps.specs.Bounds.{bound_string}
 use Rattle.rart_maps.specs.FoundLaws.{KeysAscend}
 use Rattle.rart_maps.specs.Pairs.{pairs}
 use Rattle.rart_ways.specs.Firsts.{first_passes}
 use Rattle.rart_node.proofs.CountingLemmas.{counts-most, path-most}
 use Rattle.rart_walks.specs.Parts.{start_of}
 use Rattle.rart_versioned.proofs.VersionIterationLemmas.{no-pairs, root-sound, root-pairs, root-short}
-use Rattle.rart_versioned.proofs.VersionVisitLemmas.{none-keyed}
+use Rattle.rart_versioned.proofs.VersionVisitLemmas.{none-keyed, start-is}
 use Rattle.rart_versioned.proofs.counted.tree.VersionedAdaptiveRadixTree.has_within_counted.Goals as goal
-
-start-is : (low : Bound (List ℕ)) → start_of low ≡ bound_string low
-start-is (Included low) = refl
-start-is (Excluded low) = refl
-start-is Unbounded = refl
 
 -- a list that begins so has an element
 some-not_none : {A : Type 0} (x : A) (xs : List A) → true ≡ not (length (x ∷ xs) == 0)

@@ -1,0 +1,31 @@
+// Ported from rart 0.11.0 (Apache-2.0), and rewritten.
+//! The last of the pairs up to an upper bound, with no count.
+ghost use Rattle.std.specs.Range.Bound.{bound_map};
+ghost use Rattle.std.specs.declared.ops.Bound.TheVariants.{Unbounded};
+ghost use Rattle.rart_maps.specs.Pairs.{within};
+ghost use Rattle.rart_ways.specs.Lasts.{FindsLast};
+
+use crate::counted::VersionedAdaptiveRadixTree;
+use rart_below::KeyTrait;
+use rart_node::Work;
+use std::ops::Bound;
+
+impl<K: KeyTrait, V: Clone + Drop> VersionedAdaptiveRadixTree<K, V> {
+    /// The last of the pairs whose keys meet an upper bound, as `first_slice` tells the first from
+    /// a lower one: how many bytes its key has, and a reference to its value. `None` where there is
+    /// none. It takes no memory. rart has no such call.
+    ///
+    /// ```
+    /// let mut room = [0; 16];
+    /// let newest = log.last_slice(Bound::Included(noon), &mut room);
+    /// ```
+    ///
+    /// The key is written to the front of `room`, if it fits there; else what `room` has then is
+    /// not told. Behind the key, and where there is none, `room` is as before.
+    pub fn last_slice(&self, high: Bound<&[u8]>, room: &mut [u8]) -> Option<(usize, &V)>
+        ensures { FindsLast (within self.now.content Unbounded
+            (bound_map (λ high. high.now) high.entry)) result room.old room.new }
+    {
+        self.last_slice_counted(high, room, &mut Work::new())
+    }
+}

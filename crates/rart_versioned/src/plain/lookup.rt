@@ -2,7 +2,7 @@
 //! Lookup with no count.
 ghost use Rattle.std.specs.Prelude.{◌≡◌};
 ghost use Rattle.std.specs.Option.{option_copied};
-ghost use Rattle.rart_maps.specs.Versions.{value_at};
+ghost use Rattle.rart_maps.specs.Versions.{has_key, value_at};
 
 use crate::counted::VersionedAdaptiveRadixTree;
 use rart_below::KeyTrait;
@@ -36,5 +36,30 @@ impl<K: KeyTrait, V: Clone + Drop> VersionedAdaptiveRadixTree<K, V> {
         ensures { option_copied result ≡ value_at self.now key.now }
     {
         self.get_slice_counted(key, &mut Work::new())
+    }
+
+    /// Whether a key is there. It takes no memory. rart has no such call.
+    ///
+    /// ```
+    /// let is_listed = list.contains_key_k(&tea);
+    /// ```
+    pub fn contains_key_k(&self, key: &K) -> bool
+        ensures { result ≡ has_key self.now (K.bytes key.now) }
+    {
+        self.contains_slice(key.as_ref())
+    }
+
+    /// As `contains_key_k`, the key by value.
+    pub fn contains_key(&self, key: K) -> bool
+        ensures { result ≡ has_key self.now (K.bytes key) }
+    {
+        self.contains_key_k(&key)
+    }
+
+    /// As `contains_key_k`, the key by its bytes.
+    pub fn contains_slice(&self, key: &[u8]) -> bool
+        ensures { result ≡ has_key self.now key.now }
+    {
+        self.get_slice(key).is_some()
     }
 }

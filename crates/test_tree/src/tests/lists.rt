@@ -57,6 +57,8 @@ fn assert_lists(
         );
     }
     assert_eq!(rt; values_listed(tree)?, all);
+    assert_eq!(rt; tree.count()?, count);
+    assert_eq!(rt; tree.count_under(key(alloc, prefix)?)?, count);
     Ok(())
 }
 

@@ -74,6 +74,10 @@ enum {
     RART_TOO_SMALL = 4,
     // The page has no room for an entry, and a pair is there.
     RART_NO_ENTRIES = 5,
+    // The key is longer than a key may be. Nothing changed.
+    RART_TOO_LONG = 6,
+    // The tree has a key, and how long one may be is set without any. Nothing changed.
+    RART_NOT_EMPTY = 7,
 };
 
 // Whether a change was done: of a key that was there, or of one that wasn't.
@@ -94,6 +98,10 @@ static inline const char *rart_answer_text(rart_answer answer) {
         return "the buffer is too small";
     case RART_NO_ENTRIES:
         return "the page has no room for an entry";
+    case RART_TOO_LONG:
+        return "the key is too long";
+    case RART_NOT_EMPTY:
+        return "the tree has a key";
     default:
         return "no answer";
     }
@@ -109,6 +117,11 @@ enum {
     RART_UNBOUNDED = 2,
 };
 
+enum {
+    // How many bytes a key may have at first.
+    RART_LONGEST_KEY = 1024,
+};
+
 // What a caller owes to each call:
 // - a tree is all zeros, or as a call left it, and is copied nowhere; one that is moved leaves its
 //   old place all zeros;
@@ -119,22 +132,33 @@ enum {
 // - no call is made in a signal handler, nor in a forked child;
 // - rattle_alloc, rattle_realloc and rattle_dealloc are one allocator, safe on each thread that has
 //   trees, and a block is aligned as it is asked for, which is to 16 bytes at most;
-// - a key is at most some 2,000 bytes where a thread has 2 MiB of stack.
+// - a thread has 400 bytes of stack for each byte that a key may have, and 16 KiB: at first 416 KiB.
 
-// Makes copy the same map, its number one greater, and frees what copy was. RART_LAST_NUMBER says
-// that the number can't be raised, RART_NO_MEMORY that memory was refused: copy is as before then.
+// Makes copy the same map, its number one greater, and frees what copy was. Keys may be as long in
+// it. RART_LAST_NUMBER says that the number can't be raised, RART_NO_MEMORY that memory was
+// refused: copy is as before then.
 RART_NONNULL RART_MUST_USE RART_CHANGES(1) RART_CHANGES(2)
 rart_answer rart_snapshot(rart_tree *RART_ALONE tree, rart_tree *RART_ALONE copy);
 
-// Makes copy the same map, its number too, and frees what copy was. RART_NO_MEMORY says that memory
-// was refused: copy is as before then.
+// Makes copy the same map, its number too, and frees what copy was. Keys may be as long in it.
+// RART_NO_MEMORY says that memory was refused: copy is as before then.
 RART_NONNULL RART_MUST_USE RART_CHANGES(1) RART_CHANGES(2)
 rart_answer rart_clone(rart_tree *RART_ALONE tree, rart_tree *RART_ALONE copy);
 
-// Frees what the tree leads to, and leaves it without a key, with this number. RART_NO_MEMORY says
-// that memory was refused: it is as before then.
+// Frees what the tree leads to, and leaves it without a key, with this number, keys as long as at
+// first. RART_NO_MEMORY says that memory was refused: it is as before then.
 RART_NONNULL RART_MUST_USE RART_CHANGES(1)
 rart_answer rart_new_at(rart_tree *tree, uint64_t number);
+
+// How many bytes a key may have: no key of the tree is longer.
+RART_NONNULL RART_MUST_USE RART_CHANGES(1)
+size_t rart_longest_key(rart_tree *tree);
+
+// Sets how many bytes a key may have, of a tree without a key; its number stays. At first it is
+// 1,024. RART_NOT_EMPTY says that there is a key, RART_NO_MEMORY that memory was refused: nothing
+// changed then.
+RART_NONNULL RART_MUST_USE RART_CHANGES(1)
+rart_answer rart_set_longest_key(rart_tree *tree, size_t longest);
 
 // The version's number, which each change raises.
 RART_NONNULL RART_MUST_USE RART_CHANGES(1)
@@ -201,13 +225,15 @@ rart_answer rart_next(
     uint64_t *RART_ALONE value
 );
 
-// Frees what the tree leads to: it has no key then, and number 0.
+// Frees what the tree leads to: it is all zeros then, without a key, its number 0, and keys may be
+// as long as at first.
 RART_NONNULL RART_CHANGES(1)
 void rart_clear(rart_tree *tree);
 
 // Sets a key to a value, the number then one greater. Answers RART_DONE and writes the value that
-// was replaced, or answers RART_ABSENT where the key is new. RART_LAST_NUMBER says that the number
-// can't be raised, RART_NO_MEMORY that memory was refused: nothing changed then.
+// was replaced, or answers RART_ABSENT where the key is new. RART_TOO_LONG says that the key is
+// longer than a key may be, RART_LAST_NUMBER that the number can't be raised, RART_NO_MEMORY that
+// memory was refused: nothing changed then.
 RART_NONNULL RART_MUST_USE RART_CHANGES(1) RART_READS(2, 3) RART_WRITES(5)
 rart_answer rart_insert(
     rart_tree *RART_ALONE tree,
@@ -253,20 +279,31 @@ rart_answer rart_page(
     size_t *RART_ALONE needed
 );
 
-// Makes copy the same map, its number one greater, and frees what copy was. RART_LAST_NUMBER says
-// that the number can't be raised, RART_NO_MEMORY that memory was refused: copy is as before then.
+// Makes copy the same map, its number one greater, and frees what copy was. Keys may be as long in
+// it. RART_LAST_NUMBER says that the number can't be raised, RART_NO_MEMORY that memory was
+// refused: copy is as before then.
 RART_NONNULL RART_MUST_USE RART_CHANGES(1) RART_CHANGES(2)
 rart_answer rart_bytes_snapshot(rart_bytes *RART_ALONE tree, rart_bytes *RART_ALONE copy);
 
-// Makes copy the same map, its number too, and frees what copy was. RART_NO_MEMORY says that memory
-// was refused: copy is as before then.
+// Makes copy the same map, its number too, and frees what copy was. Keys may be as long in it.
+// RART_NO_MEMORY says that memory was refused: copy is as before then.
 RART_NONNULL RART_MUST_USE RART_CHANGES(1) RART_CHANGES(2)
 rart_answer rart_bytes_clone(rart_bytes *RART_ALONE tree, rart_bytes *RART_ALONE copy);
 
-// Frees what the tree leads to, and leaves it without a key, with this number. RART_NO_MEMORY says
-// that memory was refused: it is as before then.
+// Frees what the tree leads to, and leaves it without a key, with this number, keys as long as at
+// first. RART_NO_MEMORY says that memory was refused: it is as before then.
 RART_NONNULL RART_MUST_USE RART_CHANGES(1)
 rart_answer rart_bytes_new_at(rart_bytes *tree, uint64_t number);
+
+// How many bytes a key may have: no key of the tree is longer.
+RART_NONNULL RART_MUST_USE RART_CHANGES(1)
+size_t rart_bytes_longest_key(rart_bytes *tree);
+
+// Sets how many bytes a key may have, of a tree without a key; its number stays. At first it is
+// 1,024. RART_NOT_EMPTY says that there is a key, RART_NO_MEMORY that memory was refused: nothing
+// changed then.
+RART_NONNULL RART_MUST_USE RART_CHANGES(1)
+rart_answer rart_bytes_set_longest_key(rart_bytes *tree, size_t longest);
 
 // The version's number, which each change raises.
 RART_NONNULL RART_MUST_USE RART_CHANGES(1)
@@ -345,13 +382,15 @@ rart_answer rart_bytes_next(
     size_t *RART_ALONE len
 );
 
-// Frees what the tree leads to: it has no key then, and number 0.
+// Frees what the tree leads to: it is all zeros then, without a key, its number 0, and keys may be
+// as long as at first.
 RART_NONNULL RART_CHANGES(1)
 void rart_bytes_clear(rart_bytes *tree);
 
 // Sets a key to a copy of the value, the number then one greater. Answers RART_DONE where a value
-// was replaced, RART_ABSENT where the key is new. RART_LAST_NUMBER says that the number can't be
-// raised, RART_NO_MEMORY that memory was refused: nothing changed then.
+// was replaced, RART_ABSENT where the key is new. RART_TOO_LONG says that the key is longer than a
+// key may be, RART_LAST_NUMBER that the number can't be raised, RART_NO_MEMORY that memory was
+// refused: nothing changed then.
 RART_NONNULL RART_MUST_USE RART_CHANGES(1) RART_READS(2, 3) RART_READS(4, 5)
 rart_answer rart_bytes_insert(
     rart_bytes *RART_ALONE tree,

@@ -45,6 +45,7 @@ static void read_numbers(rart_tree *tree, rart_tree *same, size_t keys) {
     rart_entry entries[2];
     rart_tree copy = {0};
     EXPECT(rart_version(tree) == keys && rart_len(tree) == keys);
+    EXPECT(rart_longest_key(tree) == RART_LONGEST_KEY);
     EXPECT(rart_is_empty(tree) == (keys == 0));
     EXPECT(rart_get(tree, tea, 3, &value) == (keys ? RART_DONE : RART_ABSENT));
     EXPECT(rart_longest(tree, tea, 3, &len, &value) == (keys ? RART_DONE : RART_ABSENT));
@@ -63,6 +64,7 @@ static void read_strings(rart_bytes *tree, rart_bytes *same, size_t keys) {
     rart_bytes copy = {0};
     rart_answer wanted = keys ? RART_DONE : RART_ABSENT;
     EXPECT(rart_bytes_version(tree) == keys && rart_bytes_len(tree) == keys);
+    EXPECT(rart_bytes_longest_key(tree) == RART_LONGEST_KEY);
     EXPECT(rart_bytes_is_empty(tree) == (keys == 0));
     EXPECT(rart_bytes_get(tree, tea, 3, into, 8, &len) == wanted);
     EXPECT(rart_bytes_longest(tree, tea, 3, &key_len, into, 8, &len) == wanted);

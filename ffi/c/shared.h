@@ -40,6 +40,7 @@ struct table {
     uint64_t values[KEYS];
     uint64_t number;
     size_t len;
+    size_t longest;
 };
 
 static TREE trees[TREES];
@@ -175,7 +176,7 @@ unsigned long long requests_refused(void);
 unsigned long long reallocs_refused(void);
 long long blocks_held(void);
 
-static unsigned long long refused;
+static unsigned long long refused, too_long;
 
 // Whether memory was refused, or else that the answer is the wanted one.
 static bool is_refused(rart_answer answer, rart_answer wanted) {
@@ -184,8 +185,16 @@ static bool is_refused(rart_answer answer, rart_answer wanted) {
     return answer == RART_NO_MEMORY;
 }
 
+// The table of a tree as it is at first, but for its number.
+static void begin_table(size_t at, uint64_t number) {
+    memset(&tables[at], 0, sizeof tables[at]);
+    tables[at].number = number;
+    tables[at].longest = RART_LONGEST_KEY;
+}
+
 // What is read of a tree without a walk, and of one key.
 static void expect_state(size_t at, const struct key *key) {
+    EXPECT(CALL(longest_key)(&trees[at]) == tables[at].longest);
     EXPECT(CALL(version)(&trees[at]) == tables[at].number);
     EXPECT(CALL(len)(&trees[at]) == tables[at].len);
     EXPECT(CALL(is_empty)(&trees[at]) == (tables[at].len == 0));
@@ -202,8 +211,10 @@ static rart_answer answer_of_change(size_t at, const struct key *key, bool must_
 }
 
 static void expect_insert(size_t at, const struct key *key, uint64_t value) {
-    rart_answer wanted = answer_of_change(at, key, true);
-    if (!is_refused(insert(at, key, value), wanted) && wanted != RART_LAST_NUMBER) {
+    bool is_long = key->len > tables[at].longest;
+    too_long += is_long;
+    rart_answer wanted = is_long ? RART_TOO_LONG : answer_of_change(at, key, true);
+    if (!is_refused(insert(at, key, value), wanted) && RART_OK(wanted)) {
         tables[at].len += wanted == RART_ABSENT;
         tables[at].number++;
         tables[at].has[key->number] = true;
@@ -242,8 +253,17 @@ static void expect_copy(size_t at, size_t to, bool is_snapshot) {
 static void expect_new(size_t at, uint64_t number) {
     struct key key = random_key();
     if (!is_refused(CALL(new_at)(&trees[at], number), RART_DONE)) {
-        memset(&tables[at], 0, sizeof tables[at]);
-        tables[at].number = number;
+        begin_table(at, number);
+    }
+    expect_state(at, &key);
+}
+
+// Only of a tree without a key can it be set how long keys may be.
+static void expect_longest_key(size_t at, size_t longest) {
+    struct key key = random_key();
+    rart_answer wanted = tables[at].len > 0 ? RART_NOT_EMPTY : RART_DONE;
+    if (!is_refused(CALL(set_longest_key)(&trees[at], longest), wanted) && RART_OK(wanted)) {
+        tables[at].longest = longest;
     }
     expect_state(at, &key);
 }
@@ -251,7 +271,7 @@ static void expect_new(size_t at, uint64_t number) {
 static void expect_clear(size_t at) {
     struct key key = random_key();
     CALL(clear)(&trees[at]);
-    memset(&tables[at], 0, sizeof tables[at]);
+    begin_table(at, 0);
     expect_state(at, &key);
 }
 
@@ -289,6 +309,9 @@ static void make_call(size_t at) {
     struct key key = random_key();
     if (what < 1) {
         expect_new(at, random_below(8) > 0 ? 0 : UINT64_MAX - random_below(1000));
+        expect_longest_key(at, random_below(4) > 0 ? MOST_BYTES : random_below(MOST_BYTES));
+    } else if (what < 2) {
+        expect_longest_key(at, MOST_BYTES);
     } else if (what < 20) {
         expect_copy(at, other, random_below(2) == 0);
     } else if (what < 40) {
@@ -323,12 +346,30 @@ static void run_out(void) {
     expect_new(1, 3);
 }
 
+// A key that is longer than a key may be is refused, and changes nothing.
+static void run_long(void) {
+    const struct key none = key_of(0), tea = key_of(1);
+    expect_longest_key(2, 0);
+    expect_insert(2, &tea, 7);
+    expect_insert(2, &none, 7);
+    expect_longest_key(2, MOST_BYTES);
+    expect_copy(2, 3, true);
+    expect_insert(3, &tea, 7);
+    EXPECT(too_long == 2);
+    expect_clear(2);
+    expect_clear(3);
+}
+
 // Makes random calls. The first word is how many, 100,000 without it; with a second one new block
 // in that many is refused, and some that are to be longer. Each refusal refuses one call, and at
 // the end no block is left.
 static int compare(int count, char **words, const char *values) {
     unsigned long long calls = count > 1 ? strtoull(words[1], NULL, 10) : 100000;
+    for (size_t at = 0; at < TREES; at++) {
+        begin_table(at, 0);
+    }
     run_out();
+    run_long();
     refuse_one_in(count > 2 ? strtoull(words[2], NULL, 10) : 0);
     for (unsigned long long call = 0; call < calls; call++) {
         make_call(random_below(TREES));

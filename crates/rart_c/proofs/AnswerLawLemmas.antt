@@ -127,7 +127,10 @@ first_strings_tell (pair ∷ pairs) answer before after was is told =
     (cases_lt (length before.0) (length pair.0))
 
 pub refusals_tell : RefusalsTell
-refusals_tell answer = (λ refused. refused, λ refused. refused)
+refusals_tell answer = (
+  (λ refused. refused, λ refused. refused),
+  (λ refused. refused, λ refused. refused),
+)
 
 -- Entries of pairs whose keys stand in some bytes, from where the first begins, show these pairs.
 shown-from : (front : List ℕ) (page : List (List ℕ × ℕ)) (behind : List ℕ)

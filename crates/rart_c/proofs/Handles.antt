@@ -22,7 +22,7 @@ use denote.Steps.{nothing}
 use Rattle.core.specs.Ptr.{points_to}
 use Rattle.std.proofs.GlobalToken.{dealloc_token-Testable}
 use Rattle.rart_c.proofs.Parts.{boxed}
-use Rattle.rart_maps.specs.Versions.{Version, empty_at}
+use Rattle.rart_c.specs.Trees.{Tree, tree_at}
 use Rattle.rart_c.specs.Owned.{held}
 use Rattle.rart_c.specs.contracts.table.Table as table
 
@@ -39,14 +39,14 @@ module _ (V : RattleType) (clones : Ghosts V.Denot) where
   module _ {M : Type 1} {𝓤 : Ura M} {𝓛 : Logic 𝓤} {K : Type 0} {Γ : List
       (Item 𝓤)} {G : Goal 𝓤 𝓛.H} where
     pub nothing_held : K → (a : Global)
-        → Step K 𝓛 (‵ (held V clones a null_ptr (empty_at 0)) ∷ Γ) G Γ G
+        → Step K 𝓛 (‵ (held V clones a null_ptr (tree_at 0)) ∷ Γ) G Γ G
     nothing_held t a = step (λ rest.
-        nothing t $ fpack t (empty_at {V = V.Denot} 0 ≡ empty_at 0) (λ _. ftrue) refl $ rest)
+        nothing t $ fpack t (tree_at {V = V.Denot} 0 ≡ tree_at 0) (λ _. ftrue) refl $ rest)
 
     -- what is held tells whether the pointer is null, and it can be compared with null where it
     -- isn't
-    pub either : K → (a : Global) (p : Ptr) (x : Version V.Denot)
-        → (p ≡ null_ptr → x ≡ empty_at 0 → Seq K 𝓛 Γ G)
+    pub either : K → (a : Global) (p : Ptr) (x : Tree V.Denot)
+        → (p ≡ null_ptr → x ≡ tree_at 0 → Seq K 𝓛 Γ G)
         → ((b o : ℕ) → p ≡ block_ptr b o → Testable (block_ptr b o)
         → Seq K 𝓛 (‵ (boxed Kept Heap heap_good ghosts a (block_ptr b o) x) ∷ Γ) G)
         → Seq K 𝓛 (‵ (held V clones a p x) ∷ Γ) G

@@ -2,6 +2,7 @@ pub mod AnswerLawLemmas
 pub mod EmptyLemmas
 pub mod Handles
 pub mod LengthLemmas
+pub mod LimitLemmas
 pub mod PageLemmas
 pub mod Parts
 pub mod Pointers

@@ -1,11 +1,11 @@
 -- Laws that show what the answers tell: by them and by what is written a caller knows what was
 -- there.
 use Rattle.std.specs.Prelude.{◌≡◌, ◌+◌, ◌<◌, ◌==◌, ◌↔◌, ◌⊎◌, ℕ, List, [], ◌∷◌, Option, Some, None, drop, if◌then◌else◌, length, take}
-use Rattle.rart_c.specs.Answers.{IsRefused, Tells}
+use Rattle.rart_c.specs.Answers.{IsRefused, IsRefusedKey, Tells}
 use Rattle.rart_c.specs.Firsts.{ReadsFirst, TellsFirst}
 use Rattle.rart_c.specs.Pages.{TellsPage, WritesPage, first_length, keys_of}
 use Rattle.rart_c.specs.Reads.{Reads}
-use Rattle.rart_c.specs.declared.answer.TheConstants.{DONE, ABSENT, LAST_NUMBER, NO_MEMORY, NO_ENTRIES, TOO_SMALL}
+use Rattle.rart_c.specs.declared.answer.TheConstants.{DONE, ABSENT, LAST_NUMBER, NO_MEMORY, NO_ENTRIES, TOO_LONG, TOO_SMALL}
 use Rattle.rart_c.specs.declared.paging.RartEntry.{RartEntry}
 
 -- The value is what is written, and there is none where nothing is. No other answer is told.
@@ -57,10 +57,12 @@ FirstStringsTell = (pairs : List (List ℕ × List ℕ)) (answer : ℕ)
     × (drop after.1 after.0 ≡ drop after.1 before.0)
     × (drop is.1 is.0 ≡ drop is.1 was.0) × IsOfRead answer
 
--- A change is refused by two answers, and by no other.
+-- A change is refused by two answers, and by no other, but for a third where it sets a key.
 abbrev pub RefusalsTell : Type 0
 RefusalsTell = (answer : ℕ)
-    → IsRefused answer ↔ ((answer ≡ LAST_NUMBER) ⊎ (answer ≡ NO_MEMORY))
+    → (IsRefused answer ↔ ((answer ≡ LAST_NUMBER) ⊎ (answer ≡ NO_MEMORY)))
+    × (IsRefusedKey answer
+    ↔ ((answer ≡ TOO_LONG) ⊎ ((answer ≡ LAST_NUMBER) ⊎ (answer ≡ NO_MEMORY))))
 
 -- the pairs that entries show: of each the bytes from where the one before ends to where it ends,
 -- and its value

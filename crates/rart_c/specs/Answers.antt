@@ -1,6 +1,6 @@
 -- What the numbers that exports answer say.
 use Rattle.std.specs.Prelude.{◌≡◌, ℕ, ◌⊎◌, Bool, true, false, Option, Some, None}
-use Rattle.rart_c.specs.declared.answer.TheConstants.{DONE, ABSENT, LAST_NUMBER, NO_MEMORY}
+use Rattle.rart_c.specs.declared.answer.TheConstants.{DONE, ABSENT, LAST_NUMBER, NO_MEMORY, TOO_LONG}
 use Rattle.rart_c.specs.declared.answer.Refusal.{Refusal}
 use Rattle.rart_c.specs.declared.answer.Refusal.TheVariants.{LastNumber, NoMemory}
 use Rattle.rart_maps.specs.Versions.{Version, HasRoom}
@@ -19,6 +19,10 @@ told_there false = ABSENT
 -- The answer says that the call was not done.
 abbrev pub IsRefused : ℕ → Type 0
 IsRefused answer = (answer ≡ LAST_NUMBER) ⊎ (answer ≡ NO_MEMORY)
+
+-- The same of a call that sets a key, which may be longer than a key may be.
+abbrev pub IsRefusedKey : ℕ → Type 0
+IsRefusedKey answer = (answer ≡ TOO_LONG) ⊎ IsRefused answer
 
 -- the number that says so
 abbrev pub number_of : Refusal → ℕ

@@ -11,18 +11,18 @@ use Rattle.rart_c.specs.contracts.handle.RartTree as handle
 use Rattle.rart_c.specs.contracts.table.Table as table
 use Rattle.rart_c.specs.declared.bytes.handle.RartBytes.{RartBytes}
 use Rattle.rart_c.specs.declared.handle.RartTree.{RartTree}
-use Rattle.rart_maps.specs.Versions.{Version}
+use Rattle.rart_c.specs.Trees.{Tree}
 
--- the last version of the table; what it showed before, where it has none
-abbrev pub lends : MutBor RartTree → Option (MutBor (Version ℕ)) → Fml
+-- the last tree of the table; what it showed before, where it has none
+abbrev pub lends : MutBor RartTree → Option (MutBor (Tree ℕ)) → Fml
 lends tree lent =
     LendsIf handle.the_row (table.the_row u64 number.ghosts) tree lent
-    (λ version. record tree.now { shows = version }) tree.now
+    (λ last. record tree.now { shows = last }) tree.now
 
-abbrev pub lends_bytes : MutBor RartBytes → Option (MutBor (Version (List ℕ))) → Fml
+abbrev pub lends_bytes : MutBor RartBytes → Option (MutBor (Tree (List ℕ))) → Fml
 lends_bytes tree lent =
     LendsIf bytes_handle.the_row (table.the_row bytes.the_row bytes_clone.ghosts) tree lent
-    (λ version. record tree.now { shows = version }) tree.now
+    (λ last. record tree.now { shows = last }) tree.now
 
 -- what it showed before
 abbrev pub rests : MutBor RartTree → Fml

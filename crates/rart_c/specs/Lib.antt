@@ -7,3 +7,5 @@ pub mod Owned
 pub mod Pages
 pub mod Reads
 pub mod Shown
+pub mod Tables
+pub mod Trees

@@ -24,6 +24,12 @@ pub const TOO_SMALL: u8 = 4;
 /// The page has no room for an entry, and a pair is there.
 pub const NO_ENTRIES: u8 = 5;
 
+/// The key is longer than a key may be. Nothing changed.
+pub const TOO_LONG: u8 = 6;
+
+/// The tree has a key, and how long one may be is set without any. Nothing changed.
+pub const NOT_EMPTY: u8 = 7;
+
 /// Why a call isn't done.
 #[derive(Drop)]
 pub(crate) enum Refusal {

@@ -1,6 +1,7 @@
 //! Trees whose values are byte strings.
 pub(crate) mod changing;
 pub(crate) mod handle;
+pub(crate) mod limits;
 pub(crate) mod reading;
 #[cfg(test)]
 mod tests;

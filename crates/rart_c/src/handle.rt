@@ -1,25 +1,25 @@
-//! A tree as C holds it: one pointer, null for the map without a key and number 0.
+//! A tree as C holds it: one pointer, null for a tree as it is at first.
 ghost use Rattle.std.specs.Prelude.{◌≡◌, ℕ, MatchOption};
 ghost use Rattle.std.specs.Borrow.{u64};
 ghost use Rattle.std.specs.Coded.{coded_ℕ};
 ghost use Rattle.rart_c.specs.Owned.{held};
-ghost use Rattle.rart_maps.specs.Versions.{Version, empty_at, version_code};
+ghost use Rattle.rart_c.specs.Trees.{Tree, tree_at, tree_code};
 
 use crate::answer::Refusal;
 use crate::table::Table;
 use crate::unboxed::Unboxed;
-use std::alloc::Global;
+use std::alloc::{AllocError, Global};
 use std::marker::Model;
 use std::ptr::null_mut;
 
-/// A tree as C holds it, its values numbers. Contracts see the version that it shows.
+/// A tree as C holds it, its values numbers. Contracts see the tree that it shows.
 ///
 /// What C hands in is all zeros, or as a call left it; C copies it nowhere.
 #[repr(C)]
 pub struct RartTree {
     at: *mut u8,
     alloc: Global,
-    pub ghost shows: { Version ℕ } by { version_code coded_ℕ },
+    pub ghost shows: { Tree ℕ } by { tree_code coded_ℕ },
 }
 
 impl Model for RartTree {
@@ -33,16 +33,17 @@ impl Drop for RartTree {
 }
 
 impl RartTree {
-    ghost use Rattle.std.specs.Prelude.{◌≡◌, IsSome, IsTrue, MatchOption, MatchResult, OnErr};
+    ghost use Rattle.std.specs.Prelude.{◌≡◌, ◌≤◌, length, IsSome, IsTrue, MatchOption, MatchResult, OnErr, OnOk};
     ghost use Rattle.std.specs.Borrow.{sem};
     ghost use Rattle.rart_c.specs.Answers.{Explains};
     ghost use Rattle.rart_c.specs.Lends.{lends, rests};
     ghost use Rattle.rart_c.specs.Shown.{shown};
+    ghost use Rattle.rart_c.specs.Trees.{tree_at, with_longest};
     ghost use Rattle.rart_maps.specs.Changes.{Changes, removal, replacement};
-    ghost use Rattle.rart_maps.specs.Versions.{HasRoom, empty_at, has_key};
+    ghost use Rattle.rart_maps.specs.Versions.{HasRoom, has_key, has_no_key};
 
     pub(crate) fn empty(alloc: Global) -> RartTree
-        ensures { result.shows ≡ empty_at 0 }
+        ensures { result.shows ≡ tree_at 0 }
     {
         RartTree {
             at: null_mut(),
@@ -67,7 +68,7 @@ impl RartTree {
     }
 
     fn into_box(self) -> Option<Box<Table<u64>>>
-        ensures { MatchOption result (self.shows ≡ empty_at 0)
+        ensures { MatchOption result (self.shows ≡ tree_at 0)
             (λ table. table.value ≡ self.shows) }
     {
         match self.into_parts() {
@@ -77,7 +78,7 @@ impl RartTree {
     }
 
     fn into_parts(self) -> Option<Unboxed<Table<u64>, Global>>
-        ensures { MatchOption result (self.shows ≡ empty_at 0)
+        ensures { MatchOption result (self.shows ≡ tree_at 0)
             (λ table. table.value ≡ self.shows) }
     {
         let RartTree { at, alloc } = self;
@@ -94,7 +95,7 @@ impl RartTree {
     /// Lends the table, if there is one. What is then stored there the handle shows.
     pub(crate) fn table_mut(&mut self) -> Option<&mut Table<u64>>
         ensures* lends { sem 𝓛 (lends self.entry result) }
-        ensures table { MatchOption result (self.old.shows ≡ empty_at 0)
+        ensures table { MatchOption result (self.old.shows ≡ tree_at 0)
             (λ table. table.now ≡ self.old.shows) }
     {
         let at = self.at;
@@ -123,10 +124,12 @@ impl RartTree {
         key: &[u8],
         value: u64,
     ) -> Result<Option<u64>, Refusal>
-        ensures changes { Changes result self.old.shows self.new.shows
-            (replacement self.old.shows key.now value) }
-        ensures room { MatchResult result (λ _. HasRoom self.old.shows 1)
-            (Explains self.old.shows) }
+        requires short { length key.now ≤ self.old.shows.longest }
+        ensures changes { Changes result self.old.shows.version self.new.shows.version
+            (replacement self.old.shows.version key.now value) }
+        ensures room { MatchResult result (λ _. HasRoom self.old.shows.version 1)
+            (Explains self.old.shows.version) }
+        ensures longest { self.new.shows.longest ≡ self.old.shows.longest }
     {
         if let Some(table) = self.table_mut() {
             return table.insert(key, value);
@@ -141,15 +144,32 @@ impl RartTree {
 
     /// Takes a key out, and gives its value. Without the key nothing changes, and it isn't refused.
     pub(crate) fn remove(&mut self, key: &[u8]) -> Result<Option<u64>, Refusal>
-        ensures changes { Changes result self.old.shows self.new.shows
-            (removal self.old.shows key.now) }
-        ensures room { MatchResult result
-            (λ found. IsSome found → HasRoom self.old.shows 1) (Explains self.old.shows) }
-        ensures present { OnErr result (IsTrue (has_key self.old.shows key.now)) }
+        ensures changes { Changes result self.old.shows.version self.new.shows.version
+            (removal self.old.shows.version key.now) }
+        ensures room { MatchResult result (λ found. IsSome found → HasRoom self.old.shows.version 1)
+            (Explains self.old.shows.version) }
+        ensures present { OnErr result (IsTrue (has_key self.old.shows.version key.now)) }
+        ensures longest { self.new.shows.longest ≡ self.old.shows.longest }
     {
         match self.table_mut() {
             None => Ok(None),
             Some(table) => table.remove(key),
         }
+    }
+
+    /// Sets how long a key may be.
+    pub(crate) fn set_longest(&mut self, alloc: Global, longest: usize) -> Result<(), AllocError>
+        requires { IsTrue (has_no_key self.old.shows.version) }
+        ensures set { OnOk result (self.new.shows ≡ with_longest self.old.shows longest) }
+        ensures refused { OnErr result (self.new.shows ≡ self.old.shows) }
+    {
+        if let Some(table) = self.table_mut() {
+            table.set_longest(longest);
+            return Ok(());
+        }
+        let mut table = Box::new(alloc, Table::new_at(alloc, 0))?;
+        table.set_longest(longest);
+        *self = RartTree::of(table);
+        Ok(())
     }
 }

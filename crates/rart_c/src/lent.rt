@@ -1,4 +1,4 @@
-//! What is read of a table that a handle lends, or of none: the map without a key and number 0.
+//! What is read of a table that a handle lends, or of none: the tree as it is at first.
 ghost use Rattle.std.specs.Prelude.{◌≡◌, ◌==◌, length, not, IfOk, MatchOption, MatchResult};
 ghost use Rattle.std.specs.FinMap as finite;
 ghost use Rattle.std.specs.Option.{option_copied};
@@ -8,16 +8,18 @@ ghost use Rattle.rart_c.specs.Answers.{Explains};
 ghost use Rattle.rart_c.specs.Longest.{length_found, longest_length};
 ghost use Rattle.rart_c.specs.Shown.{shown};
 ghost use Rattle.rart_maps.specs.Pairs.{common, within};
-ghost use Rattle.rart_maps.specs.Versions.{HasRoom, empty_at, value_at, with_rise};
+ghost use Rattle.rart_c.specs.Trees.{KeepsLimit, tree_at, with_version};
+ghost use Rattle.rart_maps.specs.Versions.{HasRoom, value_at, with_rise};
 ghost use Rattle.rart_ways.specs.Firsts.{Finds};
 
 use crate::answer::Refusal;
+use crate::limits::LONGEST_KEY;
 use crate::table::Table;
 use std::alloc::{AllocError, Global};
 use std::ops::Bound;
 
 pub(crate) fn version<V: Clone + Drop>(table: Option<&Table<V>>) -> u64
-    ensures { result ≡ (shown table.entry).number }
+    ensures { result ≡ (shown table.entry).version.number }
 {
     match table {
         None => 0,
@@ -26,7 +28,7 @@ pub(crate) fn version<V: Clone + Drop>(table: Option<&Table<V>>) -> u64
 }
 
 pub(crate) fn len<V: Clone + Drop>(table: Option<&Table<V>>) -> usize
-    ensures { result ≡ finite.len (shown table.entry).content }
+    ensures { result ≡ finite.len (shown table.entry).version.content }
 {
     match table {
         None => 0,
@@ -34,9 +36,23 @@ pub(crate) fn len<V: Clone + Drop>(table: Option<&Table<V>>) -> usize
     }
 }
 
+/// How long a key may be. None is longer.
+pub(crate) fn longest_key<V: Clone + Drop>(table: Option<&Table<V>>) -> usize
+    ensures longest { result ≡ (shown table.entry).longest }
+    ensures kept { KeepsLimit (shown table.entry) }
+{
+    match table {
+        None => LONGEST_KEY,
+        Some(table) => {
+            table.know_limit_for_proof();
+            table.longest
+        }
+    }
+}
+
 /// The value of a key, if it is there.
 pub(crate) fn get<'a, V: Clone + Drop>(table: Option<&'a Table<V>>, key: &[u8]) -> Option<&'a V>
-    ensures { option_copied result ≡ value_at (shown table.entry) key.now }
+    ensures { option_copied result ≡ value_at (shown table.entry).version key.now }
 {
     match table {
         None => None,
@@ -49,7 +65,7 @@ pub(crate) fn longest<'a, V: Clone + Drop>(
     table: Option<&'a Table<V>>,
     probe: &[u8],
 ) -> Option<(usize, &'a V)>
-    ensures { length_found result ≡ longest_length (shown table.entry) probe.now }
+    ensures { length_found result ≡ longest_length (shown table.entry).version probe.now }
 {
     match table {
         None => None,
@@ -64,8 +80,8 @@ pub(crate) fn first<'a, V: Clone + Drop>(
     low: Bound<&[u8]>,
     room: &mut [u8],
 ) -> Option<(usize, &'a V)>
-    ensures { Finds (within (shown table.entry).content (bound_map (λ low. low.now) low.entry)
-        Unbounded) result room.old room.new }
+    ensures { Finds (within (shown table.entry).version.content
+        (bound_map (λ low. low.now) low.entry) Unbounded) result room.old room.new }
 {
     match table {
         None => None,
@@ -79,7 +95,7 @@ pub(crate) fn has_within<V: Clone + Drop>(
     low: Bound<&[u8]>,
     high: Bound<&[u8]>,
 ) -> bool
-    ensures { result ≡ not (length (within (shown table.entry).content
+    ensures { result ≡ not (length (within (shown table.entry).version.content
         (bound_map (λ low. low.now) low.entry) (bound_map (λ high. high.now) high.entry)) == 0) }
 {
     match table {
@@ -90,7 +106,8 @@ pub(crate) fn has_within<V: Clone + Drop>(
 
 /// How many keys both have.
 pub(crate) fn common<V: Clone + Drop>(table: Option<&Table<V>>, other: Option<&Table<V>>) -> usize
-    ensures { result ≡ length (common (shown table.entry).content (shown other.entry).content) }
+    ensures { result ≡ length (common (shown table.entry).version.content
+        (shown other.entry).version.content) }
 {
     match (table, other) {
         (Some(table), Some(other)) => table.tree.intersect_count(&other.tree),
@@ -103,9 +120,10 @@ pub(crate) fn snapshot<V: Clone + Drop>(
     alloc: Global,
     table: Option<&Table<V>>,
 ) -> Result<Box<Table<V>>, Refusal>
-    ensures copy { IfOk result (λ copy. copy.value ≡ with_rise (shown table.entry) 1) }
-    ensures room { MatchResult result (λ _. HasRoom (shown table.entry) 1)
-        (Explains (shown table.entry)) }
+    ensures copy { IfOk result (λ copy. copy.value
+        ≡ with_version (shown table.entry) (with_rise (shown table.entry).version 1)) }
+    ensures room { MatchResult result (λ _. HasRoom (shown table.entry).version 1)
+        (Explains (shown table.entry).version) }
 {
     let copy = match table {
         None => Table::new_at(alloc, 1),
@@ -122,7 +140,7 @@ pub(crate) fn clone<V: Clone + Drop>(
     alloc: Global,
     table: Option<&Table<V>>,
 ) -> Result<Option<Box<Table<V>>>, AllocError>
-    ensures { IfOk result (λ copy. MatchOption copy (shown table.entry ≡ empty_at 0)
+    ensures { IfOk result (λ copy. MatchOption copy (shown table.entry ≡ tree_at 0)
         (λ copy. copy.value ≡ shown table.entry)) }
 {
     let Some(table) = table else {

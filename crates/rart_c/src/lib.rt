@@ -11,6 +11,7 @@ mod changing;
 mod handle;
 mod laws;
 mod lent;
+mod limits;
 mod paging;
 mod reading;
 mod table;

@@ -53,7 +53,7 @@ pub extern "C" fn rart_page(
     needed: &mut usize,
 ) -> u8
     ensures page { (left : List (List ℕ × ℕ))
-        × WritesPage (within tree.old.shows.content (bound_of low_kind low.now)
+        × WritesPage (within tree.old.shows.version.content (bound_of low_kind low.now)
         (bound_of high_kind high.now)) left count.new bytes.new entries.old entries.new
         × TellsPage count.new (length entries.old) left result needed.old needed.new }
     ensures same { tree.new.shows ≡ tree.old.shows }
@@ -105,8 +105,9 @@ fn write_page(
     entries: &mut [RartEntry],
 ) -> (usize, Option<usize>)
     ensures { (left : List (List ℕ × ℕ))
-        × WritesPage (within (shown table.entry).content (bound_map (λ low. low.now) low.entry)
-        (bound_map (λ high. high.now) high.entry)) left result.0 bytes.new entries.old entries.new
+        × WritesPage (within (shown table.entry).version.content
+        (bound_map (λ low. low.now) low.entry) (bound_map (λ high. high.now) high.entry)) left
+        result.0 bytes.new entries.old entries.new
         × (result.1 ≡ first_length left) }
 {
     let mut last = None;
@@ -139,7 +140,7 @@ fn next_pair(
     requires end { end ≤ length bytes.old }
     requires last { ForSome last (λ start. start ≤ end) }
     ensures kept { take end bytes.new ≡ take end bytes.old }
-    ensures first { FindsFirst (within (shown table.entry).content
+    ensures first { FindsFirst (within (shown table.entry).version.content
         (bound_behind last (bound_map (λ low. low.now) low.entry) (take end bytes.old))
         (bound_map (λ high. high.now) high.entry)) result
         (drop end bytes.old) (drop end bytes.new) }
@@ -158,7 +159,7 @@ fn first_behind(
     room: &mut [u8],
 ) -> Option<(usize, u64)>
     requires { ForSome last (λ start. start ≤ length written.now) }
-    ensures { FindsFirst (within (shown table.entry).content
+    ensures { FindsFirst (within (shown table.entry).version.content
         (bound_behind last (bound_map (λ low. low.now) low.entry) written.now)
         (bound_map (λ high. high.now) high.entry)) result room.old room.new }
 {
@@ -176,8 +177,9 @@ fn first_within(
     high: Bound<&[u8]>,
     room: &mut [u8],
 ) -> Option<(usize, u64)>
-    ensures { FindsFirst (within (shown table.entry).content (bound_map (λ low. low.now) low.entry)
-        (bound_map (λ high. high.now) high.entry)) result room.old room.new }
+    ensures { FindsFirst (within (shown table.entry).version.content
+        (bound_map (λ low. low.now) low.entry) (bound_map (λ high. high.now) high.entry)) result
+        room.old room.new }
 {
     let Some((len, value)) = lent::first(table, low, room) else {
         return None;

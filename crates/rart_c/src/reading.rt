@@ -13,7 +13,7 @@ use crate::lent;
 /// The version's number, which each change raises.
 #[unsafe(no_mangle)]
 pub extern "C" fn rart_version(tree: &mut RartTree) -> u64
-    ensures number { result ≡ tree.old.shows.number }
+    ensures number { result ≡ tree.old.shows.version.number }
     ensures same { tree.new.shows ≡ tree.old.shows }
 {
     lent::version(tree.table())
@@ -22,7 +22,7 @@ pub extern "C" fn rart_version(tree: &mut RartTree) -> u64
 /// How many keys there are.
 #[unsafe(no_mangle)]
 pub extern "C" fn rart_len(tree: &mut RartTree) -> usize
-    ensures count { result ≡ finite.len tree.old.shows.content }
+    ensures count { result ≡ finite.len tree.old.shows.version.content }
     ensures same { tree.new.shows ≡ tree.old.shows }
 {
     lent::len(tree.table())
@@ -31,7 +31,7 @@ pub extern "C" fn rart_len(tree: &mut RartTree) -> usize
 /// Whether there is no key.
 #[unsafe(no_mangle)]
 pub extern "C" fn rart_is_empty(tree: &mut RartTree) -> bool
-    ensures answer { result ≡ has_no_key tree.old.shows }
+    ensures answer { result ≡ has_no_key tree.old.shows.version }
     ensures same { tree.new.shows ≡ tree.old.shows }
 {
     rart_len(tree) == 0
@@ -40,7 +40,7 @@ pub extern "C" fn rart_is_empty(tree: &mut RartTree) -> bool
 /// Answers `DONE` and writes the value of a key, or answers `ABSENT`. It takes no memory.
 #[unsafe(no_mangle)]
 pub extern "C" fn rart_get(tree: &mut RartTree, key: &[u8], value: &mut u64) -> u8
-    ensures found { Tells (value_at tree.old.shows key.now) result value.old value.new }
+    ensures found { Tells (value_at tree.old.shows.version key.now) result value.old value.new }
     ensures same { tree.new.shows ≡ tree.old.shows }
 {
     tell(lent::get(tree.table(), key).copied(), value)
@@ -55,7 +55,7 @@ pub extern "C" fn rart_longest(
     len: &mut usize,
     value: &mut u64,
 ) -> u8
-    ensures found { Tells (longest_length tree.old.shows probe.now) result
+    ensures found { Tells (longest_length tree.old.shows.version probe.now) result
         (len.old, value.old) (len.new, value.new) }
     ensures same { tree.new.shows ≡ tree.old.shows }
 {
@@ -65,7 +65,8 @@ pub extern "C" fn rart_longest(
 /// How many keys both trees have. It takes no memory.
 #[unsafe(no_mangle)]
 pub extern "C" fn rart_common(tree: &mut RartTree, other: &mut RartTree) -> usize
-    ensures count { result ≡ length (common tree.old.shows.content other.old.shows.content) }
+    ensures count { result ≡ length (common tree.old.shows.version.content
+        other.old.shows.version.content) }
     ensures same { tree.new.shows ≡ tree.old.shows }
     ensures other_same { other.new.shows ≡ other.old.shows }
 {

@@ -1,52 +1,75 @@
-//! The tree that a handle leads to, and how many keys it has.
-ghost use Rattle.std.specs.Prelude.{◌≡◌, IfOk, OnErr, IsSome, IsTrue, MatchResult};
+//! The tree that a handle leads to, how many keys it has, and how long they may be.
+ghost use Rattle.std.specs.Prelude.{◌≡◌, ◌≤◌, length, IfOk, OnErr, IsSome, IsTrue, MatchResult};
 ghost use Rattle.rart_below.specs.Clones.{ClonesEqual};
 ghost use Rattle.rart_c.specs.Answers.{Explains};
 ghost use Rattle.rart_maps.specs.Changes.{Changes, removal, replacement};
-ghost use Rattle.rart_maps.specs.Versions.{HasRoom, empty_at, has_key, with_rise};
+ghost use Rattle.rart_c.specs.Trees.{KeepsLimit, tree_at, with_longest, with_version};
+ghost use Rattle.rart_maps.specs.Versions.{HasRoom, has_key, has_no_key, with_rise};
 
 use crate::answer::Refusal;
+use crate::limits::LONGEST_KEY;
 use rart_versioned::{VectorKey, VersionedAdaptiveRadixTree};
 use std::alloc::{AllocError, Global};
 use std::marker::Model;
 
-/// A tree, and how many keys it has. Contracts see the version that the tree is.
+/// A tree, how many keys it has, and how long a key may be: none is longer. Contracts see the
+/// version that the tree is, and that limit.
 #[derive(Drop)]
 pub(crate) struct Table<V: Clone> {
     pub(crate) tree: VersionedAdaptiveRadixTree<VectorKey, V>,
     pub(crate) len: usize,
+    pub(crate) longest: usize,
 }
 
 impl<V: Clone> Model for Table<V> {
-    ghost use Rattle.std.specs.Prelude.{◌≡◌};
-    ghost use Rattle.std.specs.FinMap as finite;
-    ghost use Rattle.rart_maps.specs.Versions.{Version, version_code};
+    ghost use Rattle.rart_c.specs.Tables.{IsSound};
+    ghost use Rattle.rart_c.specs.Trees.{Tree, tree_code};
 
-    ghost Value = { Version V };
+    ghost Value = { Tree V };
 
-    ghost coded = { version_code V.code };
+    ghost coded = { tree_code V.code };
 
-    ghost view = { λ table. table.tree };
+    ghost view = { λ table. record { version = table.tree; longest = table.longest } };
 
-    ghost invariant = { λ table. table.len ≡ finite.len table.tree.content };
+    ghost invariant = { λ table. IsSound table.len table.tree table.longest };
 }
 
 impl<V: Clone + Drop> Table<V> {
     /// A map without a key, with this number.
     pub(crate) fn new_at(alloc: Global, number: u64) -> Table<V>
-        ensures { result ≡ empty_at number }
+        ensures { result ≡ tree_at number }
     {
         Table {
             tree: VersionedAdaptiveRadixTree::new_at(alloc, number),
             len: 0,
+            longest: LONGEST_KEY,
         }
+    }
+
+    /// That no key is longer than a key may be.
+    pub(crate) fn know_limit_for_proof(&self)
+        ensures { KeepsLimit self.now }
+    {
+        let _ = &self.longest;
+    }
+
+    /// Sets how long a key may be. It takes no memory.
+    pub(crate) fn set_longest(&mut self, longest: usize)
+        requires { IsTrue (has_no_key self.old.version) }
+        ensures { self.new ≡ with_longest self.old longest }
+    {
+        self.longest = longest;
     }
 
     /// Sets a key to a value, and gives the value that was replaced.
     pub(crate) fn insert(&mut self, key: &[u8], value: V) -> Result<Option<V>, Refusal>
         requires clones { ClonesEqual V.is_clone }
-        ensures changes { Changes result self.old self.new (replacement self.old key.now value) }
-        ensures room { MatchResult result (λ _. HasRoom self.old 1) (Explains self.old) }
+        requires short { length key.now ≤ self.old.longest }
+        ensures changes { Changes result self.old.version self.new.version
+            (replacement self.old.version key.now value) }
+        ensures room { MatchResult result (λ _. HasRoom self.old.version 1)
+            (Explains self.old.version) }
+        ensures longest { self.new.longest ≡ self.old.longest }
     {
         if self.tree.version() == u64::MAX {
             return Err(Refusal::LastNumber);
@@ -63,10 +86,12 @@ impl<V: Clone + Drop> Table<V> {
     /// Takes a key out, and gives its value. Without the key nothing changes, and it isn't refused.
     pub(crate) fn remove(&mut self, key: &[u8]) -> Result<Option<V>, Refusal>
         requires clones { ClonesEqual V.is_clone }
-        ensures changes { Changes result self.old self.new (removal self.old key.now) }
-        ensures room { MatchResult result
-            (λ found. IsSome found → HasRoom self.old 1) (Explains self.old) }
-        ensures present { OnErr result (IsTrue (has_key self.old key.now)) }
+        ensures changes { Changes result self.old.version self.new.version
+            (removal self.old.version key.now) }
+        ensures room { MatchResult result (λ found. IsSome found → HasRoom self.old.version 1)
+            (Explains self.old.version) }
+        ensures present { OnErr result (IsTrue (has_key self.old.version key.now)) }
+        ensures longest { self.new.longest ≡ self.old.longest }
     {
         if self.tree.version() == u64::MAX {
             return match self.tree.get_slice(key) {
@@ -85,8 +110,10 @@ impl<V: Clone + Drop> Table<V> {
 
     /// The same map once more, its number one greater.
     pub(crate) fn snapshot(&self) -> Result<Table<V>, Refusal>
-        ensures copy { IfOk result (λ copy. copy ≡ with_rise self.now 1) }
-        ensures room { MatchResult result (λ _. HasRoom self.now 1) (Explains self.now) }
+        ensures copy { IfOk result
+            (λ copy. copy ≡ with_version self.now (with_rise self.now.version 1)) }
+        ensures room { MatchResult result (λ _. HasRoom self.now.version 1)
+            (Explains self.now.version) }
     {
         if self.tree.version() == u64::MAX {
             return Err(Refusal::LastNumber);
@@ -95,6 +122,7 @@ impl<V: Clone + Drop> Table<V> {
             Ok(tree) => Ok(Table {
                 tree,
                 len: self.len,
+                longest: self.longest,
             }),
             Err(_) => Err(Refusal::NoMemory),
         }
@@ -108,6 +136,7 @@ impl<V: Clone + Drop> Table<V> {
         Ok(Table {
             tree,
             len: self.len,
+            longest: self.longest,
         })
     }
 }

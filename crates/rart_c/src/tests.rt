@@ -1,7 +1,8 @@
 //! Each export with ample memory, all that it writes beside its answer.
-use crate::answer::{ABSENT, DONE, TOO_SMALL};
+use crate::answer::{ABSENT, DONE, NOT_EMPTY, TOO_LONG, TOO_SMALL};
 use crate::changing::{rart_clear, rart_insert, rart_remove};
 use crate::handle::RartTree;
+use crate::limits::{rart_longest_key, rart_set_longest_key};
 use crate::paging::{EXCLUDED, INCLUDED, RartEntry, rart_page};
 use crate::reading::{rart_common, rart_get, rart_is_empty, rart_len, rart_longest, rart_version};
 use crate::versions::{rart_clone, rart_new_at, rart_snapshot};
@@ -31,6 +32,28 @@ fn changes_are_answered(rt: HostRuntime) {
     assert_eq!(rt; rart_version(&mut tree), 4);
     rart_clear(alloc, &mut tree);
     assert!(rt; rart_is_empty(&mut tree));
+}
+
+#[test]
+fn keys_are_as_long_as_they_may_be(rt: HostRuntime) {
+    let alloc = rt.alloc();
+    let mut tree = tree_of(alloc, &[]);
+    let mut value = 0;
+    assert_eq!(rt; rart_longest_key(&mut tree), 1024);
+    assert_eq!(rt; rart_set_longest_key(alloc, &mut tree, 3), DONE);
+    assert_eq!(rt;
+        rart_insert(alloc, &mut tree, b"tea", 300, &mut value),
+        ABSENT
+    );
+    assert_eq!(rt;
+        rart_insert(alloc, &mut tree, b"milk", 100, &mut value),
+        TOO_LONG
+    );
+    assert_eq!(rt; rart_set_longest_key(alloc, &mut tree, 4), NOT_EMPTY);
+    assert_eq!(rt; rart_len(&mut tree), 1);
+    let mut copy = RartTree::empty(alloc);
+    assert_eq!(rt; rart_snapshot(alloc, &mut tree, &mut copy), DONE);
+    assert_eq!(rt; rart_longest_key(&mut copy), 3);
 }
 
 #[test]

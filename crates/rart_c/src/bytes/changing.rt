@@ -1,27 +1,30 @@
 //! What C calls to change a tree of byte strings.
-ghost use Rattle.std.specs.Prelude.{◌≡◌, ◌⊎◌, ◌↔◌, IsTrue, MatchResult};
-ghost use Rattle.rart_c.specs.Answers.{Explains, IsRefused, told_there};
-ghost use Rattle.rart_c.specs.declared.answer.TheConstants.{LAST_NUMBER};
+ghost use Rattle.std.specs.Prelude.{◌≡◌, ◌<◌, ◌≤◌, ◌⊎◌, ◌↔◌, IsTrue, MatchResult, length};
+ghost use Rattle.rart_c.specs.Answers.{Explains, IsRefused, IsRefusedKey, told_there};
+ghost use Rattle.rart_c.specs.Trees.{tree_at, with_version};
+ghost use Rattle.rart_c.specs.declared.answer.TheConstants.{LAST_NUMBER, TOO_LONG};
 ghost use Rattle.rart_maps.specs.Changes.{Changes, after_removal, replacement};
-ghost use Rattle.rart_maps.specs.Versions.{HasRoom, empty_at, has_key, with_key};
+ghost use Rattle.rart_maps.specs.Versions.{HasRoom, has_key, with_key};
 
-use crate::answer::{Refusal, tell_there};
+use crate::answer::{Refusal, TOO_LONG, tell_there};
 use crate::bytes::handle::RartBytes;
 use crate::bytes::value::Bytes;
 use crate::lent;
 use std::alloc::Global;
 
-/// Frees what the tree leads to: it has no key then, and number 0.
+/// Frees what the tree leads to: it is all zeros then, without a key, its number 0, and keys may be
+/// as long as at first.
 #[unsafe(no_mangle)]
 pub extern "C" fn rart_bytes_clear(alloc: Global, tree: &mut RartBytes)
-    ensures { tree.new.shows ≡ empty_at 0 }
+    ensures { tree.new.shows ≡ tree_at 0 }
 {
     *tree = RartBytes::empty(alloc);
 }
 
 /// Sets a key to a copy of the value, the number then one greater. Answers `DONE` where a value was
-/// replaced, `ABSENT` where the key is new. `LAST_NUMBER` says that the number can't be raised,
-/// `NO_MEMORY` that memory was refused: nothing changed then.
+/// replaced, `ABSENT` where the key is new. `TOO_LONG` says that the key is longer than a key may be,
+/// `LAST_NUMBER` that the number can't be raised, `NO_MEMORY` that memory was refused: nothing
+/// changed then.
 #[unsafe(no_mangle)]
 pub extern "C" fn rart_bytes_insert(
     alloc: Global,
@@ -29,12 +32,17 @@ pub extern "C" fn rart_bytes_insert(
     key: &[u8],
     value: &[u8],
 ) -> u8
-    ensures done { IsRefused result
-        ⊎ ((tree.new.shows ≡ with_key tree.old.shows key.now value.now 1)
-        × (result ≡ told_there (has_key tree.old.shows key.now))) }
-    ensures refused { IsRefused result → tree.new.shows ≡ tree.old.shows }
-    ensures room { (result ≡ LAST_NUMBER) ↔ ¬ (HasRoom tree.old.shows 1) }
+    ensures done { IsRefusedKey result ⊎ ((tree.new.shows
+        ≡ with_version tree.old.shows (with_key tree.old.shows.version key.now value.now 1))
+        × (result ≡ told_there (has_key tree.old.shows.version key.now))) }
+    ensures refused { IsRefusedKey result → tree.new.shows ≡ tree.old.shows }
+    ensures long { (result ≡ TOO_LONG) ↔ (tree.old.shows.longest < length key.now) }
+    ensures room { (result ≡ LAST_NUMBER) ↔ ((length key.now ≤ tree.old.shows.longest)
+        × ¬ (HasRoom tree.old.shows.version 1)) }
 {
+    if key.len() > lent::longest_key(tree.table()) {
+        return TOO_LONG;
+    }
     match set(alloc, tree, key, value) {
         Ok(was) => tell_there(was.is_some()),
         Err(refusal) => refusal.number(),
@@ -46,12 +54,14 @@ pub extern "C" fn rart_bytes_insert(
 /// raised, `NO_MEMORY` that it is there and memory was refused: nothing changed then.
 #[unsafe(no_mangle)]
 pub extern "C" fn rart_bytes_remove(tree: &mut RartBytes, key: &[u8]) -> u8
-    ensures done { IsRefused result ⊎ ((tree.new.shows ≡ after_removal tree.old.shows key.now)
-        × (result ≡ told_there (has_key tree.old.shows key.now))) }
+    ensures done { IsRefused result ⊎ ((tree.new.shows
+        ≡ with_version tree.old.shows (after_removal tree.old.shows.version key.now))
+        × (result ≡ told_there (has_key tree.old.shows.version key.now))) }
     ensures refused { IsRefused result
-        → (tree.new.shows ≡ tree.old.shows) × IsTrue (has_key tree.old.shows key.now) }
+        → (tree.new.shows ≡ tree.old.shows) × IsTrue (has_key tree.old.shows.version key.now) }
     ensures room { (result ≡ LAST_NUMBER)
-        ↔ (IsTrue (has_key tree.old.shows key.now) × ¬ (HasRoom tree.old.shows 1)) }
+        ↔ (IsTrue (has_key tree.old.shows.version key.now)
+        × ¬ (HasRoom tree.old.shows.version 1)) }
 {
     match tree.remove(key) {
         Ok(was) => tell_there(was.is_some()),
@@ -67,9 +77,12 @@ fn set(
     key: &[u8],
     value: &[u8],
 ) -> Result<Option<Bytes>, Refusal>
-    ensures changes { Changes result tree.old.shows tree.new.shows
-        (replacement tree.old.shows key.now value.now) }
-    ensures room { MatchResult result (λ _. HasRoom tree.old.shows 1) (Explains tree.old.shows) }
+    requires short { length key.now ≤ tree.old.shows.longest }
+    ensures changes { Changes result tree.old.shows.version tree.new.shows.version
+        (replacement tree.old.shows.version key.now value.now) }
+    ensures room { MatchResult result (λ _. HasRoom tree.old.shows.version 1)
+        (Explains tree.old.shows.version) }
+    ensures longest { tree.new.shows.longest ≡ tree.old.shows.longest }
 {
     if lent::version(tree.table()) == u64::MAX {
         return Err(Refusal::LastNumber);

@@ -15,7 +15,7 @@ use crate::lent;
 /// The version's number, which each change raises.
 #[unsafe(no_mangle)]
 pub extern "C" fn rart_bytes_version(tree: &mut RartBytes) -> u64
-    ensures number { result ≡ tree.old.shows.number }
+    ensures number { result ≡ tree.old.shows.version.number }
     ensures same { tree.new.shows ≡ tree.old.shows }
 {
     lent::version(tree.table())
@@ -24,7 +24,7 @@ pub extern "C" fn rart_bytes_version(tree: &mut RartBytes) -> u64
 /// How many keys there are.
 #[unsafe(no_mangle)]
 pub extern "C" fn rart_bytes_len(tree: &mut RartBytes) -> usize
-    ensures count { result ≡ finite.len tree.old.shows.content }
+    ensures count { result ≡ finite.len tree.old.shows.version.content }
     ensures same { tree.new.shows ≡ tree.old.shows }
 {
     lent::len(tree.table())
@@ -33,7 +33,7 @@ pub extern "C" fn rart_bytes_len(tree: &mut RartBytes) -> usize
 /// Whether there is no key.
 #[unsafe(no_mangle)]
 pub extern "C" fn rart_bytes_is_empty(tree: &mut RartBytes) -> bool
-    ensures answer { result ≡ has_no_key tree.old.shows }
+    ensures answer { result ≡ has_no_key tree.old.shows.version }
     ensures same { tree.new.shows ≡ tree.old.shows }
 {
     rart_bytes_len(tree) == 0
@@ -49,7 +49,7 @@ pub extern "C" fn rart_bytes_get(
     into: &mut [u8],
     len: &mut usize,
 ) -> u8
-    ensures found { Reads (value_at tree.old.shows key.now) result
+    ensures found { Reads (value_at tree.old.shows.version key.now) result
         (into.old, len.old) (into.new, len.new) }
     ensures same { tree.new.shows ≡ tree.old.shows }
 {
@@ -67,10 +67,11 @@ pub extern "C" fn rart_bytes_longest(
     into: &mut [u8],
     len: &mut usize,
 ) -> u8
-    ensures found { Reads (option_map (λ pair. pair.1) (longest_length tree.old.shows probe.now))
-        result (into.old, len.old) (into.new, len.new) }
-    ensures key { key_len.new ≡ written
-        (option_map (λ pair. pair.0) (longest_length tree.old.shows probe.now)) key_len.old }
+    ensures found { Reads (option_map (λ pair. pair.1)
+        (longest_length tree.old.shows.version probe.now)) result
+        (into.old, len.old) (into.new, len.new) }
+    ensures key { key_len.new ≡ written (option_map (λ pair. pair.0)
+        (longest_length tree.old.shows.version probe.now)) key_len.old }
     ensures same { tree.new.shows ≡ tree.old.shows }
 {
     read_longest(lent::longest(tree.table(), probe), key_len, into, len)
@@ -79,7 +80,8 @@ pub extern "C" fn rart_bytes_longest(
 /// How many keys both trees have. It takes no memory.
 #[unsafe(no_mangle)]
 pub extern "C" fn rart_bytes_common(tree: &mut RartBytes, other: &mut RartBytes) -> usize
-    ensures count { result ≡ length (common tree.old.shows.content other.old.shows.content) }
+    ensures count { result ≡ length (common tree.old.shows.version.content
+        other.old.shows.version.content) }
     ensures same { tree.new.shows ≡ tree.old.shows }
     ensures other_same { other.new.shows ≡ other.old.shows }
 {

@@ -1,7 +1,8 @@
 //! Each export with ample memory, all that it writes beside its answer.
-use crate::answer::{ABSENT, DONE, TOO_SMALL};
+use crate::answer::{ABSENT, DONE, NOT_EMPTY, TOO_LONG, TOO_SMALL};
 use crate::bytes::changing::{rart_bytes_clear, rart_bytes_insert, rart_bytes_remove};
 use crate::bytes::handle::RartBytes;
+use crate::bytes::limits::{rart_bytes_longest_key, rart_bytes_set_longest_key};
 use crate::bytes::reading::{
     rart_bytes_common, rart_bytes_get, rart_bytes_is_empty, rart_bytes_len, rart_bytes_longest,
     rart_bytes_version,
@@ -29,6 +30,23 @@ fn changes_are_answered(rt: HostRuntime) {
     assert_eq!(rt; rart_bytes_version(&mut tree), 4);
     rart_bytes_clear(alloc, &mut tree);
     assert!(rt; rart_bytes_is_empty(&mut tree));
+}
+
+#[test]
+fn keys_are_as_long_as_they_may_be(rt: HostRuntime) {
+    let alloc = rt.alloc();
+    let mut tree = tree_of(alloc, &[]);
+    assert_eq!(rt; rart_bytes_longest_key(&mut tree), 1024);
+    assert_eq!(rt; rart_bytes_set_longest_key(alloc, &mut tree, 3), DONE);
+    assert_eq!(rt; rart_bytes_insert(alloc, &mut tree, b"tea", b"Tea"), ABSENT);
+    assert_eq!(rt;
+        rart_bytes_insert(alloc, &mut tree, b"milk", b"Milk"),
+        TOO_LONG
+    );
+    assert_eq!(rt; rart_bytes_set_longest_key(alloc, &mut tree, 4), NOT_EMPTY);
+    let mut copy = RartBytes::empty(alloc);
+    assert_eq!(rt; rart_bytes_clone(alloc, &mut tree, &mut copy), DONE);
+    assert_eq!(rt; rart_bytes_longest_key(&mut copy), 3);
 }
 
 #[test]

@@ -2,7 +2,8 @@
 ghost use Rattle.std.specs.Prelude.{◌≡◌, ◌⊎◌, ◌↔◌};
 ghost use Rattle.rart_c.specs.Answers.{IsRefused};
 ghost use Rattle.rart_c.specs.declared.answer.TheConstants.{LAST_NUMBER};
-ghost use Rattle.rart_maps.specs.Versions.{HasRoom, empty_at, with_rise};
+ghost use Rattle.rart_c.specs.Trees.{tree_at, with_version};
+ghost use Rattle.rart_maps.specs.Versions.{HasRoom, with_rise};
 
 use crate::answer::{DONE, NO_MEMORY};
 use crate::bytes::handle::RartBytes;
@@ -10,8 +11,9 @@ use crate::lent;
 use crate::table::Table;
 use std::alloc::Global;
 
-/// Makes `copy` the same map, its number one greater, and frees what `copy` was. `LAST_NUMBER` says
-/// that the number can't be raised, `NO_MEMORY` that memory was refused: `copy` is as before then.
+/// Makes `copy` the same map, its number one greater, and frees what `copy` was. Keys may be as long
+/// in it. `LAST_NUMBER` says that the number can't be raised, `NO_MEMORY` that memory was refused:
+/// `copy` is as before then.
 #[unsafe(no_mangle)]
 pub extern "C" fn rart_bytes_snapshot(
     alloc: Global,
@@ -19,9 +21,10 @@ pub extern "C" fn rart_bytes_snapshot(
     copy: &mut RartBytes,
 ) -> u8
     ensures done { IsRefused result
-        ⊎ ((result ≡ DONE) × (copy.new.shows ≡ with_rise tree.old.shows 1)) }
+        ⊎ ((result ≡ DONE) × (copy.new.shows
+        ≡ with_version tree.old.shows (with_rise tree.old.shows.version 1))) }
     ensures refused { IsRefused result → copy.new.shows ≡ copy.old.shows }
-    ensures room { (result ≡ LAST_NUMBER) ↔ ¬ (HasRoom tree.old.shows 1) }
+    ensures room { (result ≡ LAST_NUMBER) ↔ ¬ (HasRoom tree.old.shows.version 1) }
     ensures same { tree.new.shows ≡ tree.old.shows }
 {
     match lent::snapshot(alloc, tree.table()) {
@@ -33,8 +36,8 @@ pub extern "C" fn rart_bytes_snapshot(
     }
 }
 
-/// Makes `copy` the same map, its number too, and frees what `copy` was. `NO_MEMORY` says that
-/// memory was refused: `copy` is as before then.
+/// Makes `copy` the same map, its number too, and frees what `copy` was. Keys may be as long in it.
+/// `NO_MEMORY` says that memory was refused: `copy` is as before then.
 #[unsafe(no_mangle)]
 pub extern "C" fn rart_bytes_clone(alloc: Global, tree: &mut RartBytes, copy: &mut RartBytes) -> u8
     ensures done { (result ≡ NO_MEMORY)
@@ -52,12 +55,12 @@ pub extern "C" fn rart_bytes_clone(alloc: Global, tree: &mut RartBytes, copy: &m
     DONE
 }
 
-/// Frees what the tree leads to, and leaves it without a key, with this number. `NO_MEMORY` says
-/// that memory was refused: it is as before then.
+/// Frees what the tree leads to, and leaves it without a key, with this number, keys as long as at
+/// first. `NO_MEMORY` says that memory was refused: it is as before then.
 #[unsafe(no_mangle)]
 pub extern "C" fn rart_bytes_new_at(alloc: Global, tree: &mut RartBytes, number: u64) -> u8
     ensures done { (result ≡ NO_MEMORY)
-        ⊎ ((result ≡ DONE) × (tree.new.shows ≡ empty_at number)) }
+        ⊎ ((result ≡ DONE) × (tree.new.shows ≡ tree_at number)) }
     ensures refused { result ≡ NO_MEMORY → tree.new.shows ≡ tree.old.shows }
 {
     match Box::new(alloc, Table::new_at(alloc, number)) {

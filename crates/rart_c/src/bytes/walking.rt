@@ -27,8 +27,8 @@ pub extern "C" fn rart_bytes_seek(
     into: &mut [u8],
     len: &mut usize,
 ) -> u8
-    ensures found { ReadsFirst (within tree.old.shows.content (Included from.now) Unbounded) result
-        (room.old, key_len.old) (room.new, key_len.new) (into.old, len.old) (into.new, len.new) }
+    ensures found { ReadsFirst (within tree.old.shows.version.content (Included from.now) Unbounded)
+        result (room.old, key_len.old) (room.new, key_len.new) (into.old, len.old) (into.new, len.new) }
     ensures same { tree.new.shows ≡ tree.old.shows }
 {
     let size = room.len();
@@ -46,8 +46,8 @@ pub extern "C" fn rart_bytes_next(
     into: &mut [u8],
     len: &mut usize,
 ) -> u8
-    ensures found { ReadsFirst (within tree.old.shows.content (Excluded after.now) Unbounded) result
-        (room.old, key_len.old) (room.new, key_len.new) (into.old, len.old) (into.new, len.new) }
+    ensures found { ReadsFirst (within tree.old.shows.version.content (Excluded after.now) Unbounded)
+        result (room.old, key_len.old) (room.new, key_len.new) (into.old, len.old) (into.new, len.new) }
     ensures same { tree.new.shows ≡ tree.old.shows }
 {
     let size = room.len();

@@ -10,6 +10,10 @@ pub enum Refusal {
     LastNumber,
     /// Memory was refused.
     NoMemory,
+    /// The key is longer than a key of the map may be.
+    TooLong,
+    /// The map has a key, and how long one may be is set without any.
+    NotEmpty,
 }
 
 impl fmt::Display for Refusal {
@@ -17,6 +21,8 @@ impl fmt::Display for Refusal {
         f.write_str(match self {
             Refusal::LastNumber => "the number of the map can't be raised",
             Refusal::NoMemory => "out of memory",
+            Refusal::TooLong => "the key is too long",
+            Refusal::NotEmpty => "the map has a key",
         })
     }
 }
@@ -26,7 +32,8 @@ impl Error for Refusal {}
 impl From<Refusal> for io::Error {
     fn from(refusal: Refusal) -> io::Error {
         let kind = match refusal {
-            Refusal::LastNumber => io::ErrorKind::Other,
+            Refusal::LastNumber | Refusal::NotEmpty => io::ErrorKind::Other,
+            Refusal::TooLong => io::ErrorKind::InvalidInput,
             Refusal::NoMemory => io::ErrorKind::OutOfMemory,
         };
         io::Error::new(kind, refusal)

@@ -9,6 +9,8 @@ use std::iter::FusedIterator;
 /// It takes them by pages. The library takes no memory for it; the pages, and the copies of keys
 /// and of byte strings, do.
 ///
+/// From the back it first reads all that is left, since the library walks forwards.
+///
 /// It borrows the map, which doesn't change meanwhile, and stays on its thread.
 ///
 /// ```compile_fail
@@ -39,6 +41,12 @@ impl<V: Value> Iterator for Range<'_, V> {
 
     fn next(&mut self) -> Option<(Vec<u8>, V)> {
         self.walk.next(&self.map.tree)
+    }
+}
+
+impl<V: Value> DoubleEndedIterator for Range<'_, V> {
+    fn next_back(&mut self) -> Option<(Vec<u8>, V)> {
+        self.walk.next_back(&self.map.tree)
     }
 }
 
@@ -79,6 +87,14 @@ impl<V: Value> Iterator for Iter<'_, V> {
 
     fn size_hint(&self) -> (usize, Option<usize>) {
         (self.left, Some(self.left))
+    }
+}
+
+impl<V: Value> DoubleEndedIterator for Iter<'_, V> {
+    fn next_back(&mut self) -> Option<(Vec<u8>, V)> {
+        let pair = self.range.next_back()?;
+        self.left -= 1;
+        Some(pair)
     }
 }
 
@@ -123,6 +139,14 @@ impl<V: Value> Iterator for IntoIter<V> {
     }
 }
 
+impl<V: Value> DoubleEndedIterator for IntoIter<V> {
+    fn next_back(&mut self) -> Option<(Vec<u8>, V)> {
+        let pair = self.walk.next_back(&self.map.tree)?;
+        self.left -= 1;
+        Some(pair)
+    }
+}
+
 impl<V: Value> ExactSizeIterator for IntoIter<V> {}
 
 impl<V: Value> FusedIterator for IntoIter<V> {}
@@ -143,6 +167,12 @@ impl<V: Value> Iterator for Keys<'_, V> {
     }
 }
 
+impl<V: Value> DoubleEndedIterator for Keys<'_, V> {
+    fn next_back(&mut self) -> Option<Vec<u8>> {
+        self.0.next_back().map(|pair| pair.0)
+    }
+}
+
 impl<V: Value> ExactSizeIterator for Keys<'_, V> {}
 
 impl<V: Value> FusedIterator for Keys<'_, V> {}
@@ -160,6 +190,12 @@ impl<V: Value> Iterator for Values<'_, V> {
 
     fn size_hint(&self) -> (usize, Option<usize>) {
         self.0.size_hint()
+    }
+}
+
+impl<V: Value> DoubleEndedIterator for Values<'_, V> {
+    fn next_back(&mut self) -> Option<V> {
+        self.0.next_back().map(|pair| pair.1)
     }
 }
 

@@ -24,6 +24,7 @@
 #![deny(unsafe_code)]
 
 mod both;
+mod entry;
 mod error;
 mod idioms;
 mod iter;
@@ -37,6 +38,7 @@ mod value;
 mod walk;
 
 pub use both::{Common, Diff};
+pub use entry::Entry;
 pub use error::Refusal;
 pub use iter::{IntoIter, Iter, Keys, Range, Values};
 pub use key_range::KeyRange;

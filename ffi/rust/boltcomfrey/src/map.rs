@@ -1,4 +1,5 @@
 use crate::both::{Common, Diff};
+use crate::entry::Entry;
 use crate::error::{Refusal, unrefused};
 use crate::iter::{Iter, Keys, Range, Values};
 use crate::key_range::KeyRange;
@@ -55,6 +56,50 @@ impl<V: Value> Map<V> {
     pub fn with_number(number: u64) -> Result<Map<V>, Refusal> {
         let tree = Tree::with_number(number)?;
         Ok(Map { tree })
+    }
+
+    /// A map without a key, its number 0, whose keys may have so many bytes, in place of 1,024. Its
+    /// snapshots and clones keep that.
+    ///
+    /// A chain of keys that begin one another takes some 400 bytes of stack for each byte of the
+    /// longest, so a limit ends what a stranger's keys can take.
+    ///
+    /// ```
+    /// # use boltcomfrey::{Refusal, VersionedMap};
+    /// let mut prices = VersionedMap::with_longest_key(3)?;
+    /// prices.insert("tea", 300)?;
+    /// assert_eq!(prices.insert("milk", 100), Err(Refusal::TooLong));
+    /// # Ok::<(), Refusal>(())
+    /// ```
+    pub fn with_longest_key(bytes: usize) -> Result<Map<V>, Refusal> {
+        let mut map = Map::new();
+        map.set_longest_key(bytes)?;
+        Ok(map)
+    }
+
+    /// How many bytes a key may have: no key is longer.
+    ///
+    /// ```
+    /// # use boltcomfrey::VersionedMap;
+    /// assert_eq!(VersionedMap::new().longest_key(), 1024);
+    /// ```
+    #[must_use]
+    pub fn longest_key(&self) -> usize {
+        self.tree.longest_key()
+    }
+
+    /// Sets how many bytes a key may have, of a map without a key. With one it is refused, and
+    /// nothing has changed.
+    ///
+    /// ```
+    /// # use boltcomfrey::VersionedMap;
+    /// let mut prices = VersionedMap::with_number(7)?;
+    /// prices.set_longest_key(64)?;
+    /// assert_eq!((prices.version(), prices.longest_key()), (7, 64));
+    /// # Ok::<(), boltcomfrey::Refusal>(())
+    /// ```
+    pub fn set_longest_key(&mut self, bytes: usize) -> Result<(), Refusal> {
+        self.tree.set_longest_key(bytes)
     }
 
     /// A map of these pairs, of which a later one takes the place of an earlier one. Its number is
@@ -175,6 +220,41 @@ impl<V: Value> Map<V> {
     #[must_use]
     pub fn first_key_value(&self) -> Option<(Vec<u8>, V)> {
         self.first(Bound::Unbounded)
+    }
+
+    /// The last pair, if there is one. The library walks forwards, so this makes some eight searches
+    /// for each byte of the key.
+    ///
+    /// ```
+    /// # use boltcomfrey::VersionedMap;
+    /// let prices = VersionedMap::from([("tea", 300), ("milk", 100)]);
+    /// assert_eq!(prices.last_key_value(), Some((b"tea".to_vec(), 300)));
+    /// ```
+    #[must_use]
+    pub fn last_key_value(&self) -> Option<(Vec<u8>, V)> {
+        let (mut last, mut room) = (self.first_key_value()?, Vec::new());
+        let mut len = 0;
+        loop {
+            // The last key begins as this one does, so far. Its next byte is the greatest that a key
+            // has here, if one goes on.
+            let (mut low, mut high) = (0, 256);
+            while low < high {
+                let byte = (low + high) / 2;
+                let mut probe = last.0[..len].to_vec();
+                probe.push(byte as u8);
+                match V::first(&self.tree, Bound::Included(&probe), &mut room) {
+                    Some((found, value)) => {
+                        last = (room[..found].to_vec(), value);
+                        low = usize::from(last.0[len]) + 1;
+                    }
+                    None => high = byte,
+                }
+            }
+            if low == 0 {
+                return Some(last);
+            }
+            len += 1;
+        }
     }
 
     /// The first pair whose key is this one or comes behind it.
@@ -344,8 +424,7 @@ impl<V: Value> Map<V> {
     /// Refused, nothing has changed. Where values are byte strings, the one before is looked up and
     /// copied first: `set` does without.
     ///
-    /// A chain of keys that begin one another takes stack: with 2 MiB keys of at most 2,000 bytes
-    /// are safe.
+    /// A key that is longer than `longest_key` is refused.
     ///
     /// ```
     /// # use boltcomfrey::{VersionedBytes, VersionedMap};
@@ -444,6 +523,47 @@ impl<V: Value> Map<V> {
         Ok(Some((key, value)))
     }
 
+    /// Takes the last pair out, and gives it. It panics where it is refused; `try_pop_last` answers.
+    ///
+    /// ```
+    /// # use boltcomfrey::VersionedMap;
+    /// let mut prices = VersionedMap::from([("tea", 300), ("milk", 100)]);
+    /// assert_eq!(prices.pop_last(), Some((b"tea".to_vec(), 300)));
+    /// ```
+    pub fn pop_last(&mut self) -> Option<(Vec<u8>, V)> {
+        unrefused(self.try_pop_last())
+    }
+
+    /// Takes the last pair out, and gives it. Refused, nothing has changed.
+    ///
+    /// ```
+    /// # use boltcomfrey::VersionedMap;
+    /// assert_eq!(VersionedMap::new().try_pop_last()?, None);
+    /// # Ok::<(), boltcomfrey::Refusal>(())
+    /// ```
+    pub fn try_pop_last(&mut self) -> Result<Option<(Vec<u8>, V)>, Refusal> {
+        let Some((key, value)) = self.last_key_value() else {
+            return Ok(None);
+        };
+        self.delete(&key)?;
+        Ok(Some((key, value)))
+    }
+
+    /// A key, there or not, to be set where it isn't or changed where it is.
+    ///
+    /// ```
+    /// # use boltcomfrey::VersionedMap;
+    /// let mut prices = VersionedMap::new();
+    /// assert_eq!(prices.entry("tea").or_insert(300)?, 300);
+    /// # Ok::<(), boltcomfrey::Refusal>(())
+    /// ```
+    pub fn entry(&mut self, key: impl AsRef<[u8]>) -> Entry<'_, V>
+    where
+        V: Given<V>,
+    {
+        Entry::new(self, key.as_ref())
+    }
+
     /// Has a key what `f` makes of its value, or of the lack of one: `Some` sets it, `None` takes it
     /// out. The number rises as of `set` and `delete`. Refused, nothing has changed.
     ///
@@ -493,7 +613,7 @@ impl<V: Value> Map<V> {
         Ok(())
     }
 
-    /// Takes all keys out. The map is then as `new` makes it, its number 0 too.
+    /// Takes all keys out. The map is then as `new` makes it, its number 0 and its longest key too.
     ///
     /// ```
     /// # use boltcomfrey::VersionedMap;
@@ -532,6 +652,37 @@ impl<V: Value> Map<V> {
         Ok(())
     }
 
+    /// The pairs of both maps, this one's where a key is in both. It panics where it is refused;
+    /// `try_union` answers.
+    ///
+    /// ```
+    /// # use boltcomfrey::VersionedMap;
+    /// let prices = VersionedMap::from([("tea", 300)]);
+    /// let all = prices.union(VersionedMap::from([("tea", 350), ("milk", 100)]));
+    /// assert_eq!(all, VersionedMap::from([("milk", 100), ("tea", 300)]));
+    /// ```
+    #[must_use]
+    pub fn union(self, other: Map<V>) -> Map<V>
+    where
+        V: Given<V>,
+    {
+        unrefused(self.try_union(other))
+    }
+
+    /// The pairs of both maps, this one's where a key is in both: this one, with what the other has
+    /// beside it.
+    pub fn try_union(mut self, other: Map<V>) -> Result<Map<V>, Refusal>
+    where
+        V: Given<V>,
+    {
+        for (key, value) in other {
+            if !self.contains_key(&key) {
+                self.set(key, value)?;
+            }
+        }
+        Ok(self)
+    }
+
     /// Splits off the pairs from a key on, which are then a map of their own, its number how many
     /// they are. It panics where it is refused; `try_split_off` answers.
     ///
@@ -553,7 +704,8 @@ impl<V: Value> Map<V> {
     where
         V: Given<V>,
     {
-        let behind = Map::try_from_iter(self.range(key.as_ref()..))?;
+        let mut behind = Map::with_longest_key(self.longest_key())?;
+        behind.try_extend(self.range(key.as_ref()..))?;
         for key in behind.keys() {
             self.delete(key)?;
         }

@@ -1,8 +1,8 @@
 //! The proved calls as safe functions. All `unsafe` of this crate stands here and in `sys`.
 use crate::error::Refusal;
 use crate::sys::{
-    self, ABSENT, DONE, EXCLUDED, INCLUDED, LAST_NUMBER, RartBytes, RartEntry, RartTree, TOO_SMALL,
-    UNBOUNDED,
+    self, ABSENT, DONE, EXCLUDED, INCLUDED, LAST_NUMBER, NOT_EMPTY, RartBytes, RartEntry, RartTree,
+    TOO_LONG, TOO_SMALL, UNBOUNDED,
 };
 use crate::walk::Page;
 use std::cell::UnsafeCell;
@@ -17,6 +17,8 @@ const KEY_ROOM: usize = 32;
 pub trait Handle: Sized {
     const EMPTY: Self;
     const NEW_AT: unsafe extern "C" fn(*mut Self, u64) -> u8;
+    const LONGEST_KEY: unsafe extern "C" fn(*mut Self) -> usize;
+    const SET_LONGEST_KEY: unsafe extern "C" fn(*mut Self, usize) -> u8;
     const VERSION: unsafe extern "C" fn(*mut Self) -> u64;
     const LEN: unsafe extern "C" fn(*mut Self) -> usize;
     const COMMON: unsafe extern "C" fn(*mut Self, *mut Self) -> usize;
@@ -28,6 +30,9 @@ pub trait Handle: Sized {
 impl Handle for RartTree {
     const EMPTY: RartTree = RartTree { at: null_mut() };
     const NEW_AT: unsafe extern "C" fn(*mut RartTree, u64) -> u8 = sys::rart_new_at;
+    const LONGEST_KEY: unsafe extern "C" fn(*mut RartTree) -> usize = sys::rart_longest_key;
+    const SET_LONGEST_KEY: unsafe extern "C" fn(*mut RartTree, usize) -> u8 =
+        sys::rart_set_longest_key;
     const VERSION: unsafe extern "C" fn(*mut RartTree) -> u64 = sys::rart_version;
     const LEN: unsafe extern "C" fn(*mut RartTree) -> usize = sys::rart_len;
     const COMMON: unsafe extern "C" fn(*mut RartTree, *mut RartTree) -> usize = sys::rart_common;
@@ -39,6 +44,9 @@ impl Handle for RartTree {
 impl Handle for RartBytes {
     const EMPTY: RartBytes = RartBytes { at: null_mut() };
     const NEW_AT: unsafe extern "C" fn(*mut RartBytes, u64) -> u8 = sys::rart_bytes_new_at;
+    const LONGEST_KEY: unsafe extern "C" fn(*mut RartBytes) -> usize = sys::rart_bytes_longest_key;
+    const SET_LONGEST_KEY: unsafe extern "C" fn(*mut RartBytes, usize) -> u8 =
+        sys::rart_bytes_set_longest_key;
     const VERSION: unsafe extern "C" fn(*mut RartBytes) -> u64 = sys::rart_bytes_version;
     const LEN: unsafe extern "C" fn(*mut RartBytes) -> usize = sys::rart_bytes_len;
     const COMMON: unsafe extern "C" fn(*mut RartBytes, *mut RartBytes) -> usize =
@@ -75,6 +83,16 @@ impl<H: Handle> Tree<H> {
         // SAFETY: as above.
         done(unsafe { H::NEW_AT(tree.handle.get(), number) })?;
         Ok(tree)
+    }
+
+    pub fn longest_key(&self) -> usize {
+        // SAFETY: as above.
+        unsafe { H::LONGEST_KEY(self.handle.get()) }
+    }
+
+    pub fn set_longest_key(&mut self, longest: usize) -> Result<(), Refusal> {
+        // SAFETY: as above.
+        done(unsafe { H::SET_LONGEST_KEY(self.handle.get(), longest) })
     }
 
     pub fn version(&self) -> u64 {
@@ -350,6 +368,8 @@ fn done(answer: u8) -> Result<(), Refusal> {
     match answer {
         DONE => Ok(()),
         LAST_NUMBER => Err(Refusal::LastNumber),
+        TOO_LONG => Err(Refusal::TooLong),
+        NOT_EMPTY => Err(Refusal::NotEmpty),
         _ => Err(Refusal::NoMemory),
     }
 }

@@ -31,14 +31,19 @@ pub const LAST_NUMBER: u8 = 2;
 pub const NO_MEMORY: u8 = 3;
 pub const TOO_SMALL: u8 = 4;
 pub const NO_ENTRIES: u8 = 5;
+pub const TOO_LONG: u8 = 6;
+pub const NOT_EMPTY: u8 = 7;
 pub const INCLUDED: u8 = 0;
 pub const EXCLUDED: u8 = 1;
 pub const UNBOUNDED: u8 = 2;
+pub const LONGEST_KEY: usize = 1024;
 
 unsafe extern "C" {
     pub fn rart_snapshot(tree: *mut RartTree, copy: *mut RartTree) -> u8;
     pub fn rart_clone(tree: *mut RartTree, copy: *mut RartTree) -> u8;
     pub fn rart_new_at(tree: *mut RartTree, number: u64) -> u8;
+    pub fn rart_longest_key(tree: *mut RartTree) -> usize;
+    pub fn rart_set_longest_key(tree: *mut RartTree, longest: usize) -> u8;
     pub fn rart_version(tree: *mut RartTree) -> u64;
     pub fn rart_len(tree: *mut RartTree) -> usize;
     pub fn rart_is_empty(tree: *mut RartTree) -> bool;
@@ -96,6 +101,8 @@ unsafe extern "C" {
     pub fn rart_bytes_snapshot(tree: *mut RartBytes, copy: *mut RartBytes) -> u8;
     pub fn rart_bytes_clone(tree: *mut RartBytes, copy: *mut RartBytes) -> u8;
     pub fn rart_bytes_new_at(tree: *mut RartBytes, number: u64) -> u8;
+    pub fn rart_bytes_longest_key(tree: *mut RartBytes) -> usize;
+    pub fn rart_bytes_set_longest_key(tree: *mut RartBytes, longest: usize) -> u8;
     pub fn rart_bytes_version(tree: *mut RartBytes) -> u64;
     pub fn rart_bytes_len(tree: *mut RartBytes) -> usize;
     pub fn rart_bytes_is_empty(tree: *mut RartBytes) -> bool;

@@ -55,6 +55,8 @@ pub struct Walk<V> {
     // What is left of the page, whose next key begins here.
     page: Page<V>,
     start: usize,
+    // All that is left, once a pair was taken from the back.
+    rest: Option<VecDeque<(Vec<u8>, V)>>,
 }
 
 impl<V: Value> Walk<V> {
@@ -69,6 +71,7 @@ impl<V: Value> Walk<V> {
                 entries: VecDeque::new(),
             },
             start: 0,
+            rest: None,
         }
     }
 
@@ -87,6 +90,9 @@ impl<V: Value> Walk<V> {
     }
 
     pub fn next(&mut self, tree: &Tree<<V as Calls>::Handle>) -> Option<(Vec<u8>, V)> {
+        if let Some(rest) = &mut self.rest {
+            return rest.pop_front();
+        }
         if self.page.entries.is_empty() && !self.is_last {
             self.turn(tree);
         }
@@ -94,6 +100,14 @@ impl<V: Value> Walk<V> {
         let key = self.page.bytes[self.start..end].to_vec();
         self.start = end;
         Some((key, value))
+    }
+
+    /// The last pair. The library walks forwards, so the first call reads all that is left.
+    pub fn next_back(&mut self, tree: &Tree<<V as Calls>::Handle>) -> Option<(Vec<u8>, V)> {
+        if self.rest.is_none() {
+            self.rest = Some(std::iter::from_fn(|| self.next(tree)).collect());
+        }
+        self.rest.as_mut()?.pop_back()
     }
 
     /// Takes the next page, which begins behind the last key of this one.

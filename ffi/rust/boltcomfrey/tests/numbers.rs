@@ -50,6 +50,8 @@ fn what_was_set_before_stays() -> Result<(), Refusal> {
 #[test]
 fn refusals_say_what_lacks() {
     assert_eq!(Refusal::NoMemory.to_string(), "out of memory");
+    assert_eq!(Refusal::TooLong.to_string(), "the key is too long");
+    assert_eq!(Refusal::NotEmpty.to_string(), "the map has a key");
     assert_eq!(
         Refusal::LastNumber.to_string(),
         "the number of the map can't be raised"

@@ -9,12 +9,12 @@ use Rattle.rart_c.proofs.paging.first_within.Goals.{then-len-room, else-len-room
 
 pub returns-in_default : goal.returns-in_default
 returns-in_default c =
-    within-none (shown c.args.table).content (bound_map (λ low. low.now) c.args.low)
+    within-none (shown c.args.table).version.content (bound_map (λ low. low.now) c.args.low)
     (bound_map (λ high. high.now) c.args.high) c.in_default.ensures.0
 
 pub returns-then-is_within : goal.returns-then-is_within
 returns-then-is_within c =
-    let content = (shown c.args.table).content in
+    let content = (shown c.args.table).version.content in
     let low = bound_map (λ low. low.now) c.args.low in
     let high = bound_map (λ high. high.now) c.args.high in
     let first = c.in-Some.ensures in
@@ -34,7 +34,7 @@ returns-then-is_within c =
 
 pub returns-else-is_within : goal.returns-else-is_within
 returns-else-is_within c =
-    let content = (shown c.args.table).content in
+    let content = (shown c.args.table).version.content in
     let low = bound_map (λ low. low.now) c.args.low in
     let high = bound_map (λ high. high.now) c.args.high in
     let first = c.in-Some.ensures in

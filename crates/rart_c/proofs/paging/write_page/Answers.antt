@@ -11,7 +11,7 @@ use Rattle.rart_c.proofs.paging.write_page.Goals as goal
 pub loop-len-init : goal.loop-len-init
 loop-len-init c = record {
   page = [];
-  left = within (shown c.args.table).content (bound_map (λ low. low.now) c.args.low)
+  left = within (shown c.args.table).version.content (bound_map (λ low. low.now) c.args.low)
       (bound_map (λ high. high.now) c.args.high);
   range_is = refl;
   many = refl;
@@ -26,7 +26,7 @@ loop-len-init c = record {
 
 pub loop-len-preserved : goal.loop-len-preserved
 loop-len-preserved c =
-    let content = (shown c.args.table).content in
+    let content = (shown c.args.table).version.content in
     let low = bound_map (λ low. low.now) c.args.low in
     let high = bound_map (λ high. high.now) c.args.high in
     let i = c.loop-len.invariant in

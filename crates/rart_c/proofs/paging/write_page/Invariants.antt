@@ -10,7 +10,7 @@ abbrev pub invariant-loop-len : goal.invariant-loop-len
 invariant-loop-len l = record {
   page : List (List ℕ × ℕ);
   left : List (List ℕ × ℕ);
-  range_is : within (shown l.table).content (bound_map (λ low. low.now) l.low)
+  range_is : within (shown l.table).version.content (bound_map (λ low. low.now) l.low)
       (bound_map (λ high. high.now) l.high) ≡ page ++ left;
   many : l.count ≡ length page;
   end_is : l.end ≡ length (keys_of page);
@@ -19,7 +19,7 @@ invariant-loop-len l = record {
   fits : l.end ≤ length l.bytes;
   most : l.count ≤ length l.entries;
   last : ForSome l.last (λ start. start ≤ l.end);
-  from : within (shown l.table).content
+  from : within (shown l.table).version.content
       (bound_behind l.last (bound_map (λ low. low.now) l.low) (take l.end l.bytes))
       (bound_map (λ high. high.now) l.high) ≡ left;
 }

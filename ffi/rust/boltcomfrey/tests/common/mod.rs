@@ -53,13 +53,22 @@ impl Drawn for Vec<u8> {
 }
 
 /// What a version should be.
-#[derive(Clone, Default)]
+#[derive(Clone)]
 struct Model<V> {
     pairs: BTreeMap<Vec<u8>, V>,
     number: u64,
+    longest: usize,
 }
 
 impl<V: Clone + PartialEq> Model<V> {
+    fn new(longest: usize) -> Model<V> {
+        Model {
+            pairs: BTreeMap::new(),
+            number: 0,
+            longest,
+        }
+    }
+
     fn longest_prefix(&self, probe: &[u8]) -> Option<(usize, V)> {
         let starts = (0..=probe.len()).rev();
         starts
@@ -125,13 +134,9 @@ pub struct Compared<V: Value> {
 
 impl<V: Drawn> Compared<V> {
     pub fn new() -> Compared<V> {
-        let model = Model {
-            pairs: BTreeMap::new(),
-            number: 0,
-        };
         Compared {
             random: Random(0x9e37_79b9_7f4a_7c15),
-            versions: vec![(Map::new(), model)],
+            versions: vec![(Map::new(), Model::new(1024))],
             refused: 0,
         }
     }
@@ -142,9 +147,13 @@ impl<V: Drawn> Compared<V> {
         match self.random.below(2000) {
             0..20 => self.copy(at),
             20 => self.walk(at),
-            21 => self.compare_with_another(at),
+            21 => {
+                self.compare_with_another(at);
+                self.unite(at);
+            }
             22..42 => self.count_common(at),
-            42..600 => self.read(at),
+            42 => self.renew(at),
+            43..600 => self.read(at),
             600..1200 => self.remove(at),
             1200..1300 => self.update(at),
             _ => self.insert(at),
@@ -155,12 +164,17 @@ impl<V: Drawn> Compared<V> {
             (model.number, model.pairs.len())
         );
         assert_eq!(map.is_empty(), model.pairs.is_empty());
+        assert_eq!(map.longest_key(), model.longest);
     }
 
     fn insert(&mut self, at: usize) {
         let (key, value) = (self.random.key(), V::drawn(&mut self.random));
         let gives = self.random.below(2) == 0;
         let (map, model) = &mut self.versions[at];
+        if key.len() > model.longest {
+            assert_eq!(map.set(&key, value), Err(Refusal::TooLong));
+            return;
+        }
         let told = if gives {
             map.insert(&key, value.clone())
                 .map(|was| assert_eq!(was, model.insert(&key, value)))
@@ -204,6 +218,10 @@ impl<V: Drawn> Compared<V> {
         });
         let was = model.pairs.get(&key).cloned();
         assert_eq!(seen, was);
+        if sets && key.len() > model.longest {
+            assert_eq!(told, Err(Refusal::TooLong));
+            return;
+        }
         let told = told.map(|()| {
             if sets {
                 model.insert(&key, value);
@@ -230,6 +248,16 @@ impl<V: Drawn> Compared<V> {
         }
     }
 
+    /// Puts a map without a key in a version's place, whose keys may be longer or shorter than those
+    /// that are drawn.
+    fn renew(&mut self, at: usize) {
+        let longest = self.random.below(16) as usize;
+        match Map::with_longest_key(longest) {
+            Ok(map) => self.versions[at] = (map, Model::new(longest)),
+            Err(refusal) => self.note(Err(refusal)),
+        }
+    }
+
     fn read(&mut self, at: usize) {
         let key = self.random.key();
         let (map, model) = &self.versions[at];
@@ -244,6 +272,11 @@ impl<V: Drawn> Compared<V> {
         assert_eq!(map.first_after(&key), after);
         assert_eq!(map.range(behind).next(), after);
         assert_eq!(map.first_key_value(), model.range(..).next());
+        let last = model.pairs.iter().next_back();
+        assert_eq!(
+            map.last_key_value(),
+            last.map(|(key, value)| (key.clone(), value.clone()))
+        );
     }
 
     /// (As often as in C, since the model looks each key up.)
@@ -270,7 +303,11 @@ impl<V: Drawn> Compared<V> {
         let mut left = map.range(low.clone()..=high.clone());
         assert!(left.clone().eq(model.range(low.clone()..=high.clone())));
         left.next();
-        assert!(left.eq(model.range(low.clone()..=high.clone()).skip(1)));
+        let mut behind: Vec<_> = model.range(low.clone()..=high.clone()).skip(1).collect();
+        assert!(left.clone().eq(behind.iter().cloned()));
+        assert_eq!(left.next_back(), behind.pop());
+        assert_eq!(left.next(), behind.first().cloned());
+        assert!(left.rev().eq(behind.into_iter().skip(1).rev()));
         let within = (Included(low.as_slice()), Excluded(high.as_slice()));
         assert_eq!(map.range(within).count(), model.range(low..high).count());
     }
@@ -287,6 +324,23 @@ impl<V: Drawn> Compared<V> {
             Some((key, value, theirs))
         });
         assert!(map.intersection(other).eq(common));
+    }
+
+    /// Makes a map of two, whose keys may be as long as the first one's.
+    fn unite(&mut self, at: usize) {
+        let other = self.random.below(self.versions.len() as u64) as usize;
+        let ((map, model), (other, others)) = (&self.versions[at], &self.versions[other]);
+        let mut all = others.pairs.clone();
+        all.extend(model.range(..));
+        let is_long = all.keys().any(|it| it.len() > model.longest);
+        let united = map
+            .try_clone()
+            .and_then(|map| map.try_union(other.try_clone()?));
+        match united {
+            Ok(united) => assert!(!is_long && united.iter().eq(all)),
+            Err(Refusal::TooLong) => assert!(is_long),
+            Err(refusal) => self.note(Err(refusal)),
+        }
     }
 
     fn note(&mut self, told: Result<(), Refusal>) {

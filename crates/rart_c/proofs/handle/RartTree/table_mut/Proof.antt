@@ -1,9 +1,9 @@
 -- `table_mut` lends the table where there is one, and the handle shows what it leaves.
-use Rattle.rart_c.proofs.Steps.{◌≡◌, ℕ, [], ◌∷◌, List, refl, sym, ap, ◌∙◌, lit<, after, Some-of, none_of, None, Some, ghosts, ftrue, fsep, flft, tables, RattleType, Ptr, block_ptr, null_ptr, ptr_val, tests_null, Testable, type_at, plain, nothing, Stays, stay_dropped, walk_of, Val, vptr, vcons, vnil, bare, alloc_all, pass_all, free_all, look_at, get, sets, sets_last, env, ‵, ◌⊛◌, some, later, at_ret, ◌$◌, ◌∵◌, !, qed, move, keep, drop, split, split3, join, fsplit, fjoin, fpack, pick, use0, use1, await, rewrite, live, agg, sub, whole, stop, fld, lit, of_opd, bin, no_more, and_then, first, blocks, branches, exec, returns, enter, sem}
+use Rattle.rart_c.proofs.Steps.{◌≡◌, ℕ, [], ◌∷◌, List, refl, sym, ap, ◌∙◌, lit<, after, Some-of, none_of, None, Some, ghosts, ftrue, fsep, flft, tables, RattleType, Ptr, block_ptr, ptr_val, tests_null, type_at, plain, nothing, Stays, stay_dropped, walk_of, Val, vptr, vcons, vnil, bare, alloc_all, pass_all, free_all, look_at, get, sets, sets_last, env, ‵, ◌⊛◌, some, later, at_ret, ◌$◌, ◌∵◌, !, qed, move, keep, drop, split, split3, join, fsplit, fjoin, fpack, pick, use0, use1, await, rewrite, live, agg, sub, whole, stop, fld, lit, of_opd, bin, no_more, and_then, first, blocks, branches, exec, returns, enter, sem}
 use Rattle.rart_c.proofs.Handles.{Heap, Kept, heap_good, either}
 use Rattle.rart_c.proofs.Pointers.{Beside, apart, pair, together}
 use Rattle.rart_c.specs.Owned.{held}
-use Rattle.rart_maps.specs.Versions.{Version, empty_at}
+use Rattle.rart_c.specs.Trees.{Tree, tree_at}
 use Rattle.std.proofs.raw_atomic.Walks.{proved}
 use Rattle.core.specs.contracts.clone.U64Clone.TheImpl.{ghosts as clones}
 use denote.Builtin.{u64 as Value}
@@ -38,26 +38,26 @@ stayed = (stay_dropped (mut_ref_to (0 ∷ []) tt (plain (λ _. Row))) no, tt)
 
 module _ {M : Type 1} {𝓤 : Ura M} (𝓛 : Logic 𝓤) (h : Row.Denot) (us : List Val) (g : Val)
     (is : us ≡ pair (ptr_val h.at) g ∷ []) (b o b' o' : ℕ) (at : h.at ≡ block_ptr b' o') where
-  abbrev shown_as : Version Value.Denot → Row.Denot
-  shown_as version = record h { shows = version }
+  abbrev shown_as : Tree Value.Denot → Row.Denot
+  shown_as last = record h { shows = last }
 
   -- all of the handle but the table
   abbrev Rest : Fml
   Rest = fsep (ghosts.dealloc_token h.alloc (bare (lone Table.mir)) (block_ptr b' o'))
       (fsep (Heap.own_val h.alloc (g ∷ [])) (cell_at full_share Row.mir us b o))
 
-  back : (version : Version Value.Denot)
-      → ent 𝓤 (sep 𝓤 (sem 𝓛 ((mem Table).own_at version b' o')) (sem 𝓛 Rest))
-      (sem 𝓛 ((mem Row).own_at (shown_as version) b o))
+  back : (last : Tree Value.Denot)
+      → ent 𝓤 (sep 𝓤 (sem 𝓛 ((mem Table).own_at last b' o')) (sem 𝓛 Rest))
+      (sem 𝓛 ((mem Row).own_at (shown_as last) b o))
   unfolding part_of
-  back version =
-      qed 𝓛 (‵ (part_at Table full_share version b' o') ∷ ‵ Rest ∷ []) ∵ move ! (1 ∷ []) $ fsplit ! $
+  back last =
+      qed 𝓛 (‵ (part_at Table full_share last b' o') ∷ ‵ Rest ∷ []) ∵ move ! (1 ∷ []) $ fsplit ! $
       move ! (1 ∷ []) $ fsplit ! $ move ! (3 ∷ 2 ∷ []) $ fjoin ! $
-      rewrite ! 0 (λ (p : Ptr). ‵ (held Value clones h.alloc p version)) (sym at) refl $
+      rewrite ! 0 (λ (p : Ptr). ‵ (held Value clones h.alloc p last)) (sym at) refl $
       move ! (1 ∷ []) $ together Heap heap_good ghosts ! h.at h.alloc g $
       rewrite ! 0 (λ (vs : List Val). ‵ ((Struct (Beside Heap heap_good ghosts)).own_val (h.at, (h.alloc, tt)) vs)) (sym is) refl $
       fjoin ! $ move ! (1 ∷ 0 ∷ []) $ fjoin ! $
-      fpack ! (List Val) (λ vs. fsep (cell_at full_share Row.mir vs b o) (Row.own_val (shown_as version) vs)) us $ done !
+      fpack ! (List Val) (λ vs. fsep (cell_at full_share Row.mir vs b o) (Row.own_val (shown_as last) vs)) us $ done !
 
 pub table_mut_spec : {M : Type 1} → statement M
 unfolding follows_by
@@ -86,7 +86,7 @@ table_mut_spec 𝓤 𝓛 𝓜 𝓡 wired =
     sets ! (of_opd ! (load ! (through ! refl (fld ! refl (stop !))) (look_in ! 1 (sub ! 0 refl (whole !))))) refl (tt, record { fits = lit< tt }) $
     rewrite ! 1 Cell (sym word) refl $
     together Heap heap_good ghosts ! h.at h.alloc g $ rewrite ! 0 Fields (sym is) refl $
-    nothing ! $ fpack ! (h.shows ≡ empty_at 0) (λ _. ftrue) none $
+    nothing ! $ fpack ! (h.shows ≡ tree_at 0) (λ _. ftrue) none $
     rewrite ! 0 (λ (p : Ptr). ‵ (held Value clones h.alloc p h.shows)) (sym null) refl $
     move ! (1 ∷ []) $ fjoin ! $ move ! (1 ∷ []) $ closes ! tt Row h us b o $
     use1 𝓛 (‵ (fres γ (Row.coded.code h))) (𝓛.names.obs-res γ (Row.coded.code h)) $ move ! (1 ∷ []) $ drop ! $
@@ -121,7 +121,7 @@ table_mut_spec 𝓤 𝓛 𝓜 𝓡 wired =
     use1 𝓛 (later (some (λ (δ : GName). ‵ (Lent.own_val (record { ref_ptr = (b', o'); ghost_name = δ; now = h.shows }) (there ∷ [])) ⊛ ‵ (flft κ q) ⊛ ‵ (follows Row Table γ δ (shown_as 𝓛 h us g is b o b' o' at)))))
     (lends_Part 𝓛 Row Table (shown_as 𝓛 h us g is b o b' o' at) (named 0) κ q b o b' o' γ (sem 𝓛 (Rest 𝓛 h us g is b o b' o' at)) (back 𝓛 h us g is b o b' o' at) (Row.coded.code h) (Row.coded.code h) h.shows) $
     await ! tt $ pick ! (λ δ.
-    let r : MutBor (Version Value.Denot) = record { ref_ptr = (b', o'); ghost_name = δ; now = h.shows } in
+    let r : MutBor (Tree Value.Denot) = record { ref_ptr = (b', o'); ghost_name = δ; now = h.shows } in
     split3 ! $ use1 𝓛 (‵ (Answer.own_val (Some r) (live 1 (vcons there vnil) ∷ []))) (Some-of 𝓛 Lent r there) $
     returns ! (look_at ! 0 refl) $ free_all ! refl $ keep ! (0 ∷ 1 ∷ 2 ∷ []) $
     suffices ! _ (ends_at 𝓛 f.ended stayed c y (live 1 (vcons there vnil)) (Some r) (tt, tt) (tt, tt)) $

@@ -2,7 +2,7 @@
 use Rattle.rart_c.proofs.Steps.{◌≡◌, [], ◌∷◌, ◌++◌, refl, lit<, handle_tells, proved_at, leaves, ghosts, ftrue, emp, fact, fact_i, tables, yes, owns, null_ptr, ptr_val, types_at, plain, nothing, Stays, stay_dropped, walk_of, Goes-dropped, WpFn, alloc_all, pass_all, free_all, look_at, get, sets, ‵, raw, ◌⊛◌, prop, ◌$◌, ◌∵◌, !, qed, by, move, keep, split, fsplit, fjoin, regoal, use0, agg, lit, no_more, and_then, returns, enter}
 use Rattle.rart_c.proofs.Handles.{Heap, heap_good, nothing_held}
 use Rattle.rart_c.proofs.Pointers.{Handle, pair, pair_good, together}
-use Rattle.rart_maps.specs.Versions.{empty_at}
+use Rattle.rart_c.specs.Trees.{tree_at}
 use Rattle.rart_c.specs.contracts.bytes.value.Bytes.{the_row as Value}
 use Rattle.rart_c.specs.contracts.bytes.value.BytesClone.TheImpl.{ghosts as clones}
 use Rattle.rart_c.specs.contracts.bytes.handle.RartBytes.empty as f
@@ -27,8 +27,8 @@ empty_spec 𝓤 𝓛 𝓜 𝓡 wired =
     sets ! (agg ! (and_then ! (lit ! tt) (and_then ! (get ! refl) (no_more !)))) refl good $
     nothing_held Value clones ! a $ move ! (1 ∷ 0 ∷ []) $
     together Heap heap_good ghosts ! null_ptr a h $ fjoin ! $
-    use0 𝓛 (raw (fact 𝓤 (empty_at {V = Value.Denot} 0 ≡ empty_at 0))) (fact_i 𝓤
-    (empty_at {V = Value.Denot} 0 ≡ empty_at 0) (emp 𝓤) refl) $ nothing ! $ nothing ! $ fjoin ! $
+    use0 𝓛 (raw (fact 𝓤 (tree_at {V = Value.Denot} 0 ≡ tree_at 0))) (fact_i 𝓤
+    (tree_at {V = Value.Denot} 0 ≡ tree_at 0) (emp 𝓤) refl) $ nothing ! $ nothing ! $ fjoin ! $
     returns ! (look_at ! 0 refl) $ free_all ! refl $ keep ! (3 ∷ 0 ∷ 2 ∷ 1 ∷ []) $
     by ! (leaves 𝓛 f.ended stayed c z (pair (ptr_val null_ptr) h)
-    (record { at = null_ptr; alloc = a; shows = empty_at 0 }) (tt, tt) (tt, tt)))))
+    (record { at = null_ptr; alloc = a; shows = tree_at 0 }) (tt, tt) (tt, tt)))))

@@ -3,7 +3,7 @@ use Rattle.rart_c.proofs.Steps.{◌≡◌, [], ◌∷◌, ◌++◌, refl, ap, �
 use Rattle.rart_c.proofs.Handles.{Heap, Kept, heap_good, either}
 use Rattle.rart_c.proofs.Parts.{Parts, closes}
 use Rattle.rart_c.proofs.Pointers.{pair, apart, pair_good}
-use Rattle.rart_maps.specs.Versions.{empty_at}
+use Rattle.rart_c.specs.Trees.{tree_at}
 use Rattle.rart_c.specs.contracts.bytes.value.Bytes.{the_row as Value}
 use Rattle.rart_c.specs.contracts.bytes.value.BytesClone.TheImpl.{ghosts as clones}
 use Rattle.rart_c.specs.contracts.bytes.handle.RartBytes as handle
@@ -50,7 +50,7 @@ into_parts_spec 𝓤 𝓛 𝓜 𝓡 wired =
     exec ! 𝓣.C 𝓣.Λ (env code.function.locals l) (after 4 code.function.body) (at_ret _ (W.post z)) $
     sets ! (of_opd ! (get ! refl)) refl good $
     use0 𝓛 (‵ (Answer.own_val None (v ∷ []))) (none_of 𝓛 Out) $
-    use0 𝓛 (raw (fact 𝓤 (x ≡ empty_at 0))) (fact_i 𝓤 (x ≡ empty_at 0) (emp 𝓤) none) $ nothing ! $
+    use0 𝓛 (raw (fact 𝓤 (x ≡ tree_at 0))) (fact_i 𝓤 (x ≡ tree_at 0) (emp 𝓤) none) $ nothing ! $
     nothing ! $ fjoin ! $
     returns ! (look_at ! 0 refl) $ free_all ! refl $ keep ! (5 ∷ 0 ∷ 2 ∷ 1 ∷ []) $
     by ! (leaves 𝓛 f.ended stayed c z v None (tt, tt) (tt, tt)))

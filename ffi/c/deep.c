@@ -1,0 +1,104 @@
+// That keys as long as they may be end no thread, however they begin one another: chains of them are
+// made, read, compared, taken out and freed on a thread with little stack.
+//
+//   deep [LONGEST [KIB]]   of so many bytes, 1,024 without a word, on a thread with so many KiB of
+//                          stack, 2,048 without a word
+#include "boltcomfrey.h"
+#include <pthread.h>
+#include <stdio.h>
+#include <stdlib.h>
+#include <string.h>
+
+#define EXPECT(claim)                                                                              \
+    do {                                                                                           \
+        if (!(claim)) {                                                                            \
+            fprintf(stderr, "%s:%d: this is false: %s\n", __FILE__, __LINE__, #claim);             \
+            exit(1);                                                                               \
+        }                                                                                          \
+    } while (0)
+
+// A chain of keys, each a byte longer than the one before, and how many more keys stand beside each.
+struct chain {
+    rart_tree tree;
+    size_t longest;
+    size_t beside;
+    bool ends_differ; // (b, ab, aab, .. in place of a, aa, aaa, ..)
+};
+
+// One byte more than a key may have.
+static uint8_t *key;
+
+static void insert(struct chain *chain, size_t len, rart_answer wanted) {
+    uint64_t replaced;
+    EXPECT(rart_insert(&chain->tree, key, len, len, &replaced) == wanted);
+}
+
+static void fill(struct chain *chain) {
+    EXPECT(rart_set_longest_key(&chain->tree, chain->longest) == RART_DONE);
+    memset(key, 'a', chain->longest + 1);
+    for (size_t len = 1; len <= chain->longest; len++) {
+        key[len - 1] = chain->ends_differ ? 'b' : 'a';
+        insert(chain, len, RART_ABSENT);
+        for (size_t other = 1; other <= chain->beside; other++) {
+            key[len - 1] = (uint8_t)('b' + other);
+            insert(chain, len, RART_ABSENT);
+        }
+        key[len - 1] = 'a';
+    }
+}
+
+// A key of a byte more is refused, and nothing changes.
+static void refuse_longer(struct chain *chain) {
+    size_t len = rart_len(&chain->tree);
+    uint64_t number = rart_version(&chain->tree), value = 7;
+    insert(chain, chain->longest + 1, RART_TOO_LONG);
+    EXPECT(rart_len(&chain->tree) == len && rart_version(&chain->tree) == number);
+    EXPECT(rart_get(&chain->tree, key, chain->longest + 1, &value) == RART_ABSENT && value == 7);
+    EXPECT(rart_remove(&chain->tree, key, chain->longest + 1, &value) == RART_ABSENT);
+    EXPECT(rart_set_longest_key(&chain->tree, chain->longest + 1) == RART_NOT_EMPTY);
+}
+
+static void try_chain(struct chain *chain) {
+    uint64_t value;
+    rart_tree copy = {0};
+    fill(chain);
+    refuse_longer(chain);
+    size_t keys = chain->longest * (chain->beside + 1);
+    EXPECT(rart_len(&chain->tree) == keys && rart_snapshot(&chain->tree, &copy) == RART_DONE);
+    EXPECT(rart_longest_key(&copy) == chain->longest);
+    EXPECT(rart_common(&chain->tree, &copy) == keys);
+    key[chain->longest - 1] = chain->ends_differ ? 'b' : 'a';
+    insert(chain, chain->longest, RART_DONE);
+    EXPECT(rart_common(&chain->tree, &copy) == keys);
+    EXPECT(rart_remove(&chain->tree, key, chain->longest, &value) == RART_DONE);
+    EXPECT(value == chain->longest && rart_common(&chain->tree, &copy) == keys - 1);
+    rart_clear(&copy);
+    rart_clear(&chain->tree);
+}
+
+static void *run(void *longest) {
+    static const size_t beside[] = {0, 3, 16, 48, 99};
+    for (size_t at = 0; at < sizeof beside / sizeof beside[0]; at++) {
+        for (int ends_differ = 0; ends_differ < 2; ends_differ++) {
+            struct chain chain = {.longest = *(size_t *)longest, .beside = beside[at]};
+            chain.ends_differ = ends_differ;
+            try_chain(&chain);
+        }
+    }
+    return NULL;
+}
+
+int main(int count, char **words) {
+    size_t longest = count > 1 ? strtoull(words[1], NULL, 10) : RART_LONGEST_KEY;
+    size_t kib = count > 2 ? strtoull(words[2], NULL, 10) : 2048;
+    pthread_attr_t attributes;
+    pthread_t thread;
+    key = malloc(longest + 1);
+    EXPECT(key != NULL && pthread_attr_init(&attributes) == 0);
+    EXPECT(pthread_attr_setstacksize(&attributes, kib * 1024) == 0);
+    EXPECT(pthread_create(&thread, &attributes, run, &longest) == 0);
+    EXPECT(pthread_join(thread, NULL) == 0);
+    free(key);
+    printf("chains of keys of %zu bytes end no thread of %zu KiB\n", longest, kib);
+    return 0;
+}

@@ -254,6 +254,33 @@ rart_answer rart_remove(
     uint64_t *RART_ALONE value
 );
 
+// Sets a key to a value where it is not there, the number then one greater, and answers
+// RART_ABSENT. Where it is there nothing changes, and it answers RART_DONE and writes the value
+// that is there. RART_TOO_LONG says that the key is longer than a key may be, RART_LAST_NUMBER that
+// it is not there and the number can't be raised, RART_NO_MEMORY that it is not there and memory
+// was refused: nothing changed then.
+RART_NONNULL RART_MUST_USE RART_CHANGES(1) RART_READS(2, 3) RART_WRITES(5)
+rart_answer rart_add(
+    rart_tree *RART_ALONE tree,
+    const uint8_t *RART_ALONE key,
+    size_t key_len,
+    uint64_t value,
+    uint64_t *RART_ALONE found
+);
+
+// Sets a key to a value where it is there, the number then one greater, and answers RART_DONE and
+// writes the value that was replaced. Where it is not there nothing changes, and it answers
+// RART_ABSENT. RART_LAST_NUMBER says that the key is there and the number can't be raised,
+// RART_NO_MEMORY that it is there and memory was refused: nothing changed then.
+RART_NONNULL RART_MUST_USE RART_CHANGES(1) RART_READS(2, 3) RART_WRITES(5)
+rart_answer rart_replace(
+    rart_tree *RART_ALONE tree,
+    const uint8_t *RART_ALONE key,
+    size_t key_len,
+    uint64_t value,
+    uint64_t *RART_ALONE replaced
+);
+
 // Writes the first pairs within two bounds, as many as there is room for: their keys one behind the
 // other to the front of bytes, an entry of each to the front of entries, and how many they are to
 // count. What bytes has behind the keys is not told; entries is as before there. Answers RART_DONE
@@ -408,6 +435,32 @@ rart_answer rart_bytes_remove(
     rart_bytes *RART_ALONE tree,
     const uint8_t *RART_ALONE key,
     size_t key_len
+);
+
+// Sets a key to a copy of the value where it is not there, the number then one greater, and answers
+// RART_ABSENT. Where it is there nothing changes, and it answers RART_DONE. RART_TOO_LONG says that
+// the key is longer than a key may be, RART_LAST_NUMBER that it is not there and the number can't
+// be raised, RART_NO_MEMORY that it is not there and memory was refused: nothing changed then.
+RART_NONNULL RART_MUST_USE RART_CHANGES(1) RART_READS(2, 3) RART_READS(4, 5)
+rart_answer rart_bytes_add(
+    rart_bytes *RART_ALONE tree,
+    const uint8_t *RART_ALONE key,
+    size_t key_len,
+    const uint8_t *RART_ALONE value,
+    size_t value_len
+);
+
+// Sets a key to a copy of the value where it is there, the number then one greater, and answers
+// RART_DONE. Where it is not there nothing changes, and it answers RART_ABSENT. RART_LAST_NUMBER
+// says that the key is there and the number can't be raised, RART_NO_MEMORY that it is there and
+// memory was refused: nothing changed then.
+RART_NONNULL RART_MUST_USE RART_CHANGES(1) RART_READS(2, 3) RART_READS(4, 5)
+rart_answer rart_bytes_replace(
+    rart_bytes *RART_ALONE tree,
+    const uint8_t *RART_ALONE key,
+    size_t key_len,
+    const uint8_t *RART_ALONE value,
+    size_t value_len
 );
 
 #ifdef __cplusplus

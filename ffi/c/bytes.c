@@ -20,6 +20,18 @@ static rart_answer insert(size_t at, const struct key *key, uint64_t number) {
     return rart_bytes_insert(&trees[at], key->bytes, key->len, value, len);
 }
 
+static rart_answer add(size_t at, const struct key *key, uint64_t number) {
+    uint8_t value[MOST_VALUE] = {0};
+    size_t len = value_of(number, value);
+    return rart_bytes_add(&trees[at], key->bytes, key->len, value, len);
+}
+
+static rart_answer replace(size_t at, const struct key *key, uint64_t number) {
+    uint8_t value[MOST_VALUE] = {0};
+    size_t len = value_of(number, value);
+    return rart_bytes_replace(&trees[at], key->bytes, key->len, value, len);
+}
+
 static rart_answer take_out(size_t at, const struct key *key) {
     return rart_bytes_remove(&trees[at], key->bytes, key->len);
 }

@@ -10,6 +10,20 @@ static rart_answer insert(size_t at, const struct key *key, uint64_t value) {
     return answer;
 }
 
+static rart_answer add(size_t at, const struct key *key, uint64_t value) {
+    uint64_t found = NO_NUMBER;
+    rart_answer answer = rart_add(&trees[at], key->bytes, key->len, value, &found);
+    EXPECT(found == (answer == RART_DONE ? tables[at].values[key->number] : NO_NUMBER));
+    return answer;
+}
+
+static rart_answer replace(size_t at, const struct key *key, uint64_t value) {
+    uint64_t replaced = NO_NUMBER;
+    rart_answer answer = rart_replace(&trees[at], key->bytes, key->len, value, &replaced);
+    EXPECT(replaced == (answer == RART_DONE ? tables[at].values[key->number] : NO_NUMBER));
+    return answer;
+}
+
 static rart_answer take_out(size_t at, const struct key *key) {
     uint64_t value = NO_NUMBER;
     rart_answer answer = rart_remove(&trees[at], key->bytes, key->len, &value);

@@ -164,6 +164,8 @@ static bool has_key(const struct room *room, size_t number) {
 // The calls that take or write a value, and what each is to write. Those that read also expect
 // their answer: they are told the number of the key to be found, KEYS where there is none.
 static rart_answer insert(size_t at, const struct key *key, uint64_t value);
+static rart_answer add(size_t at, const struct key *key, uint64_t value);
+static rart_answer replace(size_t at, const struct key *key, uint64_t value);
 static rart_answer take_out(size_t at, const struct key *key);
 static void look(size_t at, const struct key *key, size_t wanted);
 static void look_longest(size_t at, const struct key *probe, size_t wanted);
@@ -210,15 +212,48 @@ static rart_answer answer_of_change(size_t at, const struct key *key, bool must_
     return tables[at].has[key->number] ? RART_DONE : RART_ABSENT;
 }
 
-static void expect_insert(size_t at, const struct key *key, uint64_t value) {
+// What such a call answers that sets a key.
+static rart_answer answer_of_key(size_t at, const struct key *key, bool must_rise) {
     bool is_long = key->len > tables[at].longest;
     too_long += is_long;
-    rart_answer wanted = is_long ? RART_TOO_LONG : answer_of_change(at, key, true);
+    return is_long ? RART_TOO_LONG : answer_of_change(at, key, must_rise);
+}
+
+static void set_in_table(size_t at, const struct key *key, uint64_t value) {
+    tables[at].len += !tables[at].has[key->number];
+    tables[at].number++;
+    tables[at].has[key->number] = true;
+    tables[at].values[key->number] = value;
+}
+
+static void expect_insert(size_t at, const struct key *key, uint64_t value) {
+    rart_answer wanted = answer_of_key(at, key, true);
     if (!is_refused(insert(at, key, value), wanted) && RART_OK(wanted)) {
-        tables[at].len += wanted == RART_ABSENT;
-        tables[at].number++;
-        tables[at].has[key->number] = true;
-        tables[at].values[key->number] = value;
+        set_in_table(at, key, value);
+    }
+    expect_state(at, key);
+}
+
+// A key that is there stays as it is, and the call isn't refused.
+static void expect_add(size_t at, const struct key *key, uint64_t value) {
+    bool is_there = tables[at].has[key->number];
+    rart_answer wanted = answer_of_key(at, key, !is_there);
+    if (is_refused(add(at, key, value), wanted)) {
+        EXPECT(!is_there);
+    } else if (wanted == RART_ABSENT) {
+        set_in_table(at, key, value);
+    }
+    expect_state(at, key);
+}
+
+// So it is where a key that is not there is to be replaced.
+static void expect_replace(size_t at, const struct key *key, uint64_t value) {
+    bool is_there = tables[at].has[key->number];
+    rart_answer wanted = answer_of_change(at, key, is_there);
+    if (is_refused(replace(at, key, value), wanted)) {
+        EXPECT(is_there);
+    } else if (wanted == RART_DONE) {
+        set_in_table(at, key, value);
     }
     expect_state(at, key);
 }
@@ -323,6 +358,9 @@ static void make_call(size_t at) {
         expect_first(at, &key, random_below(2) == 0);
     } else if (what < 1300) {
         expect_take_out(at, &key);
+    } else if (what < 1400) {
+        expect_add(at, &key, random_below(UINT64_MAX));
+        expect_replace(at, &key, random_below(UINT64_MAX));
     } else {
         expect_insert(at, &key, random_below(UINT64_MAX));
     }
@@ -337,6 +375,10 @@ static void run_out(void) {
     expect_insert(0, &tea, 7);
     expect_insert(0, &tea, 8);
     expect_insert(0, &milk, 8);
+    expect_add(0, &tea, 8);
+    expect_add(0, &milk, 8);
+    expect_replace(0, &tea, 8);
+    expect_replace(0, &milk, 8);
     expect_take_out(0, &tea);
     expect_take_out(0, &milk);
     expect_copy(0, 1, true);

@@ -1,5 +1,6 @@
 pub mod AnswerLaws
 pub mod Answers
+pub mod Choices
 pub mod Firsts
 pub mod Lends
 pub mod Longest

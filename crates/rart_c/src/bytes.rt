@@ -1,5 +1,6 @@
 //! Trees whose values are byte strings.
 pub(crate) mod changing;
+pub(crate) mod choosing;
 pub(crate) mod handle;
 pub(crate) mod limits;
 pub(crate) mod reading;

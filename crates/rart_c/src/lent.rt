@@ -1,5 +1,5 @@
 //! What is read of a table that a handle lends, or of none: the tree as it is at first.
-ghost use Rattle.std.specs.Prelude.{◌≡◌, ◌==◌, length, not, IfOk, MatchOption, MatchResult};
+ghost use Rattle.std.specs.Prelude.{◌≡◌, ◌≤◌, ◌==◌, length, not, IfOk, IsTrue, MatchOption, MatchResult};
 ghost use Rattle.std.specs.FinMap as finite;
 ghost use Rattle.std.specs.Option.{option_copied};
 ghost use Rattle.std.specs.Range.Bound.{bound_map};
@@ -9,7 +9,7 @@ ghost use Rattle.rart_c.specs.Longest.{length_found, longest_length};
 ghost use Rattle.rart_c.specs.Shown.{shown};
 ghost use Rattle.rart_maps.specs.Pairs.{common, within};
 ghost use Rattle.rart_c.specs.Trees.{KeepsLimit, tree_at, with_version};
-ghost use Rattle.rart_maps.specs.Versions.{HasRoom, value_at, with_rise};
+ghost use Rattle.rart_maps.specs.Versions.{HasRoom, has_key, value_at, with_rise};
 ghost use Rattle.rart_ways.specs.Firsts.{Finds};
 
 use crate::answer::Refusal;
@@ -58,6 +58,15 @@ pub(crate) fn get<'a, V: Clone + Drop>(table: Option<&'a Table<V>>, key: &[u8]) 
         None => None,
         Some(table) => table.tree.get_slice(key),
     }
+}
+
+/// Whether a key is there, and is then no longer than a key may be.
+pub(crate) fn has<V: Clone + Drop>(table: Option<&Table<V>>, key: &[u8]) -> bool
+    ensures there { result ≡ has_key (shown table.entry).version key.now }
+    ensures short { IsTrue result → length key.now ≤ (shown table.entry).longest }
+{
+    let _ = longest_key(table); // (by which the proof knows that no key is longer)
+    get(table, key).is_some()
 }
 
 /// How long the longest key is that begins the probe, and its value, if there is one.

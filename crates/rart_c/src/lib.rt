@@ -8,6 +8,7 @@
 mod answer;
 mod bytes;
 mod changing;
+mod choosing;
 mod handle;
 mod laws;
 mod lent;

@@ -1,6 +1,7 @@
 //! Each export with ample memory, all that it writes beside its answer.
 use crate::answer::{ABSENT, DONE, NOT_EMPTY, TOO_LONG, TOO_SMALL};
 use crate::changing::{rart_clear, rart_insert, rart_remove};
+use crate::choosing::{rart_add, rart_replace};
 use crate::handle::RartTree;
 use crate::limits::{rart_longest_key, rart_set_longest_key};
 use crate::paging::{EXCLUDED, INCLUDED, RartEntry, rart_page};
@@ -32,6 +33,26 @@ fn changes_are_answered(rt: HostRuntime) {
     assert_eq!(rt; rart_version(&mut tree), 4);
     rart_clear(alloc, &mut tree);
     assert!(rt; rart_is_empty(&mut tree));
+}
+
+#[test]
+fn keys_are_set_where_they_are_or_where_not(rt: HostRuntime) {
+    let alloc = rt.alloc();
+    let mut tree = tree_of(alloc, &[(b"tea", 300)]);
+    let mut value = 0;
+    let added = rart_add(alloc, &mut tree, b"tea", 350, &mut value);
+    assert_eq!(rt; (added, value, rart_version(&mut tree)), (DONE, 300, 1));
+    assert_eq!(rt;
+        rart_add(alloc, &mut tree, b"milk", 100, &mut value),
+        ABSENT
+    );
+    assert_eq!(rt;
+        rart_replace(alloc, &mut tree, b"salt", 50, &mut value),
+        ABSENT
+    );
+    let replaced = rart_replace(alloc, &mut tree, b"tea", 350, &mut value);
+    assert_eq!(rt; (replaced, value, rart_version(&mut tree)), (DONE, 300, 3));
+    assert_eq!(rt; rart_len(&mut tree), 2);
 }
 
 #[test]

@@ -71,7 +71,7 @@ pub extern "C" fn rart_bytes_remove(tree: &mut RartBytes, key: &[u8]) -> u8
 
 /// Sets a key to a copy of the value, and gives the value that was replaced. That there is no room
 /// is told before memory is asked for.
-fn set(
+pub(crate) fn set(
     alloc: Global,
     tree: &mut RartBytes,
     key: &[u8],

@@ -1,6 +1,7 @@
 //! Each export with ample memory, all that it writes beside its answer.
 use crate::answer::{ABSENT, DONE, NOT_EMPTY, TOO_LONG, TOO_SMALL};
 use crate::bytes::changing::{rart_bytes_clear, rart_bytes_insert, rart_bytes_remove};
+use crate::bytes::choosing::{rart_bytes_add, rart_bytes_replace};
 use crate::bytes::handle::RartBytes;
 use crate::bytes::limits::{rart_bytes_longest_key, rart_bytes_set_longest_key};
 use crate::bytes::reading::{
@@ -30,6 +31,27 @@ fn changes_are_answered(rt: HostRuntime) {
     assert_eq!(rt; rart_bytes_version(&mut tree), 4);
     rart_bytes_clear(alloc, &mut tree);
     assert!(rt; rart_bytes_is_empty(&mut tree));
+}
+
+#[test]
+fn keys_are_set_where_they_are_or_where_not(rt: HostRuntime) {
+    let alloc = rt.alloc();
+    let mut tree = tree_of(alloc, &[(b"tea", b"Tea")]);
+    assert_eq!(rt; rart_bytes_add(alloc, &mut tree, b"tea", b"Green"), DONE);
+    assert_eq!(rt; rart_bytes_version(&mut tree), 1);
+    assert_eq!(rt; rart_bytes_add(alloc, &mut tree, b"milk", b"Milk"), ABSENT);
+    assert_eq!(rt;
+        rart_bytes_replace(alloc, &mut tree, b"salt", b"Salt"),
+        ABSENT
+    );
+    assert_eq!(rt;
+        rart_bytes_replace(alloc, &mut tree, b"tea", b"Green"),
+        DONE
+    );
+    assert_eq!(rt;
+        (rart_bytes_len(&mut tree), rart_bytes_version(&mut tree)),
+        (2, 3)
+    );
 }
 
 #[test]

@@ -456,6 +456,40 @@ impl<V: Value> Map<V> {
         V::set(&mut self.tree, key.as_ref(), value.given())
     }
 
+    /// Sets a key to a value where it is not there, and tells whether it was set. Where it is there
+    /// nothing changes. Refused, nothing has changed.
+    ///
+    /// ```
+    /// # use boltcomfrey::VersionedMap;
+    /// let mut prices = VersionedMap::new();
+    /// assert!(prices.add("tea", 300)?);
+    /// assert!(!prices.add("tea", 350)?);
+    /// assert_eq!(prices.get("tea"), Some(300));
+    /// # Ok::<(), boltcomfrey::Refusal>(())
+    /// ```
+    pub fn add(&mut self, key: impl AsRef<[u8]>, value: impl Given<V>) -> Result<bool, Refusal> {
+        Ok(!V::add(&mut self.tree, key.as_ref(), value.given())?)
+    }
+
+    /// Sets a key to a value where it is there, and tells whether it was set. Without the key nothing
+    /// changes. Refused, nothing has changed.
+    ///
+    /// ```
+    /// # use boltcomfrey::VersionedMap;
+    /// let mut prices = VersionedMap::from([("tea", 300)]);
+    /// assert!(prices.replace("tea", 350)?);
+    /// assert!(!prices.replace("milk", 100)?);
+    /// assert_eq!(prices.len(), 1);
+    /// # Ok::<(), boltcomfrey::Refusal>(())
+    /// ```
+    pub fn replace(
+        &mut self,
+        key: impl AsRef<[u8]>,
+        value: impl Given<V>,
+    ) -> Result<bool, Refusal> {
+        V::replace(&mut self.tree, key.as_ref(), value.given())
+    }
+
     /// Takes a key out, and gives its value; the number rises by one then. Without the key nothing
     /// changes. Refused, nothing has changed.
     ///
@@ -676,9 +710,7 @@ impl<V: Value> Map<V> {
         V: Given<V>,
     {
         for (key, value) in other {
-            if !self.contains_key(&key) {
-                self.set(key, value)?;
-            }
+            self.add(key, value)?;
         }
         Ok(self)
     }

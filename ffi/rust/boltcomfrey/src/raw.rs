@@ -194,6 +194,24 @@ impl Tree<RartTree> {
         found(answer, replaced)
     }
 
+    /// Sets a key where it is not there, else gives the value that is.
+    pub fn add(&mut self, key: &[u8], value: u64) -> Result<Option<u64>, Refusal> {
+        let mut there = 0;
+        let (at, len) = (key.as_ptr(), key.len());
+        // SAFETY: as above; `there` is this call's own.
+        let answer = unsafe { sys::rart_add(self.handle.get(), at, len, value, &mut there) };
+        found(answer, there)
+    }
+
+    /// Sets a key where it is there, and gives the value before.
+    pub fn replace(&mut self, key: &[u8], value: u64) -> Result<Option<u64>, Refusal> {
+        let mut replaced = 0;
+        let (at, len) = (key.as_ptr(), key.len());
+        // SAFETY: as above; `replaced` is this call's own.
+        let answer = unsafe { sys::rart_replace(self.handle.get(), at, len, value, &mut replaced) };
+        found(answer, replaced)
+    }
+
     pub fn remove(&mut self, key: &[u8]) -> Result<Option<u64>, Refusal> {
         let mut value = 0;
         // SAFETY: as above; `value` is this call's own.
@@ -316,6 +334,24 @@ impl Tree<RartBytes> {
         let (start, size) = (value.as_ptr(), value.len());
         // SAFETY: as above; the key and the value are only read.
         let answer = unsafe { sys::rart_bytes_insert(self.handle.get(), at, len, start, size) };
+        Ok(found(answer, ())?.is_some())
+    }
+
+    /// Sets a key where it is not there, and tells whether it was.
+    pub fn add(&mut self, key: &[u8], value: &[u8]) -> Result<bool, Refusal> {
+        let (at, len) = (key.as_ptr(), key.len());
+        let (start, size) = (value.as_ptr(), value.len());
+        // SAFETY: as above; the key and the value are only read.
+        let answer = unsafe { sys::rart_bytes_add(self.handle.get(), at, len, start, size) };
+        Ok(found(answer, ())?.is_some())
+    }
+
+    /// Sets a key where it is there, and tells whether it was.
+    pub fn replace(&mut self, key: &[u8], value: &[u8]) -> Result<bool, Refusal> {
+        let (at, len) = (key.as_ptr(), key.len());
+        let (start, size) = (value.as_ptr(), value.len());
+        // SAFETY: as above; the key and the value are only read.
+        let answer = unsafe { sys::rart_bytes_replace(self.handle.get(), at, len, start, size) };
         Ok(found(answer, ())?.is_some())
     }
 

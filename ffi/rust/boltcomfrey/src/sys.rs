@@ -83,6 +83,20 @@ unsafe extern "C" {
         replaced: *mut u64,
     ) -> u8;
     pub fn rart_remove(tree: *mut RartTree, key: *const u8, key_len: usize, value: *mut u64) -> u8;
+    pub fn rart_add(
+        tree: *mut RartTree,
+        key: *const u8,
+        key_len: usize,
+        value: u64,
+        found: *mut u64,
+    ) -> u8;
+    pub fn rart_replace(
+        tree: *mut RartTree,
+        key: *const u8,
+        key_len: usize,
+        value: u64,
+        replaced: *mut u64,
+    ) -> u8;
     pub fn rart_page(
         tree: *mut RartTree,
         low: *const u8,
@@ -155,6 +169,20 @@ unsafe extern "C" {
         value_len: usize,
     ) -> u8;
     pub fn rart_bytes_remove(tree: *mut RartBytes, key: *const u8, key_len: usize) -> u8;
+    pub fn rart_bytes_add(
+        tree: *mut RartBytes,
+        key: *const u8,
+        key_len: usize,
+        value: *const u8,
+        value_len: usize,
+    ) -> u8;
+    pub fn rart_bytes_replace(
+        tree: *mut RartBytes,
+        key: *const u8,
+        key_len: usize,
+        value: *const u8,
+        value_len: usize,
+    ) -> u8;
 }
 
 /// Whether memory is given, and where.

@@ -71,6 +71,16 @@ pub trait Calls: Sized {
     /// Sets a key, and tells whether it had a value before.
     fn set(tree: &mut Tree<Self::Handle>, key: &[u8], value: &Self::Lent) -> Result<bool, Refusal>;
 
+    /// Sets a key where it is not there, and tells whether it was there.
+    fn add(tree: &mut Tree<Self::Handle>, key: &[u8], value: &Self::Lent) -> Result<bool, Refusal>;
+
+    /// Sets a key where it is there, and tells whether it was.
+    fn replace(
+        tree: &mut Tree<Self::Handle>,
+        key: &[u8],
+        value: &Self::Lent,
+    ) -> Result<bool, Refusal>;
+
     /// Takes a key out, and gives its value.
     fn remove(tree: &mut Tree<Self::Handle>, key: &[u8]) -> Result<Option<Self>, Refusal>;
 
@@ -122,6 +132,14 @@ impl Calls for u64 {
 
     fn set(tree: &mut Tree<RartTree>, key: &[u8], value: &u64) -> Result<bool, Refusal> {
         Ok(tree.insert(key, *value)?.is_some())
+    }
+
+    fn add(tree: &mut Tree<RartTree>, key: &[u8], value: &u64) -> Result<bool, Refusal> {
+        Ok(tree.add(key, *value)?.is_some())
+    }
+
+    fn replace(tree: &mut Tree<RartTree>, key: &[u8], value: &u64) -> Result<bool, Refusal> {
+        Ok(tree.replace(key, *value)?.is_some())
     }
 
     fn remove(tree: &mut Tree<RartTree>, key: &[u8]) -> Result<Option<u64>, Refusal> {
@@ -182,6 +200,14 @@ impl Calls for Vec<u8> {
 
     fn set(tree: &mut Tree<RartBytes>, key: &[u8], value: &[u8]) -> Result<bool, Refusal> {
         tree.insert(key, value)
+    }
+
+    fn add(tree: &mut Tree<RartBytes>, key: &[u8], value: &[u8]) -> Result<bool, Refusal> {
+        tree.add(key, value)
+    }
+
+    fn replace(tree: &mut Tree<RartBytes>, key: &[u8], value: &[u8]) -> Result<bool, Refusal> {
+        tree.replace(key, value)
     }
 
     fn remove(tree: &mut Tree<RartBytes>, key: &[u8]) -> Result<Option<Vec<u8>>, Refusal> {

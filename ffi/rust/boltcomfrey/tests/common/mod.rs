@@ -156,6 +156,7 @@ impl<V: Drawn> Compared<V> {
             43..600 => self.read(at),
             600..1200 => self.remove(at),
             1200..1300 => self.update(at),
+            1300..1400 => self.set_if(at),
             _ => self.insert(at),
         }
         let (map, model) = &self.versions[at];
@@ -227,6 +228,30 @@ impl<V: Drawn> Compared<V> {
                 model.insert(&key, value);
             } else {
                 model.remove(&key);
+            }
+        });
+        self.note(told);
+    }
+
+    /// Sets a key where it is not there, or where it is.
+    fn set_if(&mut self, at: usize) {
+        let (key, value) = (self.random.key(), V::drawn(&mut self.random));
+        let adds = self.random.below(2) == 0;
+        let (map, model) = &mut self.versions[at];
+        let is_there = model.pairs.contains_key(&key);
+        let told = if adds {
+            map.add(&key, value.clone())
+        } else {
+            map.replace(&key, value.clone())
+        };
+        if adds && key.len() > model.longest {
+            assert_eq!(told, Err(Refusal::TooLong));
+            return;
+        }
+        let told = told.map(|is_set| {
+            assert_eq!(is_set, adds != is_there);
+            if is_set {
+                model.insert(&key, value);
             }
         });
         self.note(told);

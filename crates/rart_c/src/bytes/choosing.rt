@@ -1,0 +1,76 @@
+//! What C calls to set a key of a tree of byte strings by whether it is there.
+ghost use Rattle.std.specs.Prelude.{◌≡◌, ◌<◌, ◌≤◌, ◌⊎◌, ◌↔◌, IsTrue, length};
+ghost use Rattle.rart_c.specs.Answers.{IsRefused, IsRefusedKey, told_there};
+ghost use Rattle.rart_c.specs.Choices.{after_addition};
+ghost use Rattle.rart_c.specs.Trees.{with_version};
+ghost use Rattle.rart_c.specs.declared.answer.TheConstants.{LAST_NUMBER, TOO_LONG};
+ghost use Rattle.rart_maps.specs.Changes.{after_writing};
+ghost use Rattle.rart_maps.specs.Versions.{HasRoom, has_key};
+
+use crate::answer::{ABSENT, DONE, TOO_LONG};
+use crate::bytes::changing::set;
+use crate::bytes::handle::RartBytes;
+use crate::lent;
+use std::alloc::Global;
+
+/// Sets a key to a copy of the value where it is not there, the number then one greater, and answers
+/// `ABSENT`. Where it is there nothing changes, and it answers `DONE`. `TOO_LONG` says that the key
+/// is longer than a key may be, `LAST_NUMBER` that it is not there and the number can't be raised,
+/// `NO_MEMORY` that it is not there and memory was refused: nothing changed then.
+#[unsafe(no_mangle)]
+pub extern "C" fn rart_bytes_add(
+    alloc: Global,
+    tree: &mut RartBytes,
+    key: &[u8],
+    value: &[u8],
+) -> u8
+    ensures done { IsRefusedKey result ⊎ ((tree.new.shows
+        ≡ with_version tree.old.shows (after_addition tree.old.shows.version key.now value.now))
+        × (result ≡ told_there (has_key tree.old.shows.version key.now))) }
+    ensures refused { IsRefusedKey result → (tree.new.shows ≡ tree.old.shows)
+        × ¬ (IsTrue (has_key tree.old.shows.version key.now)) }
+    ensures long { (result ≡ TOO_LONG) ↔ (tree.old.shows.longest < length key.now) }
+    ensures room { (result ≡ LAST_NUMBER) ↔ ((length key.now ≤ tree.old.shows.longest)
+        × ¬ (IsTrue (has_key tree.old.shows.version key.now))
+        × ¬ (HasRoom tree.old.shows.version 1)) }
+{
+    if lent::has(tree.table(), key) {
+        return DONE;
+    }
+    if key.len() > lent::longest_key(tree.table()) {
+        return TOO_LONG;
+    }
+    match set(alloc, tree, key, value) {
+        Ok(_) => ABSENT,
+        Err(refusal) => refusal.number(),
+    }
+}
+
+/// Sets a key to a copy of the value where it is there, the number then one greater, and answers
+/// `DONE`. Where it is not there nothing changes, and it answers `ABSENT`. `LAST_NUMBER` says that
+/// the key is there and the number can't be raised, `NO_MEMORY` that it is there and memory was
+/// refused: nothing changed then.
+#[unsafe(no_mangle)]
+pub extern "C" fn rart_bytes_replace(
+    alloc: Global,
+    tree: &mut RartBytes,
+    key: &[u8],
+    value: &[u8],
+) -> u8
+    ensures done { IsRefused result ⊎ ((tree.new.shows
+        ≡ with_version tree.old.shows (after_writing tree.old.shows.version key.now value.now))
+        × (result ≡ told_there (has_key tree.old.shows.version key.now))) }
+    ensures refused { IsRefused result → (tree.new.shows ≡ tree.old.shows)
+        × IsTrue (has_key tree.old.shows.version key.now) }
+    ensures room { (result ≡ LAST_NUMBER)
+        ↔ (IsTrue (has_key tree.old.shows.version key.now)
+        × ¬ (HasRoom tree.old.shows.version 1)) }
+{
+    if !lent::has(tree.table(), key) {
+        return ABSENT;
+    }
+    match set(alloc, tree, key, value) {
+        Ok(_) => DONE,
+        Err(refusal) => refusal.number(),
+    }
+}

@@ -1,2 +1,4 @@
+pub mod KeyLemmas
 pub mod NumberLemmas
 pub mod PartLemmas
+pub mod ValueLemmas

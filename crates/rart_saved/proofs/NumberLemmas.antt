@@ -4,43 +4,9 @@ use Rattle.std.specs.Prelude.{nat_lt, if◌then◌else◌}
 use Rattle.std.proofs.Math.Nat.{mod-add-div, mod-lt, div-lt_iff_lt-mul, pow-suc, add-mul-div_left}
 use Rattle.std.proofs.lemmas.Bool.{lt-ltb, le-ltb, cases_lt}
 use Rattle.std.proofs.lemmas.List.{length-append}
+use Rattle.rart_saved.specs.Laws.{same_first, same_rest, groups-small, groups-great, groups-last, groups-apart}
 use Rattle.rart_saved.specs.Numbers.{groups, leb}
 use Rattle.rart_saved.specs.Parts.{HasPart}
-
--- the first of a list of numbers, and the rest
-pub first_of : ℕ → List ℕ → ℕ
-first_of d [] = d
-first_of d (b ∷ bs) = b
-
-pub rest_of : List ℕ → List ℕ
-rest_of [] = []
-rest_of (b ∷ bs) = bs
-
-pub same_first : {a b : ℕ} {cs bs : List ℕ} → a ∷ cs ≡ b ∷ bs → a ≡ b
-unfolding first_of
-same_first {a} same = ap (first_of a) same
-
-pub same_rest : {a b : ℕ} {cs bs : List ℕ} → a ∷ cs ≡ b ∷ bs → cs ≡ bs
-unfolding rest_of
-same_rest same = ap rest_of same
-
--- ---- one group at a time
-
-pub groups-small : (more n : ℕ) → n < 128 → groups more n ≡ n ∷ []
-unfolding groups
-groups-small zero n small = refl
-groups-small (suc more) n small =
-    ap (λ b. if b then n ∷ [] else (n % 128 + 128) ∷ groups more (n / 128)) (lt-ltb n 128 small)
-
-pub groups-great : (more n : ℕ) → 128 ≤ n
-    → groups (suc more) n ≡ (n % 128 + 128) ∷ groups more (n / 128)
-unfolding groups
-groups-great more n great =
-    ap (λ b. if b then n ∷ [] else (n % 128 + 128) ∷ groups more (n / 128)) (le-ltb n 128 great)
-
-groups-last : (n : ℕ) → groups zero n ≡ n ∷ []
-unfolding groups
-groups-last n = refl
 
 -- A seventh of the bits fewer fit a group fewer.
 high-below : (more n : ℕ) → n < 128 ^ suc (suc more) → n / 128 < 128 ^ suc more
@@ -85,46 +51,6 @@ pub written-last : (before items items' : List ℕ) (n left : ℕ) → left < 12
     → items' ≡ before ++ leb n
 written-last before items items' n left small so_far pushed =
     pushed ∙ ap (λ g. items ++ g) (sym (leb-small left small)) ∙ so_far
-
--- ---- no form begins another
-
-both : {g g' h h' : List ℕ} (r s : List ℕ) → g ≡ g' → h ≡ h' → g ++ r ≡ h ++ s
-    → g' ++ r ≡ h' ++ s
-both r s one other same =
-    sym (ap (λ g. g ++ r) one) ∙ same ∙ ap (λ h. h ++ s) other
-
-pub groups-apart : (more a b : ℕ) (r s : List ℕ) → groups more a ++ r ≡ groups more b ++ s
-    → (a ≡ b) × (r ≡ s)
-groups-apart zero a b r s same =
-    let e = both r s (groups-last a) (groups-last b) same in
-    (same_first e, same_rest e)
-groups-apart (suc more) a b r s same =
-    ⊎_elim
-    (λ a_small. ⊎_elim
-    (λ b_small.
-    let e = both r s (groups-small (suc more) a a_small) (groups-small (suc more) b b_small)
-    same in
-    (same_first e, same_rest e))
-    (λ b_great.
-    let e = both r s (groups-small (suc more) a a_small) (groups-great more b b_great)
-    same in
-    absurd (omega (arith, a_small, same_first e)))
-    (cases_lt b 128))
-    (λ a_great. ⊎_elim
-    (λ b_small.
-    let e = both r s (groups-great more a a_great) (groups-small (suc more) b b_small)
-    same in
-    absurd (omega (arith, b_small, same_first e)))
-    (λ b_great.
-    let e = both r s (groups-great more a a_great) (groups-great more b b_great) same in
-    let rest = groups-apart more (a / 128) (b / 128) r s (same_rest e) in
-    (omega (arith, same_first e, rest.0), rest.1))
-    (cases_lt b 128))
-    (cases_lt a 128)
-
-pub leb-apart : (a b : ℕ) (r s : List ℕ) → leb a ++ r ≡ leb b ++ s → (a ≡ b) × (r ≡ s)
-unfolding leb
-leb-apart a b r s same = groups-apart 9 a b r s same
 
 -- ---- read at a place
 

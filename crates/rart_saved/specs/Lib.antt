@@ -1,2 +1,7 @@
+pub mod Forms
+pub mod Keys
+pub mod Laws
 pub mod Numbers
 pub mod Parts
+pub mod Refusals
+pub mod Values

@@ -3,6 +3,9 @@
 #![tactic(auto)]
 
 mod error;
+mod keys;
 mod numbers;
+mod value;
 
 pub use error::LoadError;
+pub use value::{ByteString, SavedValue};

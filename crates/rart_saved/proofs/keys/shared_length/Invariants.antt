@@ -1,0 +1,13 @@
+use Rattle.std.proofs.Common.{◌≡◌, ◌+◌, ◌-◌, ◌≤◌, drop}
+use Rattle.rart_below.specs.Bytes.{common_length}
+use Rattle.rart_saved.proofs.keys.shared_length.Given as goal
+
+abbrev pub invariant-loop-matched : goal.invariant-loop-matched
+invariant-loop-matched l = record {
+  within : l.matched ≤ l.shorter;
+  matched : l.matched + common_length (drop l.matched l.left) (drop l.matched l.right)
+      ≡ common_length l.left l.right;
+}
+
+abbrev pub decreases-loop-matched : goal.decreases-loop-matched
+decreases-loop-matched l = l.shorter - l.matched

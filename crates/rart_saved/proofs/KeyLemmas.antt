@@ -11,7 +11,7 @@ use Rattle.rart_saved.specs.Keys.{Follows, IsNext, LacksKey}
 use Rattle.rart_saved.specs.Numbers.{leb, LacksNumber}
 use Rattle.rart_saved.specs.Parts.{HasPart}
 use Rattle.rart_saved.proofs.PartLemmas.{part-join}
-use Rattle.rart_saved.specs.Laws.{leb-apart, same_first, same_rest, split-same}
+use Rattle.rart_saved.specs.Laws.{leb-apart, same_first, split-same}
 
 -- ---- the longest common start
 
@@ -48,7 +48,7 @@ common-within_key (b ∷ u) (c ∷ w) =
       | false ↦ omega arith
     ]
 
-common-same : (b : ℕ) (u w : List ℕ) → common_length (b ∷ u) (b ∷ w) ≡ suc (common_length u w)
+pub common-same : (b : ℕ) (u w : List ℕ) → common_length (b ∷ u) (b ∷ w) ≡ suc (common_length u w)
 common-same b u w = ap (λ t. if t then suc (common_length u w) else 0) (eq-eqb b b refl)
 
 common-other : (b c : ℕ) (u w : List ℕ) → b < c → common_length (b ∷ u) (c ∷ w) ≡ 0

@@ -1,8 +1,7 @@
 -- Numbers in groups of seven bits.
-use Rattle.std.proofs.Common.{◌≡◌, ◌≢◌, ◌+◌, ◌*◌, ◌/◌, ◌%◌, ◌<◌, ◌≤◌, ◌^◌, ℕ, zero, suc, true, false, List, [], ◌∷◌, ◌++◌, length, drop, get_or, refl, sym, ap, ◌∙◌, ⊎_elim, ◌⊎◌, ◌-◌, append_assoc, arith}
-use Rattle.std.specs.Prelude.{nat_lt, if◌then◌else◌}
-use Rattle.std.proofs.Math.Nat.{mod-add-div, mod-lt, div-lt_iff_lt-mul, pow-suc, add-mul-div_left}
-use Rattle.std.proofs.lemmas.Bool.{lt-ltb, le-ltb, cases_lt}
+use Rattle.std.proofs.Common.{◌≡◌, ◌≢◌, ◌+◌, ◌*◌, ◌/◌, ◌%◌, ◌<◌, ◌≤◌, ◌^◌, ℕ, zero, suc, List, [], ◌∷◌, ◌++◌, length, drop, sym, ap, ◌∙◌, ⊎_elim, ◌⊎◌, ◌-◌, append_assoc, arith}
+use Rattle.std.proofs.Math.Nat.{div-lt_iff_lt-mul, pow-suc}
+use Rattle.std.proofs.lemmas.Bool.{cases_lt}
 use Rattle.std.proofs.lemmas.List.{length-append}
 use Rattle.rart_saved.specs.Laws.{same_first, same_rest, groups-small, groups-great, groups-last, groups-apart}
 use Rattle.rart_saved.specs.Numbers.{groups, leb}

@@ -1,8 +1,8 @@
 -- Where in some bytes a part stands, and what a refusal says.
 use Rattle.std.proofs.Common.{◌≡◌, ◌+◌, ◌-◌, ◌<◌, ◌≤◌, ℕ, zero, suc, List, [], ◌∷◌, ◌++◌, length, take, drop, get_or, Result, Ok, Err, sym, ap, ◌∙◌, append_assoc, arith}
-use Rattle.std.specs.Result.{IfErr, IfOk}
-use Rattle.std.proofs.Math.Seq.{drop-cons}
-use Rattle.std.proofs.lemmas.List.{drop_all, drop-drop, length-drop, length-take-le, take-append-drop}
+use Rattle.std.specs.Result.{IfErr}
+use Rattle.std.proofs.Math.Seq.{drop-cons, take-append_seam}
+use Rattle.std.proofs.lemmas.List.{drop_all, drop-drop, length-append, length-drop, length-take-le, take-append-drop}
 use Rattle.rart_saved.specs.declared.error.LoadError.{LoadError}
 use Rattle.rart_saved.specs.Parts.{HasPart}
 use Rattle.rart_saved.specs.Refusals.{OnOtherErr}
@@ -31,6 +31,19 @@ part-join bytes a b c p q one other = record {
   stands = one.stands ∙ ap (λ g. p ++ g) other.stands
       ∙ sym (append_assoc p q (drop c bytes));
 }
+
+-- The part that stands at the front.
+pub part-front : (bytes part : List ℕ) (to : ℕ) → HasPart bytes 0 part to → take to bytes ≡ part
+part-front bytes part to is =
+    let long : length part ≡ to =
+    omega (
+      arith,
+      is.within,
+      ap length is.stands,
+      length-append part (drop to bytes),
+      length-drop to bytes,
+    ) in
+    (λ i. take (sym long i) (is.stands i)) ∙ take-append_seam part (drop to bytes)
 
 -- the part between two places
 pub part-slice : (bytes : List ℕ) (a b : ℕ) → a ≤ b → b ≤ length bytes

@@ -1,10 +1,11 @@
 -- The one form that a version has as bytes.
-use Rattle.std.specs.Prelude.{◌-◌, ℕ, List, [], ◌∷◌, ◌++◌, length, drop, codes}
+use Rattle.std.specs.Prelude.{◌-◌, ◌<◌, ◌≤◌, ◌^◌, ℕ, List, [], ◌∷◌, ◌++◌, Option, IsTrue, length, drop, codes}
 use Rattle.std.specs.FinMap as finite
 use Rattle.sha2.specs.Sha256.{sha256}
 use Rattle.rart_below.specs.Bytes.{common_length}
 use Rattle.rart_maps.specs.Pairs.{pairs}
 use Rattle.rart_maps.specs.Versions.{Version}
+use Rattle.rart_versioned.specs.Keys.{IsKeyLength}
 use Rattle.rart_saved.specs.Numbers.{leb}
 
 -- A key behind the one before: how many bytes both have in common at their start, how many more it
@@ -37,3 +38,11 @@ module _ {V : Type 0} (written : V → List ℕ) where
   -- A version as bytes: its body, and the SHA-256 sum of that.
   unfoldable pub saved : ℕ → Version V → List ℕ
   saved kind v = body kind v ++ sha256 (body kind v)
+
+module _ {V : Type 0} where
+  -- A tree whose keys have at most this length may be this version.
+  pub record IsVersionOf (most : Option ℕ) (v : Version V) : Type 0 where
+    pub few : finite.len v.content ≤ v.number
+    pub fits : v.number < 2 ^ 64
+    pub lengths : (key : List ℕ) → IsTrue (finite.contains_key v.content key)
+        → IsKeyLength most (length key)

@@ -3,9 +3,14 @@
 #![tactic(auto)]
 
 mod error;
+mod head;
 mod keys;
+mod loading;
 mod numbers;
+mod saving;
 mod value;
 
 pub use error::LoadError;
+pub use loading::load_slice;
+pub use saving::save_slice;
 pub use value::{ByteString, SavedValue};

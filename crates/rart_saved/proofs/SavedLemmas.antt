@@ -1,0 +1,161 @@
+-- A version as bytes: its parts, and what they fix.
+use Rattle.std.proofs.Common.{◌≡◌, ◌+◌, ◌<◌, ◌≤◌, ◌^◌, ℕ, List, [], ◌∷◌, ◌++◌, length, take, drop, Option, refl, sym, ap, subst, ◌∙◌, append_assoc, append-nil, arith}
+use Rattle.std.proofs.lemmas.List.{append_cancel_left, length-append}
+use Rattle.std.specs.FinMap as finite
+use Rattle.sha2.specs.Sha256.{sha256}
+use Rattle.rart_maps.specs.Iterations.{IsTakenFrom}
+use Rattle.rart_maps.specs.Pairs.{pairs}
+use Rattle.rart_maps.specs.Versions.{Version}
+use Rattle.rart_saved.specs.Forms.{head, entries, body, saved}
+use Rattle.rart_saved.specs.Laws.{leb-apart}
+use Rattle.rart_saved.specs.Numbers.{leb}
+use Rattle.rart_saved.specs.Parts.{HasPart}
+use Rattle.rart_saved.proofs.EntryLemmas.{last_key, entries-front}
+use Rattle.rart_saved.proofs.PartLemmas.{part-front, part-join}
+
+module _ {V : Type 0} (written : V → List ℕ) where
+  -- The parts of a version's form, written one by one.
+  pub saved-written : (kind count number : ℕ) (v : Version V)
+      (none one two three four all made listed sum : List ℕ) → none ≡ [] → made ≡ head kind
+      → number ≡ v.number → count ≡ length (pairs v.content)
+      → listed ≡ entries written [] (pairs v.content)
+      → one ≡ none ++ made → two ≡ one ++ leb number → three ≡ two ++ leb count
+      → four ≡ three ++ listed → all ≡ four ++ sum → sum ≡ sha256 four
+      → all ≡ saved written kind v
+  unfolding saved body
+  saved-written kind count number v none one two three four all made listed sum
+      nothing heads numbers counts lists first second third fourth fifth sums =
+      let few : count ≡ finite.len v.content = counts ∙ sym (finite.len-entries v.content) in
+      let one_is : one ≡ head kind = first ∙ (λ i. nothing i ++ heads i) in
+      let two_is : two ≡ head kind ++ leb v.number =
+      second ∙ (λ i. one_is i ++ leb (numbers i)) in
+      let three_is : three ≡ head kind ++ leb v.number ++ leb (finite.len v.content) =
+      third ∙ (λ i. two_is i ++ leb (few i)) in
+      let four_is : four ≡ body written kind v = fourth ∙ (λ i. three_is i ++ lists i) in
+      fifth ∙ (λ i. four_is i ++ (sums ∙ ap sha256 four_is) i)
+
+  -- ---- read
+
+  -- a version's form from its head on
+  pub saved-then : (kind : ℕ) (v : Version V) → saved written kind v
+      ≡ head kind ++ (leb v.number ++ (leb (finite.len v.content)
+      ++ (entries written [] (pairs v.content) ++ sha256 (body written kind v))))
+  unfolding saved body
+  saved-then kind v =
+      append_assoc (head kind ++ leb v.number ++ leb (finite.len v.content))
+      (entries written [] (pairs v.content)) _
+      ∙ append_assoc (head kind ++ leb v.number) (leb (finite.len v.content)) _
+      ∙ append_assoc (head kind) (leb v.number) _
+
+  -- The parts that were read, one behind the other, are the form of a version.
+  pub saved-read : (kind number count at behind from end : ℕ) (bytes : List ℕ) (v : Version V)
+      → HasPart bytes 0 (head kind) at → HasPart bytes at (leb number) behind
+      → HasPart bytes behind (leb count) from
+      → HasPart bytes from (entries written [] (pairs v.content)) end
+      → v.number ≡ number → finite.len v.content ≡ count
+      → drop end bytes ≡ sha256 (take end bytes) → bytes ≡ saved written kind v
+  unfolding saved body
+  saved-read kind number count at behind from end bytes v heads numbers counts lists n c sums =
+      let whole : HasPart bytes 0 (body written kind v) end =
+      part-join bytes 0 from end _ _
+      (part-join bytes 0 behind from _ _
+      (part-join bytes 0 at behind _ _ heads
+      (subst (λ m. HasPart bytes at (leb m) behind) (sym n) numbers))
+      (subst (λ m. HasPart bytes behind (leb m) from) (sym c) counts)) lists in
+      whole.stands
+      ∙ ap (λ g. body written kind v ++ g) (sums ∙ ap sha256 (part-front bytes _ end whole))
+
+  -- the bytes before the sum
+  body-front : (kind at behind from end : ℕ) (bytes : List ℕ) (v : Version V)
+      → HasPart bytes 0 (head kind) at → HasPart bytes at (leb v.number) behind
+      → HasPart bytes behind (leb (finite.len v.content)) from
+      → HasPart bytes from (entries written [] (pairs v.content)) end
+      → take end bytes ≡ body written kind v
+  unfolding body
+  body-front kind at behind from end bytes v heads numbers counts lists =
+      part-front bytes _ end (part-join bytes 0 from end _ _
+      (part-join bytes 0 behind from _ _ (part-join bytes 0 at behind _ _ heads numbers) counts)
+      lists)
+
+  -- ---- refused
+
+  module _ (kind : ℕ) (bytes : List ℕ) (v : Version V) (stands : bytes ≡ saved written kind v) where
+    -- what stands behind the head
+    pub opened-head : (at : ℕ) → HasPart bytes 0 (head kind) at
+        → drop at bytes ≡ leb v.number ++ (leb (finite.len v.content)
+        ++ (entries written [] (pairs v.content) ++ sha256 (body written kind v)))
+    opened-head at heads =
+        append_cancel_left (head kind) (drop at bytes) _
+        (sym heads.stands ∙ stands ∙ saved-then kind v)
+
+    -- what stands behind the number
+    pub opened-number : (at behind number : ℕ) → HasPart bytes 0 (head kind) at
+        → HasPart bytes at (leb number) behind
+        → (number ≡ v.number) × (drop behind bytes ≡ leb (finite.len v.content)
+        ++ (entries written [] (pairs v.content) ++ sha256 (body written kind v)))
+    opened-number at behind number heads numbers =
+        leb-apart number v.number (drop behind bytes) _
+        (sym numbers.stands ∙ opened-head at heads)
+
+    -- what stands behind the count
+    pub opened-count : (at behind from number count : ℕ) → HasPart bytes 0 (head kind) at
+        → HasPart bytes at (leb number) behind → HasPart bytes behind (leb count) from
+        → (count ≡ finite.len v.content) × (drop from bytes
+        ≡ entries written [] (pairs v.content) ++ sha256 (body written kind v))
+    opened-count at behind from number count heads numbers counts =
+        leb-apart count (finite.len v.content) (drop from bytes) _
+        (sym counts.stands ∙ (opened-number at behind number heads numbers).1)
+
+    -- Where all its parts were read, only its sum stands behind them.
+    pub opened-all : ((x y : V) (r s : List ℕ) → written x ++ r ≡ written y ++ s → x ≡ y)
+        → (at behind from end number count : ℕ) (m : Version V)
+        → HasPart bytes 0 (head kind) at → HasPart bytes at (leb number) behind
+        → HasPart bytes behind (leb count) from
+        → HasPart bytes from (entries written [] (pairs m.content)) end
+        → finite.len m.content ≡ count
+        → drop end bytes ≡ sha256 (take end bytes)
+    unfolding entries
+    opened-all apart at behind from end number count m heads numbers counts lists long =
+        let opened = opened-count at behind from number count heads numbers counts in
+        let number_is = (opened-number at behind number heads numbers).0 in
+        let same_length : length (pairs m.content) ≡ length (pairs v.content) =
+        sym (finite.len-entries m.content) ∙ long ∙ opened.0 ∙ finite.len-entries v.content in
+        let front =
+        entries-front written apart [] (pairs m.content) (pairs v.content) (drop end bytes) _
+        (sym lists.stands ∙ opened.1) (omega (arith, same_length)) in
+        let nothing : front.0 ≡ [] =
+        no_element front.0 (omega (
+          arith,
+          same_length,
+          ap length front.1,
+          length-append (pairs m.content) front.0,
+        )) in
+        let rest : drop end bytes ≡ sha256 (body written kind v) =
+        front.2 ∙ ap (λ ps. entries written (last_key [] (pairs m.content)) ps
+        ++ sha256 (body written kind v)) nothing in
+        let lists_v : HasPart bytes from (entries written [] (pairs v.content)) end =
+        subst (λ ps. HasPart bytes from (entries written [] ps) end)
+        (sym (append-nil (pairs m.content)) ∙ (λ i. pairs m.content ++ sym nothing i)
+        ∙ sym front.1) lists in
+        rest ∙ ap sha256 (sym (body-front kind at behind from end bytes v heads
+        (subst (λ n. HasPart bytes at (leb n) behind) number_is numbers)
+        (subst (λ n. HasPart bytes behind (leb n) from) opened.0 counts) lists_v))
+      where
+        no_element : (xs : List (List ℕ × V)) → length xs ≡ 0 → xs ≡ []
+        no_element [] is = refl
+        no_element (x ∷ xs) is = absurd (omega (arith, is))
+
+-- Where a member is still to come, fewer were taken than there are.
+pub room-left : {X : Type 0} (members taken : List X) (x : X) (after : Option (List X))
+    (count number : ℕ) → IsTakenFrom members (taken ++ x ∷ []) after → count ≡ length taken
+    → length members ≤ number → number < 2 ^ 64 → count + 1 < 2 ^ 64
+room-left members taken x after count number from counted few fits =
+    omega (
+      arith,
+      counted,
+      few,
+      fits,
+      ap length from.2,
+      length-append (taken ++ x ∷ []) from.0,
+      length-append taken (x ∷ []),
+    )

@@ -1,0 +1,6 @@
+use Rattle.rart_saved.proofs.LoadLemmas.{IsTaken}
+use Rattle.rart_saved.proofs.loading.take_pairs.Given as goal
+
+abbrev pub invariant-taking : goal.invariant-taking
+invariant-taking g l =
+    IsTaken g.V.SavedValue.written l.bytes l.at l.end l.fn.tree.number l._done l.key.items l.tree

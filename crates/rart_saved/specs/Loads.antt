@@ -1,0 +1,26 @@
+-- What is not there where bytes were refused.
+use Rattle.std.specs.Prelude.{◌≡◌, ◌≢◌, ℕ, Bool, List, [], ◌++◌, Option, IsTrue, length}
+use Rattle.std.specs.FinMap as finite
+use Rattle.rart_maps.specs.Pairs.{pairs}
+use Rattle.rart_maps.specs.Versions.{Map, Version}
+use Rattle.rart_versioned.specs.Keys.{IsKeyLength}
+use Rattle.rart_saved.specs.Forms.{IsVersionOf, entries, entry, saved}
+use Rattle.rart_saved.specs.Keys.{IsNext}
+
+module _ {V : Type 0} (written : V → List ℕ) where
+  -- No pair that may come next has its form where these bytes begin.
+  abbrev pub LacksPair : Option ℕ → Bool → List ℕ → List ℕ → Type 0
+  LacksPair most is_first before bytes = (key : List ℕ) (x : V) (rest : List ℕ)
+      → IsNext is_first before key → IsKeyLength most (length key)
+      → bytes ≢ entry written before (key, x) ++ rest
+
+  -- No map of so many keys has its pairs there.
+  abbrev pub LacksPairs : Option ℕ → ℕ → List ℕ → Type 0
+  LacksPairs most count bytes = (m : Map V) (rest : List ℕ) → finite.len m ≡ count
+      → ((key : List ℕ) → IsTrue (finite.contains_key m key) → IsKeyLength most (length key))
+      → bytes ≢ entries written [] (pairs m) ++ rest
+
+  -- The bytes are no version's whose keys have at most this length.
+  abbrev pub LacksVersion : ℕ → Option ℕ → List ℕ → Type 0
+  LacksVersion kind most bytes = (v : Version V) → IsVersionOf most v
+      → bytes ≢ saved written kind v

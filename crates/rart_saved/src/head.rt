@@ -1,0 +1,38 @@
+//! The head of each file.
+ghost use Rattle.std.specs.Prelude.{◌≡◌, ◌≢◌, ◌++◌, ℕ, List, IfErr, IfOk};
+ghost use Rattle.rart_saved.specs.Forms.{head};
+ghost use Rattle.rart_saved.specs.Parts.{HasPart};
+
+use crate::error::LoadError;
+use crate::keys::shared_length;
+
+/// The number of this format.
+const FORMAT: u8 = 1;
+
+/// The name, the number of the format, and the kind of values.
+pub(crate) fn head_of(kind: u8) -> [u8; 9]
+    ensures { result ≡ head kind }
+{
+    [b'c', b'o', b'm', b'f', b'r', b'e', b'y', FORMAT, kind]
+}
+
+/// The place behind the head, where it is the one of this kind.
+pub(crate) fn take_head(bytes: &[u8], kind: u8) -> Result<usize, LoadError>
+    ensures read { IfOk result (λ end. HasPart bytes.now 0 (head kind) end) }
+    ensures refused { IfErr result (λ _. (rest : List ℕ) → bytes.now ≢ head kind ++ rest) }
+{
+    let head = head_of(kind);
+    let shared = shared_length(&head, bytes);
+    if shared == 9 {
+        return Ok(9);
+    }
+    if shared == bytes.len() {
+        return Err(LoadError::Truncated);
+    }
+    if shared == 7 {
+        return Err(LoadError::Unsupported {
+            format: bytes[shared],
+        });
+    }
+    Err(LoadError::Malformed { at: shared })
+}

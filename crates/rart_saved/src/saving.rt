@@ -1,0 +1,83 @@
+//! A version is written as bytes.
+ghost use Rattle.std.specs.Prelude.{◌≡◌, ◌+◌, ◌<◌, ◌^◌, ◌++◌, [], length, IfOk, OnOk};
+ghost use Rattle.rart_maps.specs.Pairs.{pairs};
+ghost use Rattle.rart_saved.specs.Forms.{entry, entries, saved};
+
+use crate::head::head_of;
+use crate::keys::put_key;
+use crate::numbers::put_number;
+use crate::value::SavedValue;
+use rart_versioned::{KeyTrait, VersionedAdaptiveRadixTree};
+use sha2::{Digest, Sha256};
+use std::alloc::{AllocError, Global};
+
+/// A version as bytes. They are of its map and its number alone, so equal versions have equal
+/// bytes, whatever their trees' keys are kept in.
+///
+/// ```
+/// let bytes = save_slice(alloc, &prices)?;
+/// ```
+pub fn save_slice<K: KeyTrait, V: SavedValue>(
+    alloc: Global,
+    tree: &VersionedAdaptiveRadixTree<K, V>,
+) -> Result<Vec<u8>, AllocError>
+    ensures { IfOk result (λ bytes. bytes.items ≡ saved V.written V.KIND tree.now) }
+{
+    let listed = list_pairs(alloc, tree)?;
+    let mut bytes = Vec::new(alloc);
+    bytes.extend_from_slice(&head_of(V::KIND))?;
+    put_number(&mut bytes, tree.version())?;
+    put_number(&mut bytes, listed.count)?;
+    bytes.extend_from_slice(listed.bytes.as_slice())?;
+    let sum = Sha256::digest(bytes.as_slice());
+    bytes.extend_from_slice(&sum)?;
+    Ok(bytes)
+}
+
+/// Pairs as bytes, how many they are, and the key of the last.
+#[derive(Drop)]
+struct Listed {
+    bytes: Vec<u8>,
+    count: u64,
+    before: Vec<u8>,
+}
+
+/// The pairs of a version, each behind the one before it.
+fn list_pairs<K: KeyTrait, V: SavedValue>(
+    alloc: Global,
+    tree: &VersionedAdaptiveRadixTree<K, V>,
+) -> Result<Listed, AllocError>
+    ensures bytes { IfOk result (λ listed. listed.bytes.items
+        ≡ entries V.written [] (pairs tree.now.content)) }
+    ensures count { IfOk result (λ listed. listed.count ≡ length (pairs tree.now.content)) }
+{
+    tree.know_keys_for_proof();
+    let mut listed = Listed {
+        bytes: Vec::new(alloc),
+        count: 0,
+        before: Vec::new(alloc),
+    };
+    let mut items = tree.iter()?;
+    // (a `for` over an iterator of keys of any type gets no proof)
+    'listing: while let Some(item) = items.next() {
+        let (key, value) = item?;
+        put_pair(&mut listed, key.as_ref(), value)?;
+    }
+    Ok(listed)
+}
+
+/// One more pair. Refused for memory, some of its bytes may be there.
+fn put_pair<V: SavedValue>(listed: &mut Listed, key: &[u8], value: &V) -> Result<(), AllocError>
+    requires room { listed.old.count + 1 < 2 ^ 64 }
+    ensures bytes { OnOk result (listed.new.bytes.items ≡ listed.old.bytes.items
+        ++ entry V.written listed.old.before.items (key.now, value.now)) }
+    ensures count { OnOk result (listed.new.count ≡ listed.old.count + 1) }
+    ensures before { OnOk result (listed.new.before.items ≡ key.now) }
+{
+    put_key(&mut listed.bytes, listed.before.as_slice(), key)?;
+    value.write(&mut listed.bytes)?;
+    listed.before.clear();
+    listed.before.extend_from_slice(key)?;
+    listed.count += 1;
+    Ok(())
+}

@@ -6,3 +6,4 @@ pub mod NumberLemmas
 pub mod PartLemmas
 pub mod SavedLemmas
 pub mod ValueLemmas
+pub mod WorkedFormLemmas

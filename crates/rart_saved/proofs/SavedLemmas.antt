@@ -10,8 +10,13 @@ use Rattle.rart_saved.specs.Forms.{head, entries, body, saved}
 use Rattle.rart_saved.specs.Laws.{leb-apart}
 use Rattle.rart_saved.specs.Numbers.{leb}
 use Rattle.rart_saved.specs.Parts.{HasPart}
+use Rattle.rart_saved.specs.SavedLaws.{FormsAreOfOne, FormsStandApart}
 use Rattle.rart_saved.proofs.EntryLemmas.{last_key, entries-front}
 use Rattle.rart_saved.proofs.PartLemmas.{part-front, part-join}
+
+no_pair : {X : Type 0} → (xs : List X) → length xs ≡ 0 → xs ≡ []
+no_pair [] is = refl
+no_pair (x ∷ xs) is = absurd (omega (arith, is))
 
 module _ {V : Type 0} (written : V → List ℕ) where
   -- The parts of a version's form, written one by one.
@@ -34,18 +39,82 @@ module _ {V : Type 0} (written : V → List ℕ) where
       let four_is : four ≡ body written kind v = fourth ∙ (λ i. three_is i ++ lists i) in
       fifth ∙ (λ i. four_is i ++ (sums ∙ ap sha256 four_is) i)
 
-  -- ---- read
+  -- all but the sum, and what stands behind it
+  body-then : (kind : ℕ) (v : Version V) (rest : List ℕ) → body written kind v ++ rest
+      ≡ head kind ++ (leb v.number ++ (leb (finite.len v.content)
+      ++ (entries written [] (pairs v.content) ++ rest)))
+  unfolding body
+  body-then kind v rest =
+      append_assoc (head kind ++ leb v.number ++ leb (finite.len v.content))
+      (entries written [] (pairs v.content)) rest
+      ∙ append_assoc (head kind ++ leb v.number) (leb (finite.len v.content))
+      (entries written [] (pairs v.content) ++ rest)
+      ∙ append_assoc (head kind) (leb v.number)
+      (leb (finite.len v.content) ++ (entries written [] (pairs v.content) ++ rest))
 
   -- a version's form from its head on
   pub saved-then : (kind : ℕ) (v : Version V) → saved written kind v
       ≡ head kind ++ (leb v.number ++ (leb (finite.len v.content)
       ++ (entries written [] (pairs v.content) ++ sha256 (body written kind v))))
-  unfolding saved body
-  saved-then kind v =
-      append_assoc (head kind ++ leb v.number ++ leb (finite.len v.content))
-      (entries written [] (pairs v.content)) _
-      ∙ append_assoc (head kind ++ leb v.number) (leb (finite.len v.content)) _
-      ∙ append_assoc (head kind) (leb v.number) _
+  unfolding saved
+  saved-then kind v = body-then kind v (sha256 (body written kind v))
+
+  -- ---- no form begins another
+
+  -- Where as many pairs stand, they are the same.
+  same-pairs : ((x y : V) (r s : List ℕ) → written x ++ r ≡ written y ++ s → x ≡ y)
+      → (v w : Version V) (r s : List ℕ) → finite.len v.content ≡ finite.len w.content
+      → entries written [] (pairs v.content) ++ r ≡ entries written [] (pairs w.content) ++ s
+      → v.content ≡ w.content
+  same-pairs apart v w r s long same =
+      let same_length : length (pairs v.content) ≡ length (pairs w.content) =
+      sym (finite.len-entries v.content) ∙ long ∙ finite.len-entries w.content in
+      let front =
+      entries-front written apart [] (pairs v.content) (pairs w.content) r s same
+      (omega (arith, same_length)) in
+      let nothing : front.0 ≡ [] =
+      no_pair front.0 (omega (
+        arith,
+        same_length,
+        ap length front.1,
+        length-append (pairs v.content) front.0,
+      )) in
+      finite.same_entries_map v.content w.content
+      (sym (append-nil (pairs v.content)) ∙ (λ i. pairs v.content ++ sym nothing i)
+      ∙ sym front.1)
+
+  same-version : ((x y : V) (r s : List ℕ) → written x ++ r ≡ written y ++ s → x ≡ y)
+      → (kind : ℕ) (v w : Version V) (r s : List ℕ)
+      → body written kind v ++ r ≡ body written kind w ++ s → v ≡ w
+  same-version apart kind v w r s same =
+      let whole =
+      append_cancel_left (head kind) _ _
+      (sym (body-then kind v r) ∙ same ∙ body-then kind w s) in
+      let numbers = leb-apart v.number w.number _ _ whole in
+      let counts = leb-apart (finite.len v.content) (finite.len w.content) _ _ numbers.1 in
+      let contents = same-pairs apart v w r s counts.0 counts.1 in
+      λ i. record { content = contents i; number = numbers.0 i }
+
+  pub forms-apart : ((x y : V) (r s : List ℕ) → written x ++ r ≡ written y ++ s → x ≡ y)
+      → (kind : ℕ) → FormsStandApart written kind
+  unfolding saved
+  forms-apart apart kind v w r s same =
+      let is =
+      same-version apart kind v w (sha256 (body written kind v) ++ r)
+      (sha256 (body written kind w) ++ s)
+      (sym (append_assoc (body written kind v) _ r) ∙ same
+      ∙ append_assoc (body written kind w) _ s) in (
+        is,
+        append_cancel_left (saved written kind w) r s
+            (ap (λ u. saved written kind u ++ r) (sym is) ∙ same),
+      )
+
+  pub forms-of_one : ((x y : V) (r s : List ℕ) → written x ++ r ≡ written y ++ s → x ≡ y)
+      → (kind : ℕ) → FormsAreOfOne written kind
+  forms-of_one apart kind v w same =
+      (forms-apart apart kind v w [] [] (ap (λ g. g ++ []) same)).0
+
+  -- ---- read
 
   -- The parts that were read, one behind the other, are the form of a version.
   pub saved-read : (kind number count at behind from end : ℕ) (bytes : List ℕ) (v : Version V)
@@ -124,7 +193,7 @@ module _ {V : Type 0} (written : V → List ℕ) where
         entries-front written apart [] (pairs m.content) (pairs v.content) (drop end bytes) _
         (sym lists.stands ∙ opened.1) (omega (arith, same_length)) in
         let nothing : front.0 ≡ [] =
-        no_element front.0 (omega (
+        no_pair front.0 (omega (
           arith,
           same_length,
           ap length front.1,
@@ -140,10 +209,6 @@ module _ {V : Type 0} (written : V → List ℕ) where
         rest ∙ ap sha256 (sym (body-front kind at behind from end bytes v heads
         (subst (λ n. HasPart bytes at (leb n) behind) number_is numbers)
         (subst (λ n. HasPart bytes behind (leb n) from) opened.0 counts) lists_v))
-      where
-        no_element : (xs : List (List ℕ × V)) → length xs ≡ 0 → xs ≡ []
-        no_element [] is = refl
-        no_element (x ∷ xs) is = absurd (omega (arith, is))
 
 -- Where a member is still to come, fewer were taken than there are.
 pub room-left : {X : Type 0} (members taken : List X) (x : X) (after : Option (List X))

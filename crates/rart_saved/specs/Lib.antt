@@ -5,4 +5,6 @@ pub mod Loads
 pub mod Numbers
 pub mod Parts
 pub mod Refusals
+pub mod SavedLaws
 pub mod Values
+pub mod WorkedForms

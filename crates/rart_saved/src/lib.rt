@@ -5,6 +5,7 @@
 mod error;
 mod head;
 mod keys;
+pub mod laws;
 mod loading;
 mod numbers;
 mod saving;

@@ -1,0 +1,26 @@
+//! What the form of a version fixes, and worked forms: laws, each the contract of a function.
+ghost use Rattle.rart_saved.specs.SavedLaws.{FormsAreOfOne, FormsStandApart};
+ghost use Rattle.rart_saved.specs.WorkedForms.{NumberOfOneByte, NumberOfTwoBytes, GreatestNumber, NumberAsValue, EmptyVersion, GreatestVersion, EmptyKey, KeysInKeys, SumBehind};
+
+use crate::value::SavedValue;
+
+/// Versions whose bytes are equal are equal, and no version's bytes begin another's.
+pub fn forms_stand_apart<V: SavedValue>()
+    ensures one { FormsAreOfOne V.written V.KIND }
+    ensures apart { FormsStandApart V.written V.KIND }
+{}
+
+/// Worked forms: numbers at the ends of what a byte holds, the greatest, and one as a value; the
+/// empty version, the greatest number, the empty key, keys that begin one another, empty values,
+/// and where the sum stands.
+pub fn worked_forms()
+    ensures one_byte { NumberOfOneByte }
+    ensures two_bytes { NumberOfTwoBytes }
+    ensures greatest_number { GreatestNumber }
+    ensures as_value { NumberAsValue }
+    ensures empty_version { EmptyVersion }
+    ensures greatest_version { GreatestVersion }
+    ensures empty_key { EmptyKey }
+    ensures keys_in_keys { KeysInKeys }
+    ensures sum_behind { SumBehind }
+{}

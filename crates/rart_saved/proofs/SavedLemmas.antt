@@ -1,12 +1,18 @@
 -- A version as bytes: its parts, and what they fix.
-use Rattle.std.proofs.Common.{◌≡◌, ◌+◌, ◌<◌, ◌≤◌, ◌^◌, ℕ, List, [], ◌∷◌, ◌++◌, length, take, drop, Option, refl, sym, ap, subst, ◌∙◌, append_assoc, append-nil, arith}
+use Rattle.std.proofs.Common.{◌≡◌, ◌+◌, ◌<◌, ◌≤◌, ◌^◌, ℕ, List, [], ◌∷◌, ◌++◌, length, take, drop, Option, refl, sym, ap, subst, ◌∙◌, append_assoc, append-nil, arith, ◌≢◌, Bool, true, false, Result, Ok, Err, inl}
 use Rattle.std.proofs.lemmas.List.{append_cancel_left, length-append}
+use Rattle.std.proofs.lemmas.Bool.{false≢true}
+use Rattle.std.specs.Result.{IfOk}
 use Rattle.std.specs.FinMap as finite
 use Rattle.sha2.specs.Sha256.{sha256}
 use Rattle.rart_maps.specs.Iterations.{IsTakenFrom}
 use Rattle.rart_maps.specs.Pairs.{pairs}
 use Rattle.rart_maps.specs.Versions.{Version}
 use Rattle.rart_saved.specs.Forms.{head, entries, body, saved}
+use Rattle.rart_saved.specs.declared.error.LoadError.{LoadError}
+use Rattle.rart_saved.specs.declared.error.LoadError.TheVariants.{Io, Memory, Truncated, Malformed, Checksum, Unsupported}
+use Rattle.rart_saved.specs.Loads.{LacksVersion, GivesBack, GivesBackUnlessIo}
+use Rattle.rart_saved.specs.Refusals.{OnOtherErr}
 use Rattle.rart_saved.specs.Laws.{leb-apart}
 use Rattle.rart_saved.specs.Numbers.{leb}
 use Rattle.rart_saved.specs.Parts.{HasPart}
@@ -209,6 +215,42 @@ module _ {V : Type 0} (written : V → List ℕ) where
         rest ∙ ap sha256 (sym (body-front kind at behind from end bytes v heads
         (subst (λ n. HasPart bytes at (leb n) behind) number_is numbers)
         (subst (λ n. HasPart bytes behind (leb n) from) opened.0 counts) lists_v))
+
+-- ---- given back
+
+is_memory : LoadError → Bool
+is_memory Memory = true
+is_memory Io = false
+is_memory Truncated = false
+is_memory (Malformed at) = false
+is_memory Checksum = false
+is_memory (Unsupported format) = false
+
+-- An error that can be no other is want of memory.
+memory_alone : (e : LoadError) → ((e ≢ Memory) → ⊥) → e ≡ Memory
+unfolding is_memory
+memory_alone Memory never = refl
+memory_alone Io never = absurd (never (λ is. false≢true (ap is_memory is)))
+memory_alone Truncated never = absurd (never (λ is. false≢true (ap is_memory is)))
+memory_alone (Malformed at) never = absurd (never (λ is. false≢true (ap is_memory is)))
+memory_alone Checksum never = absurd (never (λ is. false≢true (ap is_memory is)))
+memory_alone (Unsupported format) never = absurd (never (λ is. false≢true (ap is_memory is)))
+
+module _ {V : Type 0} (written : V → List ℕ)
+    (apart : (x y : V) (r s : List ℕ) → written x ++ r ≡ written y ++ s → x ≡ y)
+    (kind : ℕ) (most : Option ℕ) where
+  pub given-back : (r : Result (Version V) LoadError) (bytes : List ℕ)
+      → IfOk r (λ tree. bytes ≡ saved written kind tree)
+      → OnOtherErr r (LacksVersion written kind most bytes) → GivesBack written kind most r bytes
+  given-back (Ok tree) bytes read refused v is stands =
+      forms-of_one written apart kind tree v (sym read ∙ stands)
+  given-back (Err e) bytes read refused v is stands =
+      memory_alone e (λ other. refused other v is stands)
+
+  pub given-io : (r : Result (Version V) LoadError) (bytes : List ℕ)
+      → GivesBack written kind most r bytes → GivesBackUnlessIo written kind most r bytes
+  given-io (Ok tree) bytes back v is stands = back v is stands
+  given-io (Err e) bytes back v is stands = inl (back v is stands)
 
 -- Where a member is still to come, fewer were taken than there are.
 pub room-left : {X : Type 0} (members taken : List X) (x : X) (after : Option (List X))

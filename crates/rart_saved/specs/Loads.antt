@@ -1,9 +1,11 @@
--- What is not there where bytes were refused.
-use Rattle.std.specs.Prelude.{◌≡◌, ◌≢◌, ℕ, Bool, List, [], ◌++◌, Option, IsTrue, length}
+-- What is not there where bytes were refused, and what is given back where they were not.
+use Rattle.std.specs.Prelude.{◌≡◌, ◌≢◌, ◌⊎◌, ℕ, Bool, List, [], ◌++◌, Option, Result, IsTrue, MatchResult, length}
 use Rattle.std.specs.FinMap as finite
 use Rattle.rart_maps.specs.Pairs.{pairs}
 use Rattle.rart_maps.specs.Versions.{Map, Version}
 use Rattle.rart_versioned.specs.Keys.{IsKeyLength}
+use Rattle.rart_saved.specs.declared.error.LoadError.{LoadError}
+use Rattle.rart_saved.specs.declared.error.LoadError.TheVariants.{Io, Memory}
 use Rattle.rart_saved.specs.Forms.{IsVersionOf, entries, entry, saved}
 use Rattle.rart_saved.specs.Keys.{IsNext}
 
@@ -24,3 +26,16 @@ module _ {V : Type 0} (written : V → List ℕ) where
   abbrev pub LacksVersion : ℕ → Option ℕ → List ℕ → Type 0
   LacksVersion kind most bytes = (v : Version V) → IsVersionOf most v
       → bytes ≢ saved written kind v
+
+  -- Where the bytes are a version's whose keys have at most this length, the answer is that
+  -- version, or memory was refused.
+  abbrev pub GivesBack : ℕ → Option ℕ → Result (Version V) LoadError → List ℕ → Type 0
+  GivesBack kind most result bytes = (v : Version V) → IsVersionOf most v
+      → bytes ≡ saved written kind v
+      → MatchResult result (λ tree. tree ≡ v) (λ error. error ≡ Memory)
+
+  -- The same, or reading failed.
+  abbrev pub GivesBackUnlessIo : ℕ → Option ℕ → Result (Version V) LoadError → List ℕ → Type 0
+  GivesBackUnlessIo kind most result bytes = (v : Version V) → IsVersionOf most v
+      → bytes ≡ saved written kind v
+      → MatchResult result (λ tree. tree ≡ v) (λ error. (error ≡ Memory) ⊎ (error ≡ Io))

@@ -1,5 +1,5 @@
 -- Worked forms, written out by hand: all but the sums.
-use Rattle.std.specs.Prelude.{◌≡◌, ◌-◌, ◌^◌, ℕ, List, [], ◌∷◌, ◌++◌, codes}
+use Rattle.std.specs.Prelude.{◌≡◌, ◌-◌, ◌^◌, ℕ, [], ◌∷◌, ◌++◌, codes}
 use Rattle.std.specs.FinMap as finite
 use Rattle.rart_maps.specs.Versions.{Map, Version, empty_at}
 use Rattle.rart_saved.specs.Forms.{body, saved}

@@ -1,4 +1,4 @@
-//! Why bytes were not read as a version.
+//! Why bytes were not read as a version, or a version not written.
 use std::alloc::AllocError;
 use thiserror::Error;
 
@@ -24,6 +24,23 @@ pub enum LoadError {
     /// The head names another format.
     #[error("format {format} is not supported")]
     Unsupported { format: u8 },
+}
+
+/// Why a version was not written.
+#[derive(Debug, Clone, Copy, PartialEq, Eq, Error)]
+pub enum SaveError {
+    /// Writing failed.
+    #[error("writing failed")]
+    Io,
+    /// Memory was refused, and nothing is written.
+    #[error("out of memory")]
+    Memory,
+}
+
+impl From<AllocError> for SaveError {
+    fn from(_refused: AllocError) -> SaveError {
+        SaveError::Memory
+    }
 }
 
 impl From<AllocError> for LoadError {

@@ -9,9 +9,13 @@ pub mod laws;
 mod loading;
 mod numbers;
 mod saving;
+mod streams;
+#[cfg(test)]
+mod tests;
 mod value;
 
-pub use error::LoadError;
+pub use error::{LoadError, SaveError};
 pub use loading::load_slice;
 pub use saving::save_slice;
+pub use streams::{load, save};
 pub use value::{ByteString, SavedValue};

@@ -8,7 +8,7 @@ ghost use Rattle.rart_maps.specs.Pairs.{pairs};
 ghost use Rattle.rart_maps.specs.Versions.{HasRoom, has_no_key, with_key};
 ghost use Rattle.rart_saved.specs.Forms.{entries, entry, saved};
 ghost use Rattle.rart_saved.specs.Keys.{IsNext};
-ghost use Rattle.rart_saved.specs.Loads.{LacksPair, LacksPairs, LacksVersion};
+ghost use Rattle.rart_saved.specs.Loads.{GivesBack, LacksPair, LacksPairs, LacksVersion};
 ghost use Rattle.rart_saved.specs.Parts.{HasPart};
 ghost use Rattle.rart_saved.specs.Refusals.{OnOtherErr};
 
@@ -31,6 +31,18 @@ use std::alloc::Global;
 /// whose keys this key type admits. A length in the bytes is never believed: what is asked of
 /// memory grows as bytes come.
 pub fn load_slice<K: KeyTrait, V: SavedValue>(
+    alloc: Global,
+    bytes: &[u8],
+) -> Result<VersionedAdaptiveRadixTree<K, V>, LoadError>
+    requires clones { ClonesEqual V.is_clone }
+    ensures read { IfOk result (λ tree. bytes.now ≡ saved V.written V.KIND tree) }
+    ensures gives_back { GivesBack V.written V.KIND K.MAXIMUM_SIZE result bytes.now }
+{
+    read_version(alloc, bytes)
+}
+
+/// The same. Refused for another reason than memory, the bytes are no version's.
+fn read_version<K: KeyTrait, V: SavedValue>(
     alloc: Global,
     bytes: &[u8],
 ) -> Result<VersionedAdaptiveRadixTree<K, V>, LoadError>

@@ -1,0 +1,197 @@
+//! What no clause says: that calls succeed where there is memory, which error comes, and that the
+//! bytes are those that another program makes.
+use crate::error::{LoadError, SaveError};
+use crate::loading::load_slice;
+use crate::saving::save_slice;
+use crate::streams::{load, save};
+use crate::value::{ByteString, SavedValue};
+use rart_versioned::{ArrayKey, KeyTrait, VectorKey, VersionedAdaptiveRadixTree};
+use std::alloc::{AllocError, Global};
+use std::io::{self, Read, Write};
+use std::process::Abort;
+use std::test::Fail;
+
+type Tree = VersionedAdaptiveRadixTree<VectorKey, u64>;
+
+/// No pair and number 0. The sum was made by another program, as that of `THREE`.
+const EMPTY: [u8; 43] = [
+    0x63, 0x6f, 0x6d, 0x66, 0x72, 0x65, 0x79, 1, 1, 0, 0, 0x63, 0xd9, 0xfc, 0xd5, 0x63, 0xfa, 0x59,
+    0x68, 0x74, 0x70, 0x84, 0xcf, 0x77, 0xf0, 0x85, 0x0e, 0x7c, 0x82, 0x9c, 0x38, 0x09, 0xd1, 0xb3,
+    0x2f, 0x5d, 0x75, 0xd7, 0xd6, 0xbd, 0xd8, 0x62, 0xe0,
+];
+
+/// The empty key with 2^64 - 1, `tea` with 300 and `teapot` with 2, at number 3.
+const THREE: [u8; 79] = [
+    0x63, 0x6f, 0x6d, 0x66, 0x72, 0x65, 0x79, 1, 1, 3, 3, 0, 0, 255, 255, 255, 255, 255, 255, 255,
+    255, 0, 3, 0x74, 0x65, 0x61, 0x2c, 1, 0, 0, 0, 0, 0, 0, 3, 3, 0x70, 0x6f, 0x74, 2, 0, 0, 0, 0,
+    0, 0, 0, 0xf2, 0x4c, 0x42, 0x9a, 0xda, 0xf7, 0x2d, 0x1d, 0xc4, 0xf5, 0x19, 0xa0, 0x81, 0xe7,
+    0xd0, 0xd4, 0x19, 0x9e, 0x6d, 0x2f, 0xd7, 0xc4, 0x5d, 0x03, 0x27, 0xeb, 0xa6, 0x24, 0xd5, 0x1a,
+    0x5f, 0x4c,
+];
+
+fn three(alloc: Global) -> Result<Tree, AllocError> {
+    let mut tree = Tree::new(alloc);
+    tree.insert_slice(b"teapot", 2)?;
+    tree.insert_slice(b"", u64::MAX)?;
+    tree.insert_slice(b"tea", 300)?;
+    Ok(tree)
+}
+
+/// Whether these bytes are refused, or read as what is saved as them.
+fn is_refused(alloc: Global, bytes: &[u8]) -> Result<bool, AllocError> {
+    match load_slice::<VectorKey, u64>(alloc, bytes) {
+        Err(_error) => Ok(true),
+        Ok(tree) => Ok(save_slice(alloc, &tree)?.as_slice() != bytes),
+    }
+}
+
+#[test]
+fn files_are_those_of_another_program(rt: HostRuntime) -> Result<(), Fail> {
+    let alloc = rt.alloc();
+    let empty = save_slice(alloc, &Tree::new(alloc))?;
+    assert!(rt; empty.as_slice() == EMPTY.as_slice());
+    let bytes = save_slice(alloc, &three(alloc)?)?;
+    assert!(rt; bytes.as_slice() == THREE.as_slice());
+    Ok(())
+}
+
+#[test]
+fn trees_come_back(rt: HostRuntime) -> Result<(), Fail> {
+    let alloc = rt.alloc();
+    let mut numbers = Tree::new_at(alloc, 1 << 40);
+    for i in 0..2000_u64 {
+        let number = i.wrapping_mul(0x9e37_79b9_7f4a_7c15);
+        let bytes = number.to_be_bytes();
+        numbers.insert_slice(&bytes[..(i % 9) as usize], i)?;
+    }
+    let bytes = save_slice(alloc, &numbers)?;
+    let Ok(back) = load_slice::<VectorKey, u64>(alloc, bytes.as_slice()) else {
+        return Err(Fail::from(AllocError));
+    };
+    assert!(rt; back.version() == numbers.version());
+    assert!(rt; back.equals(&numbers)?);
+    assert!(rt; save_slice(alloc, &back)?.as_slice() == bytes.as_slice());
+    Ok(())
+}
+
+#[test]
+fn byte_strings_come_back(rt: HostRuntime) -> Result<(), Fail> {
+    let alloc = rt.alloc();
+    let mut tree: VersionedAdaptiveRadixTree<ArrayKey<4>, ByteString> =
+        VersionedAdaptiveRadixTree::new_at(alloc, 8);
+    tree.insert_slice(b"a", ByteString::new(alloc, b"")?)?;
+    tree.insert_slice(b"abcd", ByteString::new(alloc, b"two\0")?)?;
+    let bytes = save_slice(alloc, &tree)?;
+    let Ok(back) = load_slice::<ArrayKey<4>, ByteString>(alloc, bytes.as_slice()) else {
+        return Err(Fail::from(AllocError));
+    };
+    assert!(rt; back.version() == 10);
+    assert!(rt; save_slice(alloc, &back)?.as_slice() == bytes.as_slice());
+    let value = back.get_slice(b"abcd");
+    assert!(rt; value.is_some_and(|value| value.as_slice() == b"two\0".as_slice()));
+    // (a key of four bytes is too long for this one)
+    let narrow = load_slice::<ArrayKey<3>, ByteString>(alloc, bytes.as_slice());
+    assert!(rt; matches!(narrow, Err(LoadError::Malformed { at: 15 })));
+    let other = load_slice::<ArrayKey<4>, u64>(alloc, bytes.as_slice());
+    assert!(rt; matches!(other, Err(LoadError::Malformed { at: 8 })));
+    Ok(())
+}
+
+#[test]
+fn each_flipped_bit_is_refused(rt: HostRuntime) -> Result<(), Fail> {
+    let alloc = rt.alloc();
+    for at in 0..THREE.len() {
+        for bit in 0..8 {
+            let mut bytes = THREE;
+            bytes[at] ^= 1_u8 << bit;
+            let answer = load_slice::<VectorKey, u64>(alloc, bytes.as_slice());
+            assert!(rt; answer.is_err());
+            if at == 7 {
+                let format = bytes[7];
+                assert!(rt;
+                    matches!(answer, Err(LoadError::Unsupported { format: told }) if told == format)
+                );
+            }
+            if at >= 47 {
+                assert!(rt; matches!(answer, Err(LoadError::Checksum)));
+            }
+        }
+    }
+    Ok(())
+}
+
+#[test]
+fn each_prefix_is_truncated(rt: HostRuntime) -> Result<(), Fail> {
+    let alloc = rt.alloc();
+    for count in 0..THREE.len() {
+        let answer = load_slice::<VectorKey, u64>(alloc, &THREE[..count]);
+        assert!(rt; matches!(answer, Err(LoadError::Truncated)));
+    }
+    let mut longer = THREE.to_vec(alloc)?;
+    longer.push(0)?;
+    let answer = load_slice::<VectorKey, u64>(alloc, longer.as_slice());
+    assert!(rt; matches!(answer, Err(LoadError::Malformed { at: 79 })));
+    Ok(())
+}
+
+#[test]
+fn random_files_are_refused(rt: HostRuntime) -> Result<(), Fail> {
+    let alloc = rt.alloc();
+    let mut state = 1_u64;
+    for round in 0..20_000_usize {
+        let mut bytes = THREE[..round % 48].to_vec(alloc)?;
+        for _ in 0..round % 61 {
+            state = state
+                .wrapping_mul(0x5851_f42d_4c95_7f2d)
+                .wrapping_add(0x1405_7b7e_f767_814f);
+            let byte = (state >> 56) as u8;
+            bytes.push(if round % 3 == 0 { byte } else { byte % 4 })?;
+        }
+        assert!(rt; is_refused(alloc, bytes.as_slice())?);
+    }
+    Ok(())
+}
+
+/// Gives and takes nothing, and fails.
+#[derive(Drop)]
+struct Broken {
+    calls: usize,
+}
+
+impl Read for Broken {
+    fn read(&mut self, _buffer: &mut [u8]) -> io::Result<usize> {
+        self.calls = self.calls.saturating_add(1);
+        Err(io::Error::from(io::ErrorKind::Other))
+    }
+}
+
+impl Write for Broken {
+    fn write(&mut self, _bytes: &[u8]) -> io::Result<usize> {
+        self.calls = self.calls.saturating_add(1);
+        Err(io::Error::from(io::ErrorKind::Other))
+    }
+
+    fn flush(&mut self) -> io::Result<()> {
+        Ok(())
+    }
+}
+
+#[test]
+fn streams_carry_the_same_bytes(rt: HostRuntime) -> Result<(), Fail> {
+    let alloc = rt.alloc();
+    let tree = three(alloc)?;
+    let mut written = Vec::new(alloc);
+    assert!(rt; matches!(save(alloc, &tree, &mut written), Ok(())));
+    assert!(rt; written.as_slice() == THREE.as_slice());
+    let mut reader = written.as_slice();
+    let Ok(back) = load::<VectorKey, u64, &[u8]>(alloc, &mut reader) else {
+        return Err(Fail::from(AllocError));
+    };
+    assert!(rt; back.equals(&tree)?);
+    let mut broken = Broken { calls: 0 };
+    assert!(rt; matches!(save(alloc, &tree, &mut broken), Err(SaveError::Io)));
+    let answer = load::<VectorKey, u64, Broken>(alloc, &mut broken);
+    assert!(rt; matches!(answer, Err(LoadError::Io)));
+    assert!(rt; broken.calls == 2);
+    Ok(())
+}

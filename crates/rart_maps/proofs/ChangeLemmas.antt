@@ -54,7 +54,7 @@ nothing-in [] none = refl
 nothing-in (x ∷ xs) none = absurd (none x (Contains-here x xs))
 
 module _ {V : Type 0} where
-  abbrev or_else : Option V → Option V → Option V
+  abbrev pub or_else : Option V → Option V → Option V
   or_else None other = other
   or_else (Some x) other = Some x
 
@@ -67,7 +67,7 @@ module _ {V : Type 0} where
       ≡ or_else (cond t (Some pair.1) (find byte_order q xs)) (find byte_order q ys))
       [ true ↦ refl | false ↦ find-joined xs ys q ]
 
-  get-joined : (old new : Map V) (q : List ℕ)
+  pub get-joined : (old new : Map V) (q : List ℕ)
       → finite.get (joined old new) q ≡ or_else (finite.get old q) (finite.get new q)
   get-joined old new q =
       finite.get-from_entries nat_list_cmp_total (pairs old ++ pairs new) q

@@ -12,6 +12,8 @@ pub mod MergeLemmas
 pub mod OrderLemmas
 pub mod PairLawLemmas
 pub mod PointLemmas
+pub mod PrefixLawLemmas
+pub mod PrefixLemmas
 pub mod RangeLemmas
 pub mod RangePointLemmas
 pub mod SetLemmas
@@ -22,3 +24,4 @@ pub mod VisitLemmas
 pub mod WorkedBoundLemmas
 pub mod WorkedChangeLemmas
 pub mod WorkedPairLemmas
+pub mod WorkedPrefixLemmas

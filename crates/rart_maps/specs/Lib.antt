@@ -15,6 +15,8 @@ pub mod PairLaws
 pub mod Pairs
 pub mod PointLaws
 pub mod Points
+pub mod PrefixLaws
+pub mod Prefixes
 pub mod StartLaws
 pub mod Versions
 pub mod VisitLaws
@@ -22,3 +24,4 @@ pub mod Visits
 pub mod WorkedBounds
 pub mod WorkedChanges
 pub mod WorkedPairs
+pub mod WorkedPrefixes

@@ -3,12 +3,14 @@ pub mod BesideLemmas
 pub mod CutLemmas
 pub mod EditLemmas
 pub mod FromLemmas
+pub mod GraftLemmas
 pub mod InsertionStepLemmas
 pub mod LastLemmas
 pub mod LeastLemmas
 pub mod LentPathLemmas
 pub mod LookupPathLemmas
 pub mod PlanLemmas
+pub mod PrefixLemmas
 pub mod RemovalLemmas
 pub mod SeekStartLemmas
 pub mod SeekStepLemmas

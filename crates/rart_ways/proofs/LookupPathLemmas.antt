@@ -15,7 +15,7 @@ use Rattle.rart_node.proofs.SearchLemmas.{IsSearchAt}
 
 module _ {V : Type 0} where
   -- one node down, by what the prefix leaves of the key
-  step-along : (s child : Shape V) (key left : List ℕ) → Some left ≡ strip_prefix (prefix_of s) key
+  pub step-along : (s child : Shape V) (key left : List ℕ) → Some left ≡ strip_prefix (prefix_of s) key
       → Some child ≡ child_under left s → step key s ≡ Some (child, left)
   step-along (node prefix value width forest) child key [] is here =
       absurd (none-some child (sym here))

@@ -37,7 +37,7 @@ empty-list : {A : Type 0} (list : List A) → length list ≡ 0 → list ≡ []
 empty-list [] none = refl
 empty-list (a ∷ list) none = absurd (omega (arith, none))
 
-only-one : {V : Type 0} (s : Shape V) → length (children_of s) ≡ 1
+pub only-one : {V : Type 0} (s : Shape V) → length (children_of s) ≡ 1
     → (byte : ℕ) × (child : Shape V) × HasOnly byte child s
 only-one (node prefix value width bare) one = absurd (omega (arith, one))
 only-one (node prefix value width (grown byte child bare)) one = (byte, child, refl)
@@ -96,7 +96,7 @@ module _ {V : Type 0} where
   pub kept-value : (s : Shape V) (byte : ℕ) → value_of (with_deleted byte s) ≡ value_of s
   kept-value (node prefix value width forest) byte = refl
 
-  forks : (s : Shape V) → IsTree s → value_of s ≡ None → 1 < length (children_of s)
+  pub forks : (s : Shape V) → IsTree s → value_of s ≡ None → 1 < length (children_of s)
   forks (node prefix (Some value) width forest) tree none = absurd (none-some value (sym none))
   forks (node prefix None width bare) tree none = absurd (false≢true tree.2)
   forks (node prefix None width (grown byte child bare)) tree none = absurd (false≢true tree.2)

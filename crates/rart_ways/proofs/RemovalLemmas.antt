@@ -81,7 +81,7 @@ module _ {V : Type 0} where
       (same_Some b byte next))
 
   -- ---- the children, once one of them is gone
-  branches-without : (entries : List (ℕ × Shape V)) (byte : ℕ) → AreBranches (forest_of entries)
+  pub branches-without : (entries : List (ℕ × Shape V)) (byte : ℕ) → AreBranches (forest_of entries)
       → AreBranches (forest_of (without_child byte entries))
   branches-without [] byte branches = tt
   branches-without (entry ∷ entries) byte branches =
@@ -93,7 +93,7 @@ module _ {V : Type 0} where
       ]
 
   -- what stands under each byte once one was taken out
-  child_at-without : (entries : List (ℕ × Shape V)) (byte c : ℕ)
+  pub child_at-without : (entries : List (ℕ × Shape V)) (byte c : ℕ)
       → child_at c (without_child byte entries) ≡ cond (c == byte) None (child_at c entries)
   child_at-without entries byte c =
       find-where_key nat_cmp (λ k. not (k == byte)) c
@@ -265,7 +265,7 @@ module _ {V : Type 0} where
       refl) (λ q. empty-leaf leaf q none)
 
   -- ---- what is left, with a value or two children, or merged
-  fork-is : (value : Option V) (forest : Forest V)
+  pub fork-is : (value : Option V) (forest : Forest V)
       → (value ≡ None → 1 < length (entries_of forest)) → is_key_or_fork value forest ≡ true
   fork-is (Some value) forest some = refl
   fork-is None bare some = let one = some refl in absurd (omega (arith, one))

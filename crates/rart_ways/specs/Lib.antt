@@ -4,6 +4,7 @@ pub mod Grafts
 pub mod Longest
 pub mod Paths
 pub mod Plans
+pub mod Prefixes
 pub mod Removals
 pub mod Searches
 pub mod Lasts

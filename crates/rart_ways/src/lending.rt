@@ -8,7 +8,7 @@ ghost use Rattle.rart_node.specs.Trees.{IsTree, found};
 ghost use Rattle.rart_ways.specs.Grafts.{LendsAlong};
 ghost use Rattle.rart_ways.specs.Paths.{Arrives};
 
-mod path;
+pub(crate) mod path;
 
 use path::{Path, Whole};
 use rart_below::Partial;

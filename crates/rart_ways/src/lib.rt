@@ -3,17 +3,19 @@
 //!
 //! `search` reads: a value, how far down it stands, the keys that begin a key. `insertion` and
 //! `removal` put a value in and take one out, `lending` lends one for writing, and `seeking` finds
-//! the first key that meets a bound.
+//! the first key that meets a bound. `prefixes` keeps what stands under a prefix, or takes it out.
 #![tactic(auto)]
 
 mod insertion;
 mod lending;
+mod prefixes;
 mod removal;
 mod search;
 mod seeking;
 
 pub use insertion::{insert_below, leaf_of};
 pub use lending::lend_below;
+pub use prefixes::{Cleared, clear_below, keep_under};
 pub use removal::{Removed, remove_below};
 pub use search::{
     Passed, get_below, longest_prefix_match, path_length, step, visit_prefix_matches,

@@ -12,7 +12,7 @@ ghost use Rattle.rart_node.specs.Trees.{IsTree, found, path_bound};
 ghost use Rattle.rart_ways.specs.Removals.{AreAdmitted, IsTakenOr};
 
 mod edit;
-mod plan;
+pub(crate) mod plan;
 
 use edit::{edit_below, take};
 use plan::{Plan, plan_below};

@@ -93,7 +93,11 @@ impl<L: Path> Path for Twice<L> {
 
 /// The byte under which a key goes on below a node. `passed` bytes of the key stand above the node,
 /// and then above the child.
-fn next_byte<P: Partial, V: Drop>(node: &VersionedNode<P, V>, key: &[u8], passed: &mut usize) -> u8
+pub(crate) fn next_byte<P: Partial, V: Drop>(
+    node: &VersionedNode<P, V>,
+    key: &[u8],
+    passed: &mut usize,
+) -> u8
     requires within { passed.old ≤ length key.now }
     requires there { IsSome (step (drop passed.old key.now) node.now.shape) }
     ensures next { step (drop passed.old key.now) node.now.shape

@@ -120,7 +120,7 @@ fn plan_without<P: Partial, V: Clone + Drop>(
 }
 
 /// Whether a node that loses a child still has a value or two children.
-fn can_lose_a_child<P: Partial, V: Drop>(node: &VersionedNode<P, V>) -> bool
+pub(crate) fn can_lose_a_child<P: Partial, V: Drop>(node: &VersionedNode<P, V>) -> bool
     requires { IsTree node.now.shape }
     ensures stays { result ≡ true → value_of node.now.shape ≡ None
         → 2 < length (children_of node.now.shape) }

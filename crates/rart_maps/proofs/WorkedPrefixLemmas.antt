@@ -1,8 +1,8 @@
 -- The worked values of maps cut at a prefix, by computation.
-use Rattle.std.proofs.Common.{refl, ◌∙◌, ap}
+use Rattle.std.proofs.Common.{refl, ◌∙◌}
 use Rattle.std.specs.Prelude.{ℕ, codes}
 use Rattle.rart_maps.proofs.MapLemmas.{maps}
-use Rattle.rart_maps.specs.WorkedPrefixes.{today, yesterday, UnderKeepsTheKeyItself, WithoutKeepsNeighbours, RestoredTakesTheOthers, UnderNothing}
+use Rattle.rart_maps.specs.WorkedPrefixes.{today, UnderKeepsTheKeyItself, WithoutKeepsNeighbours, RestoredTakesTheOthers, UnderNothing}
 use Rattle.rart_maps.proofs.PrefixLawLemmas.{pairs_under_are_under, pairs_without_are_the_others}
 
 pub under_keeps_the_key_itself : UnderKeepsTheKeyItself

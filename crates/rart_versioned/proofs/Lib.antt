@@ -2,6 +2,7 @@ pub mod VersionCommonLemmas
 pub mod VersionDiffLemmas
 pub mod PrefixEndLemmas
 pub mod VersionMapLemmas
+pub mod VersionPrefixLemmas
 pub mod MeetLemmas
 pub mod VersionKeyLemmas
 pub mod VersionIterationLemmas

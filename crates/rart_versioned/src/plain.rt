@@ -12,6 +12,7 @@ mod iterators;
 mod last;
 mod longest;
 mod lookup;
+mod prefixes;
 mod remove;
 mod try_insert;
 mod unversioned;

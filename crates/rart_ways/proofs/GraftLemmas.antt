@@ -1,5 +1,5 @@
 -- What becomes of a tree where something else stands under a prefix, or nothing.
-use Rattle.std.proofs.Common.{◌≡◌, ℕ, zero, suc, ◌+◌, ◌<◌, ◌≤◌, List, [], ◌∷◌, ◌++◌, Option, Some, None, IsSome, is_some, slice_get, length, drop, cond, not, Bool, true, false, refl, arith, sym, ap, subst, ◌∙◌}
+use Rattle.std.proofs.Common.{◌≡◌, ℕ, zero, suc, ◌+◌, ◌<◌, ◌≤◌, List, [], ◌∷◌, ◌++◌, Option, Some, None, IsSome, is_some, slice_get, length, drop, cond, not, true, false, refl, arith, sym, ap, subst, ◌∙◌}
 use Rattle.std.specs.Prelude.{◌==◌}
 use Rattle.std.specs.Option.{option_and_then, option_map}
 use Rattle.std.specs.Cmp.{unsigned_tied}
@@ -8,16 +8,16 @@ use Rattle.std.proofs.lemmas.Bool.{eqb-true, false≢true}
 use Rattle.std.proofs.lemmas.Cmp.{nat_cmp_total}
 use Rattle.std.specs.Ordering.{nat_cmp}
 use Rattle.std.proofs.lemmas.Option.{same_Some, none-some}
-use Rattle.rart_below.specs.Bytes.{begins, IsAdmitted}
+use Rattle.rart_below.specs.Bytes.{begins}
 use Rattle.rart_below.specs.Children as children
 use Rattle.rart_below.specs.Children.{child_at, with_child, without_child}
 use Rattle.rart_below.proofs.AscendingLemmas.{ascending-where_key}
 use Rattle.rart_node.specs.Shape.{Shape, Forest, node, prefix_of, value_of, children_of, entries_of, forest_of, with_deleted, with_replaced, HasOnly, merged, entries_of-forest_of}
-use Rattle.rart_node.specs.Trees.{strip_prefix, BeginsWith, found, found_below, IsTree, IsOrdered, AreBranches, KeepsFirst}
+use Rattle.rart_node.specs.Trees.{strip_prefix, BeginsWith, found, found_below, IsTree, IsOrdered, AreBranches}
 use Rattle.rart_node.proofs.FindLemmas.{found-below, branch, ordered, ascending}
 use Rattle.rart_node.proofs.InsertionLemmas.{inside, in-child, ascending-with, branches-with, fork-with, forest_of-entries_of}
 use Rattle.rart_node.proofs.OnlyChildLemmas.{merged-found, merged-tree, merged-first}
-use Rattle.rart_node.proofs.PrefixLemmas.{behind-append, begins-first, first-parts}
+use Rattle.rart_node.proofs.PrefixLemmas.{behind-append, first-parts}
 use Rattle.rart_ways.specs.Grafts.{graft, graft_at}
 use Rattle.rart_ways.specs.Paths.{first_byte, step, path_end}
 use Rattle.rart_ways.specs.Prefixes.{IsGrafted, IsCleared, IsWithoutChild, StandsUnder, under_or}

@@ -1,6 +1,6 @@
 -- What stands under a prefix in a tree: where the way along it comes to, and what becomes of the
 -- tree once that is gone.
-use Rattle.std.proofs.Common.{◌≡◌, ℕ, zero, suc, ◌+◌, ◌-◌, ◌<◌, ◌≤◌, List, [], ◌∷◌, ◌++◌, Option, Some, None, IsSome, is_some, slice_get, length, take, drop, length-drop, cond, Bool, true, false, ◌&&◌, refl, arith, sym, ap, subst, ◌∙◌, append_assoc}
+use Rattle.std.proofs.Common.{◌≡◌, ℕ, zero, suc, ◌+◌, ◌-◌, ◌<◌, ◌≤◌, List, [], ◌∷◌, ◌++◌, Option, Some, None, IsSome, is_some, length, take, drop, length-drop, cond, Bool, true, false, ◌&&◌, refl, arith, sym, ap, subst, ◌∙◌, append_assoc}
 use Rattle.std.specs.Prelude.{◌==◌, slice_index_or}
 use Rattle.std.specs.Option.{option_and_then, option_map}
 use Rattle.std.proofs.Math.Seq.{drop-append_seam, drop-cons}
@@ -9,7 +9,7 @@ use Rattle.std.proofs.lemmas.List.{length-append, take-append-drop}
 use Rattle.std.proofs.lemmas.Option.{same_Some, none-some}
 use Rattle.rart_below.specs.Bytes.{begins, common_length, IsAdmitted}
 use Rattle.rart_below.specs.Children.{child_at}
-use Rattle.rart_node.specs.Shape.{Shape, Forest, node, prefix_of, value_of, children_of, entries_of, height, with_prefix}
+use Rattle.rart_node.specs.Shape.{Shape, Forest, node, prefix_of, children_of, entries_of, height, with_prefix}
 use Rattle.rart_node.specs.Counts.{Counts, CountsUpTo}
 use Rattle.rart_node.specs.Trees.{strip_prefix, found, IsTree, path_bound}
 use Rattle.rart_node.proofs.CountingLemmas.{path-one, path-most, path-step}

@@ -1,5 +1,5 @@
 -- What stands under a prefix in a tree, alone and in the place of something else.
-use Rattle.std.specs.Prelude.{◌≡◌, ◌+◌, ◌≤◌, ◌++◌, ℕ, Bool, false, List, Option, Some, None, IsSome, IsTrue, length, drop, if◌then◌else◌}
+use Rattle.std.specs.Prelude.{◌≡◌, ◌+◌, ◌≤◌, ◌++◌, ℕ, false, List, Option, Some, None, IsSome, IsTrue, length, drop, if◌then◌else◌}
 use Rattle.rart_below.specs.Bytes.{begins}
 use Rattle.rart_node.specs.Shape.{Shape, prefix_of, with_deleted}
 use Rattle.rart_node.specs.Trees.{strip_prefix, BeginsWith, found, IsTree, KeepsFirst}

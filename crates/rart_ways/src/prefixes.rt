@@ -12,7 +12,6 @@ ghost use Rattle.rart_node.specs.Counts.{CountsUpTo};
 ghost use Rattle.rart_node.specs.Seen.{shape_of};
 ghost use Rattle.rart_node.specs.Shape.{children_of, prefix_of, with_prefix};
 ghost use Rattle.rart_node.specs.Trees.{IsTree, path_bound};
-ghost use Rattle.rart_ways.specs.Paths.{path_end};
 ghost use Rattle.rart_ways.specs.Prefixes.{HasNoneUnder, HasSomeUnder, IsCleared, IsClearedSo};
 ghost use Rattle.rart_ways.specs.Prefixes.{IsUnderAlone, IsWithoutChild, StandsBelow};
 ghost use Rattle.rart_ways.specs.Removals.{AreAdmitted};

@@ -8,15 +8,15 @@ use Rattle.std.proofs.lemmas.List.Kept.{AllPairs-filter}
 use Rattle.rart_below.specs.Bytes.{begins, byte_order}
 use Rattle.rart_maps.specs.ChangeLists.{Change, changes, differ}
 use Rattle.rart_maps.specs.Order.{IsBefore}
-use Rattle.rart_maps.specs.Pairs.{pairs, under}
-use Rattle.rart_maps.specs.PrefixLaws.{UnderAnswers, WithoutAnswers, WithAnswers, AnswersFixTheMap, HasUnderIsOfAKey, PairsUnderAreUnder, PairsWithoutAreTheOthers, UnderIsTheOthers, RestoringUndoes, PuttingBackIsNothing, RemovingRestoresNothing, KeepingRestoresIntoNothing, EmptyPrefixIsAll, ApartPrefixesCommute, RestoringChangesUnder}
+use Rattle.rart_maps.specs.Pairs.{pairs}
+use Rattle.rart_maps.specs.PrefixLaws.{UnderAnswers, WithoutAnswers, WithAnswers, AnswersFixTheMap, HasUnderIsOfAKey, PairsUnderAreUnder, PairsWithoutAreTheOthers, UnderIsTheOthers, PartsAnswer, RemovalsAnswer, RemovalsRaise, RestoringUndoes, PuttingBackIsNothing, RemovingRestoresNothing, KeepingRestoresIntoNothing, EmptyPrefixIsAll, ApartPrefixesCommute, RestoringChangesUnder}
 use Rattle.rart_maps.specs.Prefixes.{pairs_under, without_prefix, with_prefix_of}
 use Rattle.rart_maps.specs.Versions.{Map}
 use Rattle.rart_maps.proofs.ChangeLawLemmas.{differ-itself}
 use Rattle.rart_maps.proofs.ChangeLemmas.{changes-ascend, changes-from, changes-to}
 use Rattle.rart_maps.proofs.ElementLemmas.{Contains-filter}
 use Rattle.rart_maps.proofs.FoundLemmas.{Contains-pairs, Contains-filter_pairs, KeysAscend-filter_pairs, pairs_ascend_by_key, ascending_lists_are_fixed}
-use Rattle.rart_maps.proofs.PrefixLemmas.{same_map, get-pairs_under, get-without_prefix, get-with_prefix_of, has-under-key, key-has-under}
+use Rattle.rart_maps.proofs.PrefixLemmas.{same_map, get-pairs_under, get-without_prefix, get-with_prefix_of, has-under-key, key-has-under, removed, value_at-under_prefix, value_at-prefix_removal}
 
 -- Two prefixes of one string: one of them begins the other.
 begins-either : (p q key : List ℕ) → begins p key ≡ true → begins q key ≡ true
@@ -60,6 +60,18 @@ module _ (V : Type 0) where
   pub has_under_is_of_a_key : HasUnderIsOfAKey V
   has_under_is_of_a_key v p =
       (has-under-key v p, λ found. key-has-under v p found.0 found.1 found.2)
+
+  pub parts_answer : PartsAnswer V
+  parts_answer v p more key = value_at-under_prefix v p more key
+
+  pub removals_answer : RemovalsAnswer V
+  removals_answer v p key = value_at-prefix_removal v p key
+
+  pub removals_raise : RemovalsRaise V
+  removals_raise v p = (
+    λ some. ap (λ t. (removed v p t).number) some,
+    λ none. ap (removed v p) none,
+  )
 
   -- the pairs of a map that has these keys of another one
   kept-pairs : (test : List ℕ → Bool) (m kept : Map V)

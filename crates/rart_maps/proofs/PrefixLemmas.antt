@@ -1,13 +1,13 @@
 -- What look-ups answer in a map cut at a prefix.
-use Rattle.std.proofs.Common.{◌≡◌, ℕ, Bool, true, false, cond, not, List, [], ◌∷◌, length, arith, refl, sym, ap, subst, ◌∙◌}
+use Rattle.std.proofs.Common.{◌≡◌, ◌+◌, ℕ, Bool, true, false, cond, not, List, [], ◌∷◌, length, arith, refl, sym, ap, subst, ◌∙◌}
 use Rattle.std.specs.Prelude.{◌==◌, Option, Some, None, Contains, is_some}
 use Rattle.std.specs.FinMap as finite
 use Rattle.std.proofs.lemmas.Bool.{false≢true, ne_eqb}
 use Rattle.std.proofs.lemmas.Cmp.{nat_list_cmp_total}
 use Rattle.rart_below.specs.Bytes.{begins}
 use Rattle.rart_maps.specs.Pairs.{pairs}
-use Rattle.rart_maps.specs.Prefixes.{pairs_under, without_prefix, with_prefix_of, has_under}
-use Rattle.rart_maps.specs.Versions.{Map, Version, has_key}
+use Rattle.rart_maps.specs.Prefixes.{pairs_under, without_prefix, with_prefix_of, has_under, under_prefix, after_prefix_removal}
+use Rattle.rart_maps.specs.Versions.{Map, Version, has_key, value_at}
 use Rattle.rart_maps.proofs.ChangeLemmas.{or_else, get-joined}
 use Rattle.rart_maps.proofs.ElementLemmas.{Contains-nil, Contains-here}
 use Rattle.rart_maps.proofs.FoundLemmas.{Contains-pairs}
@@ -99,3 +99,30 @@ module _ {V : Type 0} where
       some-key (pairs_under v.content p) key (finite.get v.content key)
       (get-pairs_under v.content p key ∙ ap (λ t. cond t (finite.get v.content key) None) begun)
       there
+
+  -- ---- what the calls on a prefix make of a version
+  pub value_at-under_prefix : (v : Version V) (p : List ℕ) (more : ℕ) (key : List ℕ)
+      → value_at (under_prefix v p more) key ≡ cond (begins p key) (value_at v key) None
+  value_at-under_prefix v p more key = get-pairs_under v.content p key
+
+  abbrev pub removed : Version V → List ℕ → Bool → Version V
+  removed v p some =
+      cond some (record { content = without_prefix v.content p; number = v.number + 1 }) v
+
+  -- what is under a prefix where nothing is
+  none-under : (v : Version V) (p key : List ℕ) (t : Bool) (o : Option V) → begins p key ≡ t
+      → value_at v key ≡ o → has_under v p ≡ false → o ≡ cond t None o
+  none-under v p key true None begun is none = refl
+  none-under v p key false None begun is none = refl
+  none-under v p key false (Some x) begun is none = refl
+  none-under v p key true (Some x) begun is none =
+      absurd (false≢true (sym none ∙ key-has-under v p key begun (ap is_some is)))
+
+  pub value_at-prefix_removal : (v : Version V) (p key : List ℕ)
+      → value_at (after_prefix_removal v p) key ≡ cond (begins p key) None (value_at v key)
+  value_at-prefix_removal v p key =
+      elim (has_under v p) as (λ t. has_under v p ≡ t
+      → value_at (removed v p t) key ≡ cond (begins p key) None (value_at v key)) [
+        | true ↦ λ _. get-without_prefix v.content p key
+        | false ↦ λ none. none-under v p key (begins p key) (value_at v key) refl refl none
+      ] refl

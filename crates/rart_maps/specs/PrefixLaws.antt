@@ -1,12 +1,12 @@
 -- Laws that show what a map cut at a prefix is.
-use Rattle.std.specs.Prelude.{◌≡◌, ◌↔◌, ℕ, Bool, false, not, List, [], None, IsTrue, filter, if◌then◌else◌}
+use Rattle.std.specs.Prelude.{◌≡◌, ◌+◌, ◌↔◌, ℕ, Bool, false, not, List, [], None, IsTrue, filter, if◌then◌else◌}
 use Rattle.std.specs.FinMap as finite
 use Rattle.rart_below.specs.Bytes.{begins}
 use Rattle.rart_maps.specs.ChangeLaws.{IsReflexive}
 use Rattle.rart_maps.specs.ChangeLists.{changes}
 use Rattle.rart_maps.specs.Pairs.{pairs, under}
-use Rattle.rart_maps.specs.Prefixes.{pairs_under, without_prefix, with_prefix_of, has_under}
-use Rattle.rart_maps.specs.Versions.{Map, Version, has_key}
+use Rattle.rart_maps.specs.Prefixes.{pairs_under, without_prefix, with_prefix_of, has_under, under_prefix, after_prefix_removal}
+use Rattle.rart_maps.specs.Versions.{Map, Version, has_key, value_at}
 
 module _ (V : Type 0) where
   -- ---- look-ups: they say all of each map, as maps that answer alike are one
@@ -35,6 +35,21 @@ module _ (V : Type 0) where
   HasUnderIsOfAKey = (v : Version V) (p : List ℕ) →
       IsTrue (has_under v p)
       ↔ ((key : List ℕ) × IsTrue (begins p key) × IsTrue (has_key v key))
+
+  -- ---- what the calls on a prefix make of a version
+  abbrev pub PartsAnswer : Type 0
+  PartsAnswer = (v : Version V) (p : List ℕ) (more : ℕ) (key : List ℕ) →
+      value_at (under_prefix v p more) key ≡ (if begins p key then value_at v key else None)
+
+  abbrev pub RemovalsAnswer : Type 0
+  RemovalsAnswer = (v : Version V) (p key : List ℕ) →
+      value_at (after_prefix_removal v p) key ≡ (if begins p key then None else value_at v key)
+
+  -- The number rises where something goes, and else nothing changes.
+  abbrev pub RemovalsRaise : Type 0
+  RemovalsRaise = (v : Version V) (p : List ℕ) →
+      (IsTrue (has_under v p) → (after_prefix_removal v p).number ≡ v.number + 1)
+      × (has_under v p ≡ false → after_prefix_removal v p ≡ v)
 
   -- ---- lists of pairs
   abbrev pub PairsUnderAreUnder : Type 0

@@ -33,11 +33,3 @@ module _ {V : Type 0} where
   after_prefix_removal v p =
       if has_under v p
       then record { content = without_prefix v.content p; number = v.number + 1 } else v
-
-  -- with what another version has under p, the number the sum of both
-  abbrev pub with_prefix_from : Version V → List ℕ → Version V → Version V
-  with_prefix_from v p other =
-      record {
-        content = with_prefix_of p other.content v.content;
-        number = v.number + other.number;
-      }

@@ -1,9 +1,9 @@
 -- Where the last of some pairs stands: at a pair or a child that a way passes, and down last
 -- children from there.
-use Rattle.std.proofs.Common.{◌≡◌, ◌+◌, ◌<◌, ◌≤◌, ℕ, true, false, cond, List, [], ◌∷◌, ◌++◌, Option, Some, None, IsSome, length, take, drop, refl, arith, sym, ap, subst, ◌∙◌}
+use Rattle.std.proofs.Common.{◌≡◌, ◌+◌, ◌<◌, ◌≤◌, ℕ, true, false, cond, List, [], ◌∷◌, ◌++◌, Option, Some, None, IsSome, length, take, drop, reverse, refl, arith, sym, ap, subst, ◌∙◌}
 use Rattle.std.specs.Prelude.{nat_lt, ◌-◌, ◌^◌}
 use Rattle.std.proofs.lemmas.List.Elements.{All-filter}
-use Rattle.std.proofs.lemmas.List.{append-nil, append_assoc, length-append}
+use Rattle.std.proofs.lemmas.List.{append-nil, append_assoc, length-append, reverse-append}
 use Rattle.rart_below.specs.Children.{child_at, children_below, IsAscending, IsLastOf}
 use Rattle.rart_node.specs.Shape.{Shape, height, prefix_of, value_of, children_of}
 use Rattle.rart_node.specs.Trees.{IsTree, pairs_of}
@@ -13,7 +13,8 @@ use Rattle.rart_node.proofs.FindLemmas.{ascending, branch, ordered, tree-some}
 use Rattle.rart_walks.specs.Frames.{behind_path, pairs_of_all, pending_pair}
 use Rattle.rart_walks.specs.Walks.{AreShort}
 use Rattle.rart_walks.proofs.WalkLemmas.{behind-append, pairs-entered, short-back}
-use Rattle.rart_ways.specs.Lasts.{EndAt, IsEnd, IsLast, pairs_to}
+use Rattle.rart_ways.specs.Firsts.{IsFirst}
+use Rattle.rart_ways.specs.Lasts.{EndAt, IsEnd, pairs_to}
 use Rattle.rart_ways.specs.Besides.{is_to}
 use Rattle.rart_ways.specs.declared.seeking.Edge.{Edge}
 use Rattle.rart_ways.specs.Starts.{AreTurns}
@@ -152,16 +153,17 @@ module _ {V : Type 0} where
       pub last-here : (value : V) → value_of s ≡ Some value → children_of s ≡ [] → (len : ℕ)
           (before after : List ℕ) → len ≡ length (above ++ prefix_of s)
           → (len ≤ length before → take len after ≡ above ++ prefix_of s)
-          → drop len after ≡ drop len before → IsLast whole len value before after
+          → drop len after ≡ drop len before → IsFirst (reverse whole) len value before after
       last-here value some none len before after long written behind = record {
         key = above ++ prefix_of s;
-        others = at.others;
-        last =
-            end-entered
+        others = reverse at.others;
+        first =
+            ap reverse (end-entered
             ∙ ap (λ z. (at.others ++ pending_pair (above ++ prefix_of s) (value_of s))
             ++ behind_path (above ++ prefix_of s) (pairs_of_all z)) none
             ∙ append-nil (at.others ++ pending_pair (above ++ prefix_of s) (value_of s))
-            ∙ ap (λ o. at.others ++ pending_pair (above ++ prefix_of s) o) some;
+            ∙ ap (λ o. at.others ++ pending_pair (above ++ prefix_of s) o) some)
+            ∙ reverse-append at.others ((above ++ prefix_of s, value) ∷ []);
         long = long;
         written = written;
         behind = behind;
@@ -175,17 +177,31 @@ module _ {V : Type 0} where
   -- the last of those of the node is the last of all
   pub last-of-all : (pairs : List (List ℕ × V)) (path : List ℕ) (s : Shape V)
       → IsEnd pairs path s → (len : ℕ) (value : V) (before after : List ℕ)
-      → IsLast (behind_path path (pairs_of s)) len value before after
-      → IsLast pairs len value before after
+      → IsFirst (reverse (behind_path path (pairs_of s))) len value before after
+      → IsFirst (reverse pairs) len value before after
   last-of-all pairs path s at len value before after found = record {
     key = found.key;
-    others = at.others ++ found.others;
-    last =
-        at.is ∙ ap (λ z. at.others ++ z) found.last
-        ∙ sym (append_assoc at.others found.others ((found.key, value) ∷ []));
+    others = found.others ++ reverse at.others;
+    first =
+        ap reverse at.is ∙ reverse-append at.others (behind_path path (pairs_of s))
+        ∙ ap (λ z. z ++ reverse at.others) found.first;
     long = found.long;
     written = found.written;
     behind = found.behind;
+  }
+
+  -- a pair that the way passed is the last
+  pub last-passed : (pairs others : List (List ℕ × V)) (path : List ℕ) (value : V)
+      → pairs ≡ others ++ (path, value) ∷ [] → (len : ℕ) (before after : List ℕ)
+      → len ≡ length path → (len ≤ length before → take len after ≡ path)
+      → drop len after ≡ drop len before → IsFirst (reverse pairs) len value before after
+  last-passed pairs others path value is len before after long written behind = record {
+    key = path;
+    others = reverse others;
+    first = ap reverse is ∙ reverse-append others ((path, value) ∷ []);
+    long = long;
+    written = written;
+    behind = behind;
   }
 
   -- keys of a tree that are short are so below a node of it

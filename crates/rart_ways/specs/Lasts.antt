@@ -1,5 +1,5 @@
--- The last of some pairs: where it stands, and how a call finds it.
-use Rattle.std.specs.Prelude.{◌≡◌, ◌<◌, ◌≤◌, ◌++◌, ℕ, Bool, List, [], ◌∷◌, Option, Some, None, filter, length, take, drop, ⊤}
+-- Where the last of some pairs stands.
+use Rattle.std.specs.Prelude.{◌≡◌, ◌<◌, ◌++◌, ℕ, List, [], ◌∷◌, Option, Some, None, filter, length, ⊤}
 use Rattle.std.specs.Borrow.{Bor}
 use Rattle.std.specs.Ordering.{as_partial_cmp}
 use Rattle.std.specs.Range.Bound.{is_up_to_end}
@@ -63,19 +63,3 @@ module _ {V : Type 0} where
   end_shape None = None
   end_shape (Some (path, Value value)) = Some (path.now, Value value.now)
   end_shape (Some (path, Below node)) = Some (path.now, Below node.now.shape)
-
-  -- The last pair has this value and a key so long, which stands at the front of the room, if it
-  -- fits there. Behind it the room is as before.
-  pub record IsLast (pairs : List (List ℕ × V)) (len : ℕ) (value : V) (before after : List ℕ)
-      : Type 0 where
-    pub key : List ℕ
-    pub others : List (List ℕ × V)
-    pub last : pairs ≡ others ++ (key, value) ∷ []
-    pub long : len ≡ length key
-    pub written : len ≤ length before → take len after ≡ key
-    pub behind : drop len after ≡ drop len before
-
-  -- The last pair was found, or there is none, and the room is as before.
-  abbrev pub FindsLast : List (List ℕ × V) → Option (ℕ × Bor V) → List ℕ → List ℕ → Type 0
-  FindsLast pairs None before after = (pairs ≡ []) × (after ≡ before)
-  FindsLast pairs (Some found) before after = IsLast pairs found.0 found.1.now before after

@@ -3,7 +3,7 @@
 //! those whose keys meet an upper one.
 //!
 //! It takes no memory: the key is written, prefix by prefix, into room that the caller has.
-ghost use Rattle.std.specs.Prelude.{◌≡◌, ◌+◌, ◌^◌, ◌-◌, ◌<◌, Some, length};
+ghost use Rattle.std.specs.Prelude.{◌≡◌, ◌+◌, ◌^◌, ◌-◌, ◌<◌, Some, length, reverse};
 ghost use Rattle.std.specs.Ordering.{as_partial_cmp};
 ghost use Rattle.std.specs.Range.Bound.{is_up_to_end, bound_map};
 ghost use Rattle.rart_below.specs.Bytes.{byte_order};
@@ -12,7 +12,7 @@ ghost use Rattle.rart_node.specs.Trees.{IsTree, pairs_of, path_bound};
 ghost use Rattle.rart_walks.specs.Parts.{start_of};
 ghost use Rattle.rart_walks.specs.Walks.{AreShort};
 ghost use Rattle.rart_ways.specs.Firsts.{Finds, first_passes, found_length};
-ghost use Rattle.rart_ways.specs.Lasts.{FindsLast, pairs_reaching, pairs_to};
+ghost use Rattle.rart_ways.specs.Lasts.{pairs_reaching, pairs_to};
 ghost use Rattle.rart_ways.specs.Starts.{pairs_from, pairs_meeting};
 
 mod end;
@@ -94,8 +94,8 @@ pub fn last_to<'a, P: Partial, V: Drop>(
 ) -> Option<(usize, &'a V)>
     requires tree { IsTree root.now.shape }
     requires short { AreShort (Some (2 ^ 64 - 1)) (pairs_of root.now.shape) }
-    ensures last { FindsLast (pairs_reaching (bound_map (λ high. high.now) high.entry)
-        root.now.shape) result room.old room.new }
+    ensures last { Finds (reverse (pairs_reaching (bound_map (λ high. high.now) high.entry)
+        root.now.shape)) result room.old room.new }
     ensures counted { let to = start_of (bound_map (λ high. high.now) high.entry) in
         CountsUpTo (path_bound root.now.shape to + found_length result) 0 work.old work.new }
     ensures entered { work.old.entered < work.new.entered }
@@ -117,7 +117,8 @@ fn last_before<'a, P: Partial, V: Drop>(
 ) -> Option<(usize, &'a V)>
     requires tree { IsTree root.now.shape }
     requires short { AreShort (Some (2 ^ 64 - 1)) (pairs_of root.now.shape) }
-    ensures last { FindsLast (pairs_to edge high.now root.now.shape) result room.old room.new }
+    ensures last { Finds (reverse (pairs_to edge high.now root.now.shape)) result
+        room.old room.new }
     ensures counted { CountsUpTo (path_bound root.now.shape high.now + found_length result) 0
         work.old work.new }
     ensures entered { work.old.entered < work.new.entered }

@@ -1,14 +1,13 @@
 // Ported from rart 0.11.0 (Apache-2.0), and rewritten.
 //! The last of the pairs up to an upper bound.
-ghost use Rattle.std.specs.Prelude.{◌≡◌, ◌+◌, ◌<◌, false};
+ghost use Rattle.std.specs.Prelude.{◌≡◌, ◌+◌, ◌<◌, false, reverse};
 ghost use Rattle.std.specs.Range.Bound.{bound_map};
 ghost use Rattle.std.specs.declared.ops.Bound.TheVariants.{Unbounded};
 ghost use Rattle.rart_maps.specs.Bounds.{bound_length};
 ghost use Rattle.rart_maps.specs.Pairs.{within};
 ghost use Rattle.rart_maps.specs.Versions.{has_no_key};
 ghost use Rattle.rart_node.specs.Counts.{CountsUpTo};
-ghost use Rattle.rart_ways.specs.Firsts.{found_length};
-ghost use Rattle.rart_ways.specs.Lasts.{FindsLast};
+ghost use Rattle.rart_ways.specs.Firsts.{Finds, found_length};
 
 use crate::counted::tree::VersionedAdaptiveRadixTree;
 use rart_below::{KeyTrait, Partial};
@@ -25,8 +24,8 @@ impl<K: KeyTrait, V: Clone + Drop> VersionedAdaptiveRadixTree<K, V> {
         room: &mut [u8],
         work: &mut Work,
     ) -> Option<(usize, &V)>
-        ensures last { FindsLast (within self.now.content Unbounded
-            (bound_map (λ high. high.now) high.entry)) result room.old room.new }
+        ensures last { Finds (reverse (within self.now.content Unbounded
+            (bound_map (λ high. high.now) high.entry))) result room.old room.new }
         ensures counted { CountsUpTo (bound_length (bound_map (λ high. high.now) high.entry) + 1
             + found_length result) 0 work.old work.new }
         ensures entered { has_no_key self.now ≡ false → work.old.entered < work.new.entered }

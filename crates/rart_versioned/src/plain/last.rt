@@ -1,9 +1,10 @@
 // Ported from rart 0.11.0 (Apache-2.0), and rewritten.
 //! The last of the pairs up to an upper bound, with no count.
+ghost use Rattle.std.specs.Prelude.{reverse};
 ghost use Rattle.std.specs.Range.Bound.{bound_map};
 ghost use Rattle.std.specs.declared.ops.Bound.TheVariants.{Unbounded};
 ghost use Rattle.rart_maps.specs.Pairs.{within};
-ghost use Rattle.rart_ways.specs.Lasts.{FindsLast};
+ghost use Rattle.rart_ways.specs.Firsts.{Finds};
 
 use crate::counted::VersionedAdaptiveRadixTree;
 use rart_below::KeyTrait;
@@ -23,8 +24,8 @@ impl<K: KeyTrait, V: Clone + Drop> VersionedAdaptiveRadixTree<K, V> {
     /// The key is written to the front of `room`, if it fits there; else what `room` has then is
     /// not told. Behind the key, and where there is none, `room` is as before.
     pub fn last_slice(&self, high: Bound<&[u8]>, room: &mut [u8]) -> Option<(usize, &V)>
-        ensures { FindsLast (within self.now.content Unbounded
-            (bound_map (λ high. high.now) high.entry)) result room.old room.new }
+        ensures { Finds (reverse (within self.now.content Unbounded
+            (bound_map (λ high. high.now) high.entry))) result room.old room.new }
     {
         self.last_slice_counted(high, room, &mut Work::new())
     }

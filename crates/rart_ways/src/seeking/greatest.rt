@@ -1,12 +1,12 @@
 // Ported from rart 0.11.0 (Apache-2.0), and rewritten.
 //! The greatest pair below a node.
-ghost use Rattle.std.specs.Prelude.{◌≡◌, ◌+◌, ◌-◌, ◌^◌, ◌≤◌, IsSome, Some, length};
+ghost use Rattle.std.specs.Prelude.{◌≡◌, ◌+◌, ◌-◌, ◌^◌, ◌≤◌, IsSome, Some, length, reverse};
 ghost use Rattle.rart_node.specs.Counts.{CountsUpTo};
 ghost use Rattle.rart_node.specs.Shape.{prefix_of, value_of};
 ghost use Rattle.rart_node.specs.Trees.{IsTree, pairs_of};
 ghost use Rattle.rart_walks.specs.Frames.{behind_path};
 ghost use Rattle.rart_walks.specs.Walks.{AreShort};
-ghost use Rattle.rart_ways.specs.Lasts.{IsLast};
+ghost use Rattle.rart_ways.specs.Firsts.{IsFirst};
 
 use crate::seeking::least::write_at;
 use rart_below::Partial;
@@ -27,7 +27,7 @@ pub(crate) fn greatest<'a, P: Partial, V: Drop>(
     requires tree { IsTree start.now.shape }
     requires short { AreShort (Some (2 ^ 64 - 1)) (behind_path path.now
         (pairs_of start.now.shape)) }
-    ensures last { IsLast (behind_path path.now (pairs_of start.now.shape)) result.0
+    ensures last { IsFirst (reverse (behind_path path.now (pairs_of start.now.shape))) result.0
         result.1.now room.old room.new }
     ensures longer { length path.now + length (prefix_of start.now.shape) ≤ result.0 }
     ensures counted { CountsUpTo (result.0 - (length path.now

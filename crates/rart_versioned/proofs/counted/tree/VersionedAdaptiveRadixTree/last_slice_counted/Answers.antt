@@ -1,4 +1,4 @@
-use Rattle.std.proofs.Common.{◌≡◌, ℕ, List, [], ◌∷◌, arith, refl, sym, ap, subst, ◌∙◌}
+use Rattle.std.proofs.Common.{◌≡◌, ℕ, List, [], ◌∷◌, arith, refl, reverse, sym, ap, subst, ◌∙◌}
 use Rattle.std.specs.Prelude.{◌-◌, ◌^◌, Some, filter, length}
 use Rattle.std.specs.Ordering.{as_partial_cmp}
 use Rattle.std.specs.Range.Bound.{bound_map, bounds_contain}
@@ -6,7 +6,7 @@ use Rattle.std.specs.declared.ops.Bound.TheVariants.{Unbounded}
 use Rattle.rart_below.specs.Bytes.{byte_order}
 use Rattle.rart_node.specs.Seen.{shape_of}
 use Rattle.rart_maps.proofs.RangeLemmas.{from, up_to, within-from}
-use Rattle.rart_ways.specs.Lasts.{FindsLast}
+use Rattle.rart_ways.specs.Firsts.{Finds}
 use Rattle.rart_node.proofs.CountingLemmas.{counts-most, path-most}
 use Rattle.rart_walks.specs.Parts.{start_of}
 use Rattle.rart_versioned.proofs.VersionIterationLemmas.{no-pairs, root-sound, root-pairs, root-short}
@@ -37,7 +37,7 @@ returns-in-None-clause-last g c =
     Unbounded (bound_map (λ high. high.now) c.args.high) pair.0 in
     let none = no-pairs shape_of most c.self.inside.version c.self.inside.root c.args.self.now
     c.self.invariant c.self.view_is c.in-None.is in
-    (ap (filter test) none, refl)
+    (ap (λ list. reverse (filter test list)) none, refl)
 
 pub returns-in-None-clause-entered : goal.returns-in-None-clause-entered
 returns-in-None-clause-entered g c =
@@ -52,7 +52,7 @@ returns-in-Some-clause-last g c =
     let high = bound_map (λ high. high.now) c.args.high in
     let all = root-pairs shape_of most c.self.inside.version c.self.inside.root
     c.args.self.now c.self.invariant c.self.view_is c.in-Some.root c.in-Some.is in
-    subst (λ list. FindsLast list c.last_to.result c.args.room.now c.last_to.new.room)
+    subst (λ list. Finds (reverse list) c.last_to.result c.args.room.now c.last_to.new.room)
     (sym (within-from c.args.self.now.content Unbounded high ∙ ap (up_to high) (from-all _ ∙ all)))
     c.last_to.ensures.last
 

@@ -58,6 +58,12 @@ typedef struct rart_entry {
     uint64_t value;
 } rart_entry;
 
+// The same of a map to byte strings: where its key ends, and where its value behind it.
+typedef struct rart_bytes_entry {
+    size_t key_end;
+    size_t end;
+} rart_bytes_entry;
+
 // What a call answers.
 typedef uint8_t rart_answer;
 enum {
@@ -461,6 +467,30 @@ rart_answer rart_bytes_replace(
     size_t key_len,
     const uint8_t *RART_ALONE value,
     size_t value_len
+);
+
+// Writes the first pairs within two bounds, as many as there is room for: to the front of bytes
+// each key and its value behind it, an entry of each pair to the front of entries, and how many
+// they are to count. What bytes has behind them is not told; entries is as before there. Answers as
+// rart_page, but where RART_TOO_SMALL says that the first key and its value are longer than bytes:
+// then it writes both lengths. It takes no memory.
+RART_NONNULL RART_MUST_USE RART_CHANGES(1) RART_READS(2, 3) RART_READS(5, 6) RART_WRITES(8, 9)
+RART_WRITES(10, 11) RART_WRITES(12) RART_WRITES(13) RART_WRITES(14)
+rart_answer rart_bytes_page(
+    rart_bytes *RART_ALONE tree,
+    const uint8_t *RART_ALONE low,
+    size_t low_len,
+    uint8_t low_kind,
+    const uint8_t *RART_ALONE high,
+    size_t high_len,
+    uint8_t high_kind,
+    uint8_t *RART_ALONE bytes,
+    size_t bytes_len,
+    rart_bytes_entry *RART_ALONE entries,
+    size_t entries_len,
+    size_t *RART_ALONE count,
+    size_t *RART_ALONE key_len,
+    size_t *RART_ALONE len
 );
 
 #ifdef __cplusplus

@@ -79,8 +79,82 @@ static void look_first(size_t at, const struct key *from, bool is_strict, size_t
     expect_value(at, wanted, answer, &value, fits);
 }
 
+enum { MOST_PAGE = 2 * MOST_VALUE };
+
+// What a page is written to, how much of it the call is told of, and the numbers that it writes.
+struct page {
+    uint8_t bytes[MOST_PAGE];
+    size_t room;
+    rart_bytes_entry entries[MOST_ENTRIES];
+    size_t most, count, key_len, len;
+};
+
+// That a page has the first pairs within two bounds, each key with its value behind it. The lower
+// bound goes on to the last of them. Gives where it ends.
+static size_t expect_pairs(size_t at, const struct page *page, struct bound *low,
+                           const struct bound *high) {
+    size_t end = 0;
+    for (size_t entry = 0; entry < page->count; entry++) {
+        uint8_t value[MOST_VALUE] = {0};
+        size_t wanted = first_within(at, low, high), start = end;
+        EXPECT(wanted < KEYS);
+        *low = (struct bound){.key = key_of(wanted), .kind = RART_EXCLUDED};
+        size_t len = value_of(tables[at].values[wanted], value), key_end = start + low->key.len;
+        end = key_end + len;
+        EXPECT(page->entries[entry].key_end == key_end && page->entries[entry].end == end);
+        EXPECT(end <= page->room);
+        EXPECT(memcmp(page->bytes + start, low->key.bytes, low->key.len) == 0);
+        EXPECT(memcmp(page->bytes + key_end, value, len) == 0);
+    }
+    return end;
+}
+
+// That nothing is written behind what a page has room for.
+static void expect_kept(const struct page *page) {
+    for (size_t entry = page->count; entry < MOST_ENTRIES; entry++) {
+        EXPECT(page->entries[entry].key_end == 0 && page->entries[entry].end == 0);
+    }
+    for (size_t byte = page->room; byte < MOST_PAGE; byte++) {
+        EXPECT(page->bytes[byte] == NO_BYTE);
+    }
+}
+
+// Reads a page of any length. Where a pair is left it is full, and one without a pair has no room
+// for an entry, or says how long the key and the value of that are. Tells whether one is left; the
+// lower bound goes on.
+static bool read_page(size_t at, struct bound *low, const struct bound *high) {
+    uint8_t value[MOST_VALUE];
+    struct page page = {.room = random_below(MOST_PAGE + 1),
+                        .most = random_below(MOST_ENTRIES + 1),
+                        .count = NO_NUMBER,
+                        .key_len = NO_NUMBER,
+                        .len = NO_NUMBER};
+    memset(page.bytes, NO_BYTE, MOST_PAGE);
+    rart_answer answer =
+        rart_bytes_page(&trees[at], low->key.bytes, low->key.len, low->kind, high->key.bytes,
+                        high->key.len, high->kind, page.bytes, page.room, page.entries, page.most,
+                        &page.count, &page.key_len, &page.len);
+    EXPECT(page.count <= page.most);
+    size_t end = expect_pairs(at, &page, low, high), next = first_within(at, low, high);
+    size_t key_len = next < KEYS ? key_of(next).len : NO_NUMBER;
+    size_t len = next < KEYS ? value_of(tables[at].values[next], value) : NO_NUMBER;
+    EXPECT(next == KEYS || page.count == page.most || page.room - end < key_len + len);
+    rart_answer empty = page.most == 0 ? RART_NO_ENTRIES : RART_TOO_SMALL;
+    EXPECT(answer == (page.count > 0 ? RART_DONE : next == KEYS ? RART_ABSENT : empty));
+    EXPECT(page.key_len == (answer == RART_TOO_SMALL ? key_len : NO_NUMBER));
+    EXPECT(page.len == (answer == RART_TOO_SMALL ? len : NO_NUMBER));
+    expect_kept(&page);
+    return next < KEYS;
+}
+
 static void read_all(size_t at) {
-    walk(at);
+    struct bound low = random_bound(), high = random_bound();
+    if (random_below(2) == 0) {
+        walk(at);
+    } else {
+        while (read_page(at, &low, &high)) {
+        }
+    }
 }
 
 int main(int count, char **words) {

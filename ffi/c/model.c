@@ -61,30 +61,7 @@ static void look_first(size_t at, const struct key *from, bool is_strict, size_t
     EXPECT(value == (fits ? tables[at].values[wanted] : NO_NUMBER));
 }
 
-struct bound {
-    struct key key;
-    uint8_t kind;
-};
-
-// (a kind that is none of the three is a bound that each key meets)
-static struct bound random_bound(void) {
-    return (struct bound){.key = random_key(), .kind = (uint8_t)random_below(5)};
-}
-
-// The number of a tree's first key within two bounds, KEYS where there is none.
-static size_t first_within(size_t at, const struct bound *low, const struct bound *high) {
-    size_t from = low->kind == RART_INCLUDED   ? low->key.number
-                  : low->kind == RART_EXCLUDED ? number_behind(low->key.number)
-                                               : 0;
-    size_t number = first_from(at, from);
-    struct key key = key_of(number < KEYS ? number : 0);
-    bool meets_high = high->kind == RART_INCLUDED   ? !is_before(&high->key, &key)
-                      : high->kind == RART_EXCLUDED ? is_before(&key, &high->key)
-                                                    : true;
-    return meets_high ? number : KEYS;
-}
-
-enum { MOST_ENTRIES = 5, MOST_PAGE = 3 * MOST_BYTES + 3 };
+enum { MOST_PAGE = 3 * MOST_BYTES + 3 };
 
 // What a page is written to, how much of it the call is told of, and the numbers that it writes.
 struct page {

@@ -70,6 +70,11 @@ static void read_strings(rart_bytes *tree, rart_bytes *same, size_t keys) {
     EXPECT(rart_bytes_longest(tree, tea, 3, &key_len, into, 8, &len) == wanted);
     EXPECT(rart_bytes_seek(tree, te, 2, room, 8, &key_len, into, 8, &len) == wanted);
     EXPECT(rart_bytes_next(tree, te, 2, room, 8, &key_len, into, 8, &len) == wanted);
+    rart_bytes_entry entries[2];
+    size_t count;
+    EXPECT(rart_bytes_page(tree, none, 0, RART_UNBOUNDED, none, 0, RART_UNBOUNDED, room, 8, entries,
+                           2, &count, &key_len, &len) == wanted);
+    EXPECT(count == (keys ? 1 : 0) || count == keys);
     EXPECT(rart_bytes_common(tree, same) == keys);
     EXPECT(rart_bytes_snapshot(tree, &copy) == RART_DONE);
     EXPECT(rart_bytes_clone(tree, &copy) == RART_DONE);

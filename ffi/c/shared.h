@@ -21,6 +21,9 @@ enum { TREES = 8, MOST_VALUE = 300, MOST_ROOM = MOST_VALUE + 2 };
 // What a byte and a number are before a call that may write them.
 enum { NO_BYTE = 7, NO_NUMBER = 99 };
 
+// How many entries a page may have room for.
+enum { MOST_ENTRIES = 5 };
+
 static uint8_t letter(size_t number) {
     static const uint8_t few[] = {0, 'a', 'b', 255};
     return LETTERS == 4 ? few[number % 4] : (uint8_t)number;
@@ -336,6 +339,29 @@ static void count_common(size_t at, size_t other) {
         wanted += tables[at].has[key] && tables[other].has[key];
     }
     EXPECT(CALL(common)(&trees[at], &trees[other]) == wanted);
+}
+
+struct bound {
+    struct key key;
+    uint8_t kind;
+};
+
+// (a kind that is none of the three is a bound that each key meets)
+static struct bound random_bound(void) {
+    return (struct bound){.key = random_key(), .kind = (uint8_t)random_below(5)};
+}
+
+// The number of a tree's first key within two bounds, KEYS where there is none.
+static size_t first_within(size_t at, const struct bound *low, const struct bound *high) {
+    size_t from = low->kind == RART_INCLUDED   ? low->key.number
+                  : low->kind == RART_EXCLUDED ? number_behind(low->key.number)
+                                               : 0;
+    size_t number = first_from(at, from);
+    struct key key = key_of(number < KEYS ? number : 0);
+    bool meets_high = high->kind == RART_INCLUDED   ? !is_before(&high->key, &key)
+                      : high->kind == RART_EXCLUDED ? is_before(&key, &high->key)
+                                                    : true;
+    return meets_high ? number : KEYS;
 }
 
 static void make_call(size_t at) {

@@ -1,11 +1,11 @@
 -- Pages: how the pairs within two bounds stand to those from the lower one on, and to those behind
 -- one of them; and what one pair more is.
-use Rattle.std.proofs.Common.{◌≡◌, ◌+◌, ◌<◌, ⊎_elim, inr, ℕ, suc, Bool, true, false, List, [], ◌∷◌, ◌++◌, length, take, drop, get_or, drop-cons, refl, arith, sym, ap, subst, ◌∙◌}
+use Rattle.std.proofs.Common.{◌≡◌, ◌+◌, ◌<◌, ◌≤◌, ⊎_elim, inr, ℕ, suc, Bool, true, false, List, [], ◌∷◌, ◌++◌, length, take, drop, get_or, drop-cons, refl, arith, sym, ap, subst, ◌∙◌}
 use Rattle.std.proofs.Math.ListN.{set}
 use Rattle.std.proofs.Math.Seq.{set-append_seam, take-add}
 use Rattle.std.proofs.lemmas.Bool.Decides.{nat_tests}
 use Rattle.std.proofs.lemmas.Grind.{flat_map-append}
-use Rattle.std.proofs.lemmas.List.{append_assoc, append-nil, length-append}
+use Rattle.std.proofs.lemmas.List.{append_assoc, append-nil, drop-drop, drop-take, length-append, take-take}
 use Rattle.std.specs.Prelude.{◌==◌, not, Contains}
 use Rattle.std.specs.declared.ops.Bound.{Bound}
 use Rattle.std.specs.declared.ops.Bound.TheVariants.{Included, Excluded, Unbounded}
@@ -20,9 +20,8 @@ use Rattle.rart_maps.specs.FoundLaws.{KeysAscend}
 use Rattle.rart_maps.specs.Order.{IsBefore, MeetsLow}
 use Rattle.rart_maps.specs.Pairs.{pairs, within}
 use Rattle.rart_maps.specs.Versions.{Map}
-use Rattle.rart_c.specs.Pages.{entries_from, keys_of}
+use Rattle.rart_c.specs.Pages.{entries_of, written_of}
 use Rattle.rart_ways.specs.Firsts.{IsFirst}
-use Rattle.rart_c.specs.declared.paging.RartEntry.{RartEntry}
 
 -- without an upper bound all are kept
 up_to-all : {V : Type 0} (list : List (List ℕ × V)) → up_to Unbounded list ≡ list
@@ -136,53 +135,90 @@ module _ {V : Type 0} (m : Map V) (low high : Bound (List ℕ)) where
         ] refl
 
 -- ---- one pair more
-pub keys-more : (page : List (List ℕ × ℕ)) (key : List ℕ) (value : ℕ)
-    → keys_of (page ++ (key, value) ∷ []) ≡ keys_of page ++ key
-keys-more page key value =
-    flat_map-append (λ (pair : List ℕ × ℕ). pair.0) page ((key, value) ∷ [])
-    ∙ ap (λ z. keys_of page ++ z) (append-nil key)
+module _ {V E : Type 0} (bytes_of : List ℕ × V → List ℕ) (entry_of : ℕ → List ℕ × V → E) where
+  abbrev all : List (List ℕ × V) → List ℕ
+  all page = written_of bytes_of entry_of page
 
-length-entries : (start : ℕ) (page : List (List ℕ × ℕ))
-    → length (entries_from start page) ≡ length page
-length-entries start [] = refl
-length-entries start (pair ∷ page) = ap suc (length-entries (start + length pair.0) page)
+  abbrev entries : ℕ → List (List ℕ × V) → List E
+  entries start page = entries_of bytes_of entry_of start page
 
-entries-more : (start : ℕ) (page : List (List ℕ × ℕ)) (key : List ℕ) (value end : ℕ)
-    → end ≡ start + (length (keys_of page) + length key)
-    → entries_from start (page ++ (key, value) ∷ [])
-    ≡ entries_from start page ++ record { end = end; value = value } ∷ []
-entries-more start [] key value end is =
-    let same : start + length key ≡ end = omega (arith, is) in
-    ap (λ n. record { end = n; value = value } ∷ []) same
-entries-more start (pair ∷ page) key value end is =
-    let long = length-append pair.0 (keys_of page) in
-    ap (λ z. record { end = start + length pair.0; value = pair.1 } ∷ z)
-    (entries-more (start + length pair.0) page key value end (omega (arith, is, long)))
+  pub written-more : (page : List (List ℕ × V)) (pair : List ℕ × V)
+      → all (page ++ pair ∷ []) ≡ all page ++ bytes_of pair
+  written-more page pair =
+      flat_map-append bytes_of page (pair ∷ [])
+      ∙ ap (λ z. all page ++ z) (append-nil (bytes_of pair))
 
-pub entries-set : (page : List (List ℕ × ℕ)) (key : List ℕ) (value count end : ℕ)
-    (old now : List RartEntry) → now ≡ entries_from 0 page ++ drop count old
-    → count ≡ length page → count < length old → end ≡ length (keys_of page) + length key
-    → set now count (record { end = end; value = value })
-    ≡ entries_from 0 (page ++ (key, value) ∷ []) ++ drop (count + 1) old
-entries-set page key value count end old now is many less ends =
-    let entry : RartEntry = record { end = end; value = value } in
-    let behind : drop count old ≡ get_or old count entry ∷ drop (suc count) old =
-    drop-cons old count entry less in
-    let next : suc count ≡ count + 1 = omega arith in
-    let long : count ≡ length (entries_from 0 page) = many ∙ sym (length-entries 0 page) in
-    ap (λ list. set list count entry) (is ∙ ap (λ z. entries_from 0 page ++ z) behind)
-    ∙ ap (λ n. set (entries_from 0 page ++ get_or old count entry ∷ drop (suc count) old) n entry)
-    long
-    ∙ set-append_seam (entries_from 0 page) (get_or old count entry) (drop (suc count) old) entry
-    ∙ sym (append_assoc (entries_from 0 page) (entry ∷ []) (drop (suc count) old))
-    ∙ ap (λ z. z ++ drop (suc count) old)
-    (sym (entries-more 0 page key value end (omega (arith, ends))))
-    ∙ ap (λ n. entries_from 0 (page ++ (key, value) ∷ []) ++ drop n old) next
+  pub length-entries : (start : ℕ) (page : List (List ℕ × V))
+      → length (entries start page) ≡ length page
+  length-entries start [] = refl
+  length-entries start (pair ∷ page) =
+      ap suc (length-entries (start + length (bytes_of pair)) page)
 
--- the keys that are written, and one more behind them
-pub keys-written : (page : List (List ℕ × ℕ)) (key : List ℕ) (value end len : ℕ)
-    (before after : List ℕ) → take end before ≡ keys_of page → take end after ≡ take end before
-    → take len (drop end after) ≡ key
-    → take (end + len) after ≡ keys_of (page ++ (key, value) ∷ [])
-keys-written page key value end len before after keys kept written =
-    take-add end len after ∙ (λ i. (kept ∙ keys) i ++ written i) ∙ sym (keys-more page key value)
+  entries-more : (start : ℕ) (page : List (List ℕ × V)) (pair : List ℕ × V) (begin : ℕ)
+      → begin ≡ start + length (all page)
+      → entries start (page ++ pair ∷ []) ≡ entries start page ++ entry_of begin pair ∷ []
+  entries-more start [] pair begin is =
+      let same : start ≡ begin = omega (arith, is) in
+      ap (λ n. entry_of n pair ∷ []) same
+  entries-more start (first ∷ page) pair begin is =
+      let long = length-append (bytes_of first) (all page) in
+      ap (λ z. entry_of start first ∷ z)
+      (entries-more (start + length (bytes_of first)) page pair begin (omega (arith, is, long)))
+
+  pub entries-set : (page : List (List ℕ × V)) (pair : List ℕ × V) (count begin : ℕ)
+      (old now : List E) → now ≡ entries 0 page ++ drop count old
+      → count ≡ length page → count < length old → begin ≡ length (all page)
+      → set now count (entry_of begin pair)
+      ≡ entries 0 (page ++ pair ∷ []) ++ drop (count + 1) old
+  entries-set page pair count begin old now is many less begins =
+      let entry : E = entry_of begin pair in
+      let behind : drop count old ≡ get_or old count entry ∷ drop (suc count) old =
+      drop-cons old count entry less in
+      let next : suc count ≡ count + 1 = omega arith in
+      let long : count ≡ length (entries 0 page) = many ∙ sym (length-entries 0 page) in
+      ap (λ list. set list count entry) (is ∙ ap (λ z. entries 0 page ++ z) behind)
+      ∙ ap (λ n. set (entries 0 page ++ get_or old count entry ∷ drop (suc count) old) n entry)
+      long
+      ∙ set-append_seam (entries 0 page) (get_or old count entry) (drop (suc count) old) entry
+      ∙ sym (append_assoc (entries 0 page) (entry ∷ []) (drop (suc count) old))
+      ∙ ap (λ z. z ++ drop (suc count) old)
+      (sym (entries-more 0 page pair begin (omega (arith, begins))))
+      ∙ ap (λ n. entries 0 (page ++ pair ∷ []) ++ drop n old) next
+
+  -- the bytes that are written, and those of one pair more behind them
+  pub more-written : (page : List (List ℕ × V)) (pair : List ℕ × V) (end size : ℕ)
+      (before after : List ℕ) → take end before ≡ all page → take end after ≡ take end before
+      → take size (drop end after) ≡ bytes_of pair
+      → take (end + size) after ≡ all (page ++ pair ∷ [])
+  more-written page pair end size before after is kept written =
+      take-add end size after ∙ (λ i. (kept ∙ is) i ++ written i) ∙ sym (written-more page pair)
+
+-- a key that begins and ends among bytes that are written
+pub key-within : (start len end : ℕ) (bytes key : List ℕ) → start + len ≤ end
+    → take len (drop start bytes) ≡ key → drop start (take (start + len) (take end bytes)) ≡ key
+key-within start len end bytes key fits is =
+    ap (drop start) (take-take (start + len) end bytes fits) ∙ drop-take start len bytes ∙ is
+
+-- what stands at a place is as before where all up to its end is
+pub same-within : (start len : ℕ) (bytes after : List ℕ)
+    → take (start + len) after ≡ take (start + len) bytes
+    → take len (drop start after) ≡ take len (drop start bytes)
+same-within start len bytes after kept =
+    sym (drop-take start len after) ∙ ap (drop start) kept ∙ drop-take start len bytes
+
+-- what stands in front of a place is as before where all up to a later one is
+pub kept-through : (end len : ℕ) (before between after : List ℕ)
+    → take end between ≡ take end before → take (end + len) after ≡ take (end + len) between
+    → take end after ≡ take end before
+kept-through end len before between after kept later =
+    sym (take-take end (end + len) after (omega arith)) ∙ ap (take end) later
+    ∙ take-take end (end + len) between (omega arith) ∙ kept
+
+-- a key and a string behind it
+pub key-string : (end len size : ℕ) (bytes key string : List ℕ)
+    → take len (drop end bytes) ≡ key → take size (drop (end + len) bytes) ≡ string
+    → take (len + size) (drop end bytes) ≡ key ++ string
+key-string end len size bytes key string first second =
+    take-add len size (drop end bytes)
+    ∙ (λ i. first i ++ take size (drop-drop len end bytes i))
+    ∙ ap (λ z. key ++ z) second

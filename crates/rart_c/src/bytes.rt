@@ -3,6 +3,7 @@ pub(crate) mod changing;
 pub(crate) mod choosing;
 pub(crate) mod handle;
 pub(crate) mod limits;
+pub(crate) mod paging;
 pub(crate) mod reading;
 #[cfg(test)]
 mod tests;

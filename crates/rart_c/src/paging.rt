@@ -65,7 +65,7 @@ pub extern "C" fn rart_page(
 }
 
 /// The bound of this kind at a key.
-fn bound_of(kind: u8, key: &[u8]) -> Bound<&[u8]>
+pub(crate) fn bound_of(kind: u8, key: &[u8]) -> Bound<&[u8]>
     ensures { bound_map (λ key. key.now) result ≡ bound_of kind key.now }
 {
     if kind == INCLUDED {
@@ -120,25 +120,27 @@ fn write_page(
         if bytes.len() - end < len || count == entries.len() {
             return (count, Some(len));
         }
-        last = Some(end);
+        let start = end;
         end += len;
-        entries[count] = RartEntry { end, value };
+        last = Some((start, end));
+        entries[count] = RartEntry { end, value: *value };
         count += 1;
     }
 }
 
-/// The first of the pairs within two bounds behind the last key that was written, which begins
-/// here; or from the lower bound on, where none was. Its key is written from `end` on, if it fits.
-fn next_pair(
-    table: Option<&Table<u64>>,
+/// The first of the pairs within two bounds behind the last key that was written, which begins and
+/// ends here; or from the lower bound on, where none was. Its key is written from `end` on, if it
+/// fits.
+pub(crate) fn next_pair<'a, V: Clone + Drop>(
+    table: Option<&'a Table<V>>,
     low: Bound<&[u8]>,
     high: Bound<&[u8]>,
     bytes: &mut [u8],
-    last: Option<usize>,
+    last: Option<(usize, usize)>,
     end: usize,
-) -> Option<(usize, u64)>
+) -> Option<(usize, &'a V)>
     requires end { end ≤ length bytes.old }
-    requires last { ForSome last (λ start. start ≤ end) }
+    requires last { ForSome last (λ last. (last.0 ≤ last.1) × (last.1 ≤ end)) }
     ensures kept { take end bytes.new ≡ take end bytes.old }
     ensures first { FindsFirst (within (shown table.entry).version.content
         (bound_behind last (bound_map (λ low. low.now) low.entry) (take end bytes.old))
@@ -150,33 +152,40 @@ fn next_pair(
 }
 
 /// The same, what is written apart from the room behind it.
-fn first_behind(
-    table: Option<&Table<u64>>,
+fn first_behind<'a, V: Clone + Drop>(
+    table: Option<&'a Table<V>>,
     low: Bound<&[u8]>,
     high: Bound<&[u8]>,
     written: &[u8],
-    last: Option<usize>,
+    last: Option<(usize, usize)>,
     room: &mut [u8],
-) -> Option<(usize, u64)>
-    requires { ForSome last (λ start. start ≤ length written.now) }
+) -> Option<(usize, &'a V)>
+    requires { ForSome last (λ last. (last.0 ≤ last.1) × (last.1 ≤ length written.now)) }
     ensures { FindsFirst (within (shown table.entry).version.content
         (bound_behind last (bound_map (λ low. low.now) low.entry) written.now)
         (bound_map (λ high. high.now) high.entry)) result room.old room.new }
 {
     match last {
         None => first_within(table, low, high, room),
-        Some(start) => first_within(table, Bound::Excluded(&written[start..]), high, room),
+        Some((start, stop)) => {
+            first_within(
+                table,
+                Bound::Excluded(&written[..stop][start..]),
+                high,
+                room,
+            )
+        }
     }
 }
 
 /// The first of the pairs within two bounds, if there is one. Where its key doesn't fit, whether it
 /// meets the upper bound is asked of the table.
-fn first_within(
-    table: Option<&Table<u64>>,
+fn first_within<'a, V: Clone + Drop>(
+    table: Option<&'a Table<V>>,
     low: Bound<&[u8]>,
     high: Bound<&[u8]>,
     room: &mut [u8],
-) -> Option<(usize, u64)>
+) -> Option<(usize, &'a V)>
     ensures { FindsFirst (within (shown table.entry).version.content
         (bound_map (λ low. low.now) low.entry) (bound_map (λ high. high.now) high.entry)) result
         room.old room.new }
@@ -189,7 +198,7 @@ fn first_within(
     } else {
         lent::has_within(table, low, high)
     };
-    if is_within { Some((len, *value)) } else { None }
+    if is_within { Some((len, value)) } else { None }
 }
 
 /// Whether a key meets an upper bound.

@@ -4,12 +4,14 @@ use crate::bytes::changing::{rart_bytes_clear, rart_bytes_insert, rart_bytes_rem
 use crate::bytes::choosing::{rart_bytes_add, rart_bytes_replace};
 use crate::bytes::handle::RartBytes;
 use crate::bytes::limits::{rart_bytes_longest_key, rart_bytes_set_longest_key};
+use crate::bytes::paging::{RartBytesEntry, rart_bytes_page};
 use crate::bytes::reading::{
     rart_bytes_common, rart_bytes_get, rart_bytes_is_empty, rart_bytes_len, rart_bytes_longest,
     rart_bytes_version,
 };
 use crate::bytes::versions::{rart_bytes_clone, rart_bytes_new_at, rart_bytes_snapshot};
 use crate::bytes::walking::{rart_bytes_next, rart_bytes_seek};
+use crate::paging::{EXCLUDED, INCLUDED, UNBOUNDED};
 use std::alloc::Global;
 
 // A tree of these pairs.
@@ -116,6 +118,42 @@ fn keys_are_found_in_order(rt: HostRuntime) {
         &mut len,
     );
     assert_eq!(rt; (found, key_len, &into, len), (TOO_SMALL, 5, b"one-", 1));
+}
+
+#[test]
+fn pages_are_read(rt: HostRuntime) {
+    let alloc = rt.alloc();
+    let mut tree = tree_of(alloc, &[(b"ab", b"one"), (b"abc", b"2"), (b"b", b"three")]);
+    let (mut bytes, mut entries) = (*b"..........", [RartBytesEntry { key_end: 9, end: 9 }; 3]);
+    let (mut count, mut key_len, mut len) = (7, 7, 7);
+    let page = rart_bytes_page(
+        &mut tree,
+        b"ab",
+        EXCLUDED,
+        b"b",
+        INCLUDED,
+        &mut bytes,
+        &mut entries,
+        &mut count,
+        &mut key_len,
+        &mut len,
+    );
+    assert_eq!(rt; (page, count, key_len, &bytes), (DONE, 2, 7, b"abc2bthree"));
+    assert_eq!(rt; (entries[0].key_end, entries[0].end), (3, 4));
+    assert_eq!(rt; (entries[1].key_end, entries[1].end), (5, 10));
+    let page = rart_bytes_page(
+        &mut tree,
+        b"",
+        UNBOUNDED,
+        b"",
+        UNBOUNDED,
+        &mut bytes[..4],
+        &mut entries,
+        &mut count,
+        &mut key_len,
+        &mut len,
+    );
+    assert_eq!(rt; (page, count, key_len, len), (TOO_SMALL, 0, 2, 3));
 }
 
 #[test]

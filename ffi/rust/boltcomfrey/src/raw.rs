@@ -1,8 +1,8 @@
 //! The proved calls as safe functions. All `unsafe` of this crate stands here and in `sys`.
 use crate::error::Refusal;
 use crate::sys::{
-    self, ABSENT, DONE, EXCLUDED, INCLUDED, LAST_NUMBER, NOT_EMPTY, RartBytes, RartEntry, RartTree,
-    TOO_LONG, TOO_SMALL, UNBOUNDED,
+    self, ABSENT, DONE, EXCLUDED, INCLUDED, LAST_NUMBER, NOT_EMPTY, RartBytes, RartBytesEntry,
+    RartEntry, RartTree, TOO_LONG, TOO_SMALL, UNBOUNDED,
 };
 use crate::walk::Page;
 use std::cell::UnsafeCell;
@@ -10,8 +10,9 @@ use std::ops::Bound;
 use std::panic::RefUnwindSafe;
 use std::ptr::{eq, null_mut};
 
-// How many bytes of room there are for a key at first.
+// How many bytes of room there are for a key at first, and for a key with its byte string.
 const KEY_ROOM: usize = 32;
+const PAIR_ROOM: usize = 64;
 
 /// A tree as C holds it, and the calls that are the same whatever its values.
 pub trait Handle: Sized {
@@ -256,8 +257,11 @@ impl Tree<RartTree> {
                 )
             };
             if answer != TOO_SMALL {
-                let found = entries[..count].iter();
-                page.entries.extend(found.map(|it| (it.end, it.value)));
+                let mut start = 0;
+                for it in &entries[..count] {
+                    page.entries.push_back((start..it.end, it.value));
+                    start = it.end;
+                }
                 return answer == DONE;
             }
         }
@@ -327,6 +331,54 @@ impl Tree<RartBytes> {
             answer
         })?;
         Some((key_len, value))
+    }
+
+    /// Fills a page without entries with the first pairs within two bounds, at most so many as are
+    /// asked for. Answers whether others may be left.
+    pub fn fill(
+        &self,
+        (low, high): (Bound<&[u8]>, Bound<&[u8]>),
+        asked: usize,
+        page: &mut Page<Vec<u8>>,
+    ) -> bool {
+        let (low, low_kind) = parts_of(low);
+        let (high, high_kind) = parts_of(high);
+        let mut entries = [RartBytesEntry::default(); 64];
+        let asked = asked.min(entries.len());
+        let (mut count, mut key_len, mut len) = (0, asked * PAIR_ROOM, 0);
+        loop {
+            make_room(&mut page.bytes, key_len + len);
+            let (from, to) = ((low.as_ptr(), low.len()), (high.as_ptr(), high.len()));
+            let (at, end) = (page.bytes.as_mut_ptr(), page.bytes.len());
+            // SAFETY: as above; the page, the entries and the numbers are this call's own.
+            let answer = unsafe {
+                sys::rart_bytes_page(
+                    self.handle.get(),
+                    from.0,
+                    from.1,
+                    low_kind,
+                    to.0,
+                    to.1,
+                    high_kind,
+                    at,
+                    end,
+                    entries.as_mut_ptr(),
+                    asked,
+                    &mut count,
+                    &mut key_len,
+                    &mut len,
+                )
+            };
+            if answer != TOO_SMALL {
+                let mut start = 0;
+                for it in &entries[..count] {
+                    let value = page.bytes[it.key_end..it.end].to_vec();
+                    page.entries.push_back((start..it.key_end, value));
+                    start = it.end;
+                }
+                return answer == DONE;
+            }
+        }
     }
 
     pub fn insert(&mut self, key: &[u8], value: &[u8]) -> Result<bool, Refusal> {

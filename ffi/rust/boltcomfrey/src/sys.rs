@@ -25,6 +25,14 @@ pub struct RartEntry {
     pub value: u64,
 }
 
+/// The same of a map to byte strings: where its key ends, and where its value behind it.
+#[repr(C)]
+#[derive(Clone, Copy, Default)]
+pub struct RartBytesEntry {
+    pub key_end: usize,
+    pub end: usize,
+}
+
 pub const DONE: u8 = 0;
 pub const ABSENT: u8 = 1;
 pub const LAST_NUMBER: u8 = 2;
@@ -182,6 +190,22 @@ unsafe extern "C" {
         key_len: usize,
         value: *const u8,
         value_len: usize,
+    ) -> u8;
+    pub fn rart_bytes_page(
+        tree: *mut RartBytes,
+        low: *const u8,
+        low_len: usize,
+        low_kind: u8,
+        high: *const u8,
+        high_len: usize,
+        high_kind: u8,
+        bytes: *mut u8,
+        bytes_len: usize,
+        entries: *mut RartBytesEntry,
+        entries_len: usize,
+        count: *mut usize,
+        key_len: *mut usize,
+        len: *mut usize,
     ) -> u8;
 }
 

@@ -228,13 +228,15 @@ impl Calls for Vec<u8> {
         tree.first(low, room)
     }
 
-    // (its pages have one pair each: values have no greatest length)
     fn fill(
         tree: &Tree<RartBytes>,
         within: (Bound<&[u8]>, Bound<&[u8]>),
-        _asked: usize,
+        asked: usize,
         page: &mut Page<Vec<u8>>,
     ) -> bool {
+        if asked > 1 {
+            return tree.fill(within, asked, page);
+        }
         page.fill_by_first(within, |low, room| tree.first(low, room))
     }
 }

@@ -2,19 +2,19 @@
 use crate::raw::Tree;
 use crate::value::{Calls, Value};
 use std::collections::VecDeque;
-use std::ops::Bound;
+use std::ops::{Bound, Range};
 
 // Many walks end at their first pair, which one search finds. Each later page has room for four
 // times as many pairs.
 const MOST_PAIRS: usize = 64;
 
-/// Pairs in the order of their keys, which stand one behind the other: each entry says where its
-/// key ends, and its value.
+/// Pairs in the order of their keys: each entry says where its key is among the bytes, and its
+/// value.
 #[derive(Clone)]
 pub struct Page<V> {
-    // Room for keys, kept from page to page. What stands behind the last key says nothing.
+    // Room for keys, kept from page to page. What stands behind the last one says nothing.
     pub bytes: Vec<u8>,
-    pub entries: VecDeque<(usize, V)>,
+    pub entries: VecDeque<(Range<usize>, V)>,
 }
 
 impl<V> Page<V> {
@@ -27,7 +27,7 @@ impl<V> Page<V> {
     ) -> bool {
         match first(low, &mut self.bytes) {
             Some((len, value)) if meets(&self.bytes[..len], high) => {
-                self.entries.push_back((len, value));
+                self.entries.push_back((0..len, value));
                 true
             }
             _ => false,
@@ -52,9 +52,8 @@ pub struct Walk<V> {
     high: Bound<Vec<u8>>,
     asked: usize,
     is_last: bool,
-    // What is left of the page, whose next key begins here.
+    // What is left of the page.
     page: Page<V>,
-    start: usize,
     // All that is left, once a pair was taken from the back.
     rest: Option<VecDeque<(Vec<u8>, V)>>,
 }
@@ -70,7 +69,6 @@ impl<V: Value> Walk<V> {
                 bytes: Vec::new(),
                 entries: VecDeque::new(),
             },
-            start: 0,
             rest: None,
         }
     }
@@ -96,10 +94,8 @@ impl<V: Value> Walk<V> {
         if self.page.entries.is_empty() && !self.is_last {
             self.turn(tree);
         }
-        let (end, value) = self.page.entries.pop_front()?;
-        let key = self.page.bytes[self.start..end].to_vec();
-        self.start = end;
-        Some((key, value))
+        let (key, value) = self.page.entries.pop_front()?;
+        Some((self.page.bytes[key].to_vec(), value))
     }
 
     /// The last pair. The library walks forwards, so the first call reads all that is left.
@@ -116,13 +112,8 @@ impl<V: Value> Walk<V> {
         let within = (low.map(Vec::as_slice), high.map(Vec::as_slice));
         self.is_last = !V::fill(tree, within, self.asked, &mut self.page);
         self.asked = MOST_PAIRS.min(self.asked * 4);
-        self.start = 0;
-        if let Some((end, _)) = self.page.entries.back() {
-            let start = match self.page.entries.len() {
-                1 => 0,
-                count => self.page.entries[count - 2].0,
-            };
-            self.low = Bound::Excluded(self.page.bytes[start..*end].to_vec());
+        if let Some((key, _)) = self.page.entries.back() {
+            self.low = Bound::Excluded(self.page.bytes[key.clone()].to_vec());
         }
     }
 }

@@ -8,12 +8,12 @@ use Rattle.rart_c.specs.Shown.{shown}
 use Rattle.rart_c.proofs.paging.first_within.Goals.{then-len-room, else-len-room}
 
 pub returns-in_default : goal.returns-in_default
-returns-in_default c =
+returns-in_default g c =
     within-none (shown c.args.table).version.content (bound_map (λ low. low.now) c.args.low)
     (bound_map (λ high. high.now) c.args.high) c.in_default.ensures.0
 
 pub returns-then-is_within : goal.returns-then-is_within
-returns-then-is_within c =
+returns-then-is_within g c =
     let content = (shown c.args.table).version.content in
     let low = bound_map (λ low. low.now) c.args.low in
     let high = bound_map (λ high. high.now) c.args.high in
@@ -33,7 +33,7 @@ returns-then-is_within c =
     first-meets content low high _ _ _ _ first (told ∙ c.if-is_within.true)
 
 pub returns-else-is_within : goal.returns-else-is_within
-returns-else-is_within c =
+returns-else-is_within g c =
     let content = (shown c.args.table).version.content in
     let low = bound_map (λ low. low.now) c.args.low in
     let high = bound_map (λ high. high.now) c.args.high in

@@ -1,10 +1,12 @@
-use Rattle.std.proofs.Common.{◌≡◌, ◌+◌, ◌∙◌, ◌++◌, ◌∷◌, [], take, drop, length, refl, arith, ap, sym}
-use Rattle.std.proofs.lemmas.List.{append_assoc, length-append, length-drop, length-set, drop-take}
+use Rattle.std.proofs.Common.{◌+◌, ◌∙◌, ◌++◌, ◌∷◌, ◌≤◌, ℕ, [], take, length, refl, arith, ap, subst, sym}
+use Rattle.std.proofs.Math.ListN.{set}
+use Rattle.std.proofs.lemmas.List.{append_assoc, length-append, length-drop, length-set}
+use Rattle.std.proofs.lemmas.Option.{same_Some}
 use Rattle.std.specs.Range.Bound.{bound_map}
 use Rattle.std.specs.declared.ops.Bound.TheVariants.{Excluded}
 use Rattle.rart_maps.specs.Pairs.{within}
-use Rattle.rart_c.specs.Pages.{bound_behind, keys_of}
-use Rattle.rart_c.proofs.PageLemmas.{entries-set, keys-more, keys-written, within-behind}
+use Rattle.rart_c.specs.Pages.{bound_behind, entry_of, key_of, keys_of}
+use Rattle.rart_c.proofs.PageLemmas.{entries-set, key-within, more-written, within-behind, written-more}
 use Rattle.rart_c.specs.Shown.{shown}
 use Rattle.rart_c.proofs.paging.write_page.Goals as goal
 
@@ -35,7 +37,7 @@ loop-len-preserved c =
     let key = first.key in
     let end = c.loop-len.end in
     let len = c.in-Some.len in
-    let value = c.in-Some.value in
+    let value = c.in-Some.value.now in
     let long = first.long in
     let room = c.if-bytes-end.false in
     let more = c.if-count-entries.false in
@@ -46,8 +48,6 @@ loop-len-preserved c =
     let written = first.written (omega (arith, size, room, same, fits)) in
     let as-many = c.loop-len.auto.entries in
     let most = i.most in
-    let key-is : drop end (take (end + len) c.next_pair.new.bytes) ≡ key =
-    drop-take end len c.next_pair.new.bytes ∙ written in
     record {
       page = i.page ++ (key, value) ∷ [];
       left = first.others;
@@ -56,20 +56,24 @@ loop-len-preserved c =
           ∙ sym (append_assoc i.page ((key, value) ∷ []) first.others);
       many = let n = length-append i.page ((key, value) ∷ []) in let m = i.many in
           omega (arith, n, m);
-      end_is = let n = ap length (keys-more i.page key value)
+      end_is = let n = ap length (written-more key_of entry_of i.page (key, value))
           ∙ length-append (keys_of i.page) key in
           omega (arith, n, ends, long);
-      keys = keys-written i.page key value end len c.loop-len.bytes c.next_pair.new.bytes i.keys
-          kept written;
-      entries = entries-set i.page key value c.loop-len.count (end + len) c.args.entries.now
-          c.loop-len.entries i.entries i.many (omega (arith, more, most, as-many))
-          (omega (arith, ends, long));
+      keys = more-written key_of entry_of i.page (key, value) end len c.loop-len.bytes
+          c.next_pair.new.bytes i.keys kept written;
+      entries = ap (λ n. set c.loop-len.entries c.loop-len.count
+          (record { end = end + n; value = value })) long
+          ∙ entries-set key_of entry_of i.page (key, value) c.loop-len.count end
+          c.args.entries.now c.loop-len.entries i.entries i.many
+          (omega (arith, more, most, as-many)) ends;
       fits = omega (arith, room, fits, same);
       most = let n = length-set c.loop-len.entries c.loop-len.count
           (record { end = end + len; value = value }) in
           omega (arith, n, more, most);
-      last = λ start is. let e : start ≡ end = cc in omega (arith, e);
-      from = ap (λ k. within content (Excluded k) high) key-is
+      last = λ x is. subst (λ (last : ℕ × ℕ). (last.0 ≤ last.1) × (last.1 ≤ end + len))
+          (same_Some (end, end + len) x is) (omega arith, omega arith);
+      from = ap (λ k. within content (Excluded k) high)
+          (key-within end len (end + len) c.next_pair.new.bytes key (omega arith) written)
           ∙ within-behind content
           (bound_behind c.loop-len.last low (take end c.loop-len.bytes)) high (key, value)
           first.others first.first;

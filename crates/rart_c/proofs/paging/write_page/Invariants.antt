@@ -18,7 +18,7 @@ invariant-loop-len l = record {
   entries : l.entries ≡ entries_from 0 page ++ drop l.count l.fn.entries;
   fits : l.end ≤ length l.bytes;
   most : l.count ≤ length l.entries;
-  last : ForSome l.last (λ start. start ≤ l.end);
+  last : ForSome l.last (λ last. (last.0 ≤ last.1) × (last.1 ≤ l.end));
   from : within (shown l.table).version.content
       (bound_behind l.last (bound_map (λ low. low.now) l.low) (take l.end l.bytes))
       (bound_map (λ high. high.now) l.high) ≡ left;

@@ -1,0 +1,98 @@
+use Rattle.std.proofs.Common.{◌≡◌, ◌+◌, ◌-◌, ◌<◌, ◌∙◌, ◌++◌, ◌∷◌, ◌≤◌, ℕ, [], false, true, take, drop, length, refl, arith, ap, subst, sym}
+use Rattle.std.proofs.Math.ListN.{set}
+use Rattle.std.proofs.lemmas.List.{append_assoc, length-append, length-drop, length-set}
+use Rattle.std.proofs.lemmas.Option.{same_Some}
+use Rattle.std.specs.Range.Bound.{bound_map}
+use Rattle.std.specs.declared.ops.Bound.TheVariants.{Excluded}
+use Rattle.rart_maps.specs.Pairs.{within}
+use Rattle.rart_c.specs.Pages.{bound_behind, string_entry_of, strings_of, written_of}
+use Rattle.rart_c.proofs.PageLemmas.{entries-set, kept-through, key-string, key-within, more-written, same-within, within-behind, written-more}
+use Rattle.rart_c.specs.Shown.{shown}
+use Rattle.rart_c.proofs.bytes.paging.write_page.Goals as goal
+
+pub loop-len-init : goal.loop-len-init
+loop-len-init c = record {
+  page = [];
+  left = within (shown c.args.table).version.content (bound_map (λ low. low.now) c.args.low)
+      (bound_map (λ high. high.now) c.args.high);
+  range_is = refl;
+  many = refl;
+  end_is = refl;
+  keys = refl;
+  entries = refl;
+  fits = omega arith;
+  most = omega arith;
+  last = λ x is. cc;
+  from = refl;
+}
+
+pub loop-len-preserved : goal.loop-len-preserved
+loop-len-preserved c =
+    let content = (shown c.args.table).version.content in
+    let low = bound_map (λ low. low.now) c.args.low in
+    let high = bound_map (λ high. high.now) c.args.high in
+    let i = c.loop-len.invariant in
+    let first = c.in-Some.ensures.first in
+    let key = first.key in
+    let end = c.loop-len.end in
+    let len = c.in-Some.len in
+    let value = c.in-Some.value.now in
+    let string = c.as_slice-string.result.now in
+    let long = first.long in
+    let as-long : length string ≡ length value = ap length c.as_slice-string.ensures in
+    let between = c.next_pair.new.bytes in
+    let after = c.put.new.bytes in
+    let full : ¬ (length between - end < len + length string) =
+    λ less. let wrong : false ≡ true = sym c.if-has_no_room.false ∙ c.has_no_room.ensures.1 less in
+    cc in
+    let more = c.if-count-entries.false in
+    let fits = i.fits in
+    let ends = i.end_is in
+    let same = c.next_pair.auto.bytes in
+    let same-after = c.put.auto.bytes in
+    let size = length-drop end c.loop-len.bytes in
+    let written = first.written (omega (arith, size, full, same, fits)) in
+    let as-many = c.loop-len.auto.entries in
+    let most = i.most in
+    let later = c.put.ensures.kept in
+    let key-is : take len (drop end after) ≡ key =
+    same-within end len between after later ∙ written in
+    let string-is : take (len + length string) (drop end after) ≡ key ++ value =
+    key-string end len (length string) after key value key-is
+    (c.put.ensures.value ∙ c.as_slice-string.ensures) in
+    let place : end + len + length string ≡ end + (len + length string) = omega arith in
+    record {
+      page = i.page ++ (key, value) ∷ [];
+      left = first.others;
+      range_is =
+          i.range_is ∙ ap (λ z. i.page ++ z) (sym i.from ∙ first.first)
+          ∙ sym (append_assoc i.page ((key, value) ∷ []) first.others);
+      many = let n = length-append i.page ((key, value) ∷ []) in let m = i.many in
+          omega (arith, n, m);
+      end_is = let n = ap length (written-more strings_of string_entry_of i.page (key, value))
+          ∙ length-append (written_of strings_of string_entry_of i.page) (key ++ value) in
+          let m = length-append key value in
+          omega (arith, n, m, ends, long, as-long);
+      keys = ap (λ n. take n after) place
+          ∙ more-written strings_of string_entry_of i.page (key, value) end (len + length string)
+          c.loop-len.bytes after i.keys
+          (kept-through end len c.loop-len.bytes between after c.in-Some.ensures.kept later)
+          string-is;
+      entries = (λ j. set c.loop-len.entries c.loop-len.count
+          (record { key_end = end + long j; end = end + long j + as-long j }))
+          ∙ entries-set strings_of string_entry_of i.page (key, value) c.loop-len.count end
+          c.args.entries.now c.loop-len.entries i.entries i.many
+          (omega (arith, more, most, as-many)) ends;
+      fits = omega (arith, full, fits, same, same-after);
+      most = let n = length-set c.loop-len.entries c.loop-len.count
+          (record { key_end = end + len; end = end + len + length string }) in
+          omega (arith, n, more, most);
+      last = λ x is. subst (λ (last : ℕ × ℕ). (last.0 ≤ last.1)
+          × (last.1 ≤ end + len + length string))
+          (same_Some (end, end + len) x is) (omega arith, omega arith);
+      from = ap (λ k. within content (Excluded k) high)
+          (key-within end len (end + len + length string) after key (omega arith) key-is)
+          ∙ within-behind content
+          (bound_behind c.loop-len.last low (take end c.loop-len.bytes)) high (key, value)
+          first.others first.first;
+    }

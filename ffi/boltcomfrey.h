@@ -231,6 +231,42 @@ rart_answer rart_next(
     uint64_t *RART_ALONE value
 );
 
+// As rart_seek, of the last key that is not behind this one.
+RART_NONNULL RART_MUST_USE RART_CHANGES(1) RART_READS(2, 3) RART_WRITES(4, 5) RART_WRITES(6)
+RART_WRITES(7)
+rart_answer rart_seek_back(
+    rart_tree *RART_ALONE tree,
+    const uint8_t *RART_ALONE from,
+    size_t from_len,
+    uint8_t *RART_ALONE room,
+    size_t room_len,
+    size_t *RART_ALONE len,
+    uint64_t *RART_ALONE value
+);
+
+// As rart_seek_back, of the keys before this one.
+RART_NONNULL RART_MUST_USE RART_CHANGES(1) RART_READS(2, 3) RART_WRITES(4, 5) RART_WRITES(6)
+RART_WRITES(7)
+rart_answer rart_prev(
+    rart_tree *RART_ALONE tree,
+    const uint8_t *RART_ALONE before,
+    size_t before_len,
+    uint8_t *RART_ALONE room,
+    size_t room_len,
+    size_t *RART_ALONE len,
+    uint64_t *RART_ALONE value
+);
+
+// As rart_seek, of the last key of all.
+RART_NONNULL RART_MUST_USE RART_CHANGES(1) RART_WRITES(2, 3) RART_WRITES(4) RART_WRITES(5)
+rart_answer rart_last(
+    rart_tree *RART_ALONE tree,
+    uint8_t *RART_ALONE room,
+    size_t room_len,
+    size_t *RART_ALONE len,
+    uint64_t *RART_ALONE value
+);
+
 // Frees what the tree leads to: it is all zeros then, without a key, its number 0, and keys may be
 // as long as at first.
 RART_NONNULL RART_CHANGES(1)
@@ -407,6 +443,49 @@ rart_answer rart_bytes_next(
     rart_bytes *RART_ALONE tree,
     const uint8_t *RART_ALONE after,
     size_t after_len,
+    uint8_t *RART_ALONE room,
+    size_t room_len,
+    size_t *RART_ALONE key_len,
+    uint8_t *RART_ALONE into,
+    size_t into_len,
+    size_t *RART_ALONE len
+);
+
+// As rart_bytes_seek, of the last key that is not behind this one.
+RART_NONNULL RART_MUST_USE RART_CHANGES(1) RART_READS(2, 3) RART_WRITES(4, 5) RART_WRITES(6)
+RART_WRITES(7, 8) RART_WRITES(9)
+rart_answer rart_bytes_seek_back(
+    rart_bytes *RART_ALONE tree,
+    const uint8_t *RART_ALONE from,
+    size_t from_len,
+    uint8_t *RART_ALONE room,
+    size_t room_len,
+    size_t *RART_ALONE key_len,
+    uint8_t *RART_ALONE into,
+    size_t into_len,
+    size_t *RART_ALONE len
+);
+
+// As rart_bytes_seek_back, of the keys before this one.
+RART_NONNULL RART_MUST_USE RART_CHANGES(1) RART_READS(2, 3) RART_WRITES(4, 5) RART_WRITES(6)
+RART_WRITES(7, 8) RART_WRITES(9)
+rart_answer rart_bytes_prev(
+    rart_bytes *RART_ALONE tree,
+    const uint8_t *RART_ALONE before,
+    size_t before_len,
+    uint8_t *RART_ALONE room,
+    size_t room_len,
+    size_t *RART_ALONE key_len,
+    uint8_t *RART_ALONE into,
+    size_t into_len,
+    size_t *RART_ALONE len
+);
+
+// As rart_bytes_seek, of the last key of all.
+RART_NONNULL RART_MUST_USE RART_CHANGES(1) RART_WRITES(2, 3) RART_WRITES(4) RART_WRITES(5, 6)
+RART_WRITES(7)
+rart_answer rart_bytes_last(
+    rart_bytes *RART_ALONE tree,
     uint8_t *RART_ALONE room,
     size_t room_len,
     size_t *RART_ALONE key_len,

@@ -79,6 +79,23 @@ static void look_first(size_t at, const struct key *from, bool is_strict, size_t
     expect_value(at, wanted, answer, &value, fits);
 }
 
+static void look_last(size_t at, const struct key *to, bool is_strict, size_t wanted) {
+    struct room key = room_for_key(wanted), value = room_for_value(at, wanted);
+    rart_answer answer = (is_strict ? rart_bytes_prev : rart_bytes_seek_back)(
+        &trees[at], to->bytes, to->len, key.bytes, key.size, &key.len, value.bytes, value.size,
+        &value.len);
+    bool fits = has_key(&key, wanted);
+    expect_value(at, wanted, answer, &value, fits);
+}
+
+static void look_last_of_all(size_t at, size_t wanted) {
+    struct room key = room_for_key(wanted), value = room_for_value(at, wanted);
+    rart_answer answer = rart_bytes_last(&trees[at], key.bytes, key.size, &key.len, value.bytes,
+                                         value.size, &value.len);
+    bool fits = has_key(&key, wanted);
+    expect_value(at, wanted, answer, &value, fits);
+}
+
 enum { MOST_PAGE = 2 * MOST_VALUE };
 
 // What a page is written to, how much of it the call is told of, and the numbers that it writes.

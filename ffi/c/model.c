@@ -51,14 +51,35 @@ static void look_longest(size_t at, const struct key *probe, size_t wanted) {
     expect_value(at, wanted, answer, value);
 }
 
+// That this key was copied to the room, where it fits there, with its value, or none.
+static void expect_pair(size_t at, size_t wanted, rart_answer answer, const struct room *room,
+                        uint64_t value) {
+    bool fits = has_key(room, wanted);
+    EXPECT(answer == (fits ? RART_DONE : wanted < KEYS ? RART_TOO_SMALL : RART_ABSENT));
+    EXPECT(value == (fits ? tables[at].values[wanted] : NO_NUMBER));
+}
+
 static void look_first(size_t at, const struct key *from, bool is_strict, size_t wanted) {
     struct room room = room_for_key(wanted);
     uint64_t value = NO_NUMBER;
     rart_answer answer = (is_strict ? rart_next : rart_seek)(
         &trees[at], from->bytes, from->len, room.bytes, room.size, &room.len, &value);
-    bool fits = has_key(&room, wanted);
-    EXPECT(answer == (fits ? RART_DONE : wanted < KEYS ? RART_TOO_SMALL : RART_ABSENT));
-    EXPECT(value == (fits ? tables[at].values[wanted] : NO_NUMBER));
+    expect_pair(at, wanted, answer, &room, value);
+}
+
+static void look_last(size_t at, const struct key *to, bool is_strict, size_t wanted) {
+    struct room room = room_for_key(wanted);
+    uint64_t value = NO_NUMBER;
+    rart_answer answer = (is_strict ? rart_prev : rart_seek_back)(
+        &trees[at], to->bytes, to->len, room.bytes, room.size, &room.len, &value);
+    expect_pair(at, wanted, answer, &room, value);
+}
+
+static void look_last_of_all(size_t at, size_t wanted) {
+    struct room room = room_for_key(wanted);
+    uint64_t value = NO_NUMBER;
+    rart_answer answer = rart_last(&trees[at], room.bytes, room.size, &room.len, &value);
+    expect_pair(at, wanted, answer, &room, value);
 }
 
 enum { MOST_PAGE = 3 * MOST_BYTES + 3 };

@@ -51,6 +51,9 @@ static void read_numbers(rart_tree *tree, rart_tree *same, size_t keys) {
     EXPECT(rart_longest(tree, tea, 3, &len, &value) == (keys ? RART_DONE : RART_ABSENT));
     EXPECT(rart_seek(tree, te, 2, room, 8, &len, &value) == (keys ? RART_DONE : RART_ABSENT));
     EXPECT(rart_next(tree, te, 2, room, 8, &len, &value) == (keys ? RART_DONE : RART_ABSENT));
+    EXPECT(rart_seek_back(tree, tea, 3, room, 8, &len, &value) == (keys ? RART_DONE : RART_ABSENT));
+    EXPECT(rart_prev(tree, te, 2, room, 8, &len, &value) == RART_ABSENT);
+    EXPECT(rart_last(tree, room, 8, &len, &value) == (keys ? RART_DONE : RART_ABSENT));
     EXPECT(rart_page(tree, none, 0, RART_UNBOUNDED, none, 0, RART_UNBOUNDED, room, 8, entries, 2,
                      &count, &needed) == (keys ? RART_DONE : RART_ABSENT));
     EXPECT(count == keys && rart_common(tree, same) == keys);
@@ -70,6 +73,9 @@ static void read_strings(rart_bytes *tree, rart_bytes *same, size_t keys) {
     EXPECT(rart_bytes_longest(tree, tea, 3, &key_len, into, 8, &len) == wanted);
     EXPECT(rart_bytes_seek(tree, te, 2, room, 8, &key_len, into, 8, &len) == wanted);
     EXPECT(rart_bytes_next(tree, te, 2, room, 8, &key_len, into, 8, &len) == wanted);
+    EXPECT(rart_bytes_seek_back(tree, tea, 3, room, 8, &key_len, into, 8, &len) == wanted);
+    EXPECT(rart_bytes_prev(tree, te, 2, room, 8, &key_len, into, 8, &len) == RART_ABSENT);
+    EXPECT(rart_bytes_last(tree, room, 8, &key_len, into, 8, &len) == wanted);
     rart_bytes_entry entries[2];
     size_t count;
     EXPECT(rart_bytes_page(tree, none, 0, RART_UNBOUNDED, none, 0, RART_UNBOUNDED, room, 8, entries,

@@ -173,6 +173,8 @@ static rart_answer take_out(size_t at, const struct key *key);
 static void look(size_t at, const struct key *key, size_t wanted);
 static void look_longest(size_t at, const struct key *probe, size_t wanted);
 static void look_first(size_t at, const struct key *from, bool is_strict, size_t wanted);
+static void look_last(size_t at, const struct key *to, bool is_strict, size_t wanted);
+static void look_last_of_all(size_t at, size_t wanted);
 static void read_all(size_t at);
 
 // What refusing.c keeps to and counts.
@@ -319,6 +321,25 @@ static size_t expect_first(size_t at, const struct key *from, bool is_strict) {
     return wanted;
 }
 
+// The number of a tree's last key that is not behind this one, or that is before it, or of all its
+// keys; KEYS where there is none.
+static size_t last_to(size_t at, const struct key *to, bool is_strict) {
+    size_t last = KEYS;
+    for (size_t next = first_from(at, 0); next < KEYS; next = first_from(at, number_behind(next))) {
+        struct key key = key_of(next);
+        if (to != NULL && (is_strict ? !is_before(&key, to) : is_before(to, &key))) {
+            break;
+        }
+        last = next;
+    }
+    return last;
+}
+
+static void expect_last(size_t at, const struct key *to, bool is_strict) {
+    look_last(at, to, is_strict, last_to(at, to, is_strict));
+    look_last_of_all(at, last_to(at, NULL, false));
+}
+
 // A walk from key to key meets as many as there are, in order.
 static void walk(size_t at) {
     struct key last = {0};
@@ -379,6 +400,8 @@ static void make_call(size_t at) {
         count_common(at, other);
     } else if (what < 60) {
         read_all(at);
+    } else if (what < 70) {
+        expect_last(at, &key, random_below(2) == 0);
     } else if (what < 600) {
         look_longest(at, &key, longest_of(at, &key));
         expect_first(at, &key, random_below(2) == 0);

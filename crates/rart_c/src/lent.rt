@@ -1,5 +1,5 @@
 //! What is read of a table that a handle lends, or of none: the tree as it is at first.
-ghost use Rattle.std.specs.Prelude.{◌≡◌, ◌≤◌, ◌==◌, length, not, IfOk, IsTrue, MatchOption, MatchResult};
+ghost use Rattle.std.specs.Prelude.{◌≡◌, ◌≤◌, ◌==◌, length, not, reverse, IfOk, IsTrue, MatchOption, MatchResult};
 ghost use Rattle.std.specs.FinMap as finite;
 ghost use Rattle.std.specs.Option.{option_copied};
 ghost use Rattle.std.specs.Range.Bound.{bound_map};
@@ -95,6 +95,21 @@ pub(crate) fn first<'a, V: Clone + Drop>(
     match table {
         None => None,
         Some(table) => table.tree.first_slice(low, room),
+    }
+}
+
+/// The last of the pairs up to a bound, as `first` tells the first.
+pub(crate) fn last<'a, V: Clone + Drop>(
+    table: Option<&'a Table<V>>,
+    high: Bound<&[u8]>,
+    room: &mut [u8],
+) -> Option<(usize, &'a V)>
+    ensures { Finds (reverse (within (shown table.entry).version.content Unbounded
+        (bound_map (λ high. high.now) high.entry))) result room.old room.new }
+{
+    match table {
+        None => None,
+        Some(table) => table.tree.last_slice(high, room),
     }
 }
 

@@ -7,7 +7,7 @@ use crate::limits::{rart_longest_key, rart_set_longest_key};
 use crate::paging::{EXCLUDED, INCLUDED, RartEntry, rart_page};
 use crate::reading::{rart_common, rart_get, rart_is_empty, rart_len, rart_longest, rart_version};
 use crate::versions::{rart_clone, rart_new_at, rart_snapshot};
-use crate::walking::{rart_next, rart_seek};
+use crate::walking::{rart_last, rart_next, rart_prev, rart_seek, rart_seek_back};
 use std::alloc::Global;
 
 // A tree of these pairs.
@@ -98,6 +98,12 @@ fn keys_are_found_in_order(rt: HostRuntime) {
     assert_eq!(rt; (found, &room, len, value), (DONE, b"ab..", 2, 7));
     let found = rart_next(&mut tree, b"ab", &mut room, &mut len, &mut value);
     assert_eq!(rt; (found, len, value), (TOO_SMALL, 5, 7));
+    let found = rart_seek_back(&mut tree, b"abc", &mut room, &mut len, &mut value);
+    assert_eq!(rt; (found, len, value), (DONE, 2, 7));
+    let found = rart_prev(&mut tree, b"ab", &mut room, &mut len, &mut value);
+    assert_eq!(rt; (found, len, value), (ABSENT, 2, 7));
+    let found = rart_last(&mut tree, &mut room, &mut len, &mut value);
+    assert_eq!(rt; (found, len, value), (DONE, 1, 9));
 }
 
 #[test]

@@ -1,5 +1,5 @@
 //! What C calls to walk over a tree, from key to key.
-ghost use Rattle.std.specs.Prelude.{◌≡◌};
+ghost use Rattle.std.specs.Prelude.{◌≡◌, reverse};
 ghost use Rattle.std.specs.declared.ops.Bound.TheVariants.{Included, Excluded, Unbounded};
 ghost use Rattle.rart_c.specs.Firsts.{TellsFirst};
 ghost use Rattle.rart_maps.specs.Pairs.{within};
@@ -45,5 +45,58 @@ pub extern "C" fn rart_next(
 {
     let size = room.len();
     let found = lent::first(tree.table(), Bound::Excluded(after), room);
+    tell_first(found, size, len, value)
+}
+
+/// As `rart_seek`, of the last key that is not behind this one.
+#[unsafe(no_mangle)]
+pub extern "C" fn rart_seek_back(
+    tree: &mut RartTree,
+    from: &[u8],
+    room: &mut [u8],
+    len: &mut usize,
+    value: &mut u64,
+) -> u8
+    ensures found { TellsFirst (reverse (within tree.old.shows.version.content Unbounded
+        (Included from.now))) result (room.old, len.old) (room.new, len.new) value.old value.new }
+    ensures same { tree.new.shows ≡ tree.old.shows }
+{
+    let size = room.len();
+    let found = lent::last(tree.table(), Bound::Included(from), room);
+    tell_first(found, size, len, value)
+}
+
+/// As `rart_seek_back`, of the keys before this one.
+#[unsafe(no_mangle)]
+pub extern "C" fn rart_prev(
+    tree: &mut RartTree,
+    before: &[u8],
+    room: &mut [u8],
+    len: &mut usize,
+    value: &mut u64,
+) -> u8
+    ensures found { TellsFirst (reverse (within tree.old.shows.version.content Unbounded
+        (Excluded before.now))) result (room.old, len.old) (room.new, len.new) value.old value.new }
+    ensures same { tree.new.shows ≡ tree.old.shows }
+{
+    let size = room.len();
+    let found = lent::last(tree.table(), Bound::Excluded(before), room);
+    tell_first(found, size, len, value)
+}
+
+/// As `rart_seek`, of the last key of all.
+#[unsafe(no_mangle)]
+pub extern "C" fn rart_last(
+    tree: &mut RartTree,
+    room: &mut [u8],
+    len: &mut usize,
+    value: &mut u64,
+) -> u8
+    ensures found { TellsFirst (reverse (within tree.old.shows.version.content Unbounded Unbounded))
+        result (room.old, len.old) (room.new, len.new) value.old value.new }
+    ensures same { tree.new.shows ≡ tree.old.shows }
+{
+    let size = room.len();
+    let found = lent::last(tree.table(), Bound::Unbounded, room);
     tell_first(found, size, len, value)
 }

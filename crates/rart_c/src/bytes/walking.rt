@@ -1,5 +1,5 @@
 //! What C calls to walk over a tree of byte strings, from key to key.
-ghost use Rattle.std.specs.Prelude.{◌≡◌, ℕ, List, length};
+ghost use Rattle.std.specs.Prelude.{◌≡◌, ℕ, List, length, reverse};
 ghost use Rattle.std.specs.declared.ops.Bound.TheVariants.{Included, Excluded, Unbounded};
 ghost use Rattle.rart_c.specs.Firsts.{ReadsFirst};
 ghost use Rattle.rart_maps.specs.Pairs.{within};
@@ -52,6 +52,64 @@ pub extern "C" fn rart_bytes_next(
 {
     let size = room.len();
     let found = lent::first(tree.table(), Bound::Excluded(after), room);
+    read_first(found, size, key_len, into, len)
+}
+
+/// As `rart_bytes_seek`, of the last key that is not behind this one.
+#[unsafe(no_mangle)]
+pub extern "C" fn rart_bytes_seek_back(
+    tree: &mut RartBytes,
+    from: &[u8],
+    room: &mut [u8],
+    key_len: &mut usize,
+    into: &mut [u8],
+    len: &mut usize,
+) -> u8
+    ensures found { ReadsFirst (reverse (within tree.old.shows.version.content Unbounded
+        (Included from.now))) result (room.old, key_len.old) (room.new, key_len.new)
+        (into.old, len.old) (into.new, len.new) }
+    ensures same { tree.new.shows ≡ tree.old.shows }
+{
+    let size = room.len();
+    let found = lent::last(tree.table(), Bound::Included(from), room);
+    read_first(found, size, key_len, into, len)
+}
+
+/// As `rart_bytes_seek_back`, of the keys before this one.
+#[unsafe(no_mangle)]
+pub extern "C" fn rart_bytes_prev(
+    tree: &mut RartBytes,
+    before: &[u8],
+    room: &mut [u8],
+    key_len: &mut usize,
+    into: &mut [u8],
+    len: &mut usize,
+) -> u8
+    ensures found { ReadsFirst (reverse (within tree.old.shows.version.content Unbounded
+        (Excluded before.now))) result (room.old, key_len.old) (room.new, key_len.new)
+        (into.old, len.old) (into.new, len.new) }
+    ensures same { tree.new.shows ≡ tree.old.shows }
+{
+    let size = room.len();
+    let found = lent::last(tree.table(), Bound::Excluded(before), room);
+    read_first(found, size, key_len, into, len)
+}
+
+/// As `rart_bytes_seek`, of the last key of all.
+#[unsafe(no_mangle)]
+pub extern "C" fn rart_bytes_last(
+    tree: &mut RartBytes,
+    room: &mut [u8],
+    key_len: &mut usize,
+    into: &mut [u8],
+    len: &mut usize,
+) -> u8
+    ensures found { ReadsFirst (reverse (within tree.old.shows.version.content Unbounded Unbounded))
+        result (room.old, key_len.old) (room.new, key_len.new) (into.old, len.old) (into.new, len.new) }
+    ensures same { tree.new.shows ≡ tree.old.shows }
+{
+    let size = room.len();
+    let found = lent::last(tree.table(), Bound::Unbounded, room);
     read_first(found, size, key_len, into, len)
 }
 

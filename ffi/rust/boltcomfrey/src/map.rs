@@ -222,8 +222,7 @@ impl<V: Value> Map<V> {
         self.first(Bound::Unbounded)
     }
 
-    /// The last pair, if there is one. The library walks forwards, so this makes some eight searches
-    /// for each byte of the key.
+    /// The last pair, if there is one.
     ///
     /// ```
     /// # use boltcomfrey::VersionedMap;
@@ -232,29 +231,7 @@ impl<V: Value> Map<V> {
     /// ```
     #[must_use]
     pub fn last_key_value(&self) -> Option<(Vec<u8>, V)> {
-        let (mut last, mut room) = (self.first_key_value()?, Vec::new());
-        let mut len = 0;
-        loop {
-            // The last key begins as this one does, so far. Its next byte is the greatest that a key
-            // has here, if one goes on.
-            let (mut low, mut high) = (0, 256);
-            while low < high {
-                let byte = (low + high) / 2;
-                let mut probe = last.0[..len].to_vec();
-                probe.push(byte as u8);
-                match V::first(&self.tree, Bound::Included(&probe), &mut room) {
-                    Some((found, value)) => {
-                        last = (room[..found].to_vec(), value);
-                        low = usize::from(last.0[len]) + 1;
-                    }
-                    None => high = byte,
-                }
-            }
-            if low == 0 {
-                return Some(last);
-            }
-            len += 1;
-        }
+        self.last(Bound::Unbounded)
     }
 
     /// The first pair whose key is this one or comes behind it.
@@ -281,9 +258,40 @@ impl<V: Value> Map<V> {
         self.first(Bound::Excluded(key.as_ref()))
     }
 
+    /// The last pair whose key is this one or comes before it: the newest record not after a time.
+    ///
+    /// ```
+    /// # use boltcomfrey::VersionedMap;
+    /// let prices = VersionedMap::from([("tea", 300), ("milk", 100)]);
+    /// assert_eq!(prices.last_to("n"), Some((b"milk".to_vec(), 100)));
+    /// ```
+    #[must_use]
+    pub fn last_to(&self, key: impl AsRef<[u8]>) -> Option<(Vec<u8>, V)> {
+        self.last(Bound::Included(key.as_ref()))
+    }
+
+    /// The last pair whose key comes before this one.
+    ///
+    /// ```
+    /// # use boltcomfrey::VersionedMap;
+    /// let prices = VersionedMap::from([("tea", 300), ("milk", 100)]);
+    /// assert_eq!(prices.last_before("milk"), None);
+    /// ```
+    #[must_use]
+    pub fn last_before(&self, key: impl AsRef<[u8]>) -> Option<(Vec<u8>, V)> {
+        self.last(Bound::Excluded(key.as_ref()))
+    }
+
     fn first(&self, low: Bound<&[u8]>) -> Option<(Vec<u8>, V)> {
         let mut key = Vec::new();
         let (len, value) = V::first(&self.tree, low, &mut key)?;
+        key.truncate(len);
+        Some((key, value))
+    }
+
+    fn last(&self, high: Bound<&[u8]>) -> Option<(Vec<u8>, V)> {
+        let mut key = Vec::new();
+        let (len, value) = V::last(&self.tree, high, &mut key)?;
         key.truncate(len);
         Some((key, value))
     }

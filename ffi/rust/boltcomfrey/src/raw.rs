@@ -187,6 +187,29 @@ impl Tree<RartTree> {
         }
     }
 
+    /// The last key that meets a bound, told as by `first`.
+    pub fn last(&self, high: Bound<&[u8]>, room: &mut Vec<u8>) -> Option<(usize, u64)> {
+        let (to, kind) = parts_of(high);
+        let (key, size, mut len, mut value) = (to.as_ptr(), to.len(), KEY_ROOM, 0);
+        loop {
+            make_room(room, len);
+            let (tree, at, end) = (self.handle.get(), room.as_mut_ptr(), room.len());
+            // SAFETY: as above; both numbers are this call's own, and `room` is borrowed to be
+            // written.
+            match unsafe {
+                match kind {
+                    INCLUDED => sys::rart_seek_back(tree, key, size, at, end, &mut len, &mut value),
+                    EXCLUDED => sys::rart_prev(tree, key, size, at, end, &mut len, &mut value),
+                    _ => sys::rart_last(tree, at, end, &mut len, &mut value),
+                }
+            } {
+                DONE => return Some((len, value)),
+                TOO_SMALL => (),
+                _ => return None,
+            }
+        }
+    }
+
     pub fn insert(&mut self, key: &[u8], value: u64) -> Result<Option<u64>, Refusal> {
         let mut replaced = 0;
         let (at, len) = (key.as_ptr(), key.len());
@@ -379,6 +402,33 @@ impl Tree<RartBytes> {
                 return answer == DONE;
             }
         }
+    }
+
+    /// The last key that meets a bound, told as by `first`.
+    pub fn last(&self, high: Bound<&[u8]>, room: &mut Vec<u8>) -> Option<(usize, Vec<u8>)> {
+        let (to, kind) = parts_of(high);
+        make_room(room, KEY_ROOM);
+        let (tree, key, limit, mut key_len) = (self.handle.get(), to.as_ptr(), to.len(), 0);
+        let value = read_out(|into, len| {
+            let (at, end, key_len) = (room.as_mut_ptr(), room.len(), &mut key_len);
+            let (start, size) = (into.as_mut_ptr(), into.len());
+            // SAFETY: as above; `key_len` is this call's own, and `room`, `into` and `len` are
+            // borrowed to be written, so no two overlap.
+            let answer = unsafe {
+                match kind {
+                    INCLUDED => sys::rart_bytes_seek_back(
+                        tree, key, limit, at, end, key_len, start, size, len,
+                    ),
+                    EXCLUDED => {
+                        sys::rart_bytes_prev(tree, key, limit, at, end, key_len, start, size, len)
+                    }
+                    _ => sys::rart_bytes_last(tree, at, end, key_len, start, size, len),
+                }
+            };
+            make_room(room, *key_len); // (it fits when the call is made once more)
+            answer
+        })?;
+        Some((key_len, value))
     }
 
     pub fn insert(&mut self, key: &[u8], value: &[u8]) -> Result<bool, Refusal> {

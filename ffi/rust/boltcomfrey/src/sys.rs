@@ -82,6 +82,31 @@ unsafe extern "C" {
         len: *mut usize,
         value: *mut u64,
     ) -> u8;
+    pub fn rart_seek_back(
+        tree: *mut RartTree,
+        from: *const u8,
+        from_len: usize,
+        room: *mut u8,
+        room_len: usize,
+        len: *mut usize,
+        value: *mut u64,
+    ) -> u8;
+    pub fn rart_prev(
+        tree: *mut RartTree,
+        before: *const u8,
+        before_len: usize,
+        room: *mut u8,
+        room_len: usize,
+        len: *mut usize,
+        value: *mut u64,
+    ) -> u8;
+    pub fn rart_last(
+        tree: *mut RartTree,
+        room: *mut u8,
+        room_len: usize,
+        len: *mut usize,
+        value: *mut u64,
+    ) -> u8;
     pub fn rart_clear(tree: *mut RartTree);
     pub fn rart_insert(
         tree: *mut RartTree,
@@ -161,6 +186,37 @@ unsafe extern "C" {
         tree: *mut RartBytes,
         after: *const u8,
         after_len: usize,
+        room: *mut u8,
+        room_len: usize,
+        key_len: *mut usize,
+        into: *mut u8,
+        into_len: usize,
+        len: *mut usize,
+    ) -> u8;
+    pub fn rart_bytes_seek_back(
+        tree: *mut RartBytes,
+        from: *const u8,
+        from_len: usize,
+        room: *mut u8,
+        room_len: usize,
+        key_len: *mut usize,
+        into: *mut u8,
+        into_len: usize,
+        len: *mut usize,
+    ) -> u8;
+    pub fn rart_bytes_prev(
+        tree: *mut RartBytes,
+        before: *const u8,
+        before_len: usize,
+        room: *mut u8,
+        room_len: usize,
+        key_len: *mut usize,
+        into: *mut u8,
+        into_len: usize,
+        len: *mut usize,
+    ) -> u8;
+    pub fn rart_bytes_last(
+        tree: *mut RartBytes,
         room: *mut u8,
         room_len: usize,
         key_len: *mut usize,

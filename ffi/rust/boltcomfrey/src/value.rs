@@ -95,6 +95,13 @@ pub trait Calls: Sized {
         room: &mut Vec<u8>,
     ) -> Option<(usize, Self)>;
 
+    /// The last key that meets a bound, told as by `first`.
+    fn last(
+        tree: &Tree<Self::Handle>,
+        high: Bound<&[u8]>,
+        room: &mut Vec<u8>,
+    ) -> Option<(usize, Self)>;
+
     /// Fills a page without entries with the first pairs within two bounds, at most so many as are
     /// asked for, and one at least where there is one. Answers whether others may be left.
     fn fill(
@@ -152,6 +159,10 @@ impl Calls for u64 {
 
     fn first(tree: &Tree<RartTree>, low: Bound<&[u8]>, room: &mut Vec<u8>) -> Option<(usize, u64)> {
         tree.first(low, room)
+    }
+
+    fn last(tree: &Tree<RartTree>, high: Bound<&[u8]>, room: &mut Vec<u8>) -> Option<(usize, u64)> {
+        tree.last(high, room)
     }
 
     fn fill(
@@ -226,6 +237,14 @@ impl Calls for Vec<u8> {
         room: &mut Vec<u8>,
     ) -> Option<(usize, Vec<u8>)> {
         tree.first(low, room)
+    }
+
+    fn last(
+        tree: &Tree<RartBytes>,
+        high: Bound<&[u8]>,
+        room: &mut Vec<u8>,
+    ) -> Option<(usize, Vec<u8>)> {
+        tree.last(high, room)
     }
 
     fn fill(

@@ -4,7 +4,7 @@
 use boltcomfrey::{Given, Map, Refusal, Value};
 use std::collections::BTreeMap;
 use std::fmt::Debug;
-use std::ops::Bound::{Excluded, Included, Unbounded};
+use std::ops::Bound::{self, Excluded, Included, Unbounded};
 use std::ops::RangeBounds;
 
 /// The generator xorshift64.
@@ -77,7 +77,7 @@ impl<V: Clone + PartialEq> Model<V> {
     }
 
     /// The pairs within two bounds, as the map gives them.
-    fn range(&self, range: impl RangeBounds<Vec<u8>>) -> impl Iterator<Item = (Vec<u8>, V)> {
+    fn range(&self, range: impl RangeBounds<Vec<u8>>) -> impl DoubleEndedIterator<Item = (Vec<u8>, V)> {
         self.pairs
             .range(range)
             .map(|(key, value)| (key.clone(), value.clone()))
@@ -297,11 +297,10 @@ impl<V: Drawn> Compared<V> {
         assert_eq!(map.first_after(&key), after);
         assert_eq!(map.range(behind).next(), after);
         assert_eq!(map.first_key_value(), model.range(..).next());
-        let last = model.pairs.iter().next_back();
-        assert_eq!(
-            map.last_key_value(),
-            last.map(|(key, value)| (key.clone(), value.clone()))
-        );
+        let last = |to: Bound<Vec<u8>>| model.range((Unbounded, to)).next_back();
+        assert_eq!(map.last_key_value(), last(Unbounded));
+        assert_eq!(map.last_to(&key), last(Included(key.clone())));
+        assert_eq!(map.last_before(&key), last(Excluded(key)));
     }
 
     /// (As often as in C, since the model looks each key up.)

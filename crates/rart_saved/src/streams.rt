@@ -38,7 +38,7 @@ pub fn save<K: KeyTrait, V: SavedValue, W: Write>(
 /// Reads all that a reader gives, as `load_slice` reads it.
 ///
 /// ```
-/// let prices: VersionedAdaptiveRadixTree<VectorKey, u64> = load(alloc, &mut file)?;
+/// let prices: VersionedAdaptiveRadixTree<VectorKey, u64> = load(alloc, &mut reader)?;
 /// ```
 ///
 /// `Io` comes where reading failed.

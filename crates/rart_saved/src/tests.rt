@@ -62,7 +62,9 @@ fn trees_come_back(rt: HostRuntime) -> Result<(), Fail> {
     for i in 0..2000_u64 {
         let number = i.wrapping_mul(0x9e37_79b9_7f4a_7c15);
         let bytes = number.to_be_bytes();
-        numbers.insert_slice(&bytes[..(i % 9) as usize], i)?;
+        if numbers.version() < u64::MAX {
+            numbers.insert_slice(&bytes[..(i % 9) as usize], i)?;
+        }
     }
     let bytes = save_slice(alloc, &numbers)?;
     let Ok(back) = load_slice::<VectorKey, u64>(alloc, bytes.as_slice()) else {
@@ -101,9 +103,9 @@ fn byte_strings_come_back(rt: HostRuntime) -> Result<(), Fail> {
 fn each_flipped_bit_is_refused(rt: HostRuntime) -> Result<(), Fail> {
     let alloc = rt.alloc();
     for at in 0..THREE.len() {
-        for bit in 0..8 {
+        for bit in [1_u8, 2, 4, 8, 16, 32, 64, 128] {
             let mut bytes = THREE;
-            bytes[at] ^= 1_u8 << bit;
+            bytes[at] ^= bit;
             let answer = load_slice::<VectorKey, u64>(alloc, bytes.as_slice());
             assert!(rt; answer.is_err());
             if at == 7 {

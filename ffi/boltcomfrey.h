@@ -20,10 +20,12 @@ static_assert(sizeof(size_t) == 8 && sizeof(void *) == 8, "the library is built 
 // meet, answers that nobody looks at, buffers that are shorter than is said, or not yet written.
 #if defined(__GNUC__)
 #define RART_NONNULL __attribute__((nonnull))
+#define RART_NONNULL_AT(...) __attribute__((nonnull(__VA_ARGS__)))
 #define RART_MUST_USE __attribute__((warn_unused_result))
 #define RART_ALONE __restrict
 #else
 #define RART_NONNULL
+#define RART_NONNULL_AT(...)
 #define RART_MUST_USE
 #define RART_ALONE
 #endif
@@ -128,11 +130,25 @@ enum {
     RART_LONGEST_KEY = 1024,
 };
 
+// Makes of a prefix the end of the keys that it begins, for the upper bound of a page, and gives its
+// length: that bound is RART_EXCLUDED, but RART_UNBOUNDED where the length is 0.
+static inline size_t rart_prefix_end(uint8_t *prefix, size_t len) {
+    while (len > 0 && prefix[len - 1] == UINT8_MAX) {
+        len--;
+    }
+    if (len > 0) {
+        prefix[len - 1]++;
+    }
+    return len;
+}
+
 // What a caller owes to each call:
 // - a tree is all zeros, or as a call left it, and is copied nowhere; one that is moved leaves its
 //   old place all zeros;
-// - no pointer is null, also of no bytes, and no two of one call overlap: two trees of it are two,
-//   and no key that is handed in lies in the room that the call writes to;
+// - no pointer is null, also of no bytes; but rart_clear takes a null tree, and what sets or takes
+//   out a key takes null for a value before that isn't wanted;
+// - no two pointers of one call overlap: two trees of it are two, and no key that is handed in lies
+//   in the room that the call writes to;
 // - trees that come from one tree, also through others, stay on one thread, as their nodes count
 //   who shares them; trees that have nothing to do with each other may be on two;
 // - no call is made in a signal handler, nor in a forked child;
@@ -571,6 +587,73 @@ rart_answer rart_bytes_page(
     size_t *RART_ALONE key_len,
     size_t *RART_ALONE len
 );
+
+// The calls that take null: of these names the library's own functions, which don't, are written in
+// brackets, as (rart_clear)(tree).
+static inline void rart_clear_any(rart_tree *tree) {
+    if (tree != NULL) {
+        (rart_clear)(tree);
+    }
+}
+#define rart_clear(...) rart_clear_any(__VA_ARGS__)
+
+RART_NONNULL_AT(1, 2) RART_MUST_USE RART_READS(2, 3)
+static inline rart_answer rart_insert_any(
+    rart_tree *tree,
+    const uint8_t *key,
+    size_t key_len,
+    uint64_t value,
+    uint64_t *replaced
+) {
+    uint64_t unwanted;
+    return (rart_insert)(tree, key, key_len, value, replaced != NULL ? replaced : &unwanted);
+}
+#define rart_insert(...) rart_insert_any(__VA_ARGS__)
+
+RART_NONNULL_AT(1, 2) RART_MUST_USE RART_READS(2, 3)
+static inline rart_answer rart_remove_any(
+    rart_tree *tree,
+    const uint8_t *key,
+    size_t key_len,
+    uint64_t *value
+) {
+    uint64_t unwanted;
+    return (rart_remove)(tree, key, key_len, value != NULL ? value : &unwanted);
+}
+#define rart_remove(...) rart_remove_any(__VA_ARGS__)
+
+RART_NONNULL_AT(1, 2) RART_MUST_USE RART_READS(2, 3)
+static inline rart_answer rart_add_any(
+    rart_tree *tree,
+    const uint8_t *key,
+    size_t key_len,
+    uint64_t value,
+    uint64_t *found
+) {
+    uint64_t unwanted;
+    return (rart_add)(tree, key, key_len, value, found != NULL ? found : &unwanted);
+}
+#define rart_add(...) rart_add_any(__VA_ARGS__)
+
+RART_NONNULL_AT(1, 2) RART_MUST_USE RART_READS(2, 3)
+static inline rart_answer rart_replace_any(
+    rart_tree *tree,
+    const uint8_t *key,
+    size_t key_len,
+    uint64_t value,
+    uint64_t *replaced
+) {
+    uint64_t unwanted;
+    return (rart_replace)(tree, key, key_len, value, replaced != NULL ? replaced : &unwanted);
+}
+#define rart_replace(...) rart_replace_any(__VA_ARGS__)
+
+static inline void rart_bytes_clear_any(rart_bytes *tree) {
+    if (tree != NULL) {
+        (rart_bytes_clear)(tree);
+    }
+}
+#define rart_bytes_clear(...) rart_bytes_clear_any(__VA_ARGS__)
 
 #ifdef __cplusplus
 }

@@ -3,8 +3,12 @@
 #define CALL(name) rart_##name
 #include "shared.h"
 
+// (a value before that isn't wanted may go nowhere)
 static rart_answer insert(size_t at, const struct key *key, uint64_t value) {
     uint64_t replaced = NO_NUMBER;
+    if (random_below(8) == 0) {
+        return rart_insert(&trees[at], key->bytes, key->len, value, NULL);
+    }
     rart_answer answer = rart_insert(&trees[at], key->bytes, key->len, value, &replaced);
     EXPECT(replaced == (answer == RART_DONE ? tables[at].values[key->number] : NO_NUMBER));
     return answer;
@@ -26,6 +30,9 @@ static rart_answer replace(size_t at, const struct key *key, uint64_t value) {
 
 static rart_answer take_out(size_t at, const struct key *key) {
     uint64_t value = NO_NUMBER;
+    if (random_below(8) == 0) {
+        return rart_remove(&trees[at], key->bytes, key->len, NULL);
+    }
     rart_answer answer = rart_remove(&trees[at], key->bytes, key->len, &value);
     EXPECT(value == (answer == RART_DONE ? tables[at].values[key->number] : NO_NUMBER));
     return answer;

@@ -14,7 +14,6 @@ struct prices {
 
 // Sets a price. Where memory is refused, the list and its history are as before.
 static bool set_price(struct prices *prices, const char *name, uint64_t price) {
-    uint64_t replaced;
     if (prices->steps == MOST_STEPS) {
         return false;
     }
@@ -22,9 +21,7 @@ static bool set_price(struct prices *prices, const char *name, uint64_t price) {
     if (rart_clone(&prices->now, before) != RART_DONE) {
         return false;
     }
-    rart_answer answer =
-        rart_insert(&prices->now, (const uint8_t *)name, strlen(name), price, &replaced);
-    if (!RART_OK(answer)) {
+    if (!RART_OK(rart_insert(&prices->now, (const uint8_t *)name, strlen(name), price, NULL))) {
         rart_clear(before);
         return false;
     }
@@ -41,25 +38,25 @@ static void undo(struct prices *prices) {
     }
 }
 
-static void show(struct prices *prices, const char *name) {
-    uint64_t price;
-    if (rart_get(&prices->now, (const uint8_t *)name, strlen(name), &price) == RART_DONE) {
-        printf("%s is %llu\n", name, (unsigned long long)price);
-    } else {
-        printf("%s has no price\n", name);
-    }
-}
-
-// Shows the list in the order of names. (No name is longer than 63 bytes.)
-static void show_all(struct prices *prices) {
-    uint8_t name[64], last[64] = {0};
-    size_t len;
-    uint64_t price;
-    rart_answer answer = rart_seek(&prices->now, last, 0, name, sizeof name, &len, &price);
-    while (answer == RART_DONE) {
-        printf("%.*s is %llu\n", (int)len, (const char *)name, (unsigned long long)price);
-        memcpy(last, name, len);
-        answer = rart_next(&prices->now, last, len, name, sizeof name, &len, &price);
+// Shows the prices of names that a prefix begins, by pages. (No name is longer than 63 bytes.)
+static void show_under(struct prices *prices, const char *prefix) {
+    uint8_t low[64] = {0}, high[64] = {0}, names[256];
+    rart_entry entries[16];
+    size_t low_len = strlen(prefix), count, needed;
+    uint8_t low_kind = RART_INCLUDED;
+    memcpy(low, prefix, low_len);
+    memcpy(high, prefix, low_len);
+    size_t high_len = rart_prefix_end(high, low_len);
+    uint8_t high_kind = high_len > 0 ? RART_EXCLUDED : RART_UNBOUNDED;
+    while (rart_page(&prices->now, low, low_len, low_kind, high, high_len, high_kind, names,
+                     sizeof names, entries, 16, &count, &needed) == RART_DONE) {
+        for (size_t at = 0, start = 0; at < count; start = entries[at++].end) {
+            low_len = entries[at].end - start;
+            memcpy(low, names + start, low_len);
+            printf("%.*s is %llu\n", (int)low_len, (const char *)low,
+                   (unsigned long long)entries[at].value);
+        }
+        low_kind = RART_EXCLUDED; // (the next page begins behind the last name)
     }
 }
 
@@ -68,11 +65,11 @@ int main(void) {
     if (!set_price(&prices, "tea", 300) || !set_price(&prices, "milk", 100)) {
         return 1;
     }
-    show_all(&prices);
+    show_under(&prices, "");
     undo(&prices);
-    show(&prices, "tea");
+    show_under(&prices, "t");
     undo(&prices);
-    show(&prices, "tea");
+    show_under(&prices, "t");
     rart_clear(&prices.now);
     return 0;
 }

@@ -472,6 +472,7 @@ static int compare(int count, char **words, const char *values) {
     for (size_t at = 0; at < TREES; at++) {
         expect_clear(at);
     }
+    CALL(clear)(NULL);
     EXPECT(blocks_held() == 0);
     printf("%llu calls on %s from C are as the tables say, %llu refused, of them %llu reallocs\n",
            calls, values, refused, reallocs_refused());

@@ -23,15 +23,9 @@ impl Prices {
         }
     }
 
-    fn show(&self, name: &str) {
-        match self.now.get(name) {
-            Some(price) => println!("{name} is {price}"),
-            None => println!("{name} has no price"),
-        }
-    }
-
-    fn show_all(&self) {
-        for (name, price) in &self.now {
+    /// Shows the prices of names that a prefix begins.
+    fn show_under(&self, prefix: &str) {
+        for (name, price) in self.now.prefix(prefix) {
             println!("{} is {price}", name.escape_ascii());
         }
     }
@@ -41,10 +35,10 @@ fn main() -> Result<(), Refusal> {
     let mut prices = Prices::default();
     prices.set("tea", 300)?;
     prices.set("milk", 100)?;
-    prices.show_all();
+    prices.show_under("");
     prices.undo();
-    prices.show("tea");
+    prices.show_under("t");
     prices.undo();
-    prices.show("tea");
+    prices.show_under("t");
     Ok(())
 }

@@ -3,7 +3,8 @@
 //!
 //! `search` reads: a value, how far down it stands, the keys that begin a key. `insertion` and
 //! `removal` put a value in and take one out, `lending` lends one for writing, and `seeking` finds
-//! the first key that meets a bound. `prefixes` keeps what stands under a prefix, or takes it out.
+//! the first key from a bound on, and the last up to one. `prefixes` keeps what stands under a
+//! prefix, or takes it out.
 #![tactic(auto)]
 
 mod insertion;

@@ -6,6 +6,7 @@ use crate::saving::save_slice;
 use crate::streams::{load, save};
 use crate::value::{ByteString, SavedValue};
 use rart_versioned::{ArrayKey, KeyTrait, VectorKey, VersionedAdaptiveRadixTree};
+use sha2::{Digest, Sha256};
 use std::alloc::{AllocError, Global};
 use std::io::{self, Read, Write};
 use std::process::Abort;
@@ -37,11 +38,11 @@ fn three(alloc: Global) -> Result<Tree, AllocError> {
     Ok(tree)
 }
 
-/// Whether these bytes are refused, or read as what is saved as them.
-fn is_refused(alloc: Global, bytes: &[u8]) -> Result<bool, AllocError> {
+/// Whether these bytes are refused, or what was read is saved as them.
+fn is_refused_or_saved(alloc: Global, bytes: &[u8]) -> Result<bool, AllocError> {
     match load_slice::<VectorKey, u64>(alloc, bytes) {
         Err(_error) => Ok(true),
-        Ok(tree) => Ok(save_slice(alloc, &tree)?.as_slice() != bytes),
+        Ok(tree) => Ok(save_slice(alloc, &tree)?.as_slice() == bytes),
     }
 }
 
@@ -149,8 +150,36 @@ fn random_files_are_refused(rt: HostRuntime) -> Result<(), Fail> {
             let byte = (state >> 56) as u8;
             bytes.push(if round % 3 == 0 { byte } else { byte % 4 })?;
         }
-        assert!(rt; is_refused(alloc, bytes.as_slice())?);
+        assert!(rt; is_refused_or_saved(alloc, bytes.as_slice())?);
     }
+    Ok(())
+}
+
+#[test]
+fn changed_files_with_a_right_sum_are_of_what_is_read(rt: HostRuntime) -> Result<(), Fail> {
+    let alloc = rt.alloc();
+    let mut state = 7_u64;
+    let mut accepted = 0_usize;
+    for _ in 0..20_000_usize {
+        let mut bytes = THREE[..47].to_vec(alloc)?;
+        for _ in 0..2 {
+            state = state
+                .wrapping_mul(0x5851_f42d_4c95_7f2d)
+                .wrapping_add(0x1405_7b7e_f767_814f);
+            let at = (state >> 33) as usize % 38 + 9;
+            let byte = (state >> 56) as u8;
+            if at < bytes.len() {
+                bytes[at] = if byte % 2 == 0 { byte } else { byte % 6 };
+            }
+        }
+        let sum = Sha256::digest(bytes.as_slice());
+        bytes.extend_from_slice(&sum)?;
+        assert!(rt; is_refused_or_saved(alloc, bytes.as_slice())?);
+        if load_slice::<VectorKey, u64>(alloc, bytes.as_slice()).is_ok() {
+            accepted = accepted.saturating_add(1);
+        }
+    }
+    assert!(rt; accepted > 1000 && accepted < 19_000);
     Ok(())
 }
 

@@ -86,6 +86,8 @@ enum {
     RART_TOO_LONG = 6,
     // The tree has a key, and how long one may be is set without any. Nothing changed.
     RART_NOT_EMPTY = 7,
+    // The trees are not equal.
+    RART_DIFFERENT = 8,
 };
 
 // Whether a change was done: of a key that was there, or of one that wasn't.
@@ -110,6 +112,8 @@ static inline const char *rart_answer_text(rart_answer answer) {
         return "the key is too long";
     case RART_NOT_EMPTY:
         return "the tree has a key";
+    case RART_DIFFERENT:
+        return "the trees differ";
     default:
         return "no answer";
     }
@@ -538,6 +542,12 @@ rart_answer rart_bytes_remove(
     size_t key_len
 );
 
+// Whether both trees have the same keys with the same values, whatever their numbers: answers
+// RART_DONE where they have, else RART_DIFFERENT. RART_NO_MEMORY says that memory was refused, and
+// nothing of them.
+RART_NONNULL RART_MUST_USE RART_CHANGES(1) RART_CHANGES(2)
+rart_answer rart_equals(rart_tree *RART_ALONE tree, rart_tree *RART_ALONE other);
+
 // Sets a key to a copy of the value where it is not there, the number then one greater, and answers
 // RART_ABSENT. Where it is there nothing changes, and it answers RART_DONE. RART_TOO_LONG says that
 // the key is longer than a key may be, RART_LAST_NUMBER that it is not there and the number can't
@@ -563,6 +573,12 @@ rart_answer rart_bytes_replace(
     const uint8_t *RART_ALONE value,
     size_t value_len
 );
+
+// Whether both trees have the same keys with the same values, whatever their numbers: answers
+// RART_DONE where they have, else RART_DIFFERENT. RART_NO_MEMORY says that memory was refused, and
+// nothing of them.
+RART_NONNULL RART_MUST_USE RART_CHANGES(1) RART_CHANGES(2)
+rart_answer rart_bytes_equals(rart_bytes *RART_ALONE tree, rart_bytes *RART_ALONE other);
 
 // Writes the first pairs within two bounds, as many as there is room for: to the front of bytes
 // each key and its value behind it, an entry of each pair to the front of entries, and how many

@@ -362,6 +362,19 @@ static void count_common(size_t at, size_t other) {
     EXPECT(CALL(common)(&trees[at], &trees[other]) == wanted);
 }
 
+// Trees are equal where they have the same keys with the same values.
+static void expect_equals(size_t at, size_t other) {
+    rart_answer wanted = RART_DONE;
+    for (size_t key = 0; key < KEYS; key++) {
+        bool is_here = tables[at].has[key], is_there = tables[other].has[key];
+        bool differs = is_here && tables[at].values[key] != tables[other].values[key];
+        if (is_here != is_there || (is_there && differs)) {
+            wanted = RART_DIFFERENT;
+        }
+    }
+    is_refused(CALL(equals)(&trees[at], &trees[other]), wanted);
+}
+
 struct bound {
     struct key key;
     uint8_t kind;
@@ -396,8 +409,10 @@ static void make_call(size_t at) {
         expect_longest_key(at, MOST_BYTES);
     } else if (what < 20) {
         expect_copy(at, other, random_below(2) == 0);
+        expect_equals(at, other);
     } else if (what < 40) {
         count_common(at, other);
+        expect_equals(at, other);
     } else if (what < 60) {
         read_all(at);
     } else if (what < 70) {

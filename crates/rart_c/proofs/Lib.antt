@@ -1,5 +1,6 @@
 pub mod AnswerLawLemmas
 pub mod EmptyLemmas
+pub mod EqualityLemmas
 pub mod Handles
 pub mod LengthLemmas
 pub mod LimitLemmas

@@ -1,6 +1,7 @@
 -- What the numbers that exports answer say.
-use Rattle.std.specs.Prelude.{◌≡◌, ℕ, ◌⊎◌, Bool, true, false, Option, Some, None}
-use Rattle.rart_c.specs.declared.answer.TheConstants.{DONE, ABSENT, LAST_NUMBER, NO_MEMORY, TOO_LONG}
+use Rattle.std.specs.Prelude.{◌≡◌, ℕ, ◌⊎◌, Bool, true, false, Option, Some, None, Result, Ok, Err}
+use Rattle.std.specs.declared.alloc.AllocError.{AllocError}
+use Rattle.rart_c.specs.declared.answer.TheConstants.{DONE, ABSENT, DIFFERENT, LAST_NUMBER, NO_MEMORY, TOO_LONG}
 use Rattle.rart_c.specs.declared.answer.Refusal.{Refusal}
 use Rattle.rart_c.specs.declared.answer.Refusal.TheVariants.{LastNumber, NoMemory}
 use Rattle.rart_maps.specs.Versions.{Version, HasRoom}
@@ -15,6 +16,12 @@ Tells (Some x) answer before after = (answer ≡ DONE) × (after ≡ x)
 abbrev pub told_there : Bool → ℕ
 told_there true = DONE
 told_there false = ABSENT
+
+-- the number that says whether two maps are the same
+abbrev pub told_equal : Result Bool AllocError → ℕ
+told_equal (Ok true) = DONE
+told_equal (Ok false) = DIFFERENT
+told_equal (Err refused) = NO_MEMORY
 
 -- The answer says that the call was not done.
 abbrev pub IsRefused : ℕ → Type 0

@@ -19,8 +19,8 @@ module _ {V : Type 0} where
   tree_at number = record { version = empty_at number; longest = LONGEST_KEY }
 
   -- the same with another version
-  abbrev pub with_version : Tree V → Version V → Tree V
-  with_version tree version = record { version = version; longest = tree.longest }
+  abbrev pub of_version : Tree V → Version V → Tree V
+  of_version tree version = record { version = version; longest = tree.longest }
 
   -- the same, keys as long as this
   abbrev pub with_longest : Tree V → ℕ → Tree V

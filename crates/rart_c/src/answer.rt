@@ -1,9 +1,11 @@
 //! The small numbers that exports answer, and what is told by them.
 ghost use Rattle.std.specs.Prelude.{◌≡◌, ℕ, List, length};
-ghost use Rattle.rart_c.specs.Answers.{Tells, number_of, told_there};
+ghost use Rattle.rart_c.specs.Answers.{Tells, number_of, told_equal, told_there};
 ghost use Rattle.rart_c.specs.Firsts.{TellsFirst};
 ghost use Rattle.rart_c.specs.Longest.{length_found};
 ghost use Rattle.rart_ways.specs.Firsts.{Finds};
+
+use std::alloc::AllocError;
 
 /// The call was done. Where it answers a value, there was one, and it is written.
 pub const DONE: u8 = 0;
@@ -29,6 +31,9 @@ pub const TOO_LONG: u8 = 6;
 
 /// The tree has a key, and how long one may be is set without any. Nothing changed.
 pub const NOT_EMPTY: u8 = 7;
+
+/// The trees are not equal.
+pub const DIFFERENT: u8 = 8;
 
 /// Why a call isn't done.
 #[derive(Drop)]
@@ -94,6 +99,17 @@ pub(crate) fn tell_first(
     }
     *value = *first;
     DONE
+}
+
+/// Tells whether two maps are the same, or that it wasn't found out.
+pub(crate) fn tell_equal(told: Result<bool, AllocError>) -> u8
+    ensures { result ≡ told_equal told }
+{
+    match told {
+        Ok(true) => DONE,
+        Ok(false) => DIFFERENT,
+        Err(_) => NO_MEMORY,
+    }
 }
 
 /// Tells whether there was a value.

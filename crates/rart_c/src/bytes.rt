@@ -1,6 +1,7 @@
 //! Trees whose values are byte strings.
 pub(crate) mod changing;
 pub(crate) mod choosing;
+pub(crate) mod comparing;
 pub(crate) mod handle;
 pub(crate) mod limits;
 pub(crate) mod paging;

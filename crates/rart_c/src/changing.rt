@@ -1,7 +1,7 @@
 //! What C calls to change a tree.
 ghost use Rattle.std.specs.Prelude.{◌≡◌, ◌<◌, ◌≤◌, ◌⊎◌, ◌↔◌, IsTrue, length};
 ghost use Rattle.rart_c.specs.Answers.{IsRefused, IsRefusedKey, Tells};
-ghost use Rattle.rart_c.specs.Trees.{tree_at, with_version};
+ghost use Rattle.rart_c.specs.Trees.{tree_at, of_version};
 ghost use Rattle.rart_c.specs.declared.answer.TheConstants.{LAST_NUMBER, TOO_LONG};
 ghost use Rattle.rart_maps.specs.Changes.{after_removal};
 ghost use Rattle.rart_maps.specs.Versions.{HasRoom, has_key, value_at, with_key};
@@ -33,7 +33,7 @@ pub extern "C" fn rart_insert(
     replaced: &mut u64,
 ) -> u8
     ensures done { IsRefusedKey result ⊎ ((tree.new.shows
-        ≡ with_version tree.old.shows (with_key tree.old.shows.version key.now value 1))
+        ≡ of_version tree.old.shows (with_key tree.old.shows.version key.now value 1))
         × Tells (value_at tree.old.shows.version key.now) result replaced.old replaced.new) }
     ensures refused { IsRefusedKey result
         → (tree.new.shows ≡ tree.old.shows) × (replaced.new ≡ replaced.old) }
@@ -56,7 +56,7 @@ pub extern "C" fn rart_insert(
 #[unsafe(no_mangle)]
 pub extern "C" fn rart_remove(tree: &mut RartTree, key: &[u8], value: &mut u64) -> u8
     ensures done { IsRefused result ⊎ ((tree.new.shows
-        ≡ with_version tree.old.shows (after_removal tree.old.shows.version key.now))
+        ≡ of_version tree.old.shows (after_removal tree.old.shows.version key.now))
         × Tells (value_at tree.old.shows.version key.now) result value.old value.new) }
     ensures refused { IsRefused result
         → (tree.new.shows ≡ tree.old.shows) × (value.new ≡ value.old)

@@ -2,7 +2,7 @@
 ghost use Rattle.std.specs.Prelude.{◌≡◌, ◌<◌, ◌≤◌, ◌⊎◌, ◌↔◌, IsTrue, length};
 ghost use Rattle.rart_c.specs.Answers.{IsRefused, IsRefusedKey, Tells};
 ghost use Rattle.rart_c.specs.Choices.{after_addition};
-ghost use Rattle.rart_c.specs.Trees.{with_version};
+ghost use Rattle.rart_c.specs.Trees.{of_version};
 ghost use Rattle.rart_c.specs.declared.answer.TheConstants.{LAST_NUMBER, TOO_LONG};
 ghost use Rattle.rart_maps.specs.Changes.{after_writing};
 ghost use Rattle.rart_maps.specs.Versions.{HasRoom, has_key, value_at};
@@ -26,7 +26,7 @@ pub extern "C" fn rart_add(
     found: &mut u64,
 ) -> u8
     ensures done { IsRefusedKey result ⊎ ((tree.new.shows
-        ≡ with_version tree.old.shows (after_addition tree.old.shows.version key.now value))
+        ≡ of_version tree.old.shows (after_addition tree.old.shows.version key.now value))
         × Tells (value_at tree.old.shows.version key.now) result found.old found.new) }
     ensures refused { IsRefusedKey result
         → (tree.new.shows ≡ tree.old.shows) × (found.new ≡ found.old)
@@ -61,7 +61,7 @@ pub extern "C" fn rart_replace(
     replaced: &mut u64,
 ) -> u8
     ensures done { IsRefused result ⊎ ((tree.new.shows
-        ≡ with_version tree.old.shows (after_writing tree.old.shows.version key.now value))
+        ≡ of_version tree.old.shows (after_writing tree.old.shows.version key.now value))
         × Tells (value_at tree.old.shows.version key.now) result replaced.old replaced.new) }
     ensures refused { IsRefused result
         → (tree.new.shows ≡ tree.old.shows) × (replaced.new ≡ replaced.old)

@@ -1,5 +1,5 @@
 //! What is read of a table that a handle lends, or of none: the tree as it is at first.
-ghost use Rattle.std.specs.Prelude.{◌≡◌, ◌≤◌, ◌==◌, length, not, reverse, IfOk, IsTrue, MatchOption, MatchResult};
+ghost use Rattle.std.specs.Prelude.{◌≡◌, ◌≤◌, ◌==◌, ◌↔◌, length, not, reverse, IfOk, IsTrue, MatchOption, MatchResult};
 ghost use Rattle.std.specs.FinMap as finite;
 ghost use Rattle.std.specs.Option.{option_copied};
 ghost use Rattle.std.specs.Range.Bound.{bound_map};
@@ -7,8 +7,9 @@ ghost use Rattle.std.specs.declared.ops.Bound.TheVariants.{Unbounded};
 ghost use Rattle.rart_c.specs.Answers.{Explains};
 ghost use Rattle.rart_c.specs.Longest.{length_found, longest_length};
 ghost use Rattle.rart_c.specs.Shown.{shown};
+ghost use Rattle.rart_maps.specs.ChangeLaws.{Decides};
 ghost use Rattle.rart_maps.specs.Pairs.{common, within};
-ghost use Rattle.rart_c.specs.Trees.{KeepsLimit, tree_at, with_version};
+ghost use Rattle.rart_c.specs.Trees.{KeepsLimit, tree_at, of_version};
 ghost use Rattle.rart_maps.specs.Versions.{HasRoom, has_key, value_at, with_rise};
 ghost use Rattle.rart_ways.specs.Firsts.{Finds};
 
@@ -139,13 +140,32 @@ pub(crate) fn common<V: Clone + Drop>(table: Option<&Table<V>>, other: Option<&T
     }
 }
 
+/// Whether both have the same keys with the same values.
+pub(crate) fn equals<V: Clone + Drop + Eq>(
+    alloc: Global,
+    table: Option<&Table<V>>,
+    other: Option<&Table<V>>,
+) -> Result<bool, AllocError>
+    requires { Decides V.eq }
+    ensures { IfOk result (λ equal. IsTrue equal
+        ↔ ((shown table.entry).version.content ≡ (shown other.entry).version.content)) }
+{
+    let none = Table::new_at(alloc, 0);
+    match (table, other) {
+        (None, None) => Ok(true),
+        (None, Some(other)) => none.equals(other),
+        (Some(table), None) => table.equals(&none),
+        (Some(table), Some(other)) => table.equals(other),
+    }
+}
+
 /// The same map once more, its number one greater.
 pub(crate) fn snapshot<V: Clone + Drop>(
     alloc: Global,
     table: Option<&Table<V>>,
 ) -> Result<Box<Table<V>>, Refusal>
     ensures copy { IfOk result (λ copy. copy.value
-        ≡ with_version (shown table.entry) (with_rise (shown table.entry).version 1)) }
+        ≡ of_version (shown table.entry) (with_rise (shown table.entry).version 1)) }
     ensures room { MatchResult result (λ _. HasRoom (shown table.entry).version 1)
         (Explains (shown table.entry).version) }
 {

@@ -1,9 +1,10 @@
 //! The tree that a handle leads to, how many keys it has, and how long they may be.
-ghost use Rattle.std.specs.Prelude.{◌≡◌, ◌≤◌, length, IfOk, OnErr, IsSome, IsTrue, MatchResult};
+ghost use Rattle.std.specs.Prelude.{◌≡◌, ◌≤◌, ◌↔◌, length, IfOk, OnErr, IsSome, IsTrue, MatchResult};
 ghost use Rattle.rart_below.specs.Clones.{ClonesEqual};
 ghost use Rattle.rart_c.specs.Answers.{Explains};
+ghost use Rattle.rart_maps.specs.ChangeLaws.{Decides};
 ghost use Rattle.rart_maps.specs.Changes.{Changes, removal, replacement};
-ghost use Rattle.rart_c.specs.Trees.{KeepsLimit, tree_at, with_longest, with_version};
+ghost use Rattle.rart_c.specs.Trees.{KeepsLimit, tree_at, with_longest, of_version};
 ghost use Rattle.rart_maps.specs.Versions.{HasRoom, has_key, has_no_key, with_rise};
 
 use crate::answer::Refusal;
@@ -111,7 +112,7 @@ impl<V: Clone + Drop> Table<V> {
     /// The same map once more, its number one greater.
     pub(crate) fn snapshot(&self) -> Result<Table<V>, Refusal>
         ensures copy { IfOk result
-            (λ copy. copy ≡ with_version self.now (with_rise self.now.version 1)) }
+            (λ copy. copy ≡ of_version self.now (with_rise self.now.version 1)) }
         ensures room { MatchResult result (λ _. HasRoom self.now.version 1)
             (Explains self.now.version) }
     {
@@ -138,5 +139,16 @@ impl<V: Clone + Drop> Table<V> {
             len: self.len,
             longest: self.longest,
         })
+    }
+}
+
+impl<V: Clone + Drop + Eq> Table<V> {
+    /// Whether both have the same keys with the same values.
+    pub(crate) fn equals(&self, other: &Table<V>) -> Result<bool, AllocError>
+        requires { Decides V.eq }
+        ensures { IfOk result (λ equal. IsTrue equal
+            ↔ (self.now.version.content ≡ other.now.version.content)) }
+    {
+        self.tree.equals(&other.tree)
     }
 }

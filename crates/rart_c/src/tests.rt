@@ -1,7 +1,8 @@
 //! Each export with ample memory, all that it writes beside its answer.
-use crate::answer::{ABSENT, DONE, NOT_EMPTY, TOO_LONG, TOO_SMALL};
+use crate::answer::{ABSENT, DIFFERENT, DONE, NOT_EMPTY, TOO_LONG, TOO_SMALL};
 use crate::changing::{rart_clear, rart_insert, rart_remove};
 use crate::choosing::{rart_add, rart_replace};
+use crate::comparing::rart_equals;
 use crate::handle::RartTree;
 use crate::limits::{rart_longest_key, rart_set_longest_key};
 use crate::paging::{EXCLUDED, INCLUDED, RartEntry, rart_page};
@@ -149,7 +150,9 @@ fn versions_are_apart(rt: HostRuntime) {
     let mut copy = RartTree::empty(alloc);
     let mut value = 0;
     assert_eq!(rt; rart_snapshot(alloc, &mut tree, &mut copy), DONE);
+    assert_eq!(rt; rart_equals(alloc, &mut tree, &mut copy), DONE);
     assert_eq!(rt; rart_insert(alloc, &mut tree, b"b", 2, &mut value), ABSENT);
+    assert_eq!(rt; rart_equals(alloc, &mut tree, &mut copy), DIFFERENT);
     assert_eq!(rt; rart_common(&mut tree, &mut copy), 1);
     assert_eq!(rt; rart_version(&mut copy), 2);
     assert_eq!(rt; rart_clone(alloc, &mut tree, &mut copy), DONE);

@@ -1,7 +1,7 @@
 //! What C calls to change a tree of byte strings.
 ghost use Rattle.std.specs.Prelude.{◌≡◌, ◌<◌, ◌≤◌, ◌⊎◌, ◌↔◌, IsTrue, MatchResult, length};
 ghost use Rattle.rart_c.specs.Answers.{Explains, IsRefused, IsRefusedKey, told_there};
-ghost use Rattle.rart_c.specs.Trees.{tree_at, with_version};
+ghost use Rattle.rart_c.specs.Trees.{tree_at, of_version};
 ghost use Rattle.rart_c.specs.declared.answer.TheConstants.{LAST_NUMBER, TOO_LONG};
 ghost use Rattle.rart_maps.specs.Changes.{Changes, after_removal, replacement};
 ghost use Rattle.rart_maps.specs.Versions.{HasRoom, has_key, with_key};
@@ -33,7 +33,7 @@ pub extern "C" fn rart_bytes_insert(
     value: &[u8],
 ) -> u8
     ensures done { IsRefusedKey result ⊎ ((tree.new.shows
-        ≡ with_version tree.old.shows (with_key tree.old.shows.version key.now value.now 1))
+        ≡ of_version tree.old.shows (with_key tree.old.shows.version key.now value.now 1))
         × (result ≡ told_there (has_key tree.old.shows.version key.now))) }
     ensures refused { IsRefusedKey result → tree.new.shows ≡ tree.old.shows }
     ensures long { (result ≡ TOO_LONG) ↔ (tree.old.shows.longest < length key.now) }
@@ -55,7 +55,7 @@ pub extern "C" fn rart_bytes_insert(
 #[unsafe(no_mangle)]
 pub extern "C" fn rart_bytes_remove(tree: &mut RartBytes, key: &[u8]) -> u8
     ensures done { IsRefused result ⊎ ((tree.new.shows
-        ≡ with_version tree.old.shows (after_removal tree.old.shows.version key.now))
+        ≡ of_version tree.old.shows (after_removal tree.old.shows.version key.now))
         × (result ≡ told_there (has_key tree.old.shows.version key.now))) }
     ensures refused { IsRefused result
         → (tree.new.shows ≡ tree.old.shows) × IsTrue (has_key tree.old.shows.version key.now) }

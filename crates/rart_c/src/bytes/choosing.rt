@@ -2,7 +2,7 @@
 ghost use Rattle.std.specs.Prelude.{◌≡◌, ◌<◌, ◌≤◌, ◌⊎◌, ◌↔◌, IsTrue, length};
 ghost use Rattle.rart_c.specs.Answers.{IsRefused, IsRefusedKey, told_there};
 ghost use Rattle.rart_c.specs.Choices.{after_addition};
-ghost use Rattle.rart_c.specs.Trees.{with_version};
+ghost use Rattle.rart_c.specs.Trees.{of_version};
 ghost use Rattle.rart_c.specs.declared.answer.TheConstants.{LAST_NUMBER, TOO_LONG};
 ghost use Rattle.rart_maps.specs.Changes.{after_writing};
 ghost use Rattle.rart_maps.specs.Versions.{HasRoom, has_key};
@@ -25,7 +25,7 @@ pub extern "C" fn rart_bytes_add(
     value: &[u8],
 ) -> u8
     ensures done { IsRefusedKey result ⊎ ((tree.new.shows
-        ≡ with_version tree.old.shows (after_addition tree.old.shows.version key.now value.now))
+        ≡ of_version tree.old.shows (after_addition tree.old.shows.version key.now value.now))
         × (result ≡ told_there (has_key tree.old.shows.version key.now))) }
     ensures refused { IsRefusedKey result → (tree.new.shows ≡ tree.old.shows)
         × ¬ (IsTrue (has_key tree.old.shows.version key.now)) }
@@ -58,7 +58,7 @@ pub extern "C" fn rart_bytes_replace(
     value: &[u8],
 ) -> u8
     ensures done { IsRefused result ⊎ ((tree.new.shows
-        ≡ with_version tree.old.shows (after_writing tree.old.shows.version key.now value.now))
+        ≡ of_version tree.old.shows (after_writing tree.old.shows.version key.now value.now))
         × (result ≡ told_there (has_key tree.old.shows.version key.now))) }
     ensures refused { IsRefused result → (tree.new.shows ≡ tree.old.shows)
         × IsTrue (has_key tree.old.shows.version key.now) }

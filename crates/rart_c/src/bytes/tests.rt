@@ -1,7 +1,8 @@
 //! Each export with ample memory, all that it writes beside its answer.
-use crate::answer::{ABSENT, DONE, NOT_EMPTY, TOO_LONG, TOO_SMALL};
+use crate::answer::{ABSENT, DIFFERENT, DONE, NOT_EMPTY, TOO_LONG, TOO_SMALL};
 use crate::bytes::changing::{rart_bytes_clear, rart_bytes_insert, rart_bytes_remove};
 use crate::bytes::choosing::{rart_bytes_add, rart_bytes_replace};
+use crate::bytes::comparing::rart_bytes_equals;
 use crate::bytes::handle::RartBytes;
 use crate::bytes::limits::{rart_bytes_longest_key, rart_bytes_set_longest_key};
 use crate::bytes::paging::{RartBytesEntry, rart_bytes_page};
@@ -162,7 +163,9 @@ fn versions_are_apart(rt: HostRuntime) {
     let mut tree = tree_of(alloc, &[(b"a", b"1")]);
     let mut copy = RartBytes::empty(alloc);
     assert_eq!(rt; rart_bytes_snapshot(alloc, &mut tree, &mut copy), DONE);
+    assert_eq!(rt; rart_bytes_equals(alloc, &mut tree, &mut copy), DONE);
     assert_eq!(rt; rart_bytes_insert(alloc, &mut tree, b"a", b"2"), DONE);
+    assert_eq!(rt; rart_bytes_equals(alloc, &mut tree, &mut copy), DIFFERENT);
     assert_eq!(rt; rart_bytes_insert(alloc, &mut tree, b"b", b"3"), ABSENT);
     assert_eq!(rt; rart_bytes_common(&mut tree, &mut copy), 1);
     assert_eq!(rt; rart_bytes_version(&mut copy), 2);

@@ -2,7 +2,7 @@
 ghost use Rattle.std.specs.Prelude.{◌≡◌, ◌⊎◌, ◌↔◌};
 ghost use Rattle.rart_c.specs.Answers.{IsRefused};
 ghost use Rattle.rart_c.specs.declared.answer.TheConstants.{LAST_NUMBER};
-ghost use Rattle.rart_c.specs.Trees.{tree_at, with_version};
+ghost use Rattle.rart_c.specs.Trees.{tree_at, of_version};
 ghost use Rattle.rart_maps.specs.Versions.{HasRoom, with_rise};
 
 use crate::answer::{DONE, NO_MEMORY};
@@ -22,7 +22,7 @@ pub extern "C" fn rart_bytes_snapshot(
 ) -> u8
     ensures done { IsRefused result
         ⊎ ((result ≡ DONE) × (copy.new.shows
-        ≡ with_version tree.old.shows (with_rise tree.old.shows.version 1))) }
+        ≡ of_version tree.old.shows (with_rise tree.old.shows.version 1))) }
     ensures refused { IsRefused result → copy.new.shows ≡ copy.old.shows }
     ensures room { (result ≡ LAST_NUMBER) ↔ ¬ (HasRoom tree.old.shows.version 1) }
     ensures same { tree.new.shows ≡ tree.old.shows }

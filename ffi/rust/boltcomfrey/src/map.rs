@@ -428,6 +428,19 @@ impl<V: Value> Map<V> {
         self.tree.common_count(&other.tree)
     }
 
+    /// Whether both maps have the same keys with the same values, whatever their numbers. It is `==`
+    /// in one call, which takes memory.
+    ///
+    /// ```
+    /// # use boltcomfrey::VersionedMap;
+    /// let prices = VersionedMap::from([("tea", 300)]);
+    /// assert!(prices.equals(&prices.snapshot()?)?);
+    /// # Ok::<(), boltcomfrey::Refusal>(())
+    /// ```
+    pub fn equals(&self, other: &Map<V>) -> Result<bool, Refusal> {
+        self.tree.equals(&other.tree)
+    }
+
     /// Sets a key to a value, and gives the value that was replaced. The number rises by one.
     /// Refused, nothing has changed. Where values are byte strings, the one before is looked up and
     /// copied first: `set` does without.

@@ -1,8 +1,8 @@
 //! The proved calls as safe functions. All `unsafe` of this crate stands here and in `sys`.
 use crate::error::Refusal;
 use crate::sys::{
-    self, ABSENT, DONE, EXCLUDED, INCLUDED, LAST_NUMBER, NOT_EMPTY, RartBytes, RartBytesEntry,
-    RartEntry, RartTree, TOO_LONG, TOO_SMALL, UNBOUNDED,
+    self, ABSENT, DIFFERENT, DONE, EXCLUDED, INCLUDED, LAST_NUMBER, NOT_EMPTY, RartBytes,
+    RartBytesEntry, RartEntry, RartTree, TOO_LONG, TOO_SMALL, UNBOUNDED,
 };
 use crate::walk::Page;
 use std::cell::UnsafeCell;
@@ -23,6 +23,7 @@ pub trait Handle: Sized {
     const VERSION: unsafe extern "C" fn(*mut Self) -> u64;
     const LEN: unsafe extern "C" fn(*mut Self) -> usize;
     const COMMON: unsafe extern "C" fn(*mut Self, *mut Self) -> usize;
+    const EQUALS: unsafe extern "C" fn(*mut Self, *mut Self) -> u8;
     const SNAPSHOT: unsafe extern "C" fn(*mut Self, *mut Self) -> u8;
     const CLONE: unsafe extern "C" fn(*mut Self, *mut Self) -> u8;
     const CLEAR: unsafe extern "C" fn(*mut Self);
@@ -37,6 +38,7 @@ impl Handle for RartTree {
     const VERSION: unsafe extern "C" fn(*mut RartTree) -> u64 = sys::rart_version;
     const LEN: unsafe extern "C" fn(*mut RartTree) -> usize = sys::rart_len;
     const COMMON: unsafe extern "C" fn(*mut RartTree, *mut RartTree) -> usize = sys::rart_common;
+    const EQUALS: unsafe extern "C" fn(*mut RartTree, *mut RartTree) -> u8 = sys::rart_equals;
     const SNAPSHOT: unsafe extern "C" fn(*mut RartTree, *mut RartTree) -> u8 = sys::rart_snapshot;
     const CLONE: unsafe extern "C" fn(*mut RartTree, *mut RartTree) -> u8 = sys::rart_clone;
     const CLEAR: unsafe extern "C" fn(*mut RartTree) = sys::rart_clear;
@@ -52,6 +54,8 @@ impl Handle for RartBytes {
     const LEN: unsafe extern "C" fn(*mut RartBytes) -> usize = sys::rart_bytes_len;
     const COMMON: unsafe extern "C" fn(*mut RartBytes, *mut RartBytes) -> usize =
         sys::rart_bytes_common;
+    const EQUALS: unsafe extern "C" fn(*mut RartBytes, *mut RartBytes) -> u8 =
+        sys::rart_bytes_equals;
     const SNAPSHOT: unsafe extern "C" fn(*mut RartBytes, *mut RartBytes) -> u8 =
         sys::rart_bytes_snapshot;
     const CLONE: unsafe extern "C" fn(*mut RartBytes, *mut RartBytes) -> u8 = sys::rart_bytes_clone;
@@ -112,6 +116,17 @@ impl<H: Handle> Tree<H> {
         }
         // SAFETY: as above, and they are two.
         unsafe { H::COMMON(self.handle.get(), other.handle.get()) }
+    }
+
+    pub fn equals(&self, other: &Tree<H>) -> Result<bool, Refusal> {
+        if eq(self, other) {
+            return Ok(true); // (two trees of one call may not be one)
+        }
+        // SAFETY: as above, and they are two.
+        match unsafe { H::EQUALS(self.handle.get(), other.handle.get()) } {
+            DIFFERENT => Ok(false),
+            answer => done(answer).map(|()| true),
+        }
     }
 
     pub fn snapshot(&self) -> Result<Tree<H>, Refusal> {

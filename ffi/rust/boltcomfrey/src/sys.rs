@@ -41,6 +41,7 @@ pub const TOO_SMALL: u8 = 4;
 pub const NO_ENTRIES: u8 = 5;
 pub const TOO_LONG: u8 = 6;
 pub const NOT_EMPTY: u8 = 7;
+pub const DIFFERENT: u8 = 8;
 pub const INCLUDED: u8 = 0;
 pub const EXCLUDED: u8 = 1;
 pub const UNBOUNDED: u8 = 2;
@@ -233,6 +234,7 @@ unsafe extern "C" {
         value_len: usize,
     ) -> u8;
     pub fn rart_bytes_remove(tree: *mut RartBytes, key: *const u8, key_len: usize) -> u8;
+    pub fn rart_equals(tree: *mut RartTree, other: *mut RartTree) -> u8;
     pub fn rart_bytes_add(
         tree: *mut RartBytes,
         key: *const u8,
@@ -247,6 +249,7 @@ unsafe extern "C" {
         value: *const u8,
         value_len: usize,
     ) -> u8;
+    pub fn rart_bytes_equals(tree: *mut RartBytes, other: *mut RartBytes) -> u8;
     pub fn rart_bytes_page(
         tree: *mut RartBytes,
         low: *const u8,

@@ -150,6 +150,7 @@ impl<V: Drawn> Compared<V> {
             21 => {
                 self.compare_with_another(at);
                 self.unite(at);
+                self.equate(at);
             }
             22..42 => self.count_common(at),
             42 => self.renew(at),
@@ -348,6 +349,14 @@ impl<V: Drawn> Compared<V> {
             Some((key, value, theirs))
         });
         assert!(map.intersection(other).eq(common));
+    }
+
+    fn equate(&mut self, at: usize) {
+        let other = self.random.below(self.versions.len() as u64) as usize;
+        let ((map, model), (other, others)) = (&self.versions[at], &self.versions[other]);
+        let told = map.equals(other);
+        let told = told.map(|equal| assert_eq!(equal, model.pairs == others.pairs));
+        self.note(told);
     }
 
     /// Makes a map of two, whose keys may be as long as the first one's.

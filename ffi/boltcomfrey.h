@@ -158,7 +158,8 @@ static inline size_t rart_prefix_end(uint8_t *prefix, size_t len) {
 // - no call is made in a signal handler, nor in a forked child;
 // - rattle_alloc, rattle_realloc and rattle_dealloc are one allocator, safe on each thread that has
 //   trees, and a block is aligned as it is asked for, which is to 16 bytes at most;
-// - a thread has 400 bytes of stack for each byte that a key may have, and 16 KiB: at first 416 KiB.
+// - a thread has 400 bytes of stack for each byte that a key may have, and 16 KiB: at first 416 KiB
+//   (measured, not proved).
 
 // Makes copy the same map, its number one greater, and frees what copy was. Keys may be as long in
 // it. RART_LAST_NUMBER says that the number can't be raised, RART_NO_MEMORY that memory was

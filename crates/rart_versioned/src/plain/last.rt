@@ -18,7 +18,7 @@ impl<K: KeyTrait, V: Clone + Drop> VersionedAdaptiveRadixTree<K, V> {
     ///
     /// ```
     /// let mut room = [0; 16];
-    /// let newest = log.last_slice(Bound::Included(noon), &mut room);
+    /// let newest = log.last_slice(Bound::Included(monday.as_ref()), &mut room);
     /// ```
     ///
     /// The key is written to the front of `room`, if it fits there; else what `room` has then is

@@ -256,7 +256,8 @@ pub lacks-next : (bytes before part : List ℕ) (at from behind shared count : �
     → ((key : List ℕ) → IsNext f before key → shared ≡ common_length before key
     → part ≢ drop shared key)
     → LacksKey f before (drop at bytes)
-lacks-next bytes before part at from behind shared count f one other last long lacks key rest next stands =
+lacks-next bytes before part at from behind shared count f one other last long lacks key rest
+    next stands =
     let found = key-opened bytes before key rest at from behind shared count one other stands in
     lacks key next found.0
     ((split-same part (drop (common_length before key) key) _ rest (long ∙ found.1)

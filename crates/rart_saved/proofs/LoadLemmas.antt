@@ -119,7 +119,8 @@ module _ {V : Type 0} where
 
   -- ---- as many pairs as were read
 
-  -- So many pairs were read from one place to another and put into the tree, the last with this key.
+  -- So many pairs were read from one place to another and put into the tree, the last with this
+  -- key.
   pub record IsTaken (written : V → List ℕ) (bytes : List ℕ) (at end start i : ℕ)
       (key : List ℕ) (v : Version V) : Type 0 where
     pub number : v.number ≡ start + i
@@ -212,4 +213,5 @@ module _ {V : Type 0} where
             (chain-from (pairs m) (pairs_ascend_by_key V m))) (paired-none v)))
             (lengths pair.0 (ap is_some ((pairs_are_found V m pair.0 pair.1).0 there)))
             (ends ∙ append_assoc _ (entries written pair.0 later) rest
-            ∙ ap (λ k. entry written k pair ++ (entries written pair.0 later ++ rest)) (sym is.last))
+            ∙ ap (λ k. entry written k pair ++ (entries written pair.0 later ++ rest)) (sym
+            is.last))

@@ -116,7 +116,12 @@ module _ (bytes : List ℕ) (at low : ℕ) (first : drop at bytes ≡ low ∷ dr
       let on = opened more k n rest is great stands in
       let same = (groups-apart k high (n / 128) (drop end bytes) rest
       (sym part.stands ∙ on.1)).0 in
-      ⊎_elim (λ none. omega (arith, on.0, same, none)) (λ much. omega (arith, below, same, much)) bad
+      ⊎_elim (λ none. omega (arith, on.0, same, none)) (λ much. omega (
+        arith,
+        below,
+        same,
+        much,
+      )) bad
 
 pub groups-some : (more n : ℕ) → 0 < length (groups more n)
 groups-some zero n = omega (arith, ap length (groups-last n))

@@ -45,7 +45,8 @@ returns-clause-read c =
     omega (arith, c.if-count-bytes.false, c.in_ok-count.ensures.read.within) in
     let part = take (c.in_ok-count.from + c.in_ok-count.count - c.in_ok-count.from)
     (drop c.in_ok-count.from c.args.bytes.now) in
-    key-read c.args.bytes.now c.args.key.now.items c.extend_from_slice.new.self.items part c.args.at _ c.in_ok-count.from
+    key-read c.args.bytes.now c.args.key.now.items c.extend_from_slice.new.self.items part
+    c.args.at _ c.in_ok-count.from
     c.in_ok-shared.shared c.in_ok-count.count c.args.is_first
     c.in_ok-shared.ensures.read c.in_ok-count.ensures.read
     (part-counted c.args.bytes.now c.in_ok-count.from c.in_ok-count.count inside)

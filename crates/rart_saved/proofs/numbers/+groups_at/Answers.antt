@@ -13,14 +13,16 @@ returns-in_default-clause-refused t c n rest below few stands =
 pub returns-then-low-lt128-clause-read : goal.returns-then-low-lt128-clause-read
 returns-then-low-lt128-clause-read t c =
     let found = c.in-Some.ensures.lookup.3 in
-    read-small c.args.bytes.now c.args.at _ (drop-byte c.args.bytes.now c.args.at _ found.0 (λ d. c.from-low.ensures ∙ found.1 d)) _ found.0
+    read-small c.args.bytes.now c.args.at _ (drop-byte c.args.bytes.now c.args.at _ found.0 (λ
+    d. c.from-low.ensures ∙ found.1 d)) _ found.0
     c.if-low-lt128.true
 
 pub returns-then-more-eq0-clause-refused : goal.returns-then-more-eq0-clause-refused
 returns-then-more-eq0-clause-refused t c n rest below few stands =
     let found = c.in-Some.ensures.lookup.3 in
     let none : c.args.more ≡ 0 = search rules in
-    lacks-last c.args.bytes.now c.args.at _ (drop-byte c.args.bytes.now c.args.at _ found.0 (λ d. c.from-low.ensures ∙ found.1 d)) n rest
+    lacks-last c.args.bytes.now c.args.at _ (drop-byte c.args.bytes.now c.args.at _ found.0 (λ
+    d. c.from-low.ensures ∙ found.1 d)) n rest
     c.if-low-lt128.false
     (omega (arith, few, ap (λ m. 128 ^ suc m) none))
     (stands ∙ ap (λ m. groups m n ++ rest) none)
@@ -30,7 +32,8 @@ returns-in_err-high-clause-refused t c =
     let found = c.in-Some.ensures.lookup.3 in
     each_error _ (LacksGroups c.args.more (drop c.args.at c.args.bytes.now))
     (λ n rest below few stands.
-    lacks-more c.args.bytes.now c.args.at _ (drop-byte c.args.bytes.now c.args.at _ found.0 (λ d. c.from-low.ensures ∙ found.1 d))
+    lacks-more c.args.bytes.now c.args.at _ (drop-byte c.args.bytes.now c.args.at _ found.0 (λ
+    d. c.from-low.ensures ∙ found.1 d))
     _ (c.args.more - 1) n rest (omega (arith, c.if-more-eq0.false)) c.if-low-lt128.false
     c.in_err-high.ensures.refused below few stands)
 
@@ -38,7 +41,8 @@ pub returns-then-high-eq0-clause-refused : goal.returns-then-high-eq0-clause-ref
 returns-then-high-eq0-clause-refused t c n rest below few stands =
     let found = c.in-Some.ensures.lookup.3 in
     let whole : drop c.args.at c.args.bytes.now
-    ≡ c.from-low.result ∷ drop (c.args.at + 1) c.args.bytes.now = drop-byte c.args.bytes.now c.args.at _ found.0 (λ d. c.from-low.ensures ∙ found.1 d) in
+    ≡ c.from-low.result ∷ drop (c.args.at + 1) c.args.bytes.now = drop-byte c.args.bytes.now
+    c.args.at _ found.0 (λ d. c.from-low.ensures ∙ found.1 d) in
     lacks-high c.args.bytes.now c.args.at _ whole _ (c.args.more - 1) n c.in_ok-high.high _ rest
     (omega (arith, c.if-more-eq0.false)) c.if-low-lt128.false c.in_ok-high.ensures.read
     (elim c.then-high-eq0.branch [
@@ -50,7 +54,8 @@ pub returns-clause-read : goal.returns-clause-read
 returns-clause-read t c =
     let found = c.in-Some.ensures.lookup.3 in
     let whole : drop c.args.at c.args.bytes.now
-    ≡ c.from-low.result ∷ drop (c.args.at + 1) c.args.bytes.now = drop-byte c.args.bytes.now c.args.at _ found.0 (λ d. c.from-low.ensures ∙ found.1 d) in
+    ≡ c.from-low.result ∷ drop (c.args.at + 1) c.args.bytes.now = drop-byte c.args.bytes.now
+    c.args.at _ found.0 (λ d. c.from-low.ensures ∙ found.1 d) in
     let byte : c.from-low.result < 256 =
     omega (arith, c.from-low.ensures, found.1 0, c.type_inv.bytes c.args.at) in
     read-more c.args.bytes.now c.args.at _ whole _ (c.args.more - 1) c.in_ok-high.high _

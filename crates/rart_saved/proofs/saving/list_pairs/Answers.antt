@@ -21,10 +21,15 @@ put_pair-requires g c =
     let all = pairs c.args.tree.now.content in
     record {
       room = room-left all before.0 _ _ c.listing.listed.count c.args.tree.now.number
-          (taken-pair g.K.KeyTrait.bytes all before.0 _ _ (c.in_ok-key.key, c.in_ok-key.value) before.1
+          (taken-pair g.K.KeyTrait.bytes all before.0 _ _ (c.in_ok-key.key, c.in_ok-key.value)
+          before.1
           gives)
           before.2.counted
-          (omega (arith, finite.len-entries c.args.tree.now.content, c.know_keys_for_proof.ensures.few))
+          (omega (
+            arith,
+            finite.len-entries c.args.tree.now.content,
+            c.know_keys_for_proof.ensures.few,
+          ))
           c.know_keys_for_proof.ensures.fits;
     }
 

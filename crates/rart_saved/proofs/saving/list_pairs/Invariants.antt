@@ -9,7 +9,8 @@ abbrev pub invariant-listing : goal.invariant-listing
 invariant-listing g l =
     (taken : List (List ℕ × g.row.V.Denot))
     × IsTakenFrom (pairs l.tree.content) taken l.items
-    × IsListed g.V.SavedValue.written l.listed.bytes.items l.listed.before.items l.listed.count taken
+    × IsListed g.V.SavedValue.written l.listed.bytes.items l.listed.before.items l.listed.count
+    taken
 
 abbrev pub decreases-listing : goal.decreases-listing
 decreases-listing g l = count_left l.items

@@ -13,7 +13,8 @@ returns-clause-read c =
     let inside : c.args.at + 8 ≤ length c.args.bytes.now =
     omega (arith, c.if-bytes-at-lt8.false) in
     eight-read c.args.bytes.now c.copy_from_slice.new.self c.args.at c.from_le_bytes.result
-    (subst (λ g. HasPart c.args.bytes.now c.args.at g (c.args.at + 8)) (sym c.copy_from_slice.ensures.after)
+    (subst (λ g. HasPart c.args.bytes.now c.args.at g (c.args.at + 8)) (sym
+    c.copy_from_slice.ensures.after)
     (part-slice c.args.bytes.now c.args.at (c.args.at + 8) (omega arith) inside))
     c.copy_from_slice.ensures.len
     (subst (λ part. (i : ℕ) → get_or part i 0 < 256) (sym c.copy_from_slice.ensures.after)

@@ -3,10 +3,11 @@
 //! these.
 //!
 //! The program compares what changed between versions with std's maps: random diffs, patches and
-//! merges. What differs first ends the program.
+//! merges, and what stands under random prefixes. What differs first ends the program.
 #![tactic(auto)]
 
 mod draw;
+mod prefixes;
 #[cfg(test)]
 mod tests;
 mod trials;
@@ -14,6 +15,7 @@ mod version;
 
 use anyhow::bail;
 use draw::below;
+use prefixes::prefixes_agree;
 use rand_pcg::Pcg32;
 use std::alloc::{AllocError, Global};
 use trials::{diff_agrees, take_over_agrees};
@@ -25,14 +27,15 @@ const SEEDS: u64 = 2_000;
 fn main(rt: HostRuntime) -> anyhow::Result<()> {
     for seed in 0..SEEDS {
         if !is_met(rt.alloc(), seed)? {
-            bail!("what changed differs at seed {seed}");
+            bail!("a tree differs from its map at seed {seed}");
         }
     }
-    println!(rt; "{SEEDS} diffs, patches and merges: what changed is as in the maps")?;
+    println!(rt; "{SEEDS} diffs, patches, merges and prefixes: all is as in the maps")?;
     Ok(())
 }
 
-// Whether a diff, a patch and a merge of versions drawn from a seed are as those of their maps.
+// Whether a diff, a patch and a merge of versions drawn from a seed, and what stands under a prefix
+// of one, are as those of their maps.
 fn is_met(alloc: Global, seed: u64) -> Result<bool, AllocError> {
     let mut words = Pcg32::new(seed, 35);
     let mut base = Version::new(alloc);
@@ -48,6 +51,7 @@ fn is_met(alloc: Global, seed: u64) -> Result<bool, AllocError> {
     Ok(
         diff_agrees(&base, &theirs)?
             && take_over_agrees(&base, &ours, &theirs, false)?
-            && take_over_agrees(&base, &ours, &theirs, true)?,
+            && take_over_agrees(&base, &ours, &theirs, true)?
+            && prefixes_agree(&mut words, alloc, &ours)?,
     )
 }

@@ -7,6 +7,7 @@ mod indexes;
 mod lists;
 mod merging;
 mod pairs;
+mod prefixes;
 mod texts;
 mod tracked;
 mod trees;

@@ -72,6 +72,39 @@ impl Version {
         Ok(())
     }
 
+    /// The pairs of the map under a prefix, beside a tree that is to have them: its number one
+    /// greater.
+    pub fn under(&self, tree: Tree, prefix: &[u8]) -> Result<Version, AllocError> {
+        let mut map = Map::new(self.alloc);
+        for (key, value) in &self.map {
+            if key.starts_with(prefix) {
+                map.insert(key.to_vec(self.alloc)?, *value)?;
+            }
+        }
+        Ok(Version {
+            alloc: self.alloc,
+            tree,
+            map,
+            number: self.number.saturating_add(1),
+        })
+    }
+
+    /// Takes the pairs under a prefix out of the map. The number is one greater where there was
+    /// one.
+    pub fn take_out(&mut self, prefix: &[u8]) -> Result<(), AllocError> {
+        let mut map = Map::new(self.alloc);
+        for (key, value) in &self.map {
+            if !key.starts_with(prefix) {
+                map.insert(key.to_vec(self.alloc)?, *value)?;
+            }
+        }
+        if map.len() < self.map.len() {
+            self.number = self.number.saturating_add(1);
+        }
+        self.map = map;
+        Ok(())
+    }
+
     /// Whether the tree has the number and the pairs of the map, and as many keys.
     pub fn agrees(&self) -> bool {
         for (key, value) in &self.map {

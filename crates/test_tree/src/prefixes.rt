@@ -1,0 +1,73 @@
+//! What stands under a prefix of a tree, beside that of its map: kept, taken out, and both.
+ghost use Rattle.std.specs.Prelude.{IsTrue};
+ghost use Rattle.rart_maps.specs.Versions.{HasRoom};
+
+use crate::draw::{below, key};
+use crate::version::{Tree, Version};
+use rand_pcg::Pcg32;
+use rart_versioned::{KeyTrait, Work};
+use std::alloc::{AllocError, Global};
+
+/// Whether the calls on a prefix that is drawn make of a version what is to be made of its map, and
+/// leave a copy of it alone.
+pub fn prefixes_agree(
+    words: &mut Pcg32,
+    alloc: Global,
+    version: &Version,
+) -> Result<bool, AllocError> {
+    let prefix = key(words, alloc)?;
+    let prefix = prefix.as_ref();
+    let counts = below(words, 2) == 0;
+    let mut rest = version.copy()?;
+    let mut giver = version.copy()?;
+    if !(has_room(&version.tree) && has_room(&rest.tree) && has_room(&giver.tree)) {
+        return Ok(false);
+    }
+    let under = version.under(kept(&version.tree, prefix, counts)?, prefix)?;
+    let was_there = removed(&mut rest.tree, prefix, counts)?;
+    rest.take_out(prefix)?;
+    let taken = version.under(taken(&mut giver.tree, prefix, counts)?, prefix)?;
+    giver.take_out(prefix)?;
+    Ok(
+        was_there != under.map.is_empty()
+            && under.agrees()
+            && rest.agrees()
+            && taken.agrees()
+            && giver.agrees()
+            && version.agrees(),
+    )
+}
+
+fn kept(tree: &Tree, prefix: &[u8], counts: bool) -> Result<Tree, AllocError>
+    requires { HasRoom tree.now 1 }
+{
+    if counts {
+        return tree.prefix_snapshot_slice_counted(prefix, &mut Work::new());
+    }
+    tree.prefix_snapshot_slice(prefix)
+}
+
+fn removed(tree: &mut Tree, prefix: &[u8], counts: bool) -> Result<bool, AllocError>
+    requires { HasRoom tree.old 1 }
+{
+    if counts {
+        return tree.remove_prefix_slice_counted(prefix, &mut Work::new());
+    }
+    tree.remove_prefix_slice(prefix)
+}
+
+fn taken(tree: &mut Tree, prefix: &[u8], counts: bool) -> Result<Tree, AllocError>
+    requires { HasRoom tree.old 1 }
+{
+    if counts {
+        return tree.take_prefix_slice_counted(prefix, &mut Work::new());
+    }
+    tree.take_prefix_slice(prefix)
+}
+
+// Whether the number may rise.
+fn has_room(tree: &Tree) -> bool
+    ensures { IsTrue result → HasRoom tree.now 1 }
+{
+    tree.version() < u64::MAX
+}

@@ -21,9 +21,9 @@ pub extern "C" fn rart_clear(alloc: Global, tree: &mut RartTree)
 }
 
 /// Sets a key to a value, the number then one greater. Answers `DONE` and writes the value that was
-/// replaced, or answers `ABSENT` where the key is new. `TOO_LONG` says that the key is longer than a
-/// key may be, `LAST_NUMBER` that the number can't be raised, `NO_MEMORY` that memory was refused:
-/// nothing changed then.
+/// replaced, or answers `ABSENT` where the key is new. `TOO_LONG` says that the key is longer than
+/// a key may be, `LAST_NUMBER` that the number can't be raised, `NO_MEMORY` that memory was
+/// refused: nothing changed then.
 #[unsafe(no_mangle)]
 pub extern "C" fn rart_insert(
     alloc: Global,

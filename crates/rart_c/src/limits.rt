@@ -24,8 +24,8 @@ pub extern "C" fn rart_longest_key(tree: &mut RartTree) -> usize
 }
 
 /// Sets how many bytes a key may have, of a tree without a key; its number stays. At first it is
-/// 1,024. `NOT_EMPTY` says that there is a key, `NO_MEMORY` that memory was refused: nothing changed
-/// then.
+/// 1,024. `NOT_EMPTY` says that there is a key, `NO_MEMORY` that memory was refused: nothing
+/// changed then.
 #[unsafe(no_mangle)]
 pub extern "C" fn rart_set_longest_key(alloc: Global, tree: &mut RartTree, longest: usize) -> u8
     ensures done { (result ≡ NOT_EMPTY) ⊎ ((result ≡ NO_MEMORY) ⊎ ((result ≡ DONE)

@@ -39,8 +39,8 @@ pub extern "C" fn rart_next(
     len: &mut usize,
     value: &mut u64,
 ) -> u8
-    ensures found { TellsFirst (within tree.old.shows.version.content (Excluded after.now) Unbounded)
-        result (room.old, len.old) (room.new, len.new) value.old value.new }
+    ensures found { TellsFirst (within tree.old.shows.version.content (Excluded after.now)
+        Unbounded) result (room.old, len.old) (room.new, len.new) value.old value.new }
     ensures same { tree.new.shows ≡ tree.old.shows }
 {
     let size = room.len();

@@ -22,8 +22,8 @@ pub extern "C" fn rart_bytes_clear(alloc: Global, tree: &mut RartBytes)
 }
 
 /// Sets a key to a copy of the value, the number then one greater. Answers `DONE` where a value was
-/// replaced, `ABSENT` where the key is new. `TOO_LONG` says that the key is longer than a key may be,
-/// `LAST_NUMBER` that the number can't be raised, `NO_MEMORY` that memory was refused: nothing
+/// replaced, `ABSENT` where the key is new. `TOO_LONG` says that the key is longer than a key may
+/// be, `LAST_NUMBER` that the number can't be raised, `NO_MEMORY` that memory was refused: nothing
 /// changed then.
 #[unsafe(no_mangle)]
 pub extern "C" fn rart_bytes_insert(

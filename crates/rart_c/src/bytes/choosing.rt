@@ -13,10 +13,10 @@ use crate::bytes::handle::RartBytes;
 use crate::lent;
 use std::alloc::Global;
 
-/// Sets a key to a copy of the value where it is not there, the number then one greater, and answers
-/// `ABSENT`. Where it is there nothing changes, and it answers `DONE`. `TOO_LONG` says that the key
-/// is longer than a key may be, `LAST_NUMBER` that it is not there and the number can't be raised,
-/// `NO_MEMORY` that it is not there and memory was refused: nothing changed then.
+/// Sets a key to a copy of the value where it is not there, the number then one greater, and
+/// answers `ABSENT`. Where it is there nothing changes, and it answers `DONE`. `TOO_LONG` says that
+/// the key is longer than a key may be, `LAST_NUMBER` that it is not there and the number can't be
+/// raised, `NO_MEMORY` that it is not there and memory was refused: nothing changed then.
 #[unsafe(no_mangle)]
 pub extern "C" fn rart_bytes_add(
     alloc: Global,

@@ -1,5 +1,5 @@
-//! How long a key of a tree of byte strings may be. A chain of keys that begin one another is as deep as the
-//! longest of them has bytes, and a change takes stack for each level.
+//! How long a key of a tree of byte strings may be. A chain of keys that begin one another is as
+//! deep as the longest of them has bytes, and a change takes stack for each level.
 ghost use Rattle.std.specs.Prelude.{◌≡◌, ◌⊎◌, ◌↔◌, IsTrue};
 ghost use Rattle.rart_c.specs.Trees.{KeepsLimit, with_longest};
 ghost use Rattle.rart_c.specs.declared.answer.TheConstants.{DONE, NO_MEMORY, NOT_EMPTY};
@@ -21,8 +21,8 @@ pub extern "C" fn rart_bytes_longest_key(tree: &mut RartBytes) -> usize
 }
 
 /// Sets how many bytes a key may have, of a tree without a key; its number stays. At first it is
-/// 1,024. `NOT_EMPTY` says that there is a key, `NO_MEMORY` that memory was refused: nothing changed
-/// then.
+/// 1,024. `NOT_EMPTY` says that there is a key, `NO_MEMORY` that memory was refused: nothing
+/// changed then.
 #[unsafe(no_mangle)]
 pub extern "C" fn rart_bytes_set_longest_key(
     alloc: Global,

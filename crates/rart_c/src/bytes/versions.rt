@@ -11,9 +11,9 @@ use crate::lent;
 use crate::table::Table;
 use std::alloc::Global;
 
-/// Makes `copy` the same map, its number one greater, and frees what `copy` was. Keys may be as long
-/// in it. `LAST_NUMBER` says that the number can't be raised, `NO_MEMORY` that memory was refused:
-/// `copy` is as before then.
+/// Makes `copy` the same map, its number one greater, and frees what `copy` was. Keys may be as
+/// long in it. `LAST_NUMBER` says that the number can't be raised, `NO_MEMORY` that memory was
+/// refused: `copy` is as before then.
 #[unsafe(no_mangle)]
 pub extern "C" fn rart_bytes_snapshot(
     alloc: Global,

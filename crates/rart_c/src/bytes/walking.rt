@@ -28,7 +28,8 @@ pub extern "C" fn rart_bytes_seek(
     len: &mut usize,
 ) -> u8
     ensures found { ReadsFirst (within tree.old.shows.version.content (Included from.now) Unbounded)
-        result (room.old, key_len.old) (room.new, key_len.new) (into.old, len.old) (into.new, len.new) }
+        result (room.old, key_len.old) (room.new, key_len.new) (into.old, len.old)
+        (into.new, len.new) }
     ensures same { tree.new.shows ≡ tree.old.shows }
 {
     let size = room.len();
@@ -46,8 +47,9 @@ pub extern "C" fn rart_bytes_next(
     into: &mut [u8],
     len: &mut usize,
 ) -> u8
-    ensures found { ReadsFirst (within tree.old.shows.version.content (Excluded after.now) Unbounded)
-        result (room.old, key_len.old) (room.new, key_len.new) (into.old, len.old) (into.new, len.new) }
+    ensures found { ReadsFirst (within tree.old.shows.version.content (Excluded after.now)
+        Unbounded) result (room.old, key_len.old) (room.new, key_len.new) (into.old, len.old)
+        (into.new, len.new) }
     ensures same { tree.new.shows ≡ tree.old.shows }
 {
     let size = room.len();
@@ -105,7 +107,8 @@ pub extern "C" fn rart_bytes_last(
     len: &mut usize,
 ) -> u8
     ensures found { ReadsFirst (reverse (within tree.old.shows.version.content Unbounded Unbounded))
-        result (room.old, key_len.old) (room.new, key_len.new) (into.old, len.old) (into.new, len.new) }
+        result (room.old, key_len.old) (room.new, key_len.new) (into.old, len.old)
+        (into.new, len.new) }
     ensures same { tree.new.shows ≡ tree.old.shows }
 {
     let size = room.len();

@@ -9,8 +9,8 @@ ghost use Rattle.rart_maps.specs.PrefixLaws.{PuttingBackIsNothing, RemovingResto
 ghost use Rattle.rart_maps.specs.PrefixLaws.{KeepingRestoresIntoNothing, EmptyPrefixIsAll};
 ghost use Rattle.rart_maps.specs.PrefixLaws.{ApartPrefixesCommute, RestoringChangesUnder};
 
-/// What each key has in a map that was cut at a prefix. As maps that answer alike are the same, this
-/// is all that can be said of each.
+/// What each key has in a map that was cut at a prefix. As maps that answer alike are the same,
+/// this is all that can be said of each.
 pub fn cut_maps_answer<V>()
     ensures under { UnderAnswers V }
     ensures without { WithoutAnswers V }

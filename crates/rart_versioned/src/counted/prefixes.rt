@@ -72,12 +72,14 @@ impl<K: KeyTrait, V: Clone + Drop> VersionedAdaptiveRadixTree<K, V> {
     ) -> Result<bool, AllocError>
         requires clones { ClonesEqual V.is_clone }
         requires room { HasRoom self.old 1 }
-        ensures answer { IfOk result (λ removed. removed ≡ has_under self.old (K.bytes prefix.now)) }
-        ensures removed { OnOk result (self.new ≡ after_prefix_removal self.old (K.bytes prefix.now)) }
+        ensures answer { IfOk result
+            (λ removed. removed ≡ has_under self.old (K.bytes prefix.now)) }
+        ensures removed { OnOk result
+            (self.new ≡ after_prefix_removal self.old (K.bytes prefix.now)) }
         ensures refused { OnErr result (self.new ≡ self.old) }
         ensures present { OnErr result (IsTrue (has_under self.old (K.bytes prefix.now))) }
-        ensures counted { CountsUpTo (2 * lookup_bound (K.bytes prefix.now)) (lookup_bound (K.bytes prefix.now))
-            work.old work.new }
+        ensures counted { CountsUpTo (2 * lookup_bound (K.bytes prefix.now))
+            (lookup_bound (K.bytes prefix.now)) work.old work.new }
         ensures entered { has_no_key self.old ≡ false → work.old.entered < work.new.entered }
         ensures absent_makes_none { has_under self.old (K.bytes prefix.now) ≡ false
             → work.new.made ≡ work.old.made }
@@ -128,11 +130,12 @@ impl<K: KeyTrait, V: Clone + Drop> VersionedAdaptiveRadixTree<K, V> {
         requires clones { ClonesEqual V.is_clone }
         requires room { HasRoom self.old 1 }
         ensures taken { IfOk result (λ part. part ≡ under_prefix self.old (K.bytes prefix.now) 1) }
-        ensures removed { OnOk result (self.new ≡ after_prefix_removal self.old (K.bytes prefix.now)) }
+        ensures removed { OnOk result
+            (self.new ≡ after_prefix_removal self.old (K.bytes prefix.now)) }
         ensures refused { OnErr result (self.new ≡ self.old) }
         ensures present { OnErr result (IsTrue (has_under self.old (K.bytes prefix.now))) }
-        ensures counted { CountsUpTo (3 * lookup_bound (K.bytes prefix.now)) (lookup_bound (K.bytes prefix.now) + 1)
-            work.old work.new }
+        ensures counted { CountsUpTo (3 * lookup_bound (K.bytes prefix.now))
+            (lookup_bound (K.bytes prefix.now) + 1) work.old work.new }
         ensures entered { has_no_key self.old ≡ false → work.old.entered < work.new.entered }
         ensures absent_makes_none { has_under self.old (K.bytes prefix.now) ≡ false
             → work.new.made ≡ work.old.made }

@@ -79,8 +79,10 @@ impl<K: KeyTrait, V: Clone + Drop> VersionedAdaptiveRadixTree<K, V> {
     pub fn remove_prefix_k(&mut self, prefix: &K) -> Result<bool, AllocError>
         requires clones { ClonesEqual V.is_clone }
         requires room { HasRoom self.old 1 }
-        ensures answer { IfOk result (λ removed. removed ≡ has_under self.old (K.bytes prefix.now)) }
-        ensures removed { OnOk result (self.new ≡ after_prefix_removal self.old (K.bytes prefix.now)) }
+        ensures answer { IfOk result
+            (λ removed. removed ≡ has_under self.old (K.bytes prefix.now)) }
+        ensures removed { OnOk result
+            (self.new ≡ after_prefix_removal self.old (K.bytes prefix.now)) }
         ensures refused { OnErr result (self.new ≡ self.old) }
         ensures present { OnErr result (IsTrue (has_under self.old (K.bytes prefix.now))) }
     {
@@ -124,7 +126,8 @@ impl<K: KeyTrait, V: Clone + Drop> VersionedAdaptiveRadixTree<K, V> {
         requires clones { ClonesEqual V.is_clone }
         requires room { HasRoom self.old 1 }
         ensures taken { IfOk result (λ part. part ≡ under_prefix self.old (K.bytes prefix.now) 1) }
-        ensures removed { OnOk result (self.new ≡ after_prefix_removal self.old (K.bytes prefix.now)) }
+        ensures removed { OnOk result
+            (self.new ≡ after_prefix_removal self.old (K.bytes prefix.now)) }
         ensures refused { OnErr result (self.new ≡ self.old) }
         ensures present { OnErr result (IsTrue (has_under self.old (K.bytes prefix.now))) }
     {

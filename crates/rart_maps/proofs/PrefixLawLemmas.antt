@@ -9,7 +9,7 @@ use Rattle.rart_below.specs.Bytes.{begins, byte_order}
 use Rattle.rart_maps.specs.ChangeLists.{Change, changes, differ}
 use Rattle.rart_maps.specs.Order.{IsBefore}
 use Rattle.rart_maps.specs.Pairs.{pairs}
-use Rattle.rart_maps.specs.PrefixLaws.{UnderAnswers, WithoutAnswers, WithAnswers, AnswersFixTheMap, HasUnderIsOfAKey, PairsUnderAreUnder, PairsWithoutAreTheOthers, UnderIsTheOthers, PartsAnswer, RemovalsAnswer, RemovalsRaise, RestoringUndoes, PuttingBackIsNothing, RemovingRestoresNothing, KeepingRestoresIntoNothing, EmptyPrefixIsAll, ApartPrefixesCommute, RestoringChangesUnder}
+use Rattle.rart_maps.specs.PrefixLaws.{UnderAnswers, WithoutAnswers, WithAnswers, AnswersFixTheMap, HasUnderIsOfAKey, PairsUnderAreUnder, PairsWithoutAreTheOthers, UnderIsTheOthers, PartsAnswer, RemovalsAnswer, RemovalsRaise, RestoringsAnswer, RestoringUndoes, PuttingBackIsNothing, RemovingRestoresNothing, KeepingRestoresIntoNothing, EmptyPrefixIsAll, ApartPrefixesCommute, RestoringChangesUnder}
 use Rattle.rart_maps.specs.Prefixes.{pairs_under, without_prefix, with_prefix_of}
 use Rattle.rart_maps.specs.Versions.{Map}
 use Rattle.rart_maps.proofs.ChangeLawLemmas.{differ-itself}
@@ -72,6 +72,9 @@ module _ (V : Type 0) where
     λ some. ap (λ t. (removed v p t).number) some,
     λ none. ap (removed v p) none,
   )
+
+  pub restorings_answer : RestoringsAnswer V
+  restorings_answer v other p key = get-with_prefix_of p other.content v.content key
 
   -- the pairs of a map that has these keys of another one
   kept-pairs : (test : List ℕ → Bool) (m kept : Map V)

@@ -5,7 +5,7 @@ use Rattle.rart_below.specs.Bytes.{begins}
 use Rattle.rart_maps.specs.ChangeLaws.{IsReflexive}
 use Rattle.rart_maps.specs.ChangeLists.{changes}
 use Rattle.rart_maps.specs.Pairs.{pairs, under}
-use Rattle.rart_maps.specs.Prefixes.{pairs_under, without_prefix, with_prefix_of, has_under, under_prefix, after_prefix_removal}
+use Rattle.rart_maps.specs.Prefixes.{pairs_under, without_prefix, with_prefix_of, has_under, under_prefix, after_prefix_removal, after_prefix_restoring}
 use Rattle.rart_maps.specs.Versions.{Map, Version, has_key, value_at}
 
 module _ (V : Type 0) where
@@ -50,6 +50,12 @@ module _ (V : Type 0) where
   RemovalsRaise = (v : Version V) (p : List ℕ) →
       (IsTrue (has_under v p) → (after_prefix_removal v p).number ≡ v.number + 1)
       × (has_under v p ≡ false → after_prefix_removal v p ≡ v)
+
+  -- What is restored has the other version's value where p begins the key.
+  abbrev pub RestoringsAnswer : Type 0
+  RestoringsAnswer = (v other : Version V) (p key : List ℕ) →
+      value_at (after_prefix_restoring v p other) key
+      ≡ (if begins p key then value_at other key else value_at v key)
 
   -- ---- lists of pairs
   abbrev pub PairsUnderAreUnder : Type 0

@@ -33,3 +33,12 @@ module _ {V : Type 0} where
   after_prefix_removal v p =
       if has_under v p
       then record { content = without_prefix v.content p; number = v.number + 1 } else v
+
+  -- with the pairs that another version has under p, in place of its own there, and the number then
+  -- the sum of both
+  abbrev pub after_prefix_restoring : Version V → List ℕ → Version V → Version V
+  after_prefix_restoring v p other =
+      record {
+        content = with_prefix_of p other.content v.content;
+        number = v.number + other.number;
+      }

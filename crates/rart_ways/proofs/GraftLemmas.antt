@@ -30,11 +30,11 @@ use Rattle.rart_ways.proofs.RemovalLemmas.{branches-without, child_at-without, f
 
 module _ {V : Type 0} where
   -- ---- a node of which one child has changed
-  abbrev look : List ℕ → Option (Shape V) → Option V
+  abbrev pub look : List ℕ → Option (Shape V) → Option V
   look q = option_and_then (λ s. found s q)
 
   -- What is found below, where the child under one byte is another one or gone.
-  below-changed : (forest changed : Forest V) (byte : ℕ) (rest : List ℕ)
+  pub below-changed : (forest changed : Forest V) (byte : ℕ) (rest : List ℕ)
       (under : List ℕ → Option V) (new : Option (Shape V))
       → ((c : ℕ) → child_at c (entries_of changed)
       ≡ cond (c == byte) new (child_at c (entries_of forest)))
@@ -56,7 +56,7 @@ module _ {V : Type 0} where
       ∙ ap (under_or (strip_prefix (byte ∷ rest) (c ∷ r)) under) (sym (found-below forest c r))
 
   -- What is found at the node.
-  node-changed : (prefix : List ℕ) (value : Option V) (width other : ℕ)
+  pub node-changed : (prefix : List ℕ) (value : Option V) (width other : ℕ)
       (forest changed : Forest V) (byte : ℕ) (rest : List ℕ) (under : List ℕ → Option V)
       → ((c : ℕ) (r : List ℕ) → found_below changed (c ∷ r)
       ≡ under_or (strip_prefix (byte ∷ rest) (c ∷ r)) under (found_below forest (c ∷ r)))
@@ -77,7 +77,7 @@ module _ {V : Type 0} where
       ∙ ap (λ o. under_or o under (found (node prefix value width forest) q))
       (sym (behind-append prefix (byte ∷ rest) q))
 
-  child_at-with : (entries : List (ℕ × Shape V)) (byte c : ℕ) (child : Shape V)
+  pub child_at-with : (entries : List (ℕ × Shape V)) (byte c : ℕ) (child : Shape V)
       → child_at c (with_child byte child entries)
       ≡ cond (c == byte) (Some child) (child_at c entries)
   child_at-with entries byte c child =
@@ -86,7 +86,7 @@ module _ {V : Type 0} where
 
   -- ---- one node down
   -- What is grafted below a child is grafted below the node.
-  grafted-child : (s child after : Shape V) (p : List ℕ) (byte : ℕ) (rest : List ℕ)
+  pub grafted-child : (s child after : Shape V) (p : List ℕ) (byte : ℕ) (rest : List ℕ)
       (under : List ℕ → Option V) → IsTree s → p ≡ prefix_of s ++ (byte ∷ rest)
       → child_at byte (children_of s) ≡ Some child → IsGrafted (byte ∷ rest) under child after
       → IsGrafted p under s (with_replaced byte after s)

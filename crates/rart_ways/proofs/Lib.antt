@@ -9,6 +9,7 @@ pub mod LastLemmas
 pub mod LeastLemmas
 pub mod LentPathLemmas
 pub mod LookupPathLemmas
+pub mod PartLemmas
 pub mod PlanLemmas
 pub mod PrefixLemmas
 pub mod RemovalLemmas

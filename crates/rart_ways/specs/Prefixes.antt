@@ -1,7 +1,7 @@
 -- What stands under a prefix in a tree, alone and in the place of something else.
 use Rattle.std.specs.Prelude.{◌≡◌, ◌+◌, ◌≤◌, ◌++◌, ℕ, false, List, Option, Some, None, IsSome, IsTrue, length, drop, if◌then◌else◌}
 use Rattle.rart_below.specs.Bytes.{begins}
-use Rattle.rart_node.specs.Shape.{Shape, prefix_of, with_deleted}
+use Rattle.rart_node.specs.Shape.{Shape, prefix_of, with_deleted, with_prefix}
 use Rattle.rart_node.specs.Trees.{strip_prefix, BeginsWith, found, IsTree, KeepsFirst}
 use Rattle.rart_ways.specs.Paths.{path_end, step}
 use Rattle.rart_ways.specs.declared.prefixes.Cleared.{Cleared}
@@ -49,6 +49,10 @@ module _ {V : Type 0} where
     pub tree : IsTree after
     pub finds : (q : List ℕ) → found after q ≡ under_or (strip_prefix p q) under (found before q)
     pub first : KeepsFirst p before after
+
+  -- the node without the first bytes of its prefix
+  abbrev pub tail_of : ℕ → Shape V → Shape V
+  tail_of above s = with_prefix (drop above (prefix_of s)) s
 
   -- After, the tree has nothing under p, and else what it had.
   abbrev pub IsCleared : List ℕ → Shape V → Shape V → Type 0

@@ -4,7 +4,7 @@
 //! `search` reads: a value, how far down it stands, the keys that begin a key. `insertion` and
 //! `removal` put a value in and take one out, `lending` lends one for writing, and `seeking` finds
 //! the first key from a bound on, and the last up to one. `prefixes` keeps what stands under a
-//! prefix, or takes it out.
+//! prefix, takes it out, or puts it in its place.
 #![tactic(auto)]
 
 mod insertion;
@@ -16,7 +16,7 @@ mod seeking;
 
 pub use insertion::{insert_below, leaf_of};
 pub use lending::lend_below;
-pub use prefixes::{Cleared, clear_below, keep_under};
+pub use prefixes::{Cleared, clear_below, keep_under, put_under};
 pub use removal::{Removed, remove_below};
 pub use search::{
     Passed, get_below, longest_prefix_match, path_length, step, visit_prefix_matches,

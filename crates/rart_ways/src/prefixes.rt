@@ -1,26 +1,28 @@
 // Ported from rart 0.11.0 (Apache-2.0), and rewritten.
-//! All that stands under a prefix: kept as a tree of its own, or taken out.
+//! All that stands under a prefix: kept as a tree of its own, taken out, or put in its place.
 //!
-//! It is one node and what is below that, so either takes a way along the prefix, and leaves what
-//! is below alone.
-ghost use Rattle.std.specs.Prelude.{◌≡◌, ◌+◌, ◌*◌, ◌<◌, ◌++◌, IfOk, IsSome, None, OnErr, OnOk, length};
+//! It is one node and what is below that, so each takes a way along the prefix, and leaves what is
+//! below alone.
+ghost use Rattle.std.specs.Prelude.{◌≡◌, ◌+◌, ◌*◌, ◌<◌, ◌++◌, IfOk, IfSome, IsSome, IsTrue, None, OnErr, OnOk, length};
 ghost use Rattle.std.specs.Option.{option_map};
-ghost use Rattle.rart_below.specs.Bytes.{IsAdmitted};
+ghost use Rattle.rart_below.specs.Bytes.{IsAdmitted, begins};
 ghost use Rattle.rart_below.specs.Children.{child_at};
 ghost use Rattle.rart_below.specs.Clones.{ClonesEqual};
 ghost use Rattle.rart_node.specs.Counts.{CountsUpTo};
 ghost use Rattle.rart_node.specs.Seen.{shape_of};
 ghost use Rattle.rart_node.specs.Shape.{children_of, prefix_of, with_prefix};
-ghost use Rattle.rart_node.specs.Trees.{IsTree, path_bound};
-ghost use Rattle.rart_ways.specs.Prefixes.{HasNoneUnder, HasSomeUnder, IsCleared, IsClearedSo};
+ghost use Rattle.rart_node.specs.Trees.{IsTree, found, path_bound};
+ghost use Rattle.rart_ways.specs.Prefixes.{HasNoneUnder, HasSomeUnder, IsCleared, IsClearedSo, IsGrafted};
 ghost use Rattle.rart_ways.specs.Prefixes.{IsUnderAlone, IsWithoutChild, StandsBelow};
 ghost use Rattle.rart_ways.specs.Removals.{AreAdmitted};
 
 mod ending;
+mod grafting;
 
 use crate::lending::path::{Path, Whole, next_byte};
 use crate::removal::plan::can_lose_a_child;
 use ending::prefix_end;
+use grafting::{Part, put_below};
 use rart_below::Partial;
 use rart_node::{NodeRef, VersionedNode, Work};
 use std::alloc::{AllocError, Global};
@@ -52,6 +54,8 @@ pub fn keep_under<P: Partial, V: Clone + Drop>(
     requires lengths { AreAdmitted P.MAXIMUM_SIZE root.now.shape }
     ensures kept { IfOk result (λ kept. IsUnderAlone prefix.now root.now.shape
         (option_map shape_of kept)) }
+    ensures begun { IfOk result (λ kept. IfSome kept (λ it.
+        IsTrue (begins prefix.now (prefix_of it.shape)))) }
     ensures present { OnErr result (HasSomeUnder prefix.now root.now.shape) }
     ensures counted { CountsUpTo (path_bound root.now.shape prefix.now) 1 work.old work.new }
     ensures entered { work.old.entered < work.new.entered }
@@ -66,6 +70,35 @@ pub fn keep_under<P: Partial, V: Clone + Drop>(
     }
     let lifted = lift(alloc, end.node, &prefix[..end.above], version)?;
     Ok(Some(NodeRef::new(alloc, lifted, work)?))
+}
+
+/// Puts all that a root of its own has below another one, in place of all that stands there under a
+/// prefix, which begins that root's prefix. What is below its node is shared. Refused for memory,
+/// the other root is as before.
+///
+/// The root of its own is entered, and each node of the way along the prefix. At most two more are
+/// made than there are on that way.
+pub fn put_under<P: Partial, V: Clone + Drop>(
+    alloc: Global,
+    root: &mut NodeRef<P, V>,
+    prefix: &[u8],
+    part: &NodeRef<P, V>,
+    version: u64,
+    work: &mut Work,
+) -> Result<(), AllocError>
+    requires clones { ClonesEqual V.is_clone }
+    requires tree { IsTree root.old.shape }
+    requires part { IsTree part.now.shape }
+    requires begun { IsTrue (begins prefix.now (prefix_of part.now.shape)) }
+    ensures grafted { OnOk result (IsGrafted prefix.now
+        (λ rest. found part.now.shape (prefix.now ++ rest)) root.old.shape root.new.shape) }
+    ensures refused { OnErr result (root.new.shape ≡ root.old.shape) }
+    ensures counted { CountsUpTo (path_bound root.old.shape prefix.now + 1)
+        (path_bound root.old.shape prefix.now + 2) work.old work.new }
+    ensures entered { work.old.entered < work.new.entered }
+{
+    let node = part.open(work);
+    put_below(alloc, root, &Part { prefix, node }, 0, version, work)
 }
 
 /// A copy of a node with these bytes before its own. Its children are shared.

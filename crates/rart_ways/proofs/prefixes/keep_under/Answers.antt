@@ -3,6 +3,7 @@ use Rattle.std.proofs.lemmas.List.{length-take-le}
 use Rattle.rart_node.specs.Shape.{prefix_of}
 use Rattle.rart_ways.proofs.EditLemmas.{on-any}
 use Rattle.rart_ways.proofs.InsertionStepLemmas.{admitted-part}
+use Rattle.rart_ways.proofs.PartLemmas.{lifted-begun}
 use Rattle.rart_ways.proofs.PlanLemmas.{not-none}
 use Rattle.rart_ways.proofs.PrefixLemmas.{stands-some, stands-admitted, shared-alone, lift-alone}
 use Rattle.rart_ways.proofs.prefixes.keep_under.Goals as goal
@@ -63,6 +64,12 @@ returns-clause-kept g c =
     c.args.prefix.now _ c.in-Some.end.steps c.in-Some.end.above c.in_ok-new.field-0.shape
     c.requires.tree c.in-Some.ensures.stands c.in-Some.ensures.node refl
     (c.in_ok-new.ensures.shown ∙ c.in_ok-lifted.ensures.lifted)
+
+pub returns-clause-begun : goal.returns-clause-begun
+returns-clause-begun g c =
+    lifted-begun c.in-Some.end.at.now.shape c.in-Some.end.node.now.shape c.args.prefix.now _
+    c.in-Some.end.above c.in_ok-new.field-0.shape c.in-Some.ensures.stands.begun
+    c.in-Some.ensures.node refl (c.in_ok-new.ensures.shown ∙ c.in_ok-lifted.ensures.lifted)
 
 pub returns-clause-absent_makes_none : goal.returns-clause-absent_makes_none
 returns-clause-absent_makes_none g c none =

@@ -17,6 +17,7 @@ pub mod NodePointLemmas
 pub mod ProofSteps
 pub mod SoundLemmas
 pub mod VersionRemovalLemmas
+pub mod RestoringLemmas
 pub mod SlotChangeLemmas
 pub mod UnversionedLemmas
 pub mod UpdateCountLemmas

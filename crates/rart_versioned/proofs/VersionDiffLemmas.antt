@@ -47,7 +47,7 @@ module _ {V : Type 0} where
       ∙ sym (finite.get-empty byte_order q))
 
   -- A map has no more keys than it is made of entries,
-  entries-few : (entries : List (List ℕ × V)) → finite.len (map_with entries) ≤ length entries
+  pub entries-few : (entries : List (List ℕ × V)) → finite.len (map_with entries) ≤ length entries
   entries-few [] =
       let none = ap finite.len no-entries ∙ finite.len-empty byte_order V in omega (arith, none)
   entries-few (entry ∷ entries) =

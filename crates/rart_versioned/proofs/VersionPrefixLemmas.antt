@@ -15,7 +15,7 @@ use Rattle.rart_maps.specs.Versions.{Map, Version, value_at}
 use Rattle.rart_maps.proofs.OrderLemmas.{begins-append, begins-rest}
 use Rattle.rart_maps.proofs.PrefixLawLemmas.{pairs_under_are_under, pairs_without_are_the_others}
 use Rattle.rart_maps.proofs.PrefixLemmas.{same_map, get-pairs_under, get-without_prefix, has-under-key, key-has-under}
-use Rattle.rart_versioned.specs.Roots.{found_in, map_of, IsTreeIn, IsSound}
+use Rattle.rart_versioned.specs.Roots.{found_in, map_of, IsTreeIn, IsUnderIn, IsSound}
 use Rattle.rart_versioned.proofs.VersionMapLemmas.{get-found}
 use Rattle.rart_versioned.proofs.SoundLemmas.{tree-in, few, admitted}
 
@@ -28,14 +28,14 @@ module _ {V : Type 0} where
       let less = count_by-le-length test list in
       omega (arith, same, less)
 
-  len-under : (m : Map V) (p : List ℕ) → finite.len (pairs_under m p) ≤ finite.len m
+  pub len-under : (m : Map V) (p : List ℕ) → finite.len (pairs_under m p) ≤ finite.len m
   len-under m p =
       let kept = finite.len-entries (pairs_under m p) ∙ ap length (pairs_under_are_under V m p) in
       let all = finite.len-entries m in
       let fewer = filter-fewer (λ pair. begins p pair.0) (pairs m) in
       omega (arith, kept, all, fewer)
 
-  len-without : (m : Map V) (p : List ℕ) → finite.len (without_prefix m p) ≤ finite.len m
+  pub len-without : (m : Map V) (p : List ℕ) → finite.len (without_prefix m p) ≤ finite.len m
   len-without m p =
       let kept = finite.len-entries (without_prefix m p)
       ∙ ap length (pairs_without_are_the_others V m p) in
@@ -44,19 +44,14 @@ module _ {V : Type 0} where
       omega (arith, kept, all, fewer)
 
   -- ---- under the prefix alone
-  -- After, below the root, if there is one, is what was there under p, and nothing else.
-  abbrev pub IsUnderIn : List ℕ → Option (Shape V) → Option (Shape V) → Type 0
-  IsUnderIn p before after =
-      IsTreeIn after × ((q : List ℕ) → found_in after q ≡ cond (begins p q) (found_in before q) None)
-
-  cond-none : (t : Bool) → ◌≡◌ {A = Option V} None (cond t None None)
+  pub cond-none : (t : Bool) → ◌≡◌ {A = Option V} None (cond t None None)
   cond-none true = refl
   cond-none false = refl
 
-  pub under-none : (p : List ℕ) → IsUnderIn p None None
+  pub under-none : (p : List ℕ) → IsUnderIn {V = V} p None None
   under-none p = (tt, λ q. cond-none (begins p q))
 
-  none-begun : (p : List ℕ) (root : Shape V) → HasNoneUnder p root → (q : List ℕ)
+  pub none-begun : (p : List ℕ) (root : Shape V) → HasNoneUnder p root → (q : List ℕ)
       → begins p q ≡ true → found root q ≡ None
   none-begun p root none q begun =
       let more = begins-rest p q begun in ap (found root) more.1 ∙ none more.0

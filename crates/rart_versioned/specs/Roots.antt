@@ -7,6 +7,7 @@ use Rattle.std.specs.Str.{bytes_eq}
 use Rattle.std.specs.Borrow.{RattleType, MutBor, Fml, follows_so, name_if_ok}
 use Rattle.std.specs.FinMap as finite
 use Rattle.std.specs.contracts.option.Option as option
+use Rattle.rart_below.specs.Bytes.{begins}
 use Rattle.rart_maps.specs.Versions.{Map}
 use Rattle.rart_below.specs.declared.partial.Partial.{Ghosts as Prefixes}
 use Rattle.rart_node.specs.contracts.node_ref.NodeRef as pointer
@@ -53,6 +54,19 @@ module _ {V : Type 0} where
   abbrev pub IsPutBelow : List ℕ → V → Option (Shape V) → Option (Shape V) → Type 0
   IsPutBelow key value before after = (q : List ℕ) →
       found_in after q ≡ (if bytes_eq q key then Some value else found_in before q)
+
+  -- After, below the root, if there is one, is what was there under p, and nothing else.
+  abbrev pub IsUnderIn : List ℕ → Option (Shape V) → Option (Shape V) → Type 0
+  IsUnderIn p before after =
+      IsTreeIn after
+      × ((q : List ℕ) → found_in after q ≡ (if begins p q then found_in before q else None))
+
+  -- After, there is what the part has where p begins it, and else what was there.
+  abbrev pub IsReplacedUnder : List ℕ → Option (Shape V) → Option (Shape V) → Option (Shape V)
+      → Type 0
+  IsReplacedUnder p part before after =
+      IsTreeIn after × ((q : List ℕ) →
+      found_in after q ≡ (if begins p q then found_in part q else found_in before q))
 
   -- Sound as it was: for keys of that length, and for as many of them.
   abbrev pub StaysSound : Option (Shape V) → Option (Shape V) → Type 0

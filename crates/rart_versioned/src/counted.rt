@@ -13,6 +13,7 @@ mod lookup;
 pub(crate) mod missing;
 mod prefixes;
 mod remove;
+mod restoring;
 mod tree;
 mod try_update;
 mod update;

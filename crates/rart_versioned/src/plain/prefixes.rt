@@ -2,7 +2,7 @@
 //! All that stands under a prefix, with no count.
 ghost use Rattle.std.specs.Prelude.{◌≡◌, IfOk, IsTrue, OnErr, OnOk};
 ghost use Rattle.rart_below.specs.Clones.{ClonesEqual};
-ghost use Rattle.rart_maps.specs.Prefixes.{after_prefix_removal, has_under, under_prefix};
+ghost use Rattle.rart_maps.specs.Prefixes.{after_prefix_removal, after_prefix_restoring, has_under, under_prefix};
 ghost use Rattle.rart_maps.specs.Versions.{HasRoom};
 
 use crate::counted::VersionedAdaptiveRadixTree;
@@ -151,5 +151,68 @@ impl<K: KeyTrait, V: Clone + Drop> VersionedAdaptiveRadixTree<K, V> {
         ensures present { OnErr result (IsTrue (has_under self.old prefix.now)) }
     {
         self.take_prefix_slice_counted(prefix, &mut Work::new())
+    }
+
+    /// As `restore_prefix_k`, with the prefix by value.
+    pub fn restore_prefix(
+        &mut self,
+        prefix: K,
+        from: &VersionedAdaptiveRadixTree<K, V>,
+    ) -> Result<(), AllocError>
+        requires clones { ClonesEqual V.is_clone }
+        requires room { HasRoom self.old from.now.number }
+        ensures restored { OnOk result
+            (self.new ≡ after_prefix_restoring self.old (K.bytes prefix) from.now) }
+        ensures refused { OnErr result (self.new ≡ self.old) }
+    {
+        self.restore_prefix_k(&prefix, from)
+    }
+
+    /// Puts all pairs of another version whose key the prefix begins in place of the pairs of this
+    /// one whose key it begins; the other pairs stay. A key that the other version lacks there
+    /// goes. Both share what is below the prefix, and the other version stays as it is, its number
+    /// too.
+    ///
+    /// The number is then the sum of both, whether or not a pair changes: a version that is
+    /// restored from one fixed version again and again rises by that one's number each time.
+    /// Refused for memory, map and number are as before.
+    ///
+    /// With the pairs `a` 1, `ab` 2, `abc` 3, `ac` 4 here and `aba` 20, `abc` 30, `b` 50 there, the
+    /// prefix `ab` leaves `a` 1, `aba` 20, `abc` 30, `ac` 4; the empty one makes this map that one.
+    ///
+    /// ```
+    /// list.restore_prefix_k(&tea, &yesterday)?;
+    /// ```
+    pub fn restore_prefix_k(
+        &mut self,
+        prefix: &K,
+        from: &VersionedAdaptiveRadixTree<K, V>,
+    ) -> Result<(), AllocError>
+        requires clones { ClonesEqual V.is_clone }
+        requires room { HasRoom self.old from.now.number }
+        ensures restored { OnOk result
+            (self.new ≡ after_prefix_restoring self.old (K.bytes prefix.now) from.now) }
+        ensures refused { OnErr result (self.new ≡ self.old) }
+    {
+        self.restore_prefix_k_counted(prefix, from, &mut Work::new())
+    }
+
+    /// As `restore_prefix_k`, the prefix by its bytes.
+    ///
+    /// ```
+    /// list.restore_prefix_slice(b"tea ", &yesterday)?;
+    /// ```
+    pub fn restore_prefix_slice(
+        &mut self,
+        prefix: &[u8],
+        from: &VersionedAdaptiveRadixTree<K, V>,
+    ) -> Result<(), AllocError>
+        requires clones { ClonesEqual V.is_clone }
+        requires room { HasRoom self.old from.now.number }
+        ensures restored { OnOk result
+            (self.new ≡ after_prefix_restoring self.old prefix.now from.now) }
+        ensures refused { OnErr result (self.new ≡ self.old) }
+    {
+        self.restore_prefix_slice_counted(prefix, from, &mut Work::new())
     }
 }

@@ -3,11 +3,12 @@ use Rattle.std.specs.Option.{option_map}
 use Rattle.rart_maps.specs.Prefixes.{pairs_under, under_prefix}
 use Rattle.rart_maps.specs.Versions.{Version}
 use Rattle.rart_node.specs.Seen.{shape_of}
+use Rattle.rart_node.proofs.CountingLemmas.{counts-most, path-most}
 use Rattle.rart_ways.proofs.EditLemmas.{on-any}
-use Rattle.rart_versioned.specs.Roots.{map_of}
+use Rattle.rart_versioned.specs.Roots.{IsUnderIn, map_of}
 use Rattle.rart_versioned.proofs.SoundLemmas.{tree-in}
 use Rattle.rart_versioned.proofs.VersionIterationLemmas.{root-value}
-use Rattle.rart_versioned.proofs.VersionPrefixLemmas.{IsUnderIn, under-none, under-root, map-under, sound-under, some-there, there-none}
+use Rattle.rart_versioned.proofs.VersionPrefixLemmas.{under-none, under-root, map-under, sound-under, some-there, there-none}
 use Rattle.rart_versioned.proofs.VersionVisitLemmas.{none-keyed}
 use Rattle.rart_versioned.proofs.counted.tree.VersionedAdaptiveRadixTree.prefix_snapshot_slice_counted.Goals as goal
 
@@ -67,6 +68,11 @@ returns-clause-kept g c =
     ap (λ m. record { content = m; number = c.self.inside.version + 1 })
     (map-under before after p tree under)
     ∙ ap (λ (v : Version g.row.V.Denot). under_prefix v p 1) c.self.view_is
+
+pub returns-clause-counted : goal.returns-clause-counted
+returns-clause-counted g c =
+    counts-most c.keep_under.ensures.counted
+    (path-most c.in-Some.root.shape c.args.prefix.now) (omega arith)
 
 pub returns-clause-absent_makes_none : goal.returns-clause-absent_makes_none
 returns-clause-absent_makes_none g c none =

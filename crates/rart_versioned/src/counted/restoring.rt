@@ -1,0 +1,151 @@
+// Ported from rart 0.11.0 (Apache-2.0), and rewritten.
+//! All that another version has under a prefix, put in place of what stands there.
+ghost use Rattle.std.specs.Prelude.{◌≡◌, ◌+◌, ◌*◌, ℕ, List, IfOk, IfSome, IsSome, IsTrue, None, OnErr, OnOk, length};
+ghost use Rattle.rart_below.specs.Bytes.{IsAdmitted, begins};
+ghost use Rattle.rart_below.specs.Clones.{ClonesEqual};
+ghost use Rattle.rart_maps.specs.Bounds.{change_bound, lookup_bound};
+ghost use Rattle.rart_maps.specs.Prefixes.{after_prefix_restoring};
+ghost use Rattle.rart_maps.specs.Versions.{HasRoom};
+ghost use Rattle.rart_node.specs.Counts.{CountsUpTo};
+ghost use Rattle.rart_node.specs.Shape.{prefix_of};
+ghost use Rattle.rart_versioned.specs.Roots.{IsReplacedUnder, IsTreeIn, IsUnderIn, below_root, found_in};
+
+use crate::counted::tree::VersionedAdaptiveRadixTree;
+use rart_below::{KeyTrait, Partial};
+use rart_node::{NodeRef, Work};
+use rart_ways::{Cleared, clear_below, keep_under, put_under};
+use std::alloc::{AllocError, Global};
+
+impl<K: KeyTrait, V: Clone + Drop> VersionedAdaptiveRadixTree<K, V> {
+    /// As `restore_prefix_k`, with the nodes entered and made counted into `work`: in both versions
+    /// together at most three more entered than three times the bytes of the prefix, and at most
+    /// four more made than it has.
+    pub fn restore_prefix_k_counted(
+        &mut self,
+        prefix: &K,
+        from: &VersionedAdaptiveRadixTree<K, V>,
+        work: &mut Work,
+    ) -> Result<(), AllocError>
+        requires clones { ClonesEqual V.is_clone }
+        requires room { HasRoom self.old from.now.number }
+        ensures restored { OnOk result
+            (self.new ≡ after_prefix_restoring self.old (K.bytes prefix.now) from.now) }
+        ensures refused { OnErr result (self.new ≡ self.old) }
+        ensures counted { CountsUpTo (3 * lookup_bound (K.bytes prefix.now))
+            (change_bound (K.bytes prefix.now) + 2) work.old work.new }
+    {
+        self.restore_prefix_slice_counted(prefix.as_ref(), from, work)
+    }
+
+    /// As `restore_prefix_slice`, counted as by `restore_prefix_k_counted`.
+    pub fn restore_prefix_slice_counted(
+        &mut self,
+        prefix: &[u8],
+        from: &VersionedAdaptiveRadixTree<K, V>,
+        work: &mut Work,
+    ) -> Result<(), AllocError>
+        requires clones { ClonesEqual V.is_clone }
+        requires room { HasRoom self.old from.now.number }
+        ensures restored { OnOk result
+            (self.new ≡ after_prefix_restoring self.old prefix.now from.now) }
+        ensures refused { OnErr result (self.new ≡ self.old) }
+        ensures counted { CountsUpTo (3 * lookup_bound prefix.now) (change_bound prefix.now + 2)
+            work.old work.new }
+    {
+        let version = self.version + from.version;
+        let part = part_under(self.alloc, &from.root, prefix, version, work)?;
+        replace_under(self.alloc, &mut self.root, prefix, part, version, work)?;
+        self.version = version;
+        Ok(())
+    }
+}
+
+/// A root of its own for all that stands under a prefix below a root, or the lack of one.
+fn part_under<P: Partial, V: Clone + Drop>(
+    alloc: Global,
+    root: &Option<NodeRef<P, V>>,
+    prefix: &[u8],
+    version: u64,
+    work: &mut Work,
+) -> Result<Option<NodeRef<P, V>>, AllocError>
+    requires clones { ClonesEqual V.is_clone }
+    requires tree { IsTreeIn (below_root root.now) }
+    requires lengths { (key : List ℕ) → IsSome (found_in (below_root root.now) key)
+        → IsAdmitted P.MAXIMUM_SIZE (length key) }
+    ensures kept { IfOk result (λ part. IsUnderIn prefix.now (below_root root.now)
+        (below_root part)) }
+    ensures begun { IfOk result (λ part. IfSome part (λ it.
+        IsTrue (begins prefix.now (prefix_of it.shape)))) }
+    ensures counted { CountsUpTo (lookup_bound prefix.now) 1 work.old work.new }
+{
+    match root {
+        None => Ok(None),
+        Some(root) => keep_under(alloc, root, prefix, version, work),
+    }
+}
+
+/// Puts a part in place of all that stands under a prefix below a root, or the lack of one. Without
+/// a part, nothing stands there then. Refused for memory, all is as before.
+fn replace_under<P: Partial, V: Clone + Drop>(
+    alloc: Global,
+    root: &mut Option<NodeRef<P, V>>,
+    prefix: &[u8],
+    part: Option<NodeRef<P, V>>,
+    version: u64,
+    work: &mut Work,
+) -> Result<(), AllocError>
+    requires clones { ClonesEqual V.is_clone }
+    requires tree { IsTreeIn (below_root root.old) }
+    requires lengths { (key : List ℕ) → IsSome (found_in (below_root root.old) key)
+        → IsAdmitted P.MAXIMUM_SIZE (length key) }
+    requires part { IsTreeIn (below_root part) }
+    requires begun { IfSome part (λ it. IsTrue (begins prefix.now (prefix_of it.shape))) }
+    ensures replaced { OnOk result (IsReplacedUnder prefix.now (below_root part)
+        (below_root root.old) (below_root root.new)) }
+    ensures refused { OnErr result (below_root root.new ≡ below_root root.old) }
+    ensures counted { CountsUpTo (2 * lookup_bound prefix.now) (change_bound prefix.now + 1)
+        work.old work.new }
+{
+    let Some(part) = part else {
+        return empty_under(alloc, root, prefix, version, work);
+    };
+    match root {
+        None => {
+            *root = Some(part);
+            Ok(())
+        }
+        Some(root) => put_under(alloc, root, prefix, &part, version, work),
+    }
+}
+
+/// Takes out all that stands under a prefix below a root, or the lack of one. Refused for memory,
+/// all is as before.
+fn empty_under<P: Partial, V: Clone + Drop>(
+    alloc: Global,
+    root: &mut Option<NodeRef<P, V>>,
+    prefix: &[u8],
+    version: u64,
+    work: &mut Work,
+) -> Result<(), AllocError>
+    requires clones { ClonesEqual V.is_clone }
+    requires tree { IsTreeIn (below_root root.old) }
+    requires lengths { (key : List ℕ) → IsSome (found_in (below_root root.old) key)
+        → IsAdmitted P.MAXIMUM_SIZE (length key) }
+    ensures emptied { OnOk result (IsReplacedUnder prefix.now None (below_root root.old)
+        (below_root root.new)) }
+    ensures refused { OnErr result (below_root root.new ≡ below_root root.old) }
+    ensures counted { CountsUpTo (2 * lookup_bound prefix.now) (lookup_bound prefix.now)
+        work.old work.new }
+{
+    let Some(node) = root else {
+        return Ok(());
+    };
+    match clear_below(alloc, node, prefix, version, work)? {
+        Cleared::Nothing => Ok(()),
+        Cleared::Part => Ok(()),
+        Cleared::Whole => {
+            *root = None;
+            Ok(())
+        }
+    }
+}

@@ -229,17 +229,17 @@ module _ {V : Type 0} where
       let P : Option (Shape V × List ℕ) → Type 0 =
       λ o. IsSome (option_and_then (λ below. path_end b below.1 below.0) o) → IsSome o in
       let both : (o : Option (Shape V × List ℕ)) → P o =
-      elim [ None ↦ (λ none. absurd (false≢true none)) | Some below ↦ (λ some. refl) ] in
+      elim [ None ↦ (λ none. absurd (false≢true none)) | Some child ↦ (λ some. refl) ] in
       both (step key s) there
 
   pub below-is : (b : ℕ) (key : List ℕ) (s : Shape V) (below : Shape V × List ℕ)
       → step key s ≡ Some below → path_end (suc b) key s ≡ path_end b below.1 below.0
-  below-is b key s below goes = ap (option_and_then (λ z. path_end b z.1 z.0)) goes
+  below-is b key s child goes = ap (option_and_then (λ z. path_end b z.1 z.0)) goes
 
   pub graft-below : (b : ℕ) (new : Shape V) (key : List ℕ) (s : Shape V) (below : Shape V × List ℕ)
       → step key s ≡ Some below → graft (suc b) new key s
       ≡ with_replaced (first_byte below.1) (graft b new below.1 below.0) s
-  graft-below b new key s below goes = ap (graft_at (graft b new) s) goes
+  graft-below b new key s child goes = ap (graft_at (graft b new) s) goes
 
   -- the node at the end put back as it was
   pub graft-same : (a : ℕ) (key : List ℕ) (s : Shape V) (end : Shape V × List ℕ) → IsTree s

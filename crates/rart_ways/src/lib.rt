@@ -16,7 +16,7 @@ mod seeking;
 
 pub use insertion::{insert_below, leaf_of};
 pub use lending::lend_below;
-pub use prefixes::{Cleared, clear_below, keep_under, put_under};
+pub use prefixes::{Cleared, clear_below, has_under, keep_under, put_under};
 pub use removal::{Removed, remove_below};
 pub use search::{
     Passed, get_below, longest_prefix_match, path_length, step, visit_prefix_matches,

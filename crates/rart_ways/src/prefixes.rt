@@ -3,7 +3,7 @@
 //!
 //! It is one node and what is below that, so each takes a way along the prefix, and leaves what is
 //! below alone.
-ghost use Rattle.std.specs.Prelude.{◌≡◌, ◌+◌, ◌*◌, ◌<◌, ◌++◌, IfOk, IfSome, IsSome, IsTrue, None, OnErr, OnOk, length};
+ghost use Rattle.std.specs.Prelude.{◌≡◌, ◌+◌, ◌*◌, ◌<◌, ◌++◌, false, IfOk, IfSome, IsSome, IsTrue, None, OnErr, OnOk, length};
 ghost use Rattle.std.specs.Option.{option_map};
 ghost use Rattle.rart_below.specs.Bytes.{IsAdmitted, begins};
 ghost use Rattle.rart_below.specs.Children.{child_at};
@@ -36,6 +36,19 @@ pub enum Cleared {
     Part,
     /// Nothing, as there is nothing else: the root is to go.
     Whole,
+}
+
+/// Whether a prefix begins a key below a root.
+///
+/// Each node of the way along the prefix is entered once. It takes no memory.
+pub fn has_under<P: Partial, V: Drop>(root: &NodeRef<P, V>, prefix: &[u8], work: &mut Work) -> bool
+    requires tree { IsTree root.now.shape }
+    ensures there { IsTrue result → HasSomeUnder prefix.now root.now.shape }
+    ensures none { result ≡ false → HasNoneUnder prefix.now root.now.shape }
+    ensures counted { CountsUpTo (path_bound root.now.shape prefix.now) 0 work.old work.new }
+    ensures entered { work.old.entered < work.new.entered }
+{
+    prefix_end(root, prefix, work).is_some()
 }
 
 /// A root of its own for all that stands under a prefix below another, or `None` where nothing

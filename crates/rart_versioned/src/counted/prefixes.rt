@@ -11,10 +11,32 @@ ghost use Rattle.rart_node.specs.Counts.{CountsUpTo};
 use crate::counted::tree::VersionedAdaptiveRadixTree;
 use rart_below::{KeyTrait, Partial};
 use rart_node::{NodeRef, Work};
-use rart_ways::{Cleared, clear_below, keep_under};
+use rart_ways::{Cleared, clear_below, has_under, keep_under};
 use std::alloc::AllocError;
 
 impl<K: KeyTrait, V: Clone + Drop> VersionedAdaptiveRadixTree<K, V> {
+    /// As `contains_prefix_k`, with the nodes entered counted into `work`: at most one more than
+    /// the prefix has bytes, and at least one where there is a key in the map.
+    pub fn contains_prefix_k_counted(&self, prefix: &K, work: &mut Work) -> bool
+        ensures there { result ≡ has_under self.now (K.bytes prefix.now) }
+        ensures counted { CountsUpTo (lookup_bound (K.bytes prefix.now)) 0 work.old work.new }
+        ensures entered { has_no_key self.now ≡ false → work.old.entered < work.new.entered }
+    {
+        self.contains_prefix_slice_counted(prefix.as_ref(), work)
+    }
+
+    /// As `contains_prefix_slice`, counted as by `contains_prefix_k_counted`.
+    pub fn contains_prefix_slice_counted(&self, prefix: &[u8], work: &mut Work) -> bool
+        ensures there { result ≡ has_under self.now prefix.now }
+        ensures counted { CountsUpTo (lookup_bound prefix.now) 0 work.old work.new }
+        ensures entered { has_no_key self.now ≡ false → work.old.entered < work.new.entered }
+    {
+        match &self.root {
+            None => false,
+            Some(root) => has_under(root, prefix, work),
+        }
+    }
+
     /// As `prefix_snapshot_k`, with the nodes entered and made counted into `work`: at most one
     /// more entered than the prefix has bytes, and at most one made.
     pub fn prefix_snapshot_k_counted(

@@ -11,6 +11,36 @@ use rart_node::Work;
 use std::alloc::AllocError;
 
 impl<K: KeyTrait, V: Clone + Drop> VersionedAdaptiveRadixTree<K, V> {
+    /// As `contains_prefix_k`, with the prefix by value.
+    pub fn contains_prefix(&self, prefix: K) -> bool
+        ensures { result ≡ has_under self.now (K.bytes prefix) }
+    {
+        self.contains_prefix_k(&prefix)
+    }
+
+    /// Whether the prefix begins a key, itself among them. It takes no memory. rart has no such
+    /// call.
+    ///
+    /// ```
+    /// let has_orders = orders.contains_prefix_k(&customer);
+    /// ```
+    pub fn contains_prefix_k(&self, prefix: &K) -> bool
+        ensures { result ≡ has_under self.now (K.bytes prefix.now) }
+    {
+        self.contains_prefix_k_counted(prefix, &mut Work::new())
+    }
+
+    /// As `contains_prefix_k`, the prefix by its bytes.
+    ///
+    /// ```
+    /// let has_teas = list.contains_prefix_slice(b"tea ");
+    /// ```
+    pub fn contains_prefix_slice(&self, prefix: &[u8]) -> bool
+        ensures { result ≡ has_under self.now prefix.now }
+    {
+        self.contains_prefix_slice_counted(prefix, &mut Work::new())
+    }
+
     /// As `prefix_snapshot_k`, with the prefix by value.
     pub fn prefix_snapshot(&self, prefix: K) -> Result<VersionedAdaptiveRadixTree<K, V>, AllocError>
         requires clones { ClonesEqual V.is_clone }

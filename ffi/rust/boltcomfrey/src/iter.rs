@@ -9,7 +9,7 @@ use std::iter::FusedIterator;
 /// It takes them by pages. The library takes no memory for it; the pages, and the copies of keys
 /// and of byte strings, do.
 ///
-/// From the back it first reads all that is left, since the library walks forwards.
+/// From the back each pair is a search of its own.
 ///
 /// It borrows the map, which doesn't change meanwhile, and stays on its thread.
 ///

@@ -1,4 +1,4 @@
-//! How far a walk over a map has come: it takes the pairs by pages.
+//! How far a walk over a map has come: it takes the pairs by pages, from the back one by one.
 use crate::raw::Tree;
 use crate::value::{Calls, Value};
 use std::collections::VecDeque;
@@ -35,6 +35,7 @@ impl<V> Page<V> {
     }
 }
 
+// Whether a key meets an upper bound.
 fn meets(key: &[u8], high: Bound<&[u8]>) -> bool {
     match high {
         Bound::Included(high) => key <= high,
@@ -43,8 +44,17 @@ fn meets(key: &[u8], high: Bound<&[u8]>) -> bool {
     }
 }
 
-/// A walk over the pairs within two bounds, and how far it has come. The tree stands elsewhere, and
-/// doesn't change meanwhile.
+// Whether a key meets a lower bound.
+fn is_behind(key: &[u8], low: Bound<&[u8]>) -> bool {
+    match low {
+        Bound::Included(low) => key >= low,
+        Bound::Excluded(low) => key > low,
+        Bound::Unbounded => true,
+    }
+}
+
+/// A walk over the pairs within two bounds, and how far it has come from either end. The tree stands
+/// elsewhere, and doesn't change meanwhile.
 #[derive(Clone)]
 pub struct Walk<V> {
     // What is left behind the page.
@@ -54,8 +64,6 @@ pub struct Walk<V> {
     is_last: bool,
     // What is left of the page.
     page: Page<V>,
-    // All that is left, once a pair was taken from the back.
-    rest: Option<VecDeque<(Vec<u8>, V)>>,
 }
 
 impl<V: Value> Walk<V> {
@@ -69,7 +77,6 @@ impl<V: Value> Walk<V> {
                 bytes: Vec::new(),
                 entries: VecDeque::new(),
             },
-            rest: None,
         }
     }
 
@@ -88,9 +95,6 @@ impl<V: Value> Walk<V> {
     }
 
     pub fn next(&mut self, tree: &Tree<<V as Calls>::Handle>) -> Option<(Vec<u8>, V)> {
-        if let Some(rest) = &mut self.rest {
-            return rest.pop_front();
-        }
         if self.page.entries.is_empty() && !self.is_last {
             self.turn(tree);
         }
@@ -98,12 +102,22 @@ impl<V: Value> Walk<V> {
         Some((self.page.bytes[key].to_vec(), value))
     }
 
-    /// The last pair. The library walks forwards, so the first call reads all that is left.
+    /// The last pair, by a search: of those behind the page, else of the page.
     pub fn next_back(&mut self, tree: &Tree<<V as Calls>::Handle>) -> Option<(Vec<u8>, V)> {
-        if self.rest.is_none() {
-            self.rest = Some(std::iter::from_fn(|| self.next(tree)).collect());
+        if !self.is_last {
+            let mut key = Vec::new();
+            let high = self.high.as_ref().map(Vec::as_slice);
+            if let Some((len, value)) = V::last(tree, high, &mut key) {
+                key.truncate(len);
+                if is_behind(&key, self.low.as_ref().map(Vec::as_slice)) {
+                    self.high = Bound::Excluded(key.clone());
+                    return Some((key, value));
+                }
+            }
+            self.is_last = true;
         }
-        self.rest.as_mut()?.pop_back()
+        let (key, value) = self.page.entries.pop_back()?;
+        Some((self.page.bytes[key].to_vec(), value))
     }
 
     /// Takes the next page, which begins behind the last key of this one.

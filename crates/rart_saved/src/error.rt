@@ -38,6 +38,11 @@ pub enum SaveError {
 }
 
 impl From<AllocError> for SaveError {
+    ghost use Rattle.std.specs.Prelude.{◌≡◌};
+    ghost use Rattle.rart_saved.specs.declared.error.SaveError.TheVariants.{Memory};
+
+    ghost from_gives = { λ _ error. error ≡ Memory };
+
     fn from(_refused: AllocError) -> SaveError {
         SaveError::Memory
     }

@@ -1,8 +1,10 @@
 //! What the form of a version fixes, and worked forms: laws, each the contract of a function.
+ghost use Rattle.rart_saved.specs.Forms.{IsVersionOf};
 ghost use Rattle.rart_saved.specs.SavedLaws.{FormsAreOfOne, FormsStandApart};
 ghost use Rattle.rart_saved.specs.WorkedForms.{NumberOfOneByte, NumberOfTwoBytes, GreatestNumber, NumberAsValue, EmptyVersion, GreatestVersion, EmptyKey, KeysInKeys, SumBehind};
 
 use crate::value::SavedValue;
+use rart_versioned::{KeyTrait, VersionedAdaptiveRadixTree};
 
 /// Versions whose bytes are equal are equal, and no version's bytes begin another's.
 pub fn forms_stand_apart<V: SavedValue>()
@@ -24,3 +26,10 @@ pub fn worked_forms()
     ensures keys_in_keys { KeysInKeys }
     ensures sum_behind { SumBehind }
 {}
+
+/// Every tree is a version that its form gives back.
+pub fn trees_are_versions<K: KeyTrait, V: SavedValue>(tree: &VersionedAdaptiveRadixTree<K, V>)
+    ensures { IsVersionOf K.MAXIMUM_SIZE tree.now }
+{
+    tree.know_keys_for_proof();
+}

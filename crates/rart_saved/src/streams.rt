@@ -1,9 +1,10 @@
 //! Versions over writers and readers.
-ghost use Rattle.std.specs.Prelude.{◌≡◌, IfOk, IfSome, OnErr, OnOk};
+ghost use Rattle.std.specs.Prelude.{◌≡◌, IfErr, IfOk, IfSome, OnOk};
 ghost use Rattle.std.specs.Io.KnownBytes.{Appends};
 ghost use Rattle.rart_below.specs.Clones.{ClonesEqual};
 ghost use Rattle.rart_saved.specs.Forms.{saved};
 ghost use Rattle.rart_saved.specs.Loads.{GivesBackUnlessIo};
+ghost use Rattle.rart_saved.specs.declared.error.SaveError.TheVariants as refused;
 
 use crate::error::{LoadError, SaveError};
 use crate::loading::load_slice;
@@ -19,14 +20,16 @@ use std::io::{ErrorKind, Read, Write};
 /// save(alloc, &prices, &mut file)?;
 /// ```
 ///
-/// With `Io` some of them may be written. They are no version's then, since their end lacks.
+/// With `Io` some of them may be written. They are no version's then, since their end lacks. With
+/// `Memory` the writer is as before.
 pub fn save<K: KeyTrait, V: SavedValue, W: Write>(
     alloc: Global,
     tree: &VersionedAdaptiveRadixTree<K, V>,
     writer: &mut W,
 ) -> Result<(), SaveError>
-    ensures { OnOk result (Appends (W.contents writer.old) (W.contents writer.new)
+    ensures written { OnOk result (Appends (W.contents writer.old) (W.contents writer.new)
         (saved V.written V.KIND tree.now)) }
+    ensures memory { IfErr result (λ error. error ≡ refused.Memory → writer.new ≡ writer.old) }
 {
     let bytes = save_slice(alloc, tree)?;
     match writer.write_all(bytes.as_slice()) {

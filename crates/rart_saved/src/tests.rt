@@ -183,23 +183,67 @@ fn changed_files_with_a_right_sum_are_of_what_is_read(rt: HostRuntime) -> Result
     Ok(())
 }
 
-/// Gives and takes nothing, and fails.
+/// Why bytes are not read as a tree of numbers that have these behind the head.
+fn refusal(alloc: Global, behind: &[u8]) -> Result<Option<LoadError>, AllocError> {
+    let mut bytes = THREE[..9].to_vec(alloc)?;
+    bytes.extend_from_slice(behind)?;
+    Ok(load_slice::<VectorKey, u64>(alloc, bytes.as_slice()).err())
+}
+
+#[test]
+fn each_refusal_tells_its_place(rt: HostRuntime) -> Result<(), Fail> {
+    let alloc = rt.alloc();
+    // (a number of two groups that fits one, two pairs at number 1, and `a` behind `b`)
+    let longer = refusal(alloc, &[128, 0])?;
+    assert!(rt; longer == Some(LoadError::Malformed { at: 9 }));
+    let many = refusal(alloc, &[1, 2])?;
+    assert!(rt; many == Some(LoadError::Malformed { at: 10 }));
+    let back = refusal(alloc, &[2, 2, 0, 1, 98, 7, 0, 0, 0, 0, 0, 0, 0, 0, 1, 97])?;
+    assert!(rt; back == Some(LoadError::Malformed { at: 22 }));
+    // (of a byte string of five bytes there are two)
+    let short = b"comfrey\x01\x02\x01\x01\x00\x01a\x05xy";
+    let answer = load_slice::<VectorKey, ByteString>(alloc, short.as_slice());
+    assert!(rt; matches!(answer, Err(LoadError::Truncated)));
+    Ok(())
+}
+
+#[test]
+fn errors_say_what_happened(rt: HostRuntime) -> Result<(), Fail> {
+    let [io, memory, truncated] = [LoadError::Io, LoadError::Memory, LoadError::Truncated];
+    let (malformed, checksum) = (LoadError::Malformed { at: 9 }, LoadError::Checksum);
+    let unsupported = LoadError::Unsupported { format: 2 };
+    let loads = format!(in rt.alloc();
+        "{io}; {memory}; {truncated}; {malformed}; {checksum}; {unsupported}"
+    )?;
+    assert_eq!(rt;
+        loads.as_str(),
+        "reading failed; out of memory; the bytes end too early; byte 9 is no version's; \
+         the checksum is another one; format 2 is not supported"
+    );
+    let (io, memory) = (SaveError::Io, SaveError::Memory);
+    let saves = format!(in rt.alloc(); "{io}; {memory}")?;
+    assert_eq!(rt; saves.as_str(), "writing failed; out of memory");
+    Ok(())
+}
+
+/// Gives and takes nothing, and fails so.
 #[derive(Drop)]
 struct Broken {
     calls: usize,
+    kind: io::ErrorKind,
 }
 
 impl Read for Broken {
     fn read(&mut self, _buffer: &mut [u8]) -> io::Result<usize> {
         self.calls = self.calls.saturating_add(1);
-        Err(io::Error::from(io::ErrorKind::Other))
+        Err(io::Error::from(self.kind))
     }
 }
 
 impl Write for Broken {
     fn write(&mut self, _bytes: &[u8]) -> io::Result<usize> {
         self.calls = self.calls.saturating_add(1);
-        Err(io::Error::from(io::ErrorKind::Other))
+        Err(io::Error::from(self.kind))
     }
 
     fn flush(&mut self) -> io::Result<()> {
@@ -219,10 +263,16 @@ fn streams_carry_the_same_bytes(rt: HostRuntime) -> Result<(), Fail> {
         return Err(Fail::from(AllocError));
     };
     assert!(rt; back.equals(&tree)?);
-    let mut broken = Broken { calls: 0 };
+    let mut broken = Broken {
+        calls: 0,
+        kind: io::ErrorKind::Other,
+    };
     assert!(rt; matches!(save(alloc, &tree, &mut broken), Err(SaveError::Io)));
     let answer = load::<VectorKey, u64, Broken>(alloc, &mut broken);
     assert!(rt; matches!(answer, Err(LoadError::Io)));
     assert!(rt; broken.calls == 2);
+    broken.kind = io::ErrorKind::OutOfMemory;
+    let answer = load::<VectorKey, u64, Broken>(alloc, &mut broken);
+    assert!(rt; matches!(answer, Err(LoadError::Memory)));
     Ok(())
 }

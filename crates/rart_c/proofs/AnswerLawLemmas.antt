@@ -4,7 +4,7 @@ use Rattle.std.proofs.Math.Seq.{take-append_seam, drop-append_seam}
 use Rattle.std.proofs.lemmas.Bool.{cases_lt}
 use Rattle.std.proofs.lemmas.Option.{none-some, same_Some}
 use Rattle.std.proofs.lemmas.List.{append_assoc, length-append, take-append-drop}
-use Rattle.rart_c.specs.AnswerLaws.{AnswersTell, ReadsTell, FirstsTell, FirstStringsTell, RefusalsTell, PagesTell, PageAnswersTell, first_of, pairs_shown}
+use Rattle.rart_c.specs.AnswerLaws.{AnswersTell, ReadsTell, FirstsTell, FirstStringsTell, RefusalsTell, EqualityTells, PagesTell, PageAnswersTell, first_of, pairs_shown}
 use Rattle.rart_c.specs.Pages.{IsFull, entries_from, keys_of}
 use Rattle.rart_c.specs.declared.answer.TheConstants.{DONE}
 use Rattle.rart_c.specs.declared.paging.RartEntry.{RartEntry}
@@ -130,6 +130,18 @@ pub refusals_tell : RefusalsTell
 refusals_tell answer = (
   (λ refused. refused, λ refused. refused),
   (λ refused. refused, λ refused. refused),
+)
+
+pub equality_tells : (V : Type 0) → EqualityTells V
+equality_tells V one other answer told = (
+  λ done. ⊎_elim (λ same. same.1)
+      (λ rest. absurd (⊎_elim (λ differs. omega (arith, differs.0, done))
+      (λ none. omega (arith, none, done)) rest)) told,
+  λ different. ⊎_elim (λ same. absurd (omega (arith, same.0, different)))
+      (λ rest. ⊎_elim (λ differs. differs.1)
+      (λ none. absurd (omega (arith, none, different))) rest) told,
+  ⊎_elim (λ same. inl same.0)
+      (λ rest. ⊎_elim (λ differs. inr (inl differs.0)) (λ none. inr (inr none)) rest) told,
 )
 
 -- Entries of pairs whose keys stand in some bytes, from where the first begins, show these pairs.

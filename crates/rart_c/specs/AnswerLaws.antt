@@ -2,11 +2,13 @@
 -- there.
 use Rattle.std.specs.Prelude.{◌≡◌, ◌+◌, ◌<◌, ◌==◌, ◌↔◌, ◌⊎◌, ℕ, List, [], ◌∷◌, Option, Some, None, drop, if◌then◌else◌, length, take}
 use Rattle.rart_c.specs.Answers.{IsRefused, IsRefusedKey, Tells}
+use Rattle.rart_c.specs.Equality.{TellsEqual}
 use Rattle.rart_c.specs.Firsts.{ReadsFirst, TellsFirst}
 use Rattle.rart_c.specs.Pages.{TellsPage, WritesPage, first_length, keys_of}
 use Rattle.rart_c.specs.Reads.{Reads}
-use Rattle.rart_c.specs.declared.answer.TheConstants.{DONE, ABSENT, LAST_NUMBER, NO_MEMORY, NO_ENTRIES, TOO_LONG, TOO_SMALL}
+use Rattle.rart_c.specs.declared.answer.TheConstants.{DONE, ABSENT, DIFFERENT, LAST_NUMBER, NO_MEMORY, NO_ENTRIES, TOO_LONG, TOO_SMALL}
 use Rattle.rart_c.specs.declared.paging.RartEntry.{RartEntry}
+use Rattle.rart_maps.specs.Versions.{Map}
 
 -- The value is what is written, and there is none where nothing is. No other answer is told.
 abbrev pub AnswersTell : Type 0 → Type 0
@@ -63,6 +65,13 @@ RefusalsTell = (answer : ℕ)
     → (IsRefused answer ↔ ((answer ≡ LAST_NUMBER) ⊎ (answer ≡ NO_MEMORY)))
     × (IsRefusedKey answer
     ↔ ((answer ≡ TOO_LONG) ⊎ ((answer ≡ LAST_NUMBER) ⊎ (answer ≡ NO_MEMORY))))
+
+-- Maps that are told equal are the same, and those that are told different aren't. The third answer
+-- tells nothing, and there is no other.
+abbrev pub EqualityTells : Type 0 → Type 0
+EqualityTells V = (one other : Map V) (answer : ℕ) → TellsEqual one other answer
+    → (answer ≡ DONE → one ≡ other) × (answer ≡ DIFFERENT → ¬ (one ≡ other))
+    × ((answer ≡ DONE) ⊎ ((answer ≡ DIFFERENT) ⊎ (answer ≡ NO_MEMORY)))
 
 -- the pairs that entries show: of each the bytes from where the one before ends to where it ends,
 -- and its value

@@ -1,6 +1,6 @@
 //! What the numbers that C reads are, and what they tell.
 ghost use Rattle.std.specs.Prelude.{◌≡◌, [], ◌∷◌};
-ghost use Rattle.rart_c.specs.AnswerLaws.{AnswersTell, ReadsTell, FirstsTell, FirstStringsTell, RefusalsTell, PagesTell, PageAnswersTell};
+ghost use Rattle.rart_c.specs.AnswerLaws.{AnswersTell, ReadsTell, FirstsTell, FirstStringsTell, RefusalsTell, PagesTell, PageAnswersTell, EqualityTells};
 ghost use Rattle.rart_c.specs.declared.answer.TheConstants.{DONE, ABSENT, LAST_NUMBER, NO_MEMORY, TOO_SMALL, NO_ENTRIES, TOO_LONG, NOT_EMPTY, DIFFERENT};
 ghost use Rattle.rart_c.specs.declared.paging.TheConstants.{INCLUDED, EXCLUDED, UNBOUNDED};
 
@@ -12,7 +12,7 @@ pub fn numbers_are_those_of_the_header()
     ensures kinds { INCLUDED ∷ EXCLUDED ∷ UNBOUNDED ∷ [] ≡ 0 ∷ 1 ∷ 2 ∷ [] }
 {}
 
-/// By an answer and what is written a caller knows what was found.
+/// By an answer and what is written a caller knows what was found, and whether trees are equal.
 pub fn answers_tell<X>()
     ensures values { AnswersTell X }
     ensures strings { ReadsTell }
@@ -21,4 +21,5 @@ pub fn answers_tell<X>()
     ensures pages { PagesTell }
     ensures page_answers { PageAnswersTell }
     ensures refusals { RefusalsTell }
+    ensures equality { EqualityTells X }
 {}

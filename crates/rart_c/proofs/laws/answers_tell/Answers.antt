@@ -1,4 +1,4 @@
-use Rattle.rart_c.proofs.AnswerLawLemmas.{answers_tell, reads_tell, firsts_tell, first_strings_tell, page_answers_tell, pages_tell, refusals_tell}
+use Rattle.rart_c.proofs.AnswerLawLemmas.{answers_tell, reads_tell, firsts_tell, first_strings_tell, page_answers_tell, pages_tell, refusals_tell, equality_tells}
 use Rattle.rart_c.proofs.laws.answers_tell.Goals as goal
 
 pub returns-clause-values : goal.returns-clause-values
@@ -21,3 +21,6 @@ returns-clause-page_answers g c = page_answers_tell
 
 pub returns-clause-refusals : goal.returns-clause-refusals
 returns-clause-refusals g c = refusals_tell
+
+pub returns-clause-equality : goal.returns-clause-equality
+returns-clause-equality g c = equality_tells _

@@ -1,1 +1,2 @@
 pub mod SnapshotLemmas
+mod KeptUpdateLemmas

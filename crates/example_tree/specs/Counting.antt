@@ -1,21 +1,26 @@
 -- Worked values of the tree's counts, for keys of two bytes.
-use Rattle.std.specs.Prelude.{◌≡◌, ◌+◌, ◌<◌, ◌≤◌, ℕ, List, [], ◌∷◌, codes, length, Result, Some, None, Err}
-use Rattle.std.specs.Borrow.{MutBor}
-use Rattle.std.specs.Fn.{Once}
+use Rattle.std.specs.Prelude.{◌≡◌, ◌+◌, ◌<◌, ◌≤◌, ℕ, false, List, [], ◌∷◌, codes, length, Option, Result, Some, None, Ok, Err}
+use Rattle.std.specs.Borrow.{Bor, MutBor}
+use Rattle.std.specs.Fn.{Mut, Once}
+use Rattle.std.specs.declared.alloc.AllocError.{AllocError}
 use Rattle.rart_maps.specs.Bounds.{lookup_bound, node_count}
 use Rattle.rart_maps.specs.ChangeLists.{Change}
-use Rattle.rart_maps.specs.Versions.{Map, Version}
+use Rattle.rart_maps.specs.Versions.{Map, Version, value_at}
 use Rattle.rart_maps.specs.WorkedBounds.{map_of}
 use Rattle.rart_versioned.specs.ChangeCounts.{MakesToTryInsert}
-use Rattle.rart_versioned.specs.Refusal.TheVariants.{Callback}
+use Rattle.rart_versioned.specs.Refusal.TheVariants.{Callback, Memory}
 use Rattle.rart_versioned.specs.declared.Slot.{Slot}
 use Rattle.rart_versioned.specs.declared.Slot.TheVariants.{Vacant, Occupied}
 use Rattle.rart_versioned.specs.SlotUpdate.{SlotUpdate}
 use Rattle.rart_versioned.specs.SlotUpdate.TheVariants.{Keep, Insert, Remove}
-use Rattle.rart_versioned.specs.UpdateCounts.{CountsTry, update_enters, update_makes}
+use Rattle.rart_versioned.specs.UpdateCounts.{CountsTry, CountsUpdate, update_enters, update_makes}
+use Rattle.rart_versioned.specs.Updates.{Tells, TellsOrFails}
 use Rattle.rart_versioned.specs.VisitCounts.{DiffEndsSoon, EndsAtFirst, EndsSoon, end_bound, node_count_to}
 use Rattle.rart_versioned.specs.Counts.{Counts}
-use Rattle.rart_versioned.specs.Iterators.{members_left}
+use Rattle.rart_versioned.specs.Iterators.{IsHintOf, members_left}
+use Rattle.rart_versioned.specs.VisitControl.{VisitControl}
+use Rattle.rart_walks.specs.Ends.{ByPairValue, Ends}
+use Rattle.rart_ways.specs.Firsts.{found_length}
 
 -- Nodes that an update enters at most: a key that is absent, and one that is there.
 abbrev pub UpdatesEnter : Type 0
@@ -71,6 +76,37 @@ abbrev pub EqualMapsTell : Type 0
 EqualMapsTell = (old new : Map ℕ) (before after : Counts) → EndsAtFirst old new before after []
     → after.entered ≡ before.entered + (node_count old + node_count new)
 
+-- Where there is one, of either map no more than up to its first key from there on.
+abbrev pub UnequalMapsTell : Type 0
+UnequalMapsTell = (old new : Map ℕ) (before after : Counts) (first : Change ℕ)
+    (changes : List (Change ℕ)) → EndsAtFirst old new before after (first ∷ changes)
+    → (before.entered < after.entered)
+    × (after.entered ≤ before.entered + (node_count_to old first.0 + node_count_to new first.0))
+
+-- An update that answers `false` looks its key up and makes no node. Nor does a refused one make
+-- any, whose callback stores and takes out nothing.
+abbrev pub KeptUpdatesTell : {F V : Type 0} → Once F (MutBor (Slot V) × Unit {0})
+    (SlotUpdate V × (MutBor (Slot V) × Unit {0})) → Type 0
+KeptUpdatesTell {F} {V} callback = (f : F) (v after : Version V) (w : List ℕ)
+    (refused : AllocError) (start now : Counts) →
+    (CountsUpdate callback {E = AllocError} f v w (Ok false) after start now
+    → (now.entered ≤ start.entered + lookup_bound w) × (now.made ≡ start.made))
+    × (((left : Slot V) (told : SlotUpdate V) → Tells callback f v w left told
+    → update_makes w (value_at v w) left told ≡ 0)
+    → CountsUpdate callback f v w (Err refused) after start now → now.made ≡ start.made)
+
+-- So it is where the callback may fail.
+abbrev pub KeptTriesTell : {F V E : Type 0} → Once F (MutBor (Slot V) × Unit {0})
+    (Result (SlotUpdate V) E × (MutBor (Slot V) × Unit {0})) → Type 0
+KeptTriesTell {F} {V} {E} callback = (f : F) (v after : Version V) (w : List ℕ)
+    (refused : AllocError) (start now : Counts) →
+    (CountsTry callback f v w (Ok false) after start now
+    → (now.entered ≤ start.entered + lookup_bound w) × (now.made ≡ start.made))
+    × (((left : Slot V) (told : SlotUpdate V) → TellsOrFails callback f v w left (Ok told)
+    → update_makes w (value_at v w) left told ≡ 0)
+    → CountsTry callback f v w (Err (Memory refused)) after start now → now.made ≡ start.made)
+    × (MakesToTryInsert {E = E} (Ok false) start now → now.made ≡ start.made)
+
 -- An update whose callback fails enters what a look-up does, and makes none.
 abbrev pub FailedUpdatesTell : {F V E : Type 0} → Once F (MutBor (Slot V) × Unit {0})
     (Result (SlotUpdate V) E × (MutBor (Slot V) × Unit {0})) → Type 0
@@ -86,3 +122,22 @@ MembersAreLeft =
     (members_left {X = ℕ} (Some (1 ∷ 2 ∷ [])) ≡ 2)
     × (members_left {X = ℕ} (Some []) ≡ 0)
     × (members_left {X = ℕ} None ≡ 0)
+
+-- By a hint: at least so many are left, and at most so many; behind the end, none.
+abbrev pub HintsTell : Type 0
+HintsTell = (left : Option (List ℕ)) (hint : ℕ × Option ℕ) → IsHintOf left hint
+    → (hint.0 ≤ members_left left)
+    × ((most : ℕ) → hint.1 ≡ Some most → members_left left ≤ most)
+    × (left ≡ None → hint ≡ (0, Some 0))
+
+-- A key that was found has its length, and what was not found has none.
+abbrev pub FoundLengths : Type 0
+FoundLengths = (found_length {V = ℕ} None ≡ 0)
+    × ((value : Bor ℕ) → found_length (Some (3, value)) ≡ 3)
+
+-- What a visit says of its end holds where it wasn't refused: where it says what can't be, there is
+-- none that went through, none that was stopped, and none that its closure's error ended.
+abbrev pub EndsTell : {F V E : Type 0} → Mut F (Bor V × Unit {0}) (Result VisitControl E) → Type 0
+EndsTell {F} {V} {E} calls = (f f' : F) (members : List (List ℕ × V)) (e : E) →
+    (Ends calls ByPairValue ⊥ (λ front last. ⊥) (Ok tt) f members f' → ⊥)
+    × (Ends calls ByPairValue ⊥ (λ front last. ⊥) (Err (Callback e)) f members f' → ⊥)

@@ -1,11 +1,11 @@
--- The worked values of the bounds, and of sets within each other.
+-- The worked values of the bounds, of sets within each other, and of what touches a key.
 use Rattle.std.proofs.Common.{◌≡◌, true, false, refl, sym, ap, ◌∙◌, ⊎_elim}
 use Rattle.std.specs.Prelude.{codes}
 use Rattle.std.specs.FinMap as finite
 use Rattle.std.proofs.lemmas.Bool.{false≢true}
 use Rattle.rart_maps.proofs.MapLemmas.{maps}
 use Rattle.rart_changes.specs.Tracking.{is_in, no_key}
-use Rattle.rart_changes.specs.WorkedBounds.{ChangesOfTwo, ConflictsOfTwo, LeastOfTwo, OneWithinTwo, one_key, two_keys}
+use Rattle.rart_changes.specs.WorkedBounds.{ChangesOfTwo, ConflictsOfTwo, KeysAreTouched, LeastOfTwo, OneWithinTwo, one_key, two_keys}
 use Rattle.rart_changes.proofs.TrackingLemmas.{in-with, nothing-in}
 
 pub changes_of_two : ChangesOfTwo
@@ -35,4 +35,14 @@ one_within_two = (
   λ q there. ⊎_elim (λ is. ap (is_in two_keys) is ∙ first-in-two)
       (λ none. absurd (nothing-in q none)) (in-with no_key (codes "a") q there),
   λ within. false≢true (sym second-not-in-one ∙ within (codes "bc") second-in-two),
+)
+
+pub keys_are_touched : KeysAreTouched
+keys_are_touched = (
+  refl,
+  refl,
+  simp maps refl,
+  simp maps refl,
+  refl,
+  refl,
 )

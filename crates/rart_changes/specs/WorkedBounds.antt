@@ -1,11 +1,11 @@
--- Worked values of the bounds, and of sets within each other, found by hand.
-use Rattle.std.specs.Prelude.{◌≡◌, ℕ, codes}
+-- Worked values of the bounds, of sets within each other, and of what touches a key, found by hand.
+use Rattle.std.specs.Prelude.{◌≡◌, ℕ, true, false, codes}
 use Rattle.rart_maps.specs.Pairs.{Strings}
-use Rattle.rart_maps.specs.Versions.{empty_at, with_key}
+use Rattle.rart_maps.specs.Versions.{empty_at, with_key, without_key}
 use Rattle.rart_changes.specs.ChangeVisits.{changes_bound, changes_least}
 use Rattle.rart_changes.specs.ConflictVisits.{conflicts_bound, conflicts_least}
 use Rattle.rart_changes.specs.Rebasing.{IsWithin}
-use Rattle.rart_changes.specs.Tracking.{Tracking, no_key, with_string}
+use Rattle.rart_changes.specs.Tracking.{Tracking, after_insertion, after_removal, no_key, tracking_from, updated, with_string}
 
 abbrev pub one_key : Strings
 one_key = with_string no_key (codes "a")
@@ -37,3 +37,29 @@ LeastOfTwo = (changes_least one_of_two ≡ 4)
 -- The other key is not in the one set.
 abbrev pub OneWithinTwo : Type 0
 OneWithinTwo = IsWithin one_key two_keys × ¬ IsWithin two_keys one_key
+
+-- begun with a map with one key, at number 1
+abbrev pub begun : Tracking ℕ
+begun = tracking_from (with_key (empty_at 0) (codes "a") 7 1)
+
+-- Setting a key touches it, and so does taking it out where it is there, and an update where it
+-- answers `true`. Of an absent key removal leaves all, and so does an update that answers `false`.
+abbrev pub KeysAreTouched : Type 0
+KeysAreTouched =
+    (begun ≡ record { base = begun.current; current = begun.current; touched = no_key })
+    × (after_insertion begun (codes "bc") 8
+    ≡ record {
+      base = begun.base;
+      current = with_key begun.current (codes "bc") 8 1;
+      touched = with_string no_key (codes "bc");
+    })
+    × (after_removal begun (codes "a")
+    ≡ record {
+      base = begun.base;
+      current = without_key begun.current (codes "a") 1;
+      touched = one_key;
+    })
+    × (after_removal begun (codes "bc") ≡ begun)
+    × (updated begun (codes "a") true (empty_at 2)
+    ≡ record { base = begun.base; current = empty_at 2; touched = one_key })
+    × (updated begun (codes "a") false begun.current ≡ begun)

@@ -1,12 +1,13 @@
 //! What the words on tracked versions mean: laws, each the contract of a function that does
 //! nothing.
-ghost use Rattle.rart_changes.specs.WorkedBounds.{ChangesOfTwo, ConflictsOfTwo, LeastOfTwo, OneWithinTwo};
+ghost use Rattle.rart_changes.specs.WorkedBounds.{ChangesOfTwo, ConflictsOfTwo, LeastOfTwo, OneWithinTwo, KeysAreTouched};
 
 /// Worked values, found by hand: how many nodes finding the changes and the conflicts at two keys
-/// enters at most and at least, and which of two sets is within the other.
+/// enters at most and at least, which of two sets is within the other, and which keys calls touch.
 pub fn worked_bounds()
     ensures changes { ChangesOfTwo }
     ensures conflicts { ConflictsOfTwo }
     ensures least { LeastOfTwo }
     ensures within { OneWithinTwo }
+    ensures touched { KeysAreTouched }
 {}

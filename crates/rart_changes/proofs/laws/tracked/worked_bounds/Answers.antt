@@ -1,5 +1,5 @@
 use Rattle.rart_changes.proofs.laws.tracked.worked_bounds.Goals as goal
-use Rattle.rart_changes.proofs.WorkedChangeBoundLemmas.{changes_of_two, conflicts_of_two, least_of_two, one_within_two}
+use Rattle.rart_changes.proofs.WorkedChangeBoundLemmas.{changes_of_two, conflicts_of_two, least_of_two, one_within_two, keys_are_touched}
 
 pub returns-clause-changes : goal.returns-clause-changes
 returns-clause-changes c = changes_of_two
@@ -12,3 +12,6 @@ returns-clause-least c = least_of_two
 
 pub returns-clause-within : goal.returns-clause-within
 returns-clause-within c = one_within_two
+
+pub returns-clause-touched : goal.returns-clause-touched
+returns-clause-touched c = keys_are_touched

@@ -108,7 +108,7 @@ module _ {V : Type 0} where
   below-behind p key (pair ∷ pairs) =
       λ i. is_lt (order-behind p key pair.0 i) && below-behind p key pairs i
 
-  sorted-behind : (p : List ℕ) (pairs : List (List ℕ × V))
+  pub sorted-behind : (p : List ℕ) (pairs : List (List ℕ × V))
       → is_sorted byte_order (map (λ pair. (p ++ pair.0, pair.1)) pairs)
       ≡ is_sorted byte_order pairs
   sorted-behind p [] = refl

@@ -33,6 +33,12 @@ IsFullAt width count = (0 < width) × (width < 256) × (count ≡ width)
 abbrev pub widened : ℕ → ℕ → ℕ
 widened width count = if is_full_at width count then wider width else width
 
+-- the narrowest width that has room for so many children, and the greatest where none has
+abbrev pub width_for : ℕ → ℕ
+width_for count =
+    if count == 0 then 0 else if nat_le count 4 then 4 else if nat_le count 16 then 16
+    else if nat_le count 48 then 48 else 256
+
 module _ {V : Type 0} where
   abbrev pub forest_of : List (ℕ × Shape V) → Forest V
   forest_of [] = bare

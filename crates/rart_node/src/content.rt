@@ -1,6 +1,6 @@
 // Ported from rart 0.11.0 (Apache-2.0), and rewritten.
 //! What a node keeps its children in: nothing, or a mapping of one of four widths.
-ghost use Rattle.std.specs.Prelude.{◌≡◌, ◌<◌, ◌+◌, ◌↔◌, None, Some, false, length, if◌then◌else◌, IfOk, IsOk, IsSome, IsTrue, OnOk, OnErr, option_copied};
+ghost use Rattle.std.specs.Prelude.{◌≡◌, ◌<◌, ◌+◌, ◌↔◌, [], None, Some, false, length, if◌then◌else◌, IfOk, IsOk, IsSome, IsTrue, OnOk, OnErr, option_copied};
 ghost use Rattle.std.specs.Borrow.{sem};
 ghost use Rattle.std.specs.Option.{option_copied_mut};
 ghost use Rattle.rart_below.specs.ByteSets.{AreBytesOf, AreBytesOfBoth};
@@ -8,7 +8,7 @@ ghost use Rattle.rart_below.specs.Children.{child_at, children_below, children_f
 ghost use Rattle.rart_below.specs.Layouts.{entry_copied};
 ghost use Rattle.rart_below.specs.SortedKeyedMapping.{sorted_children, sorted_in_order};
 ghost use Rattle.rart_node.specs.Contents.{before_at, content_shape, left_at, Holds};
-ghost use Rattle.rart_node.specs.Shape.{IsFullAt, is_full_at, wider, widened};
+ghost use Rattle.rart_node.specs.Shape.{IsFullAt, is_full_at, wider, widened, width_for};
 
 use crate::node_ref::NodeRef;
 use crate::wide_box::WideBox;
@@ -57,6 +57,26 @@ macro_rules! call_mapping {
 
 impl<P: Partial, V: Drop> Content<P, V> {
     ghost use Rattle.rart_node.specs.Lent.{LendsContentChild};
+
+    /// No child, at the narrowest width that has room for so many.
+    pub(crate) fn with_room(
+        alloc: Global,
+        count: usize,
+        upper: u32,
+    ) -> Result<Content<P, V>, AllocError>
+        ensures { IfOk result (λ content. Holds content (width_for count) []) }
+    {
+        Ok(match count {
+            0 => Layout::Leaf(upper),
+            1..=4 => Layout::Node4(upper, Box::new(alloc, SortedKeyedMapping::new())?),
+            5..=16 => Layout::Node16(
+                upper,
+                WideBox::new(Box::new(alloc, SortedKeyedMapping::new())?),
+            ),
+            17..=48 => Layout::Node48(upper, WideBox::new(Box::new(alloc, IndexedMapping::new())?)),
+            _ => Layout::Node256(upper, WideBox::new(Box::new(alloc, DirectMapping::new())?)),
+        })
+    }
 
     pub(crate) fn upper(&self) -> u32 {
         match self {

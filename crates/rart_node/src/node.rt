@@ -7,7 +7,7 @@ ghost use Rattle.rart_below.specs.Children.{child_at, children_below, children_f
 ghost use Rattle.rart_below.specs.Clones.{ClonesEqual};
 ghost use Rattle.rart_node.specs.Contents.{left_at};
 ghost use Rattle.rart_node.specs.Seen.{shape_of};
-ghost use Rattle.rart_node.specs.Shape.{node_of, prefix_of, value_of, width_of, children_of, with_value, with_prefix, with_replaced, with_deleted, with_added, with_width, widenings, wider, FitsWidth, IsAscending, IsFull};
+ghost use Rattle.rart_node.specs.Shape.{node_of, prefix_of, value_of, width_of, width_for, children_of, with_value, with_prefix, with_replaced, with_deleted, with_added, with_width, widenings, wider, FitsWidth, IsAscending, IsFull};
 
 use crate::content::{Content, Layout};
 use crate::grow_error::GrowError;
@@ -112,6 +112,33 @@ impl<P: Partial, V: Drop> VersionedNode<P, V> {
                 upper_half(version),
                 Box::new(alloc, SortedKeyedMapping::new())?,
             ),
+        })
+    }
+
+    /// A node with this value or none and without a child, of the narrowest width that has room for
+    /// so many: for more than 256, of the greatest. Refused for memory, no node is made, and prefix
+    /// and value are given up. rart has no such call: there a node begins as narrow as it can.
+    pub fn with_room(
+        alloc: Global,
+        prefix: P,
+        value: Option<V>,
+        count: usize,
+        version: u64,
+    ) -> Result<VersionedNode<P, V>, AllocError>
+        ensures { IfOk result (λ it. it.shape
+            ≡ node_of (P.bytes prefix) value (width_for count) []) }
+    {
+        let content = Content::with_room(alloc, count, upper_half(version))?;
+        let lower = lower_half(version);
+        let value = match value {
+            None => Held::Vacant(lower),
+            Some(value) => Held::Occupied(lower, value),
+        };
+        Ok(VersionedNode {
+            prefix,
+            value,
+            alloc,
+            content,
         })
     }
 

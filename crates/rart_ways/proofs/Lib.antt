@@ -1,5 +1,6 @@
 pub mod BackLemmas
 pub mod BesideLemmas
+pub mod BuildingLemmas
 pub mod CutLemmas
 pub mod EditLemmas
 pub mod FromLemmas
@@ -10,9 +11,12 @@ pub mod LeastLemmas
 pub mod LentPathLemmas
 pub mod LookupPathLemmas
 pub mod PartLemmas
+pub mod NodeRunLemmas
 pub mod PlanLemmas
 pub mod PrefixLemmas
 pub mod RemovalLemmas
+pub mod RunLemmas
+pub mod RunPlaceLemmas
 pub mod SeekStartLemmas
 pub mod SeekStepLemmas
 pub mod StepLemmas

@@ -6,6 +6,7 @@ pub mod Paths
 pub mod Plans
 pub mod Prefixes
 pub mod Removals
+pub mod Runs
 pub mod Searches
 pub mod Lasts
 pub mod Starts

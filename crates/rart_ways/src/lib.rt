@@ -13,6 +13,7 @@ mod prefixes;
 mod removal;
 mod search;
 mod seeking;
+mod sorted;
 
 pub use insertion::{insert_below, leaf_of};
 pub use lending::lend_below;
@@ -22,3 +23,4 @@ pub use search::{
     Passed, get_below, longest_prefix_match, path_length, step, visit_prefix_matches,
 };
 pub use seeking::{first_from, has_within, last_to};
+pub use sorted::tree_of;

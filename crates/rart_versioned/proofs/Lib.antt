@@ -16,6 +16,7 @@ pub mod NodeBoundLemmas
 pub mod NodePointLemmas
 pub mod ProofSteps
 pub mod SoundLemmas
+pub mod SortedLemmas
 pub mod VersionRemovalLemmas
 pub mod RestoringLemmas
 pub mod SlotChangeLemmas

@@ -8,6 +8,7 @@ pub mod Meets
 pub mod Missing
 pub mod Roots
 pub mod SlotChanges
+pub mod Sorted
 pub mod TreeWalks
 pub mod UpdateCounts
 pub mod UpdateLookups

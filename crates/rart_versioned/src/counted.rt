@@ -14,6 +14,7 @@ pub(crate) mod missing;
 mod prefixes;
 mod remove;
 mod restoring;
+mod sorted;
 mod tree;
 mod try_update;
 mod update;
@@ -22,4 +23,5 @@ pub(crate) mod walks;
 mod within;
 
 pub use missing::Missing;
+pub use sorted::SortedError;
 pub use tree::VersionedAdaptiveRadixTree;

@@ -8,7 +8,7 @@
 mod counted;
 mod plain;
 
-pub use counted::{Missing, VersionedAdaptiveRadixTree};
+pub use counted::{Missing, SortedError, VersionedAdaptiveRadixTree};
 pub use plain::{
     InsertError, VersionedIter, VersionedPrefixMatchIter, VersionedRange, VersionedValuesIter,
 };

@@ -14,6 +14,7 @@ mod longest;
 mod lookup;
 mod prefixes;
 mod remove;
+mod sorted;
 mod try_insert;
 mod unversioned;
 mod update;

@@ -3,11 +3,12 @@
 //! these.
 //!
 //! The program compares what changed between versions with std's maps: random diffs, patches and
-//! merges, and what stands under random prefixes. What differs first ends the program.
+//! merges, what stands under random prefixes, and trees of sorted pairs. What differs first ends the program.
 #![tactic(auto)]
 
 mod draw;
 mod prefixes;
+mod sorted;
 #[cfg(test)]
 mod tests;
 mod trials;
@@ -17,6 +18,7 @@ use anyhow::bail;
 use draw::below;
 use prefixes::prefixes_agree;
 use rand_pcg::Pcg32;
+use sorted::sorted_agrees;
 use std::alloc::{AllocError, Global};
 use trials::{diff_agrees, take_over_agrees};
 use version::Version;
@@ -30,12 +32,14 @@ fn main(rt: HostRuntime) -> anyhow::Result<()> {
             bail!("a tree differs from its map at seed {seed}");
         }
     }
-    println!(rt; "{SEEDS} diffs, patches, merges and prefixes: all is as in the maps")?;
+    println!(rt;
+        "{SEEDS} diffs, patches, merges, prefixes and sorted pairs: all is as in the maps"
+    )?;
     Ok(())
 }
 
 // Whether a diff, a patch and a merge of versions drawn from a seed, and what stands under a prefix
-// of one, are as those of their maps.
+// of one and trees of the sorted pairs of two, are as those of their maps.
 fn is_met(alloc: Global, seed: u64) -> Result<bool, AllocError> {
     let mut words = Pcg32::new(seed, 35);
     let mut base = Version::new(alloc);
@@ -52,6 +56,8 @@ fn is_met(alloc: Global, seed: u64) -> Result<bool, AllocError> {
         diff_agrees(&base, &theirs)?
             && take_over_agrees(&base, &ours, &theirs, false)?
             && take_over_agrees(&base, &ours, &theirs, true)?
-            && prefixes_agree(&mut words, alloc, &ours)?,
+            && prefixes_agree(&mut words, alloc, &ours)?
+            && sorted_agrees(alloc, &base)?
+            && sorted_agrees(alloc, &ours)?,
     )
 }

@@ -3,7 +3,8 @@
 //! these.
 //!
 //! The program compares what changed between versions with std's maps: random diffs, patches and
-//! merges, what stands under random prefixes, and trees of sorted pairs. What differs first ends the program.
+//! merges, what stands under random prefixes, and trees of sorted pairs. What differs first ends the
+//! program.
 #![tactic(auto)]
 
 mod draw;
@@ -16,7 +17,7 @@ mod version;
 
 use anyhow::bail;
 use draw::below;
-use prefixes::prefixes_agree;
+use prefixes::{prefixes_agree, restored_agree};
 use rand_pcg::Pcg32;
 use sorted::sorted_agrees;
 use std::alloc::{AllocError, Global};
@@ -57,6 +58,7 @@ fn is_met(alloc: Global, seed: u64) -> Result<bool, AllocError> {
             && take_over_agrees(&base, &ours, &theirs, false)?
             && take_over_agrees(&base, &ours, &theirs, true)?
             && prefixes_agree(&mut words, alloc, &ours)?
+            && restored_agree(&mut words, alloc, &ours, &theirs)?
             && sorted_agrees(alloc, &base)?
             && sorted_agrees(alloc, &ours)?,
     )

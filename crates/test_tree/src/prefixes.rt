@@ -1,4 +1,5 @@
-//! What stands under a prefix of a tree, beside that of its map: kept, taken out, and both.
+//! What stands under a prefix of a tree, beside that of its map: kept, taken out, both, and put in
+//! place of what another one has there.
 ghost use Rattle.std.specs.Prelude.{IsTrue};
 ghost use Rattle.rart_maps.specs.Versions.{HasRoom};
 
@@ -70,4 +71,47 @@ fn has_room(tree: &Tree) -> bool
     ensures { IsTrue result → HasRoom tree.now 1 }
 {
     tree.version() < u64::MAX
+}
+
+/// Whether a copy of a version gets from another one what that one's map has under a prefix that is
+/// drawn, and leaves both alone. Restored from the version, it is as before.
+pub fn restored_agree(
+    words: &mut Pcg32,
+    alloc: Global,
+    version: &Version,
+    other: &Version,
+) -> Result<bool, AllocError> {
+    let prefix = key(words, alloc)?;
+    let prefix = prefix.as_ref();
+    let length = prefix.len().min(below(words, 4) as usize);
+    let prefix = &prefix[..length];
+    let counts = below(words, 2) == 0;
+    let mut changed = version.copy()?;
+    for from in [other, version] {
+        if !has_room_for(&changed.tree, &from.tree) {
+            return Ok(false);
+        }
+        restored(&mut changed.tree, prefix, &from.tree, counts)?;
+        changed.take_over(from, prefix)?;
+        if !(changed.agrees() && version.agrees() && other.agrees()) {
+            return Ok(false);
+        }
+    }
+    Ok(true)
+}
+
+fn restored(tree: &mut Tree, prefix: &[u8], from: &Tree, counts: bool) -> Result<(), AllocError>
+    requires { HasRoom tree.old from.now.number }
+{
+    if counts {
+        return tree.restore_prefix_slice_counted(prefix, from, &mut Work::new());
+    }
+    tree.restore_prefix_slice(prefix, from)
+}
+
+// Whether the number may rise by another tree's.
+fn has_room_for(tree: &Tree, from: &Tree) -> bool
+    ensures { IsTrue result → HasRoom tree.now from.now.number }
+{
+    tree.version() <= u64::MAX - from.version()
 }

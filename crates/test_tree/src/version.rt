@@ -105,6 +105,25 @@ impl Version {
         Ok(())
     }
 
+    /// Puts the pairs of another map under a prefix in place of this one's. The number is then the
+    /// sum of both.
+    pub fn take_over(&mut self, other: &Version, prefix: &[u8]) -> Result<(), AllocError> {
+        let mut map = Map::new(self.alloc);
+        for (key, value) in &self.map {
+            if !key.starts_with(prefix) {
+                map.insert(key.to_vec(self.alloc)?, *value)?;
+            }
+        }
+        for (key, value) in &other.map {
+            if key.starts_with(prefix) {
+                map.insert(key.to_vec(self.alloc)?, *value)?;
+            }
+        }
+        self.map = map;
+        self.number = self.number.saturating_add(other.number);
+        Ok(())
+    }
+
     /// Whether the tree has the number and the pairs of the map, and as many keys.
     pub fn agrees(&self) -> bool {
         for (key, value) in &self.map {

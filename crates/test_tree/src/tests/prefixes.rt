@@ -1,7 +1,9 @@
-//! Calls on a prefix, in each form: what stands under it is kept, taken out, or both.
+//! Calls on a prefix, in each form: what stands under it is kept, taken out, both, or put in place
+//! of what another tree has there.
+ghost use Rattle.std.specs.Prelude.{IsTrue};
 ghost use Rattle.rart_maps.specs.Versions.{HasRoom};
 
-use crate::tests::trees::{Tree, four, has_room, key};
+use crate::tests::trees::{Tree, four, has_room, key, tree_of};
 use rart_versioned::{KeyTrait, VectorKey, Work};
 use std::alloc::AllocError;
 use std::test::Fail;
@@ -73,6 +75,59 @@ fn what_is_under_a_prefix_is_kept_and_taken_out(rt: HostRuntime) -> Result<(), F
             assert!(rt; part.equals(&taken)?);
             assert_eq!(rt; tree.intersect_count(&tree), 4 - many);
             assert!(rt; tree.equals(&giver)?);
+        }
+    }
+    Ok(())
+}
+
+fn restored(tree: &mut Tree, form: usize, prefix: VectorKey, from: &Tree) -> Result<(), AllocError>
+    requires { HasRoom tree.old from.now.number }
+{
+    let work = &mut Work::new();
+    match form {
+        0 => tree.restore_prefix(prefix, from),
+        1 => tree.restore_prefix_k(&prefix, from),
+        2 => tree.restore_prefix_k_counted(&prefix, from, work),
+        3 => tree.restore_prefix_slice(prefix.as_ref(), from),
+        _ => tree.restore_prefix_slice_counted(prefix.as_ref(), from, work),
+    }
+}
+
+// Whether the number may rise by another tree's.
+fn has_room_for(tree: &Tree, from: &Tree) -> bool
+    ensures { IsTrue result → HasRoom tree.now from.now.number }
+{
+    tree.version() <= u64::MAX - from.version()
+}
+
+// Prefixes, and what "a" 1, "abc" 2, "abd" 3 and "b" 4 are with the pairs under each of "ab" 20,
+// "abc" 30 and "c" 40.
+const RESTORED: &[(&[u8], &[(&[u8], u64)])] = &[
+    (b"", &[(b"ab", 20), (b"abc", 30), (b"c", 40)]),
+    (b"a", &[(b"ab", 20), (b"abc", 30), (b"b", 4)]),
+    (b"ab", &[(b"a", 1), (b"ab", 20), (b"abc", 30), (b"b", 4)]),
+    (b"abc", &[(b"a", 1), (b"abc", 30), (b"abd", 3), (b"b", 4)]),
+    (b"abd", &[(b"a", 1), (b"abc", 2), (b"b", 4)]),
+    (b"b", &[(b"a", 1), (b"abc", 2), (b"abd", 3)]),
+    (
+        b"c",
+        &[(b"a", 1), (b"abc", 2), (b"abd", 3), (b"b", 4), (b"c", 40)],
+    ),
+    (b"abe", &[(b"a", 1), (b"abc", 2), (b"abd", 3), (b"b", 4)]),
+];
+
+#[test]
+fn what_is_under_a_prefix_is_put_in_its_place(rt: HostRuntime) -> Result<(), Fail> {
+    let from = tree_of(&rt, rt.alloc(), &[(b"ab", 20), (b"abc", 30), (b"c", 40)])?;
+    let whole = from.clone()?;
+    for (prefix, pairs) in RESTORED {
+        for form in 0..5 {
+            let mut tree = four(&rt, rt.alloc())?;
+            assert!(rt; has_room_for(&tree, &from));
+            restored(&mut tree, form, key(rt.alloc(), prefix)?, &from)?;
+            assert!(rt; tree.equals(&tree_of(&rt, rt.alloc(), pairs)?)?);
+            assert_eq!(rt; tree.version(), 7);
+            assert!(rt; from.equals(&whole)?);
         }
     }
     Ok(())

@@ -605,6 +605,82 @@ rart_answer rart_bytes_page(
     size_t *RART_ALONE len
 );
 
+// Takes out all pairs whose key the prefix begins, the number then one greater. Answers RART_DONE
+// and writes how many there were, or answers RART_ABSENT where there is none, and then nothing
+// changed. RART_LAST_NUMBER says that there is one and the number can't be raised, RART_NO_MEMORY
+// that there is one and memory was refused: nothing changed then.  It counts them, so it takes time
+// by their number.
+RART_NONNULL RART_MUST_USE RART_CHANGES(1) RART_READS(2, 3) RART_WRITES(4)
+rart_answer rart_remove_prefix(
+    rart_tree *RART_ALONE tree,
+    const uint8_t *RART_ALONE prefix,
+    size_t prefix_len,
+    size_t *RART_ALONE removed
+);
+
+// Makes part the map of the pairs alone whose key the prefix begins, its number one greater, and
+// frees what part was. Keys may be as long in it. What stands below the prefix both share.
+// RART_LAST_NUMBER says that the number can't be raised, RART_NO_MEMORY that memory was refused:
+// part is as before then.  It counts them, so it takes time by their number.
+RART_NONNULL RART_MUST_USE RART_CHANGES(1) RART_READS(2, 3) RART_CHANGES(4)
+rart_answer rart_prefix_snapshot(
+    rart_tree *RART_ALONE tree,
+    const uint8_t *RART_ALONE prefix,
+    size_t prefix_len,
+    rart_tree *RART_ALONE part
+);
+
+// Puts in place of all pairs whose key the prefix begins those that another tree has there, the
+// number then the sum of both; the others stay, and so does the other tree. RART_TOO_LONG says that
+// keys may be longer there, RART_LAST_NUMBER that the sum can't be had, RART_NO_MEMORY that memory
+// was refused: nothing changed then.  It counts the pairs that go and come, so it takes time by
+// their number.
+RART_NONNULL RART_MUST_USE RART_CHANGES(1) RART_READS(2, 3) RART_CHANGES(4)
+rart_answer rart_restore_prefix(
+    rart_tree *RART_ALONE tree,
+    const uint8_t *RART_ALONE prefix,
+    size_t prefix_len,
+    rart_tree *RART_ALONE from
+);
+
+// Takes out all pairs whose key the prefix begins, the number then one greater. Answers RART_DONE
+// and writes how many there were, or answers RART_ABSENT where there is none, and then nothing
+// changed. RART_LAST_NUMBER says that there is one and the number can't be raised, RART_NO_MEMORY
+// that there is one and memory was refused: nothing changed then.  It counts them, so it takes time
+// by their number.
+RART_NONNULL RART_MUST_USE RART_CHANGES(1) RART_READS(2, 3) RART_WRITES(4)
+rart_answer rart_bytes_remove_prefix(
+    rart_bytes *RART_ALONE tree,
+    const uint8_t *RART_ALONE prefix,
+    size_t prefix_len,
+    size_t *RART_ALONE removed
+);
+
+// Makes part the map of the pairs alone whose key the prefix begins, its number one greater, and
+// frees what part was. Keys may be as long in it. What stands below the prefix both share.
+// RART_LAST_NUMBER says that the number can't be raised, RART_NO_MEMORY that memory was refused:
+// part is as before then.  It counts them, so it takes time by their number.
+RART_NONNULL RART_MUST_USE RART_CHANGES(1) RART_READS(2, 3) RART_CHANGES(4)
+rart_answer rart_bytes_prefix_snapshot(
+    rart_bytes *RART_ALONE tree,
+    const uint8_t *RART_ALONE prefix,
+    size_t prefix_len,
+    rart_bytes *RART_ALONE part
+);
+
+// Puts in place of all pairs whose key the prefix begins those that another tree has there, the
+// number then the sum of both; the others stay, and so does the other tree. RART_TOO_LONG says that
+// keys may be longer there, RART_LAST_NUMBER that the sum can't be had, RART_NO_MEMORY that memory
+// was refused: nothing changed then.  It counts the pairs that go and come, so it takes time by
+// their number.
+RART_NONNULL RART_MUST_USE RART_CHANGES(1) RART_READS(2, 3) RART_CHANGES(4)
+rart_answer rart_bytes_restore_prefix(
+    rart_bytes *RART_ALONE tree,
+    const uint8_t *RART_ALONE prefix,
+    size_t prefix_len,
+    rart_bytes *RART_ALONE from
+);
+
 // The calls that take null: of these names the library's own functions, which don't, are written in
 // brackets, as (rart_clear)(tree).
 static inline void rart_clear_any(rart_tree *tree) {

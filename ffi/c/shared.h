@@ -289,6 +289,84 @@ static void expect_copy(size_t at, size_t to, bool is_snapshot) {
     expect_state(to, &key);
 }
 
+// The number of a tree's first key from this number on that the prefix begins, KEYS where there is
+// none.
+static size_t first_under(size_t at, size_t number, const struct key *prefix) {
+    size_t first = first_from(at, number);
+    struct key key = key_of(first < KEYS ? first : 0);
+    bool is_under = key.len >= prefix->len && memcmp(key.bytes, prefix->bytes, prefix->len) == 0;
+    return first < KEYS && is_under ? first : KEYS;
+}
+
+static size_t count_under(size_t at, const struct key *prefix) {
+    size_t count = 0, next = first_under(at, prefix->number, prefix);
+    for (; next < KEYS; next = first_under(at, number_behind(next), prefix)) {
+        count++;
+    }
+    return count;
+}
+
+// Leaves a table the keys alone that the prefix begins, or those that it doesn't.
+static void cut_table(size_t at, const struct key *prefix, bool keeps_them) {
+    for (size_t number = first_from(at, 0); number < KEYS;
+         number = first_from(at, number_behind(number))) {
+        bool is_under = first_under(at, number, prefix) == number;
+        tables[at].has[number] = is_under == keeps_them;
+        tables[at].len -= is_under != keeps_them;
+    }
+    tables[at].number++;
+}
+
+// What is under a prefix is taken out. Where nothing is there the call isn't refused.
+static void expect_remove_prefix(size_t at, const struct key *prefix) {
+    size_t count = count_under(at, prefix), removed = NO_NUMBER;
+    bool has_room = tables[at].number < UINT64_MAX;
+    rart_answer wanted = count == 0 ? RART_ABSENT : has_room ? RART_DONE : RART_LAST_NUMBER;
+    rart_answer answer =
+        CALL(remove_prefix)(&trees[at], prefix->bytes, prefix->len, &removed);
+    bool was_refused = is_refused(answer, wanted);
+    EXPECT(!was_refused || count > 0);
+    EXPECT(removed == (answer == RART_DONE ? count : NO_NUMBER));
+    if (answer == RART_DONE) {
+        cut_table(at, prefix, false);
+    }
+    expect_state(at, prefix);
+}
+
+static void expect_prefix_snapshot(size_t at, size_t to, const struct key *prefix) {
+    bool has_room = tables[at].number < UINT64_MAX;
+    rart_answer answer =
+        CALL(prefix_snapshot)(&trees[at], prefix->bytes, prefix->len, &trees[to]);
+    if (!is_refused(answer, has_room ? RART_DONE : RART_LAST_NUMBER) && has_room) {
+        tables[to] = tables[at];
+        cut_table(to, prefix, true);
+    }
+    expect_state(at, prefix);
+    expect_state(to, prefix);
+}
+
+// What another tree has under a prefix stands there then, and the numbers add up.
+static void expect_restore_prefix(size_t at, size_t from, const struct key *prefix) {
+    bool is_long = tables[from].longest > tables[at].longest;
+    bool has_room = tables[from].number <= UINT64_MAX - tables[at].number;
+    rart_answer wanted = is_long ? RART_TOO_LONG : has_room ? RART_DONE : RART_LAST_NUMBER;
+    rart_answer answer =
+        CALL(restore_prefix)(&trees[at], prefix->bytes, prefix->len, &trees[from]);
+    if (!is_refused(answer, wanted) && wanted == RART_DONE) {
+        cut_table(at, prefix, false);
+        for (size_t next = first_under(from, prefix->number, prefix); next < KEYS;
+             next = first_under(from, number_behind(next), prefix)) {
+            tables[at].has[next] = true;
+            tables[at].values[next] = tables[from].values[next];
+            tables[at].len++;
+        }
+        tables[at].number += tables[from].number - 1; // (which the cut raised)
+    }
+    too_long += is_long;
+    expect_state(at, prefix);
+    expect_state(from, prefix);
+}
+
 // In place of what the tree was, one without a key.
 static void expect_new(size_t at, uint64_t number) {
     struct key key = random_key();
@@ -417,6 +495,12 @@ static void make_call(size_t at) {
         read_all(at);
     } else if (what < 70) {
         expect_last(at, &key, random_below(2) == 0);
+    } else if (what < 72) {
+        expect_prefix_snapshot(at, other, &key);
+    } else if (what < 75) {
+        expect_remove_prefix(at, &key);
+    } else if (what < 77) {
+        expect_restore_prefix(at, other, &key);
     } else if (what < 600) {
         look_longest(at, &key, longest_of(at, &key));
         expect_first(at, &key, random_below(2) == 0);
@@ -445,6 +529,10 @@ static void run_out(void) {
     expect_replace(0, &milk, 8);
     expect_take_out(0, &tea);
     expect_take_out(0, &milk);
+    expect_remove_prefix(0, &tea);
+    expect_remove_prefix(0, &milk);
+    expect_prefix_snapshot(0, 1, &tea);
+    expect_restore_prefix(0, 1, &tea);
     expect_copy(0, 1, true);
     expect_state(1, &milk);
     expect_copy(0, 1, false);

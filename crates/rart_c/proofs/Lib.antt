@@ -7,4 +7,5 @@ pub mod LimitLemmas
 pub mod PageLemmas
 pub mod Parts
 pub mod Pointers
+pub mod PrefixLemmas
 pub mod Steps

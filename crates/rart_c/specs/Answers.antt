@@ -36,7 +36,12 @@ abbrev pub number_of : Refusal → ℕ
 number_of LastNumber = LAST_NUMBER
 number_of NoMemory = NO_MEMORY
 
--- A change was refused for room where there is none, else for memory.
+-- A change that raises the number so much was refused for room where there is none, else for
+-- memory.
+abbrev pub ExplainsRise : {V : Type 0} → Version V → ℕ → Refusal → Type 0
+ExplainsRise v more LastNumber = ¬ (HasRoom v more)
+ExplainsRise v more NoMemory = HasRoom v more
+
+-- The same where it raises the number by one.
 abbrev pub Explains : {V : Type 0} → Version V → Refusal → Type 0
-Explains v LastNumber = ¬ (HasRoom v 1)
-Explains v NoMemory = HasRoom v 1
+Explains v refusal = ExplainsRise v 1 refusal

@@ -11,3 +11,4 @@ pub mod Reads
 pub mod Shown
 pub mod Tables
 pub mod Trees
+pub mod Under

@@ -3,6 +3,7 @@ ghost use Rattle.std.specs.Prelude.{◌≡◌, ℕ, List, length};
 ghost use Rattle.rart_c.specs.Answers.{Tells, number_of, told_equal, told_there};
 ghost use Rattle.rart_c.specs.Firsts.{TellsFirst};
 ghost use Rattle.rart_c.specs.Longest.{length_found};
+ghost use Rattle.rart_c.specs.Under.{some_of};
 ghost use Rattle.rart_ways.specs.Firsts.{Finds};
 
 use std::alloc::AllocError;
@@ -65,6 +66,17 @@ pub(crate) fn tell(found: Option<u64>, value: &mut u64) -> u8
             DONE
         }
     }
+}
+
+/// Tells how many were found, or that there is none.
+pub(crate) fn tell_count(count: usize, told: &mut usize) -> u8
+    ensures { Tells (some_of count) result told.old told.new }
+{
+    if count == 0 {
+        return ABSENT;
+    }
+    *told = count;
+    DONE
 }
 
 /// Tells how long the key is that was found, and its value, or that there is none.

@@ -5,6 +5,7 @@ pub(crate) mod comparing;
 pub(crate) mod handle;
 pub(crate) mod limits;
 pub(crate) mod paging;
+pub(crate) mod prefixes;
 pub(crate) mod reading;
 #[cfg(test)]
 mod tests;

@@ -7,8 +7,10 @@ ghost use Rattle.std.specs.declared.ops.Bound.TheVariants.{Unbounded};
 ghost use Rattle.rart_c.specs.Answers.{Explains};
 ghost use Rattle.rart_c.specs.Longest.{length_found, longest_length};
 ghost use Rattle.rart_c.specs.Shown.{shown};
+ghost use Rattle.rart_below.specs.Clones.{ClonesEqual};
 ghost use Rattle.rart_maps.specs.ChangeLaws.{Decides};
 ghost use Rattle.rart_maps.specs.Pairs.{common, within};
+ghost use Rattle.rart_maps.specs.Prefixes.{under_prefix};
 ghost use Rattle.rart_c.specs.Trees.{KeepsLimit, tree_at, of_version};
 ghost use Rattle.rart_maps.specs.Versions.{HasRoom, has_key, value_at, with_rise};
 ghost use Rattle.rart_ways.specs.Firsts.{Finds};
@@ -175,6 +177,29 @@ pub(crate) fn snapshot<V: Clone + Drop>(
     };
     match Box::new(alloc, copy) {
         Ok(copy) => Ok(copy),
+        Err(_) => Err(Refusal::NoMemory),
+    }
+}
+
+/// The pairs alone whose key the prefix begins, the number one greater.
+pub(crate) fn prefix_snapshot<V: Clone + Drop>(
+    alloc: Global,
+    table: Option<&Table<V>>,
+    prefix: &[u8],
+) -> Result<Box<Table<V>>, Refusal>
+    requires clones { ClonesEqual V.is_clone }
+    ensures kept { IfOk result (λ part. part.value ≡ of_version (shown table.entry)
+        (under_prefix (shown table.entry).version prefix.now 1)) }
+    ensures room { MatchResult result (λ _. HasRoom (shown table.entry).version 1)
+        (Explains (shown table.entry).version) }
+{
+    let none = Table::new_at(alloc, 0);
+    let table = match table {
+        None => &none,
+        Some(table) => table,
+    };
+    match Box::new(alloc, table.prefix_snapshot(prefix)?) {
+        Ok(part) => Ok(part),
         Err(_) => Err(Refusal::NoMemory),
     }
 }

@@ -15,6 +15,7 @@ mod laws;
 mod lent;
 mod limits;
 mod paging;
+mod prefixes;
 mod reading;
 mod table;
 #[cfg(test)]

@@ -1,9 +1,11 @@
 //! The tree that a handle leads to, how many keys it has, and how long they may be.
-ghost use Rattle.std.specs.Prelude.{◌≡◌, ◌≤◌, ◌↔◌, length, IfOk, OnErr, IsSome, IsTrue, MatchResult};
+ghost use Rattle.std.specs.Prelude.{◌≡◌, ◌≤◌, ◌↔◌, length, IfOk, OnErr, OnOk, IsSome, IsTrue, MatchResult};
 ghost use Rattle.rart_below.specs.Clones.{ClonesEqual};
-ghost use Rattle.rart_c.specs.Answers.{Explains};
+ghost use Rattle.rart_c.specs.Answers.{Explains, ExplainsRise};
 ghost use Rattle.rart_maps.specs.ChangeLaws.{Decides};
 ghost use Rattle.rart_maps.specs.Changes.{Changes, removal, replacement};
+ghost use Rattle.rart_maps.specs.Pairs.{under};
+ghost use Rattle.rart_maps.specs.Prefixes.{after_prefix_removal, after_prefix_restoring, has_under, under_prefix};
 ghost use Rattle.rart_c.specs.Trees.{KeepsLimit, tree_at, with_longest, of_version};
 ghost use Rattle.rart_maps.specs.Versions.{HasRoom, has_key, has_no_key, with_rise};
 
@@ -107,6 +109,88 @@ impl<V: Clone + Drop> Table<V> {
             self.len -= 1;
         }
         Ok(removed)
+    }
+
+    /// Takes out all pairs whose key the prefix begins, and says how many. Without any nothing
+    /// changes, and it isn't refused.
+    pub(crate) fn remove_prefix(&mut self, prefix: &[u8]) -> Result<usize, Refusal>
+        requires clones { ClonesEqual V.is_clone }
+        ensures changes { Changes result self.old.version self.new.version (
+          length (under self.old.version.content prefix.now),
+          after_prefix_removal self.old.version prefix.now,
+        ) }
+        ensures room { MatchResult result
+            (λ _. IsTrue (has_under self.old.version prefix.now) → HasRoom self.old.version 1)
+            (Explains self.old.version) }
+        ensures present { OnErr result (IsTrue (has_under self.old.version prefix.now)) }
+        ensures longest { self.new.longest ≡ self.old.longest }
+    {
+        if !self.tree.contains_prefix_slice(prefix) {
+            return Ok(0);
+        }
+        if self.tree.version() == u64::MAX {
+            return Err(Refusal::LastNumber);
+        }
+        let Ok(count) = self.tree.count_under_slice(prefix) else {
+            return Err(Refusal::NoMemory);
+        };
+        let Ok(_) = self.tree.remove_prefix_slice(prefix) else {
+            return Err(Refusal::NoMemory);
+        };
+        self.len -= count as usize;
+        Ok(count as usize)
+    }
+
+    /// Puts in place of the pairs whose key the prefix begins those that another table has there,
+    /// the number then the sum of both.
+    pub(crate) fn restore_prefix(&mut self, prefix: &[u8], from: &Table<V>) -> Result<(), Refusal>
+        requires clones { ClonesEqual V.is_clone }
+        requires short { from.now.longest ≤ self.old.longest }
+        ensures restored { OnOk result (self.new ≡ of_version self.old
+            (after_prefix_restoring self.old.version prefix.now from.now.version)) }
+        ensures refused { OnErr result (self.new ≡ self.old) }
+        ensures room { MatchResult result
+            (λ _. HasRoom self.old.version from.now.version.number)
+            (ExplainsRise self.old.version from.now.version.number) }
+    {
+        if self.tree.version() > u64::MAX - from.tree.version() {
+            return Err(Refusal::LastNumber);
+        }
+        let Ok(removed) = self.tree.count_under_slice(prefix) else {
+            return Err(Refusal::NoMemory);
+        };
+        let Ok(restored) = from.tree.count_under_slice(prefix) else {
+            return Err(Refusal::NoMemory);
+        };
+        let Ok(()) = self.tree.restore_prefix_slice(prefix, &from.tree) else {
+            return Err(Refusal::NoMemory);
+        };
+        self.len = self.len - removed as usize + restored as usize;
+        Ok(())
+    }
+
+    /// The pairs alone whose key the prefix begins, the number one greater.
+    pub(crate) fn prefix_snapshot(&self, prefix: &[u8]) -> Result<Table<V>, Refusal>
+        requires clones { ClonesEqual V.is_clone }
+        ensures kept { IfOk result (λ part. part
+            ≡ of_version self.now (under_prefix self.now.version prefix.now 1)) }
+        ensures room { MatchResult result (λ _. HasRoom self.now.version 1)
+            (Explains self.now.version) }
+    {
+        if self.tree.version() == u64::MAX {
+            return Err(Refusal::LastNumber);
+        }
+        let Ok(count) = self.tree.count_under_slice(prefix) else {
+            return Err(Refusal::NoMemory);
+        };
+        match self.tree.prefix_snapshot_slice(prefix) {
+            Ok(tree) => Ok(Table {
+                tree,
+                len: count as usize,
+                longest: self.longest,
+            }),
+            Err(_) => Err(Refusal::NoMemory),
+        }
     }
 
     /// The same map once more, its number one greater.

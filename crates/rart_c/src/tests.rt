@@ -6,6 +6,7 @@ use crate::comparing::rart_equals;
 use crate::handle::RartTree;
 use crate::limits::{rart_longest_key, rart_set_longest_key};
 use crate::paging::{EXCLUDED, INCLUDED, RartEntry, rart_page};
+use crate::prefixes::{rart_prefix_snapshot, rart_remove_prefix, rart_restore_prefix};
 use crate::reading::{rart_common, rart_get, rart_is_empty, rart_len, rart_longest, rart_version};
 use crate::versions::{rart_clone, rart_new_at, rart_snapshot};
 use crate::walking::{rart_last, rart_next, rart_prev, rart_seek, rart_seek_back};
@@ -54,6 +55,32 @@ fn keys_are_set_where_they_are_or_where_not(rt: HostRuntime) {
     let replaced = rart_replace(alloc, &mut tree, b"tea", 350, &mut value);
     assert_eq!(rt; (replaced, value, rart_version(&mut tree)), (DONE, 300, 3));
     assert_eq!(rt; rart_len(&mut tree), 2);
+}
+
+#[test]
+fn prefixes_are_cut_and_put_back(rt: HostRuntime) {
+    let alloc = rt.alloc();
+    let mut tree = tree_of(alloc, &[(b"tea", 300), (b"teapot", 2000), (b"tin", 80)]);
+    let mut part = RartTree::empty(alloc);
+    let (mut removed, mut value) = (0, 0);
+    assert_eq!(rt;
+        rart_prefix_snapshot(alloc, &mut tree, b"tea", &mut part),
+        DONE
+    );
+    assert_eq!(rt; (rart_len(&mut part), rart_version(&mut part)), (2, 4));
+    assert_eq!(rt; rart_remove_prefix(&mut tree, b"tea", &mut removed), DONE);
+    assert_eq!(rt;
+        (removed, rart_len(&mut tree), rart_version(&mut tree)),
+        (2, 1, 4)
+    );
+    assert_eq!(rt; rart_remove_prefix(&mut tree, b"tea", &mut removed), ABSENT);
+    assert_eq!(rt;
+        rart_restore_prefix(alloc, &mut tree, b"tea", &mut part),
+        DONE
+    );
+    assert_eq!(rt; (rart_len(&mut tree), rart_version(&mut tree)), (3, 8));
+    let found = rart_get(&mut tree, b"teapot", &mut value);
+    assert_eq!(rt; (found, value), (DONE, 2000));
 }
 
 #[test]

@@ -36,11 +36,13 @@ impl Drop for RartBytes {
 impl RartBytes {
     ghost use Rattle.std.specs.Prelude.{◌≡◌, ◌≤◌, length, IsSome, IsTrue, MatchOption, MatchResult, OnErr, OnOk};
     ghost use Rattle.std.specs.Borrow.{sem};
-    ghost use Rattle.rart_c.specs.Answers.{Explains};
+    ghost use Rattle.rart_c.specs.Answers.{Explains, ExplainsRise};
     ghost use Rattle.rart_c.specs.Lends.{lends_bytes, rests_bytes};
     ghost use Rattle.rart_c.specs.Shown.{shown};
-    ghost use Rattle.rart_c.specs.Trees.{tree_at, with_longest};
+    ghost use Rattle.rart_c.specs.Trees.{of_version, tree_at, with_longest};
     ghost use Rattle.rart_maps.specs.Changes.{Changes, removal, replacement};
+    ghost use Rattle.rart_maps.specs.Pairs.{under};
+    ghost use Rattle.rart_maps.specs.Prefixes.{after_prefix_removal, after_prefix_restoring, has_under};
     ghost use Rattle.rart_maps.specs.Versions.{HasRoom, has_key, has_no_key};
 
     pub(crate) fn empty(alloc: Global) -> RartBytes
@@ -156,6 +158,59 @@ impl RartBytes {
             None => Ok(None),
             Some(table) => table.remove(key),
         }
+    }
+
+    /// Takes out all pairs whose key the prefix begins, and says how many. Without any nothing
+    /// changes, and it isn't refused.
+    pub(crate) fn remove_prefix(&mut self, prefix: &[u8]) -> Result<usize, Refusal>
+        ensures changes { Changes result self.old.shows.version self.new.shows.version (
+          length (under self.old.shows.version.content prefix.now),
+          after_prefix_removal self.old.shows.version prefix.now,
+        ) }
+        ensures room { MatchResult result
+            (λ _. IsTrue (has_under self.old.shows.version prefix.now)
+            → HasRoom self.old.shows.version 1)
+            (Explains self.old.shows.version) }
+        ensures present { OnErr result (IsTrue (has_under self.old.shows.version prefix.now)) }
+        ensures longest { self.new.shows.longest ≡ self.old.shows.longest }
+    {
+        match self.table_mut() {
+            None => Ok(0),
+            Some(table) => table.remove_prefix(prefix),
+        }
+    }
+
+    /// Puts in place of the pairs whose key the prefix begins those that another tree has there,
+    /// the number then the sum of both.
+    pub(crate) fn restore_prefix(
+        &mut self,
+        alloc: Global,
+        prefix: &[u8],
+        from: Option<&Table<Bytes>>,
+    ) -> Result<(), Refusal>
+        requires short { (shown from).longest ≤ self.old.shows.longest }
+        ensures restored { OnOk result (self.new.shows ≡ of_version self.old.shows
+            (after_prefix_restoring self.old.shows.version prefix.now (shown from.entry).version)) }
+        ensures refused { OnErr result (self.new.shows ≡ self.old.shows) }
+        ensures room { MatchResult result
+            (λ _. HasRoom self.old.shows.version (shown from.entry).version.number)
+            (ExplainsRise self.old.shows.version (shown from.entry).version.number) }
+    {
+        let none = Table::new_at(alloc, 0);
+        let from = match from {
+            None => &none,
+            Some(from) => from,
+        };
+        if let Some(table) = self.table_mut() {
+            return table.restore_prefix(prefix, from);
+        }
+        let mut table = Table::new_at(alloc, 0);
+        table.restore_prefix(prefix, from)?;
+        let Ok(table) = Box::new(alloc, table) else {
+            return Err(Refusal::NoMemory);
+        };
+        *self = RartBytes::of(table);
+        Ok(())
     }
 
     /// Sets how long a key may be.

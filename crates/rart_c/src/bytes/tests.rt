@@ -6,6 +6,9 @@ use crate::bytes::comparing::rart_bytes_equals;
 use crate::bytes::handle::RartBytes;
 use crate::bytes::limits::{rart_bytes_longest_key, rart_bytes_set_longest_key};
 use crate::bytes::paging::{RartBytesEntry, rart_bytes_page};
+use crate::bytes::prefixes::{
+    rart_bytes_prefix_snapshot, rart_bytes_remove_prefix, rart_bytes_restore_prefix,
+};
 use crate::bytes::reading::{
     rart_bytes_common, rart_bytes_get, rart_bytes_is_empty, rart_bytes_len, rart_bytes_longest,
     rart_bytes_version,
@@ -54,6 +57,32 @@ fn keys_are_set_where_they_are_or_where_not(rt: HostRuntime) {
     assert_eq!(rt;
         (rart_bytes_len(&mut tree), rart_bytes_version(&mut tree)),
         (2, 3)
+    );
+}
+
+#[test]
+fn prefixes_are_cut_and_put_back(rt: HostRuntime) {
+    let alloc = rt.alloc();
+    let mut tree = tree_of(alloc, &[(b"tea", b"Tea"), (b"tin", b"Tin")]);
+    let mut part = RartBytes::empty(alloc);
+    let mut removed = 0;
+    assert_eq!(rt;
+        rart_bytes_prefix_snapshot(alloc, &mut tree, b"te", &mut part),
+        DONE
+    );
+    assert_eq!(rt; rart_bytes_len(&mut part), 1);
+    assert_eq!(rt;
+        rart_bytes_remove_prefix(&mut tree, b"te", &mut removed),
+        DONE
+    );
+    assert_eq!(rt; (removed, rart_bytes_len(&mut tree)), (1, 1));
+    assert_eq!(rt;
+        rart_bytes_restore_prefix(alloc, &mut tree, b"te", &mut part),
+        DONE
+    );
+    assert_eq!(rt;
+        (rart_bytes_len(&mut tree), rart_bytes_version(&mut tree)),
+        (2, 6)
     );
 }
 

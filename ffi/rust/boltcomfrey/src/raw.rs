@@ -26,6 +26,9 @@ pub trait Handle: Sized {
     const EQUALS: unsafe extern "C" fn(*mut Self, *mut Self) -> u8;
     const SNAPSHOT: unsafe extern "C" fn(*mut Self, *mut Self) -> u8;
     const CLONE: unsafe extern "C" fn(*mut Self, *mut Self) -> u8;
+    const REMOVE_PREFIX: unsafe extern "C" fn(*mut Self, *const u8, usize, *mut usize) -> u8;
+    const PREFIX_SNAPSHOT: unsafe extern "C" fn(*mut Self, *const u8, usize, *mut Self) -> u8;
+    const RESTORE_PREFIX: unsafe extern "C" fn(*mut Self, *const u8, usize, *mut Self) -> u8;
     const CLEAR: unsafe extern "C" fn(*mut Self);
 }
 
@@ -41,6 +44,20 @@ impl Handle for RartTree {
     const EQUALS: unsafe extern "C" fn(*mut RartTree, *mut RartTree) -> u8 = sys::rart_equals;
     const SNAPSHOT: unsafe extern "C" fn(*mut RartTree, *mut RartTree) -> u8 = sys::rart_snapshot;
     const CLONE: unsafe extern "C" fn(*mut RartTree, *mut RartTree) -> u8 = sys::rart_clone;
+    const REMOVE_PREFIX: unsafe extern "C" fn(*mut RartTree, *const u8, usize, *mut usize) -> u8 =
+        sys::rart_remove_prefix;
+    const PREFIX_SNAPSHOT: unsafe extern "C" fn(
+        *mut RartTree,
+        *const u8,
+        usize,
+        *mut RartTree,
+    ) -> u8 = sys::rart_prefix_snapshot;
+    const RESTORE_PREFIX: unsafe extern "C" fn(
+        *mut RartTree,
+        *const u8,
+        usize,
+        *mut RartTree,
+    ) -> u8 = sys::rart_restore_prefix;
     const CLEAR: unsafe extern "C" fn(*mut RartTree) = sys::rart_clear;
 }
 
@@ -59,6 +76,20 @@ impl Handle for RartBytes {
     const SNAPSHOT: unsafe extern "C" fn(*mut RartBytes, *mut RartBytes) -> u8 =
         sys::rart_bytes_snapshot;
     const CLONE: unsafe extern "C" fn(*mut RartBytes, *mut RartBytes) -> u8 = sys::rart_bytes_clone;
+    const REMOVE_PREFIX: unsafe extern "C" fn(*mut RartBytes, *const u8, usize, *mut usize) -> u8 =
+        sys::rart_bytes_remove_prefix;
+    const PREFIX_SNAPSHOT: unsafe extern "C" fn(
+        *mut RartBytes,
+        *const u8,
+        usize,
+        *mut RartBytes,
+    ) -> u8 = sys::rart_bytes_prefix_snapshot;
+    const RESTORE_PREFIX: unsafe extern "C" fn(
+        *mut RartBytes,
+        *const u8,
+        usize,
+        *mut RartBytes,
+    ) -> u8 = sys::rart_bytes_restore_prefix;
     const CLEAR: unsafe extern "C" fn(*mut RartBytes) = sys::rart_bytes_clear;
 }
 
@@ -134,6 +165,28 @@ impl<H: Handle> Tree<H> {
         // SAFETY: as above, and the copy is another tree.
         done(unsafe { H::SNAPSHOT(self.handle.get(), copy.handle.get()) })?;
         Ok(copy)
+    }
+
+    pub fn remove_prefix(&mut self, prefix: &[u8]) -> Result<usize, Refusal> {
+        let mut removed = 0;
+        let (tree, at, len) = (self.handle.get(), prefix.as_ptr(), prefix.len());
+        // SAFETY: as above; `removed` is this call's own.
+        let answer = unsafe { H::REMOVE_PREFIX(tree, at, len, &mut removed) };
+        Ok(found(answer, removed)?.unwrap_or(0))
+    }
+
+    pub fn prefix_snapshot(&self, prefix: &[u8]) -> Result<Tree<H>, Refusal> {
+        let part = Tree::new();
+        let (tree, at, len) = (self.handle.get(), prefix.as_ptr(), prefix.len());
+        // SAFETY: as above, and the part is another tree.
+        done(unsafe { H::PREFIX_SNAPSHOT(tree, at, len, part.handle.get()) })?;
+        Ok(part)
+    }
+
+    pub fn restore_prefix(&mut self, prefix: &[u8], from: &Tree<H>) -> Result<(), Refusal> {
+        let (tree, at, len) = (self.handle.get(), prefix.as_ptr(), prefix.len());
+        // SAFETY: as above, and the other is another tree, since this one is borrowed to be written.
+        done(unsafe { H::RESTORE_PREFIX(tree, at, len, from.handle.get()) })
     }
 
     pub fn try_clone(&self) -> Result<Tree<H>, Refusal> {

@@ -266,6 +266,42 @@ unsafe extern "C" {
         key_len: *mut usize,
         len: *mut usize,
     ) -> u8;
+    pub fn rart_remove_prefix(
+        tree: *mut RartTree,
+        prefix: *const u8,
+        prefix_len: usize,
+        removed: *mut usize,
+    ) -> u8;
+    pub fn rart_prefix_snapshot(
+        tree: *mut RartTree,
+        prefix: *const u8,
+        prefix_len: usize,
+        part: *mut RartTree,
+    ) -> u8;
+    pub fn rart_restore_prefix(
+        tree: *mut RartTree,
+        prefix: *const u8,
+        prefix_len: usize,
+        from: *mut RartTree,
+    ) -> u8;
+    pub fn rart_bytes_remove_prefix(
+        tree: *mut RartBytes,
+        prefix: *const u8,
+        prefix_len: usize,
+        removed: *mut usize,
+    ) -> u8;
+    pub fn rart_bytes_prefix_snapshot(
+        tree: *mut RartBytes,
+        prefix: *const u8,
+        prefix_len: usize,
+        part: *mut RartBytes,
+    ) -> u8;
+    pub fn rart_bytes_restore_prefix(
+        tree: *mut RartBytes,
+        prefix: *const u8,
+        prefix_len: usize,
+        from: *mut RartBytes,
+    ) -> u8;
 }
 
 /// Whether memory is given, and where.

@@ -157,7 +157,10 @@ impl<V: Drawn> Compared<V> {
             43..600 => self.read(at),
             600..1200 => self.remove(at),
             1200..1300 => self.update(at),
-            1300..1400 => self.set_if(at),
+            1300..1392 => self.set_if(at),
+            1392..1395 => self.remove_prefix(at),
+            1395..1397 => self.keep_prefix(at),
+            1397..1400 => self.restore_prefix(at),
             _ => self.insert(at),
         }
         let (map, model) = &self.versions[at];
@@ -258,6 +261,58 @@ impl<V: Drawn> Compared<V> {
         self.note(told);
     }
 
+    /// Takes out what a prefix begins. Where nothing is there it isn't refused.
+    fn remove_prefix(&mut self, at: usize) {
+        let prefix = self.random.key();
+        let (map, model) = &mut self.versions[at];
+        let many = model.prefix(&prefix).count();
+        let told = map.remove_prefix(&prefix);
+        assert!(told.is_ok() || many > 0);
+        let told = told.map(|removed| {
+            assert_eq!(removed, many);
+            model.pairs.retain(|key, _| !key.starts_with(&prefix));
+            model.number += u64::from(many > 0);
+        });
+        self.note(told);
+    }
+
+    /// Keeps what a prefix begins, in place of another version.
+    fn keep_prefix(&mut self, at: usize) {
+        let prefix = self.random.key();
+        let (map, model) = &self.versions[at];
+        match map.prefix_snapshot(&prefix) {
+            Ok(part) => {
+                let mut under = model.snapshot();
+                under.pairs.retain(|key, _| key.starts_with(&prefix));
+                let next = (at + 1) % self.versions.len();
+                self.versions[next] = (part, under);
+            }
+            Err(refusal) => self.note(Err(refusal)),
+        }
+    }
+
+    /// Puts what another version has under a prefix in place of what stands there.
+    fn restore_prefix(&mut self, at: usize) {
+        let prefix = self.random.key();
+        let (mut map, mut model) = self.versions.swap_remove(at);
+        if !self.versions.is_empty() {
+            let from = self.random.below(self.versions.len() as u64) as usize;
+            let (other, others) = &self.versions[from];
+            match map.restore_prefix(&prefix, other) {
+                Ok(()) => {
+                    model.pairs.retain(|key, _| !key.starts_with(&prefix));
+                    model.pairs.extend(others.prefix(&prefix));
+                    model.number += others.number;
+                }
+                Err(Refusal::TooLong) => assert!(others.longest > model.longest),
+                Err(refusal) => self.note(Err(refusal)),
+            }
+        }
+        self.versions.push((map, model));
+        let last = self.versions.len() - 1;
+        self.versions.swap(at, last);
+    }
+
     /// Takes a snapshot or a clone, in place of another version where there are eight.
     fn copy(&mut self, at: usize) {
         let is_snapshot = self.random.below(2) == 0;
@@ -325,14 +380,20 @@ impl<V: Drawn> Compared<V> {
         } else {
             (other, key)
         };
-        let mut left = map.range(low.clone()..=high.clone());
-        assert!(left.clone().eq(model.range(low.clone()..=high.clone())));
-        left.next();
-        let mut behind: Vec<_> = model.range(low.clone()..=high.clone()).skip(1).collect();
-        assert!(left.clone().eq(behind.iter().cloned()));
-        assert_eq!(left.next_back(), behind.pop());
-        assert_eq!(left.next(), behind.first().cloned());
-        assert!(left.rev().eq(behind.into_iter().skip(1).rev()));
+        let mut pairs = map.range(low.clone()..=high.clone());
+        let mut wanted = model.range(low.clone()..=high.clone());
+        assert!(pairs.clone().eq(model.range(low.clone()..=high.clone())));
+        assert!(pairs.clone().rev().eq(model.range(low.clone()..=high.clone()).rev()));
+        loop {
+            let (pair, other) = match self.random.below(2) {
+                0 => (pairs.next(), wanted.next()),
+                _ => (pairs.next_back(), wanted.next_back()),
+            };
+            assert_eq!(pair, other);
+            if pair.is_none() {
+                break;
+            }
+        }
         let within = (Included(low.as_slice()), Excluded(high.as_slice()));
         assert_eq!(map.range(within).count(), model.range(low..high).count());
     }

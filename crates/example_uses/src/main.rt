@@ -1,11 +1,12 @@
 //! Uses of versions, each a module that prints what it sees: price lists, records with drafts, a
-//! routing table, facts joined with an older snapshot, an undo history, drafts that are merged, and
-//! a replica that is sent what changed.
+//! routing table, policies of tenants, facts joined with an older snapshot, an undo history, drafts
+//! that are merged, and a replica that is sent what changed.
 #![tactic(auto)]
 
 mod drafts;
 mod facts;
 mod history;
+mod policies;
 mod prices;
 mod records;
 mod replica;
@@ -15,6 +16,7 @@ fn main(rt: HostRuntime) -> anyhow::Result<()> {
     prices::show(&rt)?;
     records::show(&rt)?;
     routes::show(&rt)?;
+    policies::show(&rt)?;
     facts::show(&rt)?;
     history::show(&rt)?;
     drafts::show(&rt)?;

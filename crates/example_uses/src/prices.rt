@@ -3,6 +3,7 @@ mod changes;
 mod filling;
 mod listing;
 mod setting;
+mod text;
 mod titles;
 
 use crate::prices::changes::print_changes;

@@ -183,14 +183,14 @@ impl<V: Clone + Drop> Table<V> {
         let Ok(count) = self.tree.count_under_slice(prefix) else {
             return Err(Refusal::NoMemory);
         };
-        match self.tree.prefix_snapshot_slice(prefix) {
-            Ok(tree) => Ok(Table {
-                tree,
-                len: count as usize,
-                longest: self.longest,
-            }),
-            Err(_) => Err(Refusal::NoMemory),
-        }
+        let Ok(tree) = self.tree.prefix_snapshot_slice(prefix) else {
+            return Err(Refusal::NoMemory);
+        };
+        Ok(Table {
+            tree,
+            len: count as usize,
+            longest: self.longest,
+        })
     }
 
     /// The same map once more, its number one greater.

@@ -211,6 +211,8 @@ impl<K: KeyTrait, V: Clone + Drop> VersionedAdaptiveRadixTree<K, V> {
     /// prefix `ab` leaves `a` 1, `aba` 20, `abc` 30, `ac` 4; the empty one makes this map that one.
     ///
     /// ```
+    /// let yesterday = list.clone()?;
+    /// list.insert_k(&tea, 350)?;
     /// list.restore_prefix_k(&tea, &yesterday)?;
     /// ```
     pub fn restore_prefix_k(
@@ -230,6 +232,8 @@ impl<K: KeyTrait, V: Clone + Drop> VersionedAdaptiveRadixTree<K, V> {
     /// As `restore_prefix_k`, the prefix by its bytes.
     ///
     /// ```
+    /// let yesterday = list.clone()?;
+    /// list.insert_slice(b"tea pot", 2_000)?;
     /// list.restore_prefix_slice(b"tea ", &yesterday)?;
     /// ```
     pub fn restore_prefix_slice(

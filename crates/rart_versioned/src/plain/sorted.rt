@@ -18,8 +18,8 @@ impl<K: KeyTrait, V: Clone + Drop> VersionedAdaptiveRadixTree<K, V> {
     ///
     /// ```
     /// let mut pairs = Vec::new(alloc);
-    /// pairs.push((coffee, 500))?;
-    /// pairs.push((tea, 300))?;
+    /// pairs.push((friday, 500))?;
+    /// pairs.push((monday, 300))?;
     /// let prices = VersionedAdaptiveRadixTree::from_sorted(alloc, pairs)?;
     /// ```
     ///

@@ -1,5 +1,5 @@
 // That keys as long as they may be end no thread, however they begin one another: chains of them are
-// made, read, compared, taken out and freed on a thread with little stack.
+// made, read, compared, taken out, put back and freed on a thread with little stack.
 //
 //   deep [LONGEST [KIB]]   of so many bytes, 1,024 without a word, on a thread with so many KiB of
 //                          stack, 2,048 without a word
@@ -72,6 +72,8 @@ static void try_chain(struct chain *chain) {
     EXPECT(rart_common(&chain->tree, &copy) == keys);
     EXPECT(rart_remove(&chain->tree, key, chain->longest, &value) == RART_DONE);
     EXPECT(value == chain->longest && rart_common(&chain->tree, &copy) == keys - 1);
+    EXPECT(rart_restore_prefix(&chain->tree, key, chain->longest, &copy) == RART_DONE);
+    EXPECT(rart_common(&chain->tree, &copy) == keys);
     rart_clear(&copy);
     rart_clear(&chain->tree);
 }

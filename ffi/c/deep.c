@@ -3,6 +3,8 @@
 //
 //   deep [LONGEST [KIB]]   of so many bytes, 1,024 without a word, on a thread with so many KiB of
 //                          stack, 2,048 without a word
+//
+// Built with BYTES, of maps to byte strings, whose calls take more stack.
 #include "boltcomfrey.h"
 #include <pthread.h>
 #include <stdio.h>
@@ -17,9 +19,17 @@
         }                                                                                          \
     } while (0)
 
+#ifdef BYTES
+typedef rart_bytes tree;
+#define CALL(name) rart_bytes_##name
+#else
+typedef rart_tree tree;
+#define CALL(name) rart_##name
+#endif
+
 // A chain of keys, each a byte longer than the one before, and how many more keys stand beside each.
 struct chain {
-    rart_tree tree;
+    tree tree;
     size_t longest;
     size_t beside;
     bool ends_differ; // (b, ab, aab, .. in place of a, aa, aaa, ..)
@@ -29,12 +39,23 @@ struct chain {
 static uint8_t *key;
 
 static void insert(struct chain *chain, size_t len, rart_answer wanted) {
-    uint64_t replaced;
-    EXPECT(rart_insert(&chain->tree, key, len, len, &replaced) == wanted);
+#ifdef BYTES
+    EXPECT(rart_bytes_insert(&chain->tree, key, len, key, 1) == wanted);
+#else
+    EXPECT(rart_insert(&chain->tree, key, len, len, NULL) == wanted);
+#endif
+}
+
+static void take_out(struct chain *chain, size_t len, rart_answer wanted) {
+#ifdef BYTES
+    EXPECT(rart_bytes_remove(&chain->tree, key, len) == wanted);
+#else
+    EXPECT(rart_remove(&chain->tree, key, len, NULL) == wanted);
+#endif
 }
 
 static void fill(struct chain *chain) {
-    EXPECT(rart_set_longest_key(&chain->tree, chain->longest) == RART_DONE);
+    EXPECT(CALL(set_longest_key)(&chain->tree, chain->longest) == RART_DONE);
     memset(key, 'a', chain->longest + 1);
     for (size_t len = 1; len <= chain->longest; len++) {
         key[len - 1] = chain->ends_differ ? 'b' : 'a';
@@ -49,33 +70,31 @@ static void fill(struct chain *chain) {
 
 // A key of a byte more is refused, and nothing changes.
 static void refuse_longer(struct chain *chain) {
-    size_t len = rart_len(&chain->tree);
-    uint64_t number = rart_version(&chain->tree), value = 7;
+    size_t len = CALL(len)(&chain->tree);
+    uint64_t number = CALL(version)(&chain->tree);
     insert(chain, chain->longest + 1, RART_TOO_LONG);
-    EXPECT(rart_len(&chain->tree) == len && rart_version(&chain->tree) == number);
-    EXPECT(rart_get(&chain->tree, key, chain->longest + 1, &value) == RART_ABSENT && value == 7);
-    EXPECT(rart_remove(&chain->tree, key, chain->longest + 1, &value) == RART_ABSENT);
-    EXPECT(rart_set_longest_key(&chain->tree, chain->longest + 1) == RART_NOT_EMPTY);
+    EXPECT(CALL(len)(&chain->tree) == len && CALL(version)(&chain->tree) == number);
+    take_out(chain, chain->longest + 1, RART_ABSENT);
+    EXPECT(CALL(set_longest_key)(&chain->tree, chain->longest + 1) == RART_NOT_EMPTY);
 }
 
 static void try_chain(struct chain *chain) {
-    uint64_t value;
-    rart_tree copy = {0};
+    tree copy = {0};
     fill(chain);
     refuse_longer(chain);
     size_t keys = chain->longest * (chain->beside + 1);
-    EXPECT(rart_len(&chain->tree) == keys && rart_snapshot(&chain->tree, &copy) == RART_DONE);
-    EXPECT(rart_longest_key(&copy) == chain->longest);
-    EXPECT(rart_common(&chain->tree, &copy) == keys);
+    EXPECT(CALL(len)(&chain->tree) == keys && CALL(snapshot)(&chain->tree, &copy) == RART_DONE);
+    EXPECT(CALL(longest_key)(&copy) == chain->longest);
+    EXPECT(CALL(common)(&chain->tree, &copy) == keys);
     key[chain->longest - 1] = chain->ends_differ ? 'b' : 'a';
     insert(chain, chain->longest, RART_DONE);
-    EXPECT(rart_common(&chain->tree, &copy) == keys);
-    EXPECT(rart_remove(&chain->tree, key, chain->longest, &value) == RART_DONE);
-    EXPECT(value == chain->longest && rart_common(&chain->tree, &copy) == keys - 1);
-    EXPECT(rart_restore_prefix(&chain->tree, key, chain->longest, &copy) == RART_DONE);
-    EXPECT(rart_common(&chain->tree, &copy) == keys);
-    rart_clear(&copy);
-    rart_clear(&chain->tree);
+    EXPECT(CALL(common)(&chain->tree, &copy) == keys);
+    take_out(chain, chain->longest, RART_DONE);
+    EXPECT(CALL(common)(&chain->tree, &copy) == keys - 1);
+    EXPECT(CALL(restore_prefix)(&chain->tree, key, chain->longest, &copy) == RART_DONE);
+    EXPECT(CALL(common)(&chain->tree, &copy) == keys);
+    CALL(clear)(&copy);
+    CALL(clear)(&chain->tree);
 }
 
 static void *run(void *longest) {

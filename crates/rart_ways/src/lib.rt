@@ -4,7 +4,7 @@
 //! `search` reads: a value, how far down it stands, the keys that begin a key. `insertion` and
 //! `removal` put a value in and take one out, `lending` lends one for writing, and `seeking` finds
 //! the first key from a bound on, and the last up to one. `prefixes` keeps what stands under a
-//! prefix, takes it out, or puts it in its place.
+//! prefix, takes it out, or puts it in its place. `sorted` makes a tree of pairs that ascend.
 #![tactic(auto)]
 
 mod insertion;

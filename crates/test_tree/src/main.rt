@@ -3,8 +3,8 @@
 //! these.
 //!
 //! The program compares what changed between versions with std's maps: random diffs, patches and
-//! merges, what stands under random prefixes, and trees of sorted pairs. What differs first ends the
-//! program.
+//! merges, what stands under random prefixes, and trees of sorted pairs. What differs first ends
+//! the program.
 #![tactic(auto)]
 
 mod draw;

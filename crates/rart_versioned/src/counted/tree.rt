@@ -7,7 +7,7 @@ use rart_node::NodeRef;
 use std::alloc::{AllocError, Global};
 use std::marker::Model;
 
-/// An ordered map from keys to values, with a number that every change raises.
+/// An ordered map from keys to values, with a number that every change of a key raises.
 ///
 /// Contracts see it as a finite map from the keys' bytes, and the number. What a snapshot or a
 /// clone shows is copied where either is changed, so neither sees what the other becomes.

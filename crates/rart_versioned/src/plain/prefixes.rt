@@ -204,8 +204,8 @@ impl<K: KeyTrait, V: Clone + Drop> VersionedAdaptiveRadixTree<K, V> {
     /// too.
     ///
     /// The number is then the sum of both, whether or not a pair changes: a version that is
-    /// restored from one fixed version again and again rises by that one's number each time.
-    /// Refused for memory, map and number are as before.
+    /// restored from one fixed version again and again rises by that one's number each time, and
+    /// not at all where that is 0. Refused for memory, map and number are as before.
     ///
     /// With the pairs `a` 1, `ab` 2, `abc` 3, `ac` 4 here and `aba` 20, `abc` 30, `b` 50 there, the
     /// prefix `ab` leaves `a` 1, `aba` 20, `abc` 30, `ac` 4; the empty one makes this map that one.

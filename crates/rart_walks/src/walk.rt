@@ -18,7 +18,7 @@ use rart_below::Partial;
 use rart_node::{NodeRef, VersionedNode, VersionedNodeIter, Work};
 use std::alloc::{AllocError, Global};
 
-// A node that is open: its prefix, and the children that are left.
+/// A node that is open: its prefix, and the children that are left.
 #[derive(Drop)]
 struct Frame<'a, P: Partial, V> {
     segment: &'a [u8],

@@ -48,7 +48,7 @@ pub fn visit_common_keys<'a, K: KeyTrait, P: Partial, V: Drop, F: FnMut(K, &'a V
     intersect_below(at, &mut key_path, f, work)
 }
 
-// A key path that makes keys.
+/// A key path that makes keys.
 #[derive(Drop)]
 struct KeyMaker<'a, K, V> {
     alloc: Global,

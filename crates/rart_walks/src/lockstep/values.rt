@@ -43,7 +43,7 @@ pub fn visit_common_values<'a, P: Partial, V: Drop, F: FnMut(&'a V, &'a V)>(
     let _met = visit_common(key_path, left, right, f, work);
 }
 
-// A key path that keeps nothing, for a closure that is lent the values alone.
+/// A key path that keeps nothing, for a closure that is lent the values alone.
 #[derive(Drop)]
 struct ValuesPath<'a, V> {
     lent: PhantomData<&'a V>,

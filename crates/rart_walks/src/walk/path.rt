@@ -21,8 +21,8 @@ use rart_node::{NodeRef, VersionedNode, VersionedNodeIter, Work, rest_of};
 use std::alloc::{AllocError, Global};
 use std::ops::Bound;
 
-// The part of a tree that a string picks: the keys that it begins, those from it on, or those
-// behind it.
+/// The part of a tree that a string picks: the keys that it begins, those from it on, or those
+/// behind it.
 #[derive(Clone, Copy, PartialEq, Eq)]
 enum Part {
     Under,
@@ -31,7 +31,7 @@ enum Part {
 }
 
 impl Part {
-    // Whether it goes on behind the keys that begin as the string does.
+    /// Whether it goes on behind the keys that begin as the string does.
     fn goes_on(self) -> bool
         ensures { result ≡ goes_on self }
     {
@@ -42,7 +42,7 @@ impl Part {
         }
     }
 
-    // Whether it lacks the string itself.
+    /// Whether it lacks the string itself.
     fn is_strict(self) -> bool
         ensures { result ≡ is_strict self }
     {
@@ -99,7 +99,7 @@ impl<'a, P: Partial, V: Drop, T: KeyPath<'a>> Walk<'a, P, V, T> {
     }
 }
 
-// The way down to the part of a tree that a string picks.
+/// The way down to the part of a tree that a string picks.
 fn along_path<'a, P: Partial, V: Drop, T: KeyPath<'a>>(
     alloc: Global,
     root: &'a NodeRef<P, V>,
@@ -134,8 +134,8 @@ fn along_path<'a, P: Partial, V: Drop, T: KeyPath<'a>>(
     }
 }
 
-// Ends a way at a node, of whose prefix the string has not the whole, or has no more: what is in
-// the part of its pairs is left then.
+/// Ends a way at a node, of whose prefix the string has not the whole, or has no more: what is in
+/// the part of its pairs is left then.
 fn finish<'a, P: Partial, V: Drop, T: KeyPath<'a>>(
     walk: &mut Walk<'a, P, V, T>,
     node: &'a VersionedNode<P, V>,
@@ -160,15 +160,15 @@ fn finish<'a, P: Partial, V: Drop, T: KeyPath<'a>>(
     Ok(())
 }
 
-// Whether the value of a node is passed, whose prefix the string begins, or is.
+/// Whether the value of a node is passed, whose prefix the string begins, or is.
 fn passes_own(part: Part, is_whole: bool) -> bool
     ensures { result ≡ (is_strict part && is_whole) }
 {
     part.is_strict() && is_whole
 }
 
-// Enters the node at the end of a way. Its children are left then, and its value, unless that is
-// passed.
+/// Enters the node at the end of a way. Its children are left then, and its value, unless that is
+/// passed.
 fn enter_end<'a, P: Partial, V: Drop, T: KeyPath<'a>>(
     walk: &mut Walk<'a, P, V, T>,
     node: &'a VersionedNode<P, V>,
@@ -185,7 +185,7 @@ fn enter_end<'a, P: Partial, V: Drop, T: KeyPath<'a>>(
     Ok(())
 }
 
-// The children of a node behind a byte, or none.
+/// The children of a node behind a byte, or none.
 fn later_children<'a, P: Partial, V: Drop>(
     node: &'a VersionedNode<P, V>,
     byte: u8,
@@ -205,7 +205,7 @@ fn later_children<'a, P: Partial, V: Drop>(
     children
 }
 
-// The children behind the last one: none.
+/// The children behind the last one: none.
 fn no_more<'a, P: Partial, V: Drop>(
     mut children: VersionedNodeIter<'a, P, V>,
 ) -> VersionedNodeIter<'a, P, V>

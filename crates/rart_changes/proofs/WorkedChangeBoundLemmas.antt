@@ -19,6 +19,8 @@ least_of_two = (
   simp (maps, finite.len-insert, finite.len-empty) refl,
   simp (maps, finite.len-insert, finite.len-empty) refl,
   simp (maps, finite.len-insert, finite.len-empty) refl,
+  simp (maps, finite.len-insert, finite.len-empty) refl,
+  simp (maps, finite.len-insert, finite.len-empty) refl,
 )
 
 first-in-two : is_in two_keys (codes "a") ≡ true
@@ -45,4 +47,7 @@ keys_are_touched = (
   simp maps refl,
   refl,
   refl,
+  refl,
+  simp maps refl,
+  simp maps refl,
 )

@@ -27,12 +27,19 @@ abbrev pub one_of_two : Tracking ℕ
 one_of_two =
     record { base = empty_at 0; current = with_key (empty_at 0) (codes "a") 7 2; touched = two_keys }
 
+-- the same, but that the one was there at first, and is gone
+abbrev pub none_of_two : Tracking ℕ
+none_of_two =
+    record { base = with_key (empty_at 0) (codes "a") 7 1; current = empty_at 3; touched = two_keys }
+
 -- At least one for each of the two keys, and one more for each in the one of two maps with a key,
 -- or in two of three.
 abbrev pub LeastOfTwo : Type 0
 LeastOfTwo = (changes_least one_of_two ≡ 4)
+    × (changes_least none_of_two ≡ 4)
     × (conflicts_least one_of_two one_of_two.current ≡ 6)
     × (conflicts_least one_of_two one_of_two.base ≡ 4)
+    × (conflicts_least none_of_two none_of_two.current ≡ 4)
 
 -- The other key is not in the one set.
 abbrev pub OneWithinTwo : Type 0
@@ -44,6 +51,7 @@ begun = tracking_from (with_key (empty_at 0) (codes "a") 7 1)
 
 -- Setting a key touches it, and so does taking it out where it is there, and an update where it
 -- answers `true`. Of an absent key removal leaves all, and so does an update that answers `false`.
+-- What the base has there makes no difference, and the base stays.
 abbrev pub KeysAreTouched : Type 0
 KeysAreTouched =
     (begun ≡ record { base = begun.current; current = begun.current; touched = no_key })
@@ -63,3 +71,16 @@ KeysAreTouched =
     × (updated begun (codes "a") true (empty_at 2)
     ≡ record { base = begun.base; current = empty_at 2; touched = one_key })
     × (updated begun (codes "a") false begun.current ≡ begun)
+    × (after_insertion none_of_two (codes "d") 8
+    ≡ record {
+      base = none_of_two.base;
+      current = with_key none_of_two.current (codes "d") 8 1;
+      touched = with_string two_keys (codes "d");
+    })
+    × (after_removal none_of_two (codes "a") ≡ none_of_two)
+    × (after_removal one_of_two (codes "a")
+    ≡ record {
+      base = one_of_two.base;
+      current = without_key one_of_two.current (codes "a") 1;
+      touched = with_string two_keys (codes "a");
+    })

@@ -5,7 +5,7 @@ use Rattle.std.specs.FinMap as finite
 use Rattle.std.proofs.lemmas.Bool.{false≢true}
 use Rattle.rart_maps.proofs.MapLemmas.{maps}
 use Rattle.rart_changes.specs.Tracking.{is_in, no_key}
-use Rattle.rart_changes.specs.WorkedBounds.{ChangesOfTwo, ConflictsOfTwo, KeysAreTouched, LeastOfTwo, OneWithinTwo, one_key, two_keys}
+use Rattle.rart_changes.specs.WorkedBounds.{ChangesOfTwo, ConflictsOfTwo, HeldInEither, KeysAreTouched, LeastOfTwo, OneWithinTwo, one_key, two_keys}
 use Rattle.rart_changes.proofs.TrackingLemmas.{in-with, nothing-in}
 
 pub changes_of_two : ChangesOfTwo
@@ -51,3 +51,6 @@ keys_are_touched = (
   simp maps refl,
   simp maps refl,
 )
+
+pub held_in_either_of_two : HeldInEither
+held_in_either_of_two = simp maps refl

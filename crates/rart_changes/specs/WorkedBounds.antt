@@ -1,9 +1,10 @@
 -- Worked values of the bounds, of sets within each other, and of what touches a key, found by hand.
-use Rattle.std.specs.Prelude.{◌≡◌, ℕ, true, false, codes}
+use Rattle.std.specs.Prelude.{◌≡◌, ℕ, [], ◌∷◌, Some, None, true, false, codes}
 use Rattle.rart_maps.specs.Pairs.{Strings}
 use Rattle.rart_maps.specs.Versions.{empty_at, with_key, without_key}
 use Rattle.rart_changes.specs.ChangeVisits.{changes_bound, changes_least}
 use Rattle.rart_changes.specs.ConflictVisits.{conflicts_bound, conflicts_least}
+use Rattle.rart_changes.specs.Merging.{held_in_either}
 use Rattle.rart_changes.specs.Rebasing.{IsWithin}
 use Rattle.rart_changes.specs.Tracking.{Tracking, after_insertion, after_removal, no_key, tracking_from, updated, with_string}
 
@@ -84,3 +85,10 @@ KeysAreTouched =
       current = without_key one_of_two.current (codes "a") 1;
       touched = with_string two_keys (codes "a");
     })
+
+-- Of the keys of three changes one is there before and one after; the third is in neither map.
+abbrev pub HeldInEither : Type 0
+HeldInEither =
+    held_in_either none_of_two.base.content (with_key (empty_at 0) (codes "bc") 9 1).content
+    ((codes "a", Some 7, None) ∷ (codes "bc", None, Some 9) ∷ (codes "d", None, None) ∷ [])
+    ≡ 2

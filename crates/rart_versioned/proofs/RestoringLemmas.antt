@@ -1,19 +1,22 @@
 -- What is put in place of all that a version has under a prefix, and that all stays in order.
-use Rattle.std.proofs.Common.{◌≡◌, ℕ, ◌+◌, ◌≤◌, List, ◌++◌, Option, Some, None, IsSome, is_some, length, cond, Bool, true, false, refl, arith, sym, ap, subst, ◌∙◌}
+use Rattle.std.proofs.Common.{◌≡◌, ℕ, ◌+◌, ◌≤◌, List, ◌++◌, Option, Some, None, IsSome, is_some, cond, Bool, true, false, refl, arith, sym, ap, subst, ◌∙◌}
 use Rattle.std.specs.FinMap as finite
 use Rattle.std.proofs.lemmas.List.{length-append}
 use Rattle.rart_below.specs.Bytes.{begins}
 use Rattle.rart_maps.specs.ChangeLists.{joined}
 use Rattle.rart_maps.specs.Pairs.{pairs}
-use Rattle.rart_maps.specs.Prefixes.{pairs_under, without_prefix, with_prefix_of}
-use Rattle.rart_maps.specs.Versions.{Map}
-use Rattle.rart_maps.proofs.PrefixLemmas.{same_map, get-with_prefix_of}
+use Rattle.std.proofs.lemmas.Bool.{false≢true}
+use Rattle.rart_maps.specs.Prefixes.{has_under, pairs_under, without_prefix, with_prefix_of}
+use Rattle.rart_maps.specs.Versions.{Map, Version, value_at}
+use Rattle.rart_maps.proofs.OrderLemmas.{begins-append}
+use Rattle.rart_maps.proofs.PrefixLemmas.{same_map, get-with_prefix_of, key-has-under}
 use Rattle.rart_node.specs.Shape.{Shape, prefix_of}
 use Rattle.rart_node.specs.Trees.{strip_prefix, found, IsTree}
+use Rattle.rart_node.proofs.KeyLemmas.{tree-has-key}
 use Rattle.rart_node.proofs.PrefixLemmas.{strip_prefix-is}
 use Rattle.rart_ways.specs.Prefixes.{HasNoneUnder, IsGrafted, under_or}
 use Rattle.rart_ways.proofs.PrefixLemmas.{strip-begins, not-begun}
-use Rattle.rart_versioned.specs.Roots.{found_in, map_of, IsReplacedUnder, IsTreeIn, IsUnderIn, IsSound}
+use Rattle.rart_versioned.specs.Roots.{found_in, map_of, HasSomeIn, IsReplacedUnder, IsTreeIn, IsUnderIn, IsSound}
 use Rattle.rart_versioned.proofs.SoundLemmas.{tree-in, few, admitted}
 use Rattle.rart_versioned.proofs.VersionDiffLemmas.{entries-few}
 use Rattle.rart_versioned.proofs.VersionMapLemmas.{get-found}
@@ -124,3 +127,26 @@ module _ {V : Type 0} where
             (subst IsSome (replaced.1 q) there)),
         subst (λ m. finite.len m ≤ later) (sym same) (omega (arith, fewer, all, others, le)),
       )
+
+  -- ---- whether there is something under the prefix, in the words of the version
+  module _ (v : Version V) (p : List ℕ) (root : Option (Shape V))
+      (values : (w : List ℕ) → value_at v w ≡ found_in root w) where
+    pub some-in : HasSomeIn p root → has_under v p ≡ true
+    some-in some =
+        key-has-under v p (p ++ some.0) (begins-append p some.0)
+        (ap is_some (values (p ++ some.0)) ∙ some.1)
+
+    -- What a part has stood under the prefix.
+    pub part-there : (part : Option (Shape V)) → IsSome part → IsUnderIn p root part
+        → has_under v p ≡ true
+    part-there None some under = absurd (false≢true some)
+    part-there (Some part) some under =
+        let has = tree-has-key part under.0 in
+        let there : is_some (cond (begins p has.key) (found_in root has.key) None) ≡ true =
+        ap is_some (sym (under.1 has.key)) ∙ has.there in
+        elim (begins p has.key) as (λ t. begins p has.key ≡ t
+        → is_some (cond t (found_in root has.key) None) ≡ true → has_under v p ≡ true) [
+          | true ↦ λ begun found. key-has-under v p has.key begun
+              (ap is_some (values has.key) ∙ found)
+          | false ↦ λ apart found. absurd (false≢true found)
+        ] refl there

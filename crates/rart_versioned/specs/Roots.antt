@@ -1,6 +1,6 @@
 -- What a root stands for, or the lack of one: a finite map. When it is sound, and what a value lent
 -- from below it leaves.
-use Rattle.std.specs.Prelude.{◌≡◌, ℕ, ◌≤◌, List, [], Option, Some, None, IsSome, Result, ⊤, if◌then◌else◌}
+use Rattle.std.specs.Prelude.{◌≡◌, ◌++◌, ℕ, ◌≤◌, List, [], Option, Some, None, IsSome, Result, ⊤, if◌then◌else◌}
 use Rattle.std.specs.Option.{option_map}
 use Rattle.std.specs.Result.{IsOk, OnErr}
 use Rattle.std.specs.Str.{bytes_eq}
@@ -60,6 +60,10 @@ module _ {V : Type 0} where
   IsUnderIn p before after =
       IsTreeIn after
       × ((q : List ℕ) → found_in after q ≡ (if begins p q then found_in before q else None))
+
+  -- Below the root, if there is one, a key is found that p begins.
+  abbrev pub HasSomeIn : List ℕ → Option (Shape V) → Type 0
+  HasSomeIn p root = (rest : List ℕ) × IsSome (found_in root (p ++ rest))
 
   -- After, there is what the part has where p begins it, and else what was there.
   abbrev pub IsReplacedUnder : List ℕ → Option (Shape V) → Option (Shape V) → Option (Shape V)

@@ -1,14 +1,14 @@
 // Ported from rart 0.11.0 (Apache-2.0), and rewritten.
 //! All that another version has under a prefix, put in place of what stands there.
-ghost use Rattle.std.specs.Prelude.{◌≡◌, ◌+◌, ◌*◌, ℕ, List, IfOk, IfSome, IsSome, IsTrue, None, OnErr, OnOk, length};
+ghost use Rattle.std.specs.Prelude.{◌≡◌, ◌⊎◌, ◌+◌, ◌*◌, ℕ, List, IfOk, IfSome, IsSome, IsTrue, None, OnErr, OnOk, length};
 ghost use Rattle.rart_below.specs.Bytes.{IsAdmitted, begins};
 ghost use Rattle.rart_below.specs.Clones.{ClonesEqual};
 ghost use Rattle.rart_maps.specs.Bounds.{change_bound, lookup_bound};
-ghost use Rattle.rart_maps.specs.Prefixes.{after_prefix_restoring};
+ghost use Rattle.rart_maps.specs.Prefixes.{after_prefix_restoring, has_under};
 ghost use Rattle.rart_maps.specs.Versions.{HasRoom};
 ghost use Rattle.rart_node.specs.Counts.{CountsUpTo};
 ghost use Rattle.rart_node.specs.Shape.{prefix_of};
-ghost use Rattle.rart_versioned.specs.Roots.{IsReplacedUnder, IsTreeIn, IsUnderIn, below_root, found_in};
+ghost use Rattle.rart_versioned.specs.Roots.{HasSomeIn, IsReplacedUnder, IsTreeIn, IsUnderIn, below_root, found_in};
 
 use crate::counted::tree::VersionedAdaptiveRadixTree;
 use rart_below::{KeyTrait, Partial};
@@ -31,6 +31,8 @@ impl<K: KeyTrait, V: Clone + Drop> VersionedAdaptiveRadixTree<K, V> {
         ensures restored { OnOk result
             (self.new ≡ after_prefix_restoring self.old (K.bytes prefix.now) from.now) }
         ensures refused { OnErr result (self.new ≡ self.old) }
+        ensures present { OnErr result (IsTrue (has_under self.old (K.bytes prefix.now))
+            ⊎ IsTrue (has_under from.now (K.bytes prefix.now))) }
         ensures counted { CountsUpTo (3 * lookup_bound (K.bytes prefix.now))
             (change_bound (K.bytes prefix.now) + 2) work.old work.new }
     {
@@ -49,6 +51,8 @@ impl<K: KeyTrait, V: Clone + Drop> VersionedAdaptiveRadixTree<K, V> {
         ensures restored { OnOk result
             (self.new ≡ after_prefix_restoring self.old prefix.now from.now) }
         ensures refused { OnErr result (self.new ≡ self.old) }
+        ensures present { OnErr result (IsTrue (has_under self.old prefix.now)
+            ⊎ IsTrue (has_under from.now prefix.now)) }
         ensures counted { CountsUpTo (3 * lookup_bound prefix.now) (change_bound prefix.now + 2)
             work.old work.new }
     {
@@ -76,6 +80,7 @@ fn part_under<P: Partial, V: Clone + Drop>(
         (below_root part)) }
     ensures begun { IfOk result (λ part. IfSome part (λ it.
         IsTrue (begins prefix.now (prefix_of it.shape)))) }
+    ensures present { OnErr result (HasSomeIn prefix.now (below_root root.now)) }
     ensures counted { CountsUpTo (lookup_bound prefix.now) 1 work.old work.new }
 {
     match root {
@@ -103,6 +108,8 @@ fn replace_under<P: Partial, V: Clone + Drop>(
     ensures replaced { OnOk result (IsReplacedUnder prefix.now (below_root part)
         (below_root root.old) (below_root root.new)) }
     ensures refused { OnErr result (below_root root.new ≡ below_root root.old) }
+    ensures present { OnErr result
+        (IsSome (below_root part) ⊎ HasSomeIn prefix.now (below_root root.old)) }
     ensures counted { CountsUpTo (2 * lookup_bound prefix.now) (change_bound prefix.now + 1)
         work.old work.new }
 {
@@ -134,6 +141,7 @@ fn empty_under<P: Partial, V: Clone + Drop>(
     ensures emptied { OnOk result (IsReplacedUnder prefix.now None (below_root root.old)
         (below_root root.new)) }
     ensures refused { OnErr result (below_root root.new ≡ below_root root.old) }
+    ensures present { OnErr result (HasSomeIn prefix.now (below_root root.old)) }
     ensures counted { CountsUpTo (2 * lookup_bound prefix.now) (lookup_bound prefix.now)
         work.old work.new }
 {

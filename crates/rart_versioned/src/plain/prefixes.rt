@@ -1,6 +1,6 @@
 // Ported from rart 0.11.0 (Apache-2.0), and rewritten.
 //! All that stands under a prefix, with no count.
-ghost use Rattle.std.specs.Prelude.{◌≡◌, IfOk, IsTrue, OnErr, OnOk};
+ghost use Rattle.std.specs.Prelude.{◌≡◌, ◌⊎◌, IfOk, IsTrue, OnErr, OnOk};
 ghost use Rattle.rart_below.specs.Clones.{ClonesEqual};
 ghost use Rattle.rart_maps.specs.Prefixes.{after_prefix_removal, after_prefix_restoring, has_under, under_prefix};
 ghost use Rattle.rart_maps.specs.Versions.{HasRoom};
@@ -194,6 +194,8 @@ impl<K: KeyTrait, V: Clone + Drop> VersionedAdaptiveRadixTree<K, V> {
         ensures restored { OnOk result
             (self.new ≡ after_prefix_restoring self.old (K.bytes prefix) from.now) }
         ensures refused { OnErr result (self.new ≡ self.old) }
+        ensures present { OnErr result (IsTrue (has_under self.old (K.bytes prefix))
+            ⊎ IsTrue (has_under from.now (K.bytes prefix))) }
     {
         self.restore_prefix_k(&prefix, from)
     }
@@ -205,7 +207,8 @@ impl<K: KeyTrait, V: Clone + Drop> VersionedAdaptiveRadixTree<K, V> {
     ///
     /// The number is then the sum of both, whether or not a pair changes: a version that is
     /// restored from one fixed version again and again rises by that one's number each time, and
-    /// not at all where that is 0. Refused for memory, map and number are as before.
+    /// not at all where that is 0. Refused for memory, map and number are as before. It is not refused
+    /// where neither has a key that the prefix begins.
     ///
     /// With the pairs `a` 1, `ab` 2, `abc` 3, `ac` 4 here and `aba` 20, `abc` 30, `b` 50 there, the
     /// prefix `ab` leaves `a` 1, `aba` 20, `abc` 30, `ac` 4; the empty one makes this map that one.
@@ -225,6 +228,8 @@ impl<K: KeyTrait, V: Clone + Drop> VersionedAdaptiveRadixTree<K, V> {
         ensures restored { OnOk result
             (self.new ≡ after_prefix_restoring self.old (K.bytes prefix.now) from.now) }
         ensures refused { OnErr result (self.new ≡ self.old) }
+        ensures present { OnErr result (IsTrue (has_under self.old (K.bytes prefix.now))
+            ⊎ IsTrue (has_under from.now (K.bytes prefix.now))) }
     {
         self.restore_prefix_k_counted(prefix, from, &mut Work::new())
     }
@@ -246,6 +251,8 @@ impl<K: KeyTrait, V: Clone + Drop> VersionedAdaptiveRadixTree<K, V> {
         ensures restored { OnOk result
             (self.new ≡ after_prefix_restoring self.old prefix.now from.now) }
         ensures refused { OnErr result (self.new ≡ self.old) }
+        ensures present { OnErr result (IsTrue (has_under self.old prefix.now)
+            ⊎ IsTrue (has_under from.now prefix.now)) }
     {
         self.restore_prefix_slice_counted(prefix, from, &mut Work::new())
     }

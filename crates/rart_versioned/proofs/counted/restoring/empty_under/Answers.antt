@@ -1,7 +1,8 @@
 use Rattle.std.proofs.Common.{None, Some, arith, sym, subst}
 use Rattle.rart_node.proofs.CountingLemmas.{counts-most, path-most}
+use Rattle.rart_ways.proofs.EditLemmas.{on-any}
 use Rattle.rart_ways.specs.Prefixes.{IsClearedSo}
-use Rattle.rart_versioned.specs.Roots.{IsReplacedUnder, IsTreeIn, below_root}
+use Rattle.rart_versioned.specs.Roots.{HasSomeIn, IsReplacedUnder, IsTreeIn, below_root}
 use Rattle.rart_versioned.proofs.RestoringLemmas.{same-emptied}
 use Rattle.rart_versioned.proofs.VersionPrefixLemmas.{cleared-part, cleared-whole}
 use Rattle.rart_versioned.proofs.counted.restoring.empty_under.Goals as goal
@@ -48,3 +49,9 @@ pub returns-in-Whole-clause-counted : goal.returns-in-Whole-clause-counted
 returns-in-Whole-clause-counted g c =
     let most = path-most c.in-Some.node.shape c.args.prefix.now in
     counts-most c.clear_below.ensures.counted (omega (arith, most)) (omega (arith, most))
+
+pub returns-in_err-clear_below-clause-present : goal.returns-in_err-clear_below-clause-present
+returns-in_err-clear_below-clause-present g c =
+    on-any c.from_residual.result
+    (subst (λ z. HasSomeIn c.args.prefix.now (below_root z)) (sym c.in-Some.is)
+    c.in_err-clear_below.ensures.present)

@@ -1,7 +1,8 @@
 use Rattle.std.proofs.Common.{None, arith, sym, subst}
+use Rattle.std.specs.Prelude.{OnErr}
 use Rattle.rart_node.proofs.CountingLemmas.{counts-most, path-most}
 use Rattle.rart_ways.proofs.EditLemmas.{if-ok}
-use Rattle.rart_versioned.specs.Roots.{IsUnderIn, below_root}
+use Rattle.rart_versioned.specs.Roots.{HasSomeIn, IsUnderIn, below_root}
 use Rattle.rart_versioned.proofs.VersionPrefixLemmas.{under-none, under-root}
 use Rattle.rart_versioned.proofs.counted.restoring.part_under.Goals as goal
 
@@ -21,3 +22,8 @@ pub returns-in-Some-clause-counted : goal.returns-in-Some-clause-counted
 returns-in-Some-clause-counted g c =
     counts-most c.keep_under.ensures.counted
     (path-most c.in-Some.root.shape c.args.prefix.now) (omega arith)
+
+pub returns-in-Some-clause-present : goal.returns-in-Some-clause-present
+returns-in-Some-clause-present g c =
+    subst (λ z. OnErr c.keep_under.result (HasSomeIn c.args.prefix.now (below_root z)))
+    (sym c.in-Some.is) c.keep_under.ensures.present

@@ -1,11 +1,13 @@
-use Rattle.std.proofs.Common.{◌+◌, length, arith, sym, ap, subst, ◌∙◌}
+use Rattle.std.proofs.Common.{◌+◌, ⊎_elim, inl, inr, length, arith, sym, ap, subst, ◌∙◌}
 use Rattle.std.specs.Option.{option_map}
 use Rattle.rart_below.specs.Bytes.{IsAdmitted}
 use Rattle.rart_maps.specs.Prefixes.{after_prefix_restoring}
 use Rattle.rart_node.specs.Seen.{shape_of}
 use Rattle.rart_node.proofs.CountingLemmas.{counts-then}
 use Rattle.rart_versioned.specs.Roots.{IsSound}
-use Rattle.rart_versioned.proofs.RestoringLemmas.{restored-in, map-restored, sound-restored}
+use Rattle.rart_versioned.proofs.RestoringLemmas.{part-there, restored-in, some-in, map-restored, sound-restored}
+use Rattle.rart_ways.proofs.EditLemmas.{on-any}
+use Rattle.rart_versioned.proofs.VersionIterationLemmas.{value-found}
 use Rattle.rart_versioned.proofs.SoundLemmas.{tree-in, admitted}
 use Rattle.rart_versioned.proofs.counted.tree.VersionedAdaptiveRadixTree.restore_prefix_slice_counted.Goals as goal
 
@@ -64,3 +66,26 @@ pub returns-clause-counted : goal.returns-clause-counted
 returns-clause-counted g c =
     counts-then c.in_ok-part.ensures.counted c.in_ok-replace_under.ensures.counted (omega arith)
     (omega arith)
+
+-- ---- refused
+
+pub returns-in_err-part-clause-present : goal.returns-in_err-part-clause-present
+returns-in_err-part-clause-present g c =
+    on-any c.from_residual.result
+    (inr (some-in c.args.from.now c.args.prefix.now (option_map shape_of c.from.inside.root)
+    (value-found shape_of g.K.KeyTrait.MAXIMUM_SIZE c.from.inside.version c.from.inside.root
+    c.args.from.now c.from.invariant c.from.view_is) c.in_err-part.ensures.present))
+
+pub returns-in_err-replace_under-clause-present : goal.returns-in_err-replace_under-clause-present
+returns-in_err-replace_under-clause-present g c =
+    on-any c.from_residual-in_err-replace_under.result
+    (⊎_elim
+    (λ some. inr (part-there c.args.from.now c.args.prefix.now
+    (option_map shape_of c.from.inside.root)
+    (value-found shape_of g.K.KeyTrait.MAXIMUM_SIZE c.from.inside.version c.from.inside.root
+    c.args.from.now c.from.invariant c.from.view_is) (option_map shape_of c.in_ok-part.part) some
+    c.in_ok-part.ensures.kept))
+    (λ mine. inl (some-in c.args.self.now c.args.prefix.now (option_map shape_of c.self.inside.root)
+    (value-found shape_of g.K.KeyTrait.MAXIMUM_SIZE c.self.inside.version c.self.inside.root
+    c.args.self.now c.self.invariant c.self.view_is) mine))
+    c.in_err-replace_under.ensures.present)

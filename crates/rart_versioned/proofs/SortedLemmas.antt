@@ -1,6 +1,6 @@
 -- Pairs that ascend, and the root of a tree that was made of them.
-use Rattle.std.proofs.Common.{◌≡◌, ◌<◌, ◌≤◌, ◌⊎◌, inl, inr, ℕ, zero, suc, ◌+◌, ◌-◌, ◌^◌, Bool, true, false, cond, List, [], ◌∷◌, get_or, length, map, drop, refl, sym, ap, subst, ◌∙◌, ⊎_elim, arith, Option, Some, None, IsSome, is_some}
-use Rattle.std.specs.Prelude.{All, slice_get, ⊤}
+use Rattle.std.proofs.Common.{◌≡◌, ◌<◌, ◌≤◌, inl, inr, ℕ, suc, ◌+◌, ◌-◌, ◌^◌, Bool, true, false, cond, List, [], ◌∷◌, get_or, length, refl, sym, ap, subst, ◌∙◌, ⊎_elim, arith, Option, Some, IsSome}
+use Rattle.std.specs.Prelude.{All, slice_get}
 use Rattle.std.specs.FinMap as finite
 use Rattle.std.specs.FinMap.Entries.{below_all, find, is_sorted}
 use Rattle.std.specs.FinSet as set
@@ -19,7 +19,7 @@ use Rattle.rart_maps.specs.Points.{points}
 use Rattle.rart_maps.proofs.OrderLemmas.{before-lt, lt-before}
 use Rattle.rart_node.specs.Nodes.{nodes_of}
 use Rattle.rart_node.specs.Shape.{Shape}
-use Rattle.rart_node.specs.Trees.{IsTree, found, pairs_of}
+use Rattle.rart_node.specs.Trees.{IsTree, pairs_of}
 use Rattle.rart_node.proofs.PairLemmas.{find-pairs}
 use Rattle.rart_walks.proofs.CursorLemmas.{nodes-paths}
 use Rattle.rart_ways.specs.Runs.{AllLong}

@@ -8,9 +8,12 @@ use Rattle.rart_node.specs.Trees.{found, pairs_of}
 use Rattle.rart_walks.specs.Walks.{AreShort}
 use Rattle.rart_walks.specs.Frames.{behind_path, pairs_of_all, pending_pair}
 use Rattle.rart_walks.proofs.WalkLemmas.{behind-none, pairs-entered}
-use Rattle.rart_maps.specs.Pairs.{pairs}
-use Rattle.rart_maps.specs.Versions.{Version, value_at}
+use Rattle.std.specs.declared.ops.Bound.{Bound}
+use Rattle.std.specs.declared.ops.Bound.TheVariants.{Unbounded}
+use Rattle.rart_maps.specs.Pairs.{pairs, within}
+use Rattle.rart_maps.specs.Versions.{Map, Version, value_at}
 use Rattle.rart_maps.proofs.ElementLemmas.{All-from_contains}
+use Rattle.rart_maps.proofs.RangeLemmas.{from, up_to, within-from}
 use Rattle.rart_versioned.specs.TreeWalks.{AreAdmitted, KeepsKeys}
 use Rattle.rart_versioned.specs.Roots.{found_in, map_of, pairs_in, IsSound}
 use Rattle.rart_versioned.proofs.KeyLengthLemmas.{pair-length, admitted-pairs}
@@ -98,3 +101,12 @@ module _ {A V : Type 0} (shape : A → Shape V) (most : Option ℕ) (count : ℕ
     pub root-short : (greatest : Option ℕ) → KeepsKeys greatest →
         AreShort greatest (pairs_of (shape root))
     root-short = short-kept most count (shape root) root-sound
+
+-- ---- of the pairs from a lower bound on
+up_to-all : {V : Type 0} (list : List (List ℕ × V)) → up_to Unbounded list ≡ list
+up_to-all [] = refl
+up_to-all (pair ∷ list) = ap (λ rest. pair ∷ rest) (up_to-all list)
+
+pub within-from_low : {V : Type 0} (m : Map V) (low : Bound (List ℕ)) →
+    within m low Unbounded ≡ from low (pairs m)
+within-from_low m low = within-from m low Unbounded ∙ up_to-all (from low (pairs m))

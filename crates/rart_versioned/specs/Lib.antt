@@ -1,5 +1,6 @@
 pub mod Asks
 pub mod ChangeCounts
+pub mod Cursors
 pub mod Iterators
 pub mod Keys
 pub mod Lent

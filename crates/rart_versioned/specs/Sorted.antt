@@ -1,5 +1,5 @@
 -- Pairs that ascend by their keys, and pairs that do not.
-use Rattle.std.specs.Prelude.{◌≡◌, ◌+◌, ◌<◌, ℕ, List, [], ◌∷◌, Option, Some, ⊤, slice_get}
+use Rattle.std.specs.Prelude.{◌≡◌, ◌+◌, ◌<◌, ℕ, List, Option, Some, slice_get}
 use Rattle.rart_maps.specs.Order.{IsBefore}
 use Rattle.rart_versioned.specs.Keys.{IsKey}
 

@@ -10,7 +10,8 @@ mod plain;
 
 pub use counted::{Missing, SortedError, VersionedAdaptiveRadixTree};
 pub use plain::{
-    InsertError, VersionedIter, VersionedPrefixMatchIter, VersionedRange, VersionedValuesIter,
+    InsertError, VersionedCursor, VersionedIter, VersionedPrefixMatchIter, VersionedRange,
+    VersionedSliceRange, VersionedValuesIter,
 };
 pub use rart_below::{
     AdaptiveRadixTree, ArrPartial, ArrayKey, DirectMapping, IndexedMapping, KeyTrait,

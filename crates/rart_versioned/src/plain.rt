@@ -21,5 +21,8 @@ mod update;
 mod visitors;
 mod within;
 
-pub use iterators::{VersionedIter, VersionedPrefixMatchIter, VersionedRange, VersionedValuesIter};
+pub use iterators::{
+    VersionedCursor, VersionedIter, VersionedPrefixMatchIter, VersionedRange, VersionedSliceRange,
+    VersionedValuesIter,
+};
 pub use try_insert::InsertError;

@@ -5,7 +5,8 @@ ghost use Rattle.std.specs.Ordering.{as_partial_cmp};
 ghost use Rattle.std.specs.Range.Bound.{is_up_to_end, bound_map};
 ghost use Rattle.rart_below.specs.Bytes.{byte_order};
 ghost use Rattle.rart_maps.specs.Pairs.{within};
-ghost use Rattle.rart_versioned.specs.Iterators.{EntryGives, IsRangeWalk, up_to};
+ghost use Rattle.rart_maps.specs.Iterations.{ByKey, NextGives};
+ghost use Rattle.rart_versioned.specs.Iterators.{EntryGives, IsRangeWalk, up_to, within_left};
 ghost use Rattle.rart_walks.specs.WalkFields.{cursor};
 
 use crate::counted::VersionedAdaptiveRadixTree;
@@ -80,20 +81,7 @@ impl<'a, K: KeyTrait, V: Drop> Iterator for VersionedRange<'a, K, V> {
     ghost remaining = { items_left };
 
     fn next(&mut self) -> Option<Result<(K, &'a V), AllocError>> {
-        match &mut self.walk {
-            None => None,
-            Some(walk) => match next_within(self.alloc, walk, &self.high) {
-                Ok(Some(entry)) => Some(Ok(entry)),
-                Ok(None) => {
-                    self.walk = None;
-                    None
-                }
-                Err(refused) => {
-                    self.walk = None;
-                    Some(Err(refused))
-                }
-            },
-        }
+        next_item(self.alloc, &mut self.walk, bytes_of(&self.high))
     }
 
     /// That nothing comes any more is known behind the end alone.
@@ -109,16 +97,44 @@ impl<'a, K: KeyTrait, V: Drop> Iterator for VersionedRange<'a, K, V> {
     }
 }
 
+/// The next pair of a walk that meets an upper bound. The walk is let go behind the last one, and
+/// where memory is refused.
+pub(crate) fn next_item<'a, K: KeyTrait, V: Drop>(
+    alloc: Global,
+    walk: &mut Option<Walk<'a, K::PartialType, V, BytesPath>>,
+    high: Bound<&[u8]>,
+) -> Option<Result<(K, &'a V), AllocError>>
+    requires { IfSome walk.old (IsRangeWalk K.MAXIMUM_SIZE) }
+    ensures walk { IfSome walk.new (IsRangeWalk K.MAXIMUM_SIZE) }
+    ensures gives { let high = bound_map (λ high. high.now) high.entry in
+        NextGives (ByKey K.bytes) (within_left high walk.old) result (within_left high walk.new) }
+{
+    match walk {
+        None => None,
+        Some(open) => match next_within(alloc, open, high) {
+            Ok(Some(entry)) => Some(Ok(entry)),
+            Ok(None) => {
+                *walk = None;
+                None
+            }
+            Err(refused) => {
+                *walk = None;
+                Some(Err(refused))
+            }
+        },
+    }
+}
+
 /// The next pair of a walk that meets an upper bound, with a key of its own. There is none where
 /// the next key is past the bound, since every later one is then.
 fn next_within<'a, K: KeyTrait, V: Drop>(
     alloc: Global,
     walk: &mut Walk<'a, K::PartialType, V, BytesPath>,
-    high: &Bound<K>,
+    high: Bound<&[u8]>,
 ) -> Result<Option<(K, &'a V)>, AllocError>
     requires { IsRangeWalk K.MAXIMUM_SIZE walk.old }
     ensures walk { OnOk result (IsRangeWalk K.MAXIMUM_SIZE walk.new) }
-    ensures gives { let high = bound_map K.bytes high.now in IfOk result (λ entry.
+    ensures gives { let high = bound_map (λ high. high.now) high.entry in IfOk result (λ entry.
         EntryGives K.bytes (up_to high (cursor walk.old).pairs) entry
         (up_to high (cursor walk.new).pairs)) }
 {
@@ -134,13 +150,13 @@ fn next_within<'a, K: KeyTrait, V: Drop>(
 }
 
 /// Whether a key with these bytes meets an upper bound.
-fn meets<K: KeyTrait>(high: &Bound<K>, bytes: &[u8]) -> bool
-    ensures { result ≡ is_up_to_end (as_partial_cmp byte_order) (bound_map K.bytes high.now)
-        bytes.now }
+fn meets(high: Bound<&[u8]>, bytes: &[u8]) -> bool
+    ensures { result ≡ is_up_to_end (as_partial_cmp byte_order)
+        (bound_map (λ high. high.now) high.entry) bytes.now }
 {
     match high {
-        Bound::Included(high) => compare_bytes(bytes, high.as_ref()).is_le(),
-        Bound::Excluded(high) => compare_bytes(bytes, high.as_ref()).is_lt(),
+        Bound::Included(high) => compare_bytes(bytes, high).is_le(),
+        Bound::Excluded(high) => compare_bytes(bytes, high).is_lt(),
         Bound::Unbounded => true,
     }
 }

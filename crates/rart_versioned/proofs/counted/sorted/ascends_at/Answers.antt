@@ -1,4 +1,4 @@
-use Rattle.std.proofs.Common.{◌≡◌, length, ap, ◌∙◌}
+use Rattle.std.proofs.Common.{ap, ◌∙◌}
 use Rattle.std.specs.Ordering.{is_lt}
 use Rattle.rart_versioned.proofs.SortedLemmas.{compared, key-at}
 use Rattle.rart_versioned.proofs.counted.sorted.ascends_at.Goals as goal

@@ -1,4 +1,4 @@
-use Rattle.std.proofs.Common.{◌≡◌, ◌+◌, ℕ, List, None, true, false, ap, arith, length, refl, sym, ◌∙◌}
+use Rattle.std.proofs.Common.{◌≡◌, ℕ, List, None, true, false, ap, arith, refl, sym, ◌∙◌}
 use Rattle.std.specs.Option.{option_map}
 use Rattle.rart_maps.specs.Prefixes.{has_under}
 use Rattle.rart_maps.specs.Versions.{value_at}

@@ -26,7 +26,7 @@ returns-then-not-meets-clause-walk g c =
         walks = c.in_ok-value.ensures.walk;
         admitted = rest-admitted most _ _ _ gives c.requires.keyed.admitted;
       };
-      ascends = ascends-rest (bound_map g.K.KeyTrait.bytes c.args.high.now) _ _
+      ascends = ascends-rest (bound_map (λ high. high.now) c.args.high) _ _
           (subst (KeysAscend (λ (pair : List ℕ × g.row.V.Denot). pair.0)) gives c.requires.ascends);
     }
 
@@ -39,14 +39,14 @@ returns-clause-walk g c =
         walks = c.in_ok-value.ensures.walk;
         admitted = rest-admitted most _ _ _ gives c.requires.keyed.admitted;
       };
-      ascends = ascends-rest (bound_map g.K.KeyTrait.bytes c.args.high.now) _ _
+      ascends = ascends-rest (bound_map (λ high. high.now) c.args.high) _ _
           (subst (KeysAscend (λ (pair : List ℕ × g.row.V.Denot). pair.0)) gives c.requires.ascends);
     }
 
 pub returns-then-not-meets-clause-gives : goal.returns-then-not-meets-clause-gives
 returns-then-not-meets-clause-gives g c =
     let gives = rw c.in-Some.is at c.in_ok-value.ensures.gives in
-    let high = bound_map g.K.KeyTrait.bytes c.args.high.now in
+    let high = bound_map (λ high. high.now) c.args.high in
     let ascends = subst (KeysAscend (λ (pair : List ℕ × g.row.V.Denot). pair.0)) gives
     c.requires.ascends in
     let key = concat (cursor c.next_value.new.self).segments in

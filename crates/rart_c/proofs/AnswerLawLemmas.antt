@@ -216,7 +216,7 @@ page_answers_tell zero room [] answer before after told = (
 page_answers_tell zero zero (pair ∷ pairs) answer before after told = (
   λ done. absurd (omega (arith, told.0, done)),
   λ absent. absurd (omega (arith, told.0, absent)),
-  λ none. (refl, refl, told.1),
+  λ none. (refl, refl, (λ is. cc), told.1),
   λ small. absurd (omega (arith, told.0, small)),
   inl told.0,
 )

@@ -9,3 +9,4 @@ pub mod Parts
 pub mod Pointers
 pub mod PrefixLemmas
 pub mod Steps
+pub mod WorkedWordLemmas

@@ -1,6 +1,6 @@
 -- Laws that show what the answers tell: by them and by what is written a caller knows what was
 -- there.
-use Rattle.std.specs.Prelude.{◌≡◌, ◌+◌, ◌<◌, ◌==◌, ◌↔◌, ◌⊎◌, ℕ, List, [], ◌∷◌, Option, Some, None, drop, if◌then◌else◌, length, take}
+use Rattle.std.specs.Prelude.{◌≡◌, ◌≢◌, ◌+◌, ◌<◌, ◌==◌, ◌↔◌, ◌⊎◌, ℕ, List, [], ◌∷◌, Option, Some, None, drop, if◌then◌else◌, length, take}
 use Rattle.rart_c.specs.Answers.{IsRefused, IsRefusedKey, Tells}
 use Rattle.rart_c.specs.Equality.{TellsEqual}
 use Rattle.rart_c.specs.Firsts.{ReadsFirst, TellsFirst}
@@ -97,6 +97,6 @@ PageAnswersTell = (count room : ℕ) (left : List (List ℕ × ℕ)) (answer bef
     → TellsPage count room left answer before after
     → (answer ≡ DONE → (0 < count) × (after ≡ before))
     × (answer ≡ ABSENT → (count ≡ 0) × (left ≡ []) × (after ≡ before))
-    × (answer ≡ NO_ENTRIES → (count ≡ 0) × (room ≡ 0) × (after ≡ before))
+    × (answer ≡ NO_ENTRIES → (count ≡ 0) × (room ≡ 0) × (left ≢ []) × (after ≡ before))
     × (answer ≡ TOO_SMALL → (count ≡ 0) × (0 < room) × (first_length left ≡ Some after))
     × ((answer ≡ NO_ENTRIES) ⊎ IsOfRead answer)

@@ -12,3 +12,4 @@ pub mod Shown
 pub mod Tables
 pub mod Trees
 pub mod Under
+pub mod WorkedWords

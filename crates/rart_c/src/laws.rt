@@ -1,15 +1,19 @@
 //! What the numbers that C reads are, and what they tell.
 ghost use Rattle.std.specs.Prelude.{◌≡◌, [], ◌∷◌};
 ghost use Rattle.rart_c.specs.AnswerLaws.{AnswersTell, ReadsTell, FirstsTell, FirstStringsTell, RefusalsTell, PagesTell, PageAnswersTell, EqualityTells};
+ghost use Rattle.rart_c.specs.WorkedWords.{WorkedAdditions, WorkedBounds, WorkedComparisons, WorkedStrings, CountIsTold, LongestIsTold};
 ghost use Rattle.rart_c.specs.declared.answer.TheConstants.{DONE, ABSENT, LAST_NUMBER, NO_MEMORY, TOO_SMALL, NO_ENTRIES, TOO_LONG, NOT_EMPTY, DIFFERENT};
+ghost use Rattle.rart_c.specs.declared.limits.TheConstants.{LONGEST_KEY};
 ghost use Rattle.rart_c.specs.declared.paging.TheConstants.{INCLUDED, EXCLUDED, UNBOUNDED};
 
-/// The answers of calls, from the first on, and the kinds of bounds.
+/// The answers of calls, from the first on, the kinds of bounds, and how many bytes a key may have
+/// at first.
 pub fn numbers_are_those_of_the_header()
     ensures answers { DONE ∷ ABSENT ∷ LAST_NUMBER ∷ NO_MEMORY ∷ TOO_SMALL ∷ NO_ENTRIES
         ∷ TOO_LONG ∷ NOT_EMPTY ∷ DIFFERENT ∷ []
         ≡ 0 ∷ 1 ∷ 2 ∷ 3 ∷ 4 ∷ 5 ∷ 6 ∷ 7 ∷ 8 ∷ [] }
     ensures kinds { INCLUDED ∷ EXCLUDED ∷ UNBOUNDED ∷ [] ≡ 0 ∷ 1 ∷ 2 ∷ [] }
+    ensures longest { LONGEST_KEY ≡ 1024 }
 {}
 
 /// By an answer and what is written a caller knows what was found, and whether trees are equal.
@@ -22,4 +26,16 @@ pub fn answers_tell<X>()
     ensures page_answers { PageAnswersTell }
     ensures refusals { RefusalsTell }
     ensures equality { EqualityTells X }
+{}
+
+/// Worked values, found by hand: bounds by their kinds, what a page of byte strings has of a pair,
+/// what a comparison answers, and what an addition leaves. And what is told of the longest match,
+/// and of how many keys a prefix begins.
+pub fn words_are_worked<V>()
+    ensures bounds { WorkedBounds }
+    ensures strings { WorkedStrings }
+    ensures comparisons { WorkedComparisons }
+    ensures additions { WorkedAdditions }
+    ensures longest { LongestIsTold V }
+    ensures counts { CountIsTold V }
 {}

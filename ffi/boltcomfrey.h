@@ -350,7 +350,8 @@ rart_answer rart_replace(
 // where it has a pair: the next page begins RART_EXCLUDED at a copy of the last key, and pages are
 // asked for until none is there, which answers RART_ABSENT. RART_NO_ENTRIES says that entries has
 // no room, RART_TOO_SMALL that the first key is longer than bytes, and writes its length to needed.
-// A bound is of the kind RART_INCLUDED, RART_EXCLUDED or RART_UNBOUNDED. It takes no memory.
+// A bound is of the kind RART_INCLUDED, RART_EXCLUDED or RART_UNBOUNDED. Memory that it takes to
+// walk it gives back, and where it lacks some it searches from key to key: it is never refused.
 RART_NONNULL RART_MUST_USE RART_CHANGES(1) RART_READS(2, 3) RART_READS(5, 6) RART_WRITES(8, 9)
 RART_WRITES(10, 11) RART_WRITES(12) RART_WRITES(13)
 rart_answer rart_page(
@@ -585,7 +586,7 @@ rart_answer rart_bytes_equals(rart_bytes *RART_ALONE tree, rart_bytes *RART_ALON
 // each key and its value behind it, an entry of each pair to the front of entries, and how many
 // they are to count. What bytes has behind them is not told; entries is as before there. Answers as
 // rart_page, but where RART_TOO_SMALL says that the first key and its value are longer than bytes:
-// then it writes both lengths. It takes no memory.
+// then it writes both lengths.
 RART_NONNULL RART_MUST_USE RART_CHANGES(1) RART_READS(2, 3) RART_READS(5, 6) RART_WRITES(8, 9)
 RART_WRITES(10, 11) RART_WRITES(12) RART_WRITES(13) RART_WRITES(14)
 rart_answer rart_bytes_page(

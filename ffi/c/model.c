@@ -135,9 +135,11 @@ static bool read_page(size_t at, struct bound *low, const struct bound *high) {
                         .count = NO_NUMBER,
                         .needed = NO_NUMBER};
     memset(page.bytes, NO_BYTE, MOST_PAGE);
+    unsigned long long before = requests_refused();
     rart_answer answer = rart_page(&trees[at], low->key.bytes, low->key.len, low->kind,
                                    high->key.bytes, high->key.len, high->kind, page.bytes,
                                    page.room, page.entries, page.most, &page.count, &page.needed);
+    unheeded += requests_refused() - before;
     EXPECT(page.count <= page.most);
     size_t end = expect_pairs(at, &page, low, high), next = first_within(at, low, high);
     size_t len = next < KEYS ? key_of(next).len : NO_NUMBER;

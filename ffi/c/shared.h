@@ -183,7 +183,8 @@ unsigned long long requests_refused(void);
 unsigned long long reallocs_refused(void);
 long long blocks_held(void);
 
-static unsigned long long refused, too_long;
+// How many calls were refused, and how many requests within pages, which go on without memory.
+static unsigned long long refused, unheeded, too_long;
 
 // Whether memory was refused, or else that the answer is the wanted one.
 static bool is_refused(rart_answer answer, rart_answer wanted) {
@@ -555,8 +556,8 @@ static void run_long(void) {
 }
 
 // Makes random calls. The first word is how many, 100,000 without it; with a second one new block
-// in that many is refused, and some that are to be longer. Each refusal refuses one call, and at
-// the end no block is left.
+// in that many is refused, and some that are to be longer. Each refusal refuses one call, but those
+// within pages, and at the end no block is left.
 static int compare(int count, char **words, const char *values) {
     unsigned long long calls = count > 1 ? strtoull(words[1], NULL, 10) : 100000;
     for (size_t at = 0; at < TREES; at++) {
@@ -569,7 +570,8 @@ static int compare(int count, char **words, const char *values) {
         make_call(random_below(TREES));
     }
     refuse_one_in(0);
-    EXPECT(refused == requests_refused() && (refused > 0) == (count > 2));
+    EXPECT(refused + unheeded == requests_refused() && (refused > 0) == (count > 2));
+    EXPECT((unheeded > 0) == (count > 2));
     EXPECT((reallocs_refused() > 0) == (count > 2));
     EXPECT(blocks_held() > 0);
     for (size_t at = 0; at < TREES; at++) {

@@ -20,13 +20,9 @@ use Rattle.rart_maps.specs.FoundLaws.{KeysAscend}
 use Rattle.rart_maps.specs.Order.{IsBefore, MeetsLow}
 use Rattle.rart_maps.specs.Pairs.{pairs, within}
 use Rattle.rart_maps.specs.Versions.{Map}
+use Rattle.rart_versioned.proofs.VersionIterationLemmas.{within-from_low}
 use Rattle.rart_c.specs.Pages.{entries_of, written_of}
 use Rattle.rart_ways.specs.Firsts.{IsFirst}
-
--- without an upper bound all are kept
-up_to-all : {V : Type 0} (list : List (List ℕ × V)) → up_to Unbounded list ≡ list
-up_to-all [] = refl
-up_to-all (pair ∷ list) = ap (λ rest. pair ∷ rest) (up_to-all list)
 
 -- what stands behind a string that meets a lower bound meets it too
 MeetsLow-behind : (low : Bound (List ℕ)) (u w : List ℕ) → MeetsLow low u → IsBefore u w
@@ -45,7 +41,11 @@ some-not_none x xs = grind (arith, nat_tests)
 
 module _ {V : Type 0} (m : Map V) (low high : Bound (List ℕ)) where
   from-is : within m low Unbounded ≡ from low (pairs m)
-  from-is = within-from m low Unbounded ∙ up_to-all (from low (pairs m))
+  from-is = within-from_low m low
+
+  -- those within both are those from the lower bound on that meet the upper one
+  pub within-up_to : within m low high ≡ up_to high (within m low Unbounded)
+  within-up_to = within-from m low high ∙ ap (up_to high) (sym from-is)
 
   -- where there is no first pair from the lower bound on, there is none within both
   pub within-none : within m low Unbounded ≡ [] → within m low high ≡ []

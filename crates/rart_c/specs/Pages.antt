@@ -8,6 +8,7 @@ use Rattle.rart_c.specs.declared.answer.TheConstants.{DONE, ABSENT, TOO_SMALL, N
 use Rattle.rart_c.specs.declared.bytes.paging.RartBytesEntry.{RartBytesEntry}
 use Rattle.rart_c.specs.declared.paging.RartEntry.{RartEntry}
 use Rattle.rart_c.specs.declared.paging.TheConstants.{INCLUDED, EXCLUDED}
+use Rattle.rart_versioned.specs.Cursors.{Cursor}
 use Rattle.rart_ways.specs.Firsts.{IsFirst}
 
 -- the bound of this kind at a key
@@ -120,3 +121,8 @@ module _ {V : Type 0} where
 abbrev pub bound_behind : Option (ℕ × ℕ) → Bound (List ℕ) → List ℕ → Bound (List ℕ)
 bound_behind None low written = low
 bound_behind (Some last) low written = Excluded (drop last.0 (take last.1 written))
+
+module _ {V : Type 0} where
+  -- A cursor has these pairs left.
+  abbrev pub HasLeft : List (List ℕ × V) → Cursor V → Type 0
+  HasLeft pairs cursor = cursor.left ≡ pairs

@@ -1,11 +1,12 @@
 //! What is read of a table that a handle lends, or of none: the tree as it is at first.
 ghost use Rattle.std.specs.Prelude.{◌≡◌, ◌≤◌, ◌==◌, ◌↔◌, length, not, reverse, IfOk, IsTrue, MatchOption, MatchResult};
 ghost use Rattle.std.specs.FinMap as finite;
-ghost use Rattle.std.specs.Option.{option_copied};
+ghost use Rattle.std.specs.Option.{ForSome, option_copied};
 ghost use Rattle.std.specs.Range.Bound.{bound_map};
 ghost use Rattle.std.specs.declared.ops.Bound.TheVariants.{Unbounded};
 ghost use Rattle.rart_c.specs.Answers.{Explains};
 ghost use Rattle.rart_c.specs.Longest.{length_found, longest_length};
+ghost use Rattle.rart_c.specs.Pages.{HasLeft};
 ghost use Rattle.rart_c.specs.Shown.{shown};
 ghost use Rattle.rart_below.specs.Clones.{ClonesEqual};
 ghost use Rattle.rart_maps.specs.ChangeLaws.{Decides};
@@ -18,6 +19,7 @@ ghost use Rattle.rart_ways.specs.Firsts.{Finds};
 use crate::answer::Refusal;
 use crate::limits::LONGEST_KEY;
 use crate::table::Table;
+use rart_versioned::{VectorPartial, VersionedCursor};
 use std::alloc::{AllocError, Global};
 use std::ops::Bound;
 
@@ -99,6 +101,17 @@ pub(crate) fn first<'a, V: Clone + Drop>(
         None => None,
         Some(table) => table.tree.first_slice(low, room),
     }
+}
+
+/// A cursor before the pairs from a bound on, where there is a table, and memory.
+pub(crate) fn cursor<'a, V: Clone + Drop>(
+    table: Option<&'a Table<V>>,
+    low: Bound<&[u8]>,
+) -> Option<VersionedCursor<'a, VectorPartial, V>>
+    ensures { ForSome result (HasLeft (within (shown table.entry).version.content
+        (bound_map (λ low. low.now) low.entry) Unbounded)) }
+{
+    table?.tree.cursor_from(low).ok()
 }
 
 /// The last of the pairs up to a bound, as `first` tells the first.

@@ -1,18 +1,23 @@
 //! What C calls to read a page: the pairs within two bounds, as many as there is room for.
-ghost use Rattle.std.specs.Prelude.{◌≡◌, ◌≤◌, ℕ, List, drop, length, take};
+ghost use Rattle.std.specs.Prelude.{◌≡◌, ◌≤◌, ◌∷◌, ℕ, IfOk, List, OnErr, OnOk, drop, length, take};
 ghost use Rattle.std.specs.Option.{ForSome};
 ghost use Rattle.std.specs.Ordering.{as_partial_cmp};
 ghost use Rattle.std.specs.Range.Bound.{bound_map, is_up_to_end};
+ghost use Rattle.std.specs.declared.ops.Bound.TheVariants.{Excluded, Unbounded};
 ghost use Rattle.rart_below.specs.Bytes.{byte_order};
-ghost use Rattle.rart_c.specs.Pages.{FindsFirst, TellsPage, WritesPage, bound_behind, bound_of, first_length};
+ghost use Rattle.rart_c.specs.Pages.{FindsFirst, HasLeft, TellsPage, WritesPage, bound_behind, bound_of, first_length};
 ghost use Rattle.rart_c.specs.Shown.{shown};
+ghost use Rattle.rart_maps.specs.FoundLaws.{KeysAscend};
 ghost use Rattle.rart_maps.specs.Pairs.{within};
+ghost use Rattle.rart_versioned.specs.Iterators.{up_to};
 
 use crate::answer::{ABSENT, DONE, NO_ENTRIES, TOO_SMALL};
 use crate::handle::RartTree;
 use crate::lent;
 use crate::table::Table;
 use rart_below::compare_bytes;
+use rart_versioned::{VectorPartial, VersionedCursor};
+use std::alloc::AllocError;
 use std::ops::Bound;
 
 /// The bound is a key that meets it.
@@ -23,6 +28,9 @@ pub const EXCLUDED: u8 = 1;
 
 /// Each key meets the bound. Any greater number says so too.
 pub const UNBOUNDED: u8 = 2;
+
+/// A page of at most so many entries is found by searching.
+const FEW: usize = 4;
 
 /// Where the key of an entry ends among the bytes of its page, and its value.
 #[repr(C)]
@@ -38,8 +46,9 @@ pub struct RartEntry {
 /// Answers `DONE` where it has a pair: the next page begins `EXCLUDED` at a copy of the last key,
 /// and pages are asked for until none is there, which answers `ABSENT`. `NO_ENTRIES` says that
 /// `entries` has no room, `TOO_SMALL` that the first key is longer than `bytes`, and writes its
-/// length to `needed`. A bound is of the kind `INCLUDED`, `EXCLUDED` or `UNBOUNDED`. It takes no
-/// memory.
+/// length to `needed`. A bound is of the kind `INCLUDED`, `EXCLUDED` or `UNBOUNDED`. Memory that it
+/// takes to walk it gives back, and where it lacks some it searches from key to key: it is never
+/// refused.
 #[unsafe(no_mangle)]
 pub extern "C" fn rart_page(
     tree: &mut RartTree,
@@ -110,11 +119,12 @@ fn write_page(
         result.0 bytes.new entries.old entries.new
         × (result.1 ≡ first_length left) }
 {
+    let mut cursor = cursor_for(table, low, entries.len());
     let mut last = None;
     let mut end = 0;
     let mut count = 0;
     loop {
-        let Some((len, value)) = next_pair(table, low, high, bytes, last, end) else {
+        let Some((len, value)) = next_pair(&mut cursor, table, low, high, bytes, last, end) else {
             return (count, None);
         };
         if bytes.len() - end < len || count == entries.len() {
@@ -128,10 +138,28 @@ fn write_page(
     }
 }
 
+/// A cursor before the pairs from a bound on, for so many of them: none for a few, which are found
+/// sooner by searching, nor where memory is refused.
+pub(crate) fn cursor_for<'a, V: Clone + Drop>(
+    table: Option<&'a Table<V>>,
+    low: Bound<&[u8]>,
+    room: usize,
+) -> Option<VersionedCursor<'a, VectorPartial, V>>
+    ensures { ForSome result (HasLeft (within (shown table.entry).version.content
+        (bound_map (λ low. low.now) low.entry) Unbounded)) }
+{
+    if room <= FEW {
+        return None;
+    }
+    lent::cursor(table, low)
+}
+
 /// The first of the pairs within two bounds behind the last key that was written, which begins and
 /// ends here; or from the lower bound on, where none was. Its key is written from `end` on, if it
-/// fits.
+/// fits. A cursor, where there is one, has left what is behind that key. Where it is refused memory
+/// it is let go, and the pair is found by searching: so none is refused.
 pub(crate) fn next_pair<'a, V: Clone + Drop>(
+    cursor: &mut Option<VersionedCursor<'a, VectorPartial, V>>,
     table: Option<&'a Table<V>>,
     low: Bound<&[u8]>,
     high: Bound<&[u8]>,
@@ -141,14 +169,64 @@ pub(crate) fn next_pair<'a, V: Clone + Drop>(
 ) -> Option<(usize, &'a V)>
     requires end { end ≤ length bytes.old }
     requires last { ForSome last (λ last. (last.0 ≤ last.1) × (last.1 ≤ end)) }
+    requires cursor { ForSome cursor.old (HasLeft (within (shown table).version.content
+        (bound_behind last (bound_map (λ low. low.now) low) (take end bytes.old)) Unbounded)) }
     ensures kept { take end bytes.new ≡ take end bytes.old }
     ensures first { FindsFirst (within (shown table.entry).version.content
         (bound_behind last (bound_map (λ low. low.now) low.entry) (take end bytes.old))
         (bound_map (λ high. high.now) high.entry)) result
         (drop end bytes.old) (drop end bytes.new) }
+    ensures cursor { (key : List ℕ) (value : V) (others : List (List ℕ × V))
+        → within (shown table.entry).version.content
+        (bound_behind last (bound_map (λ low. low.now) low.entry) (take end bytes.old))
+        (bound_map (λ high. high.now) high.entry) ≡ (key, value) ∷ others
+        → ForSome cursor.new (HasLeft (within (shown table.entry).version.content
+        (Excluded key) Unbounded)) }
 {
     let (written, room) = bytes.split_at_mut(end);
+    if let Some(open) = cursor {
+        if let Ok(found) = next_of(open, high, room) {
+            return found;
+        }
+    }
+    *cursor = None;
     first_behind(table, low, high, written, last, room)
+}
+
+/// The next pair of a cursor, where its key meets an upper bound. The key is written to the front of
+/// the room, if it fits. Refused for memory, the room is as before.
+fn next_of<'a, V: Drop>(
+    cursor: &mut VersionedCursor<'a, VectorPartial, V>,
+    high: Bound<&[u8]>,
+    room: &mut [u8],
+) -> Result<Option<(usize, &'a V)>, AllocError>
+    requires ascend { KeysAscend (λ pair. pair.0) cursor.old.left }
+    ensures first { IfOk result (λ found. FindsFirst
+        (up_to (bound_map (λ high. high.now) high.entry) cursor.old.left) found room.old room.new) }
+    ensures left { (key : List ℕ) (value : V) (others : List (List ℕ × V))
+        → up_to (bound_map (λ high. high.now) high.entry) cursor.old.left ≡ (key, value) ∷ others
+        → OnOk result (cursor.old.left ≡ (key, value) ∷ cursor.new.left) }
+    ensures refused { OnErr result (room.new ≡ room.old) }
+{
+    let Some(value) = cursor.next_value()? else {
+        return Ok(None);
+    };
+    let key = cursor.key();
+    if !meets(key, high) {
+        return Ok(None);
+    }
+    write_key(key, room);
+    Ok(Some((key.len(), value)))
+}
+
+/// Writes a key to the front of the room, if it fits.
+fn write_key(key: &[u8], room: &mut [u8])
+    ensures written { length key.now ≤ length room.old → take (length key.now) room.new ≡ key.now }
+    ensures behind { drop (length key.now) room.new ≡ drop (length key.now) room.old }
+{
+    if key.len() <= room.len() {
+        room[..key.len()].copy_from_slice(key);
+    }
 }
 
 /// The same, what is written apart from the room behind it.

@@ -8,7 +8,7 @@ ghost use Rattle.rart_maps.specs.Pairs.{within};
 use crate::answer::{ABSENT, DONE, NO_ENTRIES, TOO_SMALL};
 use crate::bytes::handle::RartBytes;
 use crate::bytes::value::Bytes;
-use crate::paging::{bound_of, next_pair};
+use crate::paging::{bound_of, cursor_for, next_pair};
 use crate::table::Table;
 use std::ops::Bound;
 
@@ -24,7 +24,7 @@ pub struct RartBytesEntry {
 /// each key and its value behind it, an entry of each pair to the front of `entries`, and how many
 /// they are to `count`. What `bytes` has behind them is not told; `entries` is as before there.
 /// Answers as `rart_page`, but where `TOO_SMALL` says that the first key and its value are longer
-/// than `bytes`: then it writes both lengths. It takes no memory.
+/// than `bytes`: then it writes both lengths.
 #[unsafe(no_mangle)]
 pub extern "C" fn rart_bytes_page(
     tree: &mut RartBytes,
@@ -92,11 +92,12 @@ fn write_page(
         result.0 bytes.new entries.old entries.new
         × (result.1 ≡ first_told lengths_of left) }
 {
+    let mut cursor = cursor_for(table, low, entries.len());
     let mut last = None;
     let mut end = 0;
     let mut count = 0;
     loop {
-        let Some((len, value)) = next_pair(table, low, high, bytes, last, end) else {
+        let Some((len, value)) = next_pair(&mut cursor, table, low, high, bytes, last, end) else {
             return (count, None);
         };
         let string = value.as_slice();

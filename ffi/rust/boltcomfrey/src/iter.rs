@@ -6,7 +6,7 @@ use std::iter::FusedIterator;
 
 /// The pairs of a map within two bounds, in the order of their keys, each key a copy.
 ///
-/// It takes them by pages. The library takes no memory for it; the pages, and the copies of keys
+/// It takes them by pages. The library needs no memory for it; the pages, and the copies of keys
 /// and of byte strings, do.
 ///
 /// From the back each pair is a search of its own.

@@ -6,10 +6,11 @@ mod common;
 use boltcomfrey::{Refusal, VersionedBytes, VersionedMap, refusals};
 use common::{Compared, calls};
 
-/// Ends the refusals, of which there were some of each kind: each has refused one call.
+/// Ends the refusals, of which there were some of each kind: each call that was refused lacked one
+/// request. Others lacked pages, which go on without memory.
 fn expect_refused(calls: u64) {
     refusals::set(0);
-    assert_eq!(refusals::refused(), calls);
+    assert!(refusals::refused() > calls);
     assert!((1..calls).contains(&refusals::longer_refused()));
     assert!(refusals::blocks() > 0);
 }

@@ -3,7 +3,7 @@ use Rattle.std.proofs.Math.ListN.{set}
 use Rattle.std.proofs.lemmas.List.{append_assoc, length-append, length-drop, length-set}
 use Rattle.std.proofs.lemmas.Option.{same_Some}
 use Rattle.std.specs.Range.Bound.{bound_map}
-use Rattle.std.specs.declared.ops.Bound.TheVariants.{Excluded}
+use Rattle.std.specs.declared.ops.Bound.TheVariants.{Excluded, Unbounded}
 use Rattle.rart_maps.specs.Pairs.{within}
 use Rattle.rart_c.specs.Pages.{bound_behind, entry_of, key_of, keys_of}
 use Rattle.rart_c.proofs.PageLemmas.{entries-set, key-within, more-written, within-behind, written-more}
@@ -24,6 +24,7 @@ loop-len-init c = record {
   most = omega arith;
   last = λ x is. cc;
   from = refl;
+  cursor = c.cursor_for-cursor.ensures;
 }
 
 pub loop-len-preserved : goal.loop-len-preserved
@@ -77,4 +78,8 @@ loop-len-preserved c =
           ∙ within-behind content
           (bound_behind c.loop-len.last low (take end c.loop-len.bytes)) high (key, value)
           first.others first.first;
+      cursor = λ x is.
+          c.in-Some.ensures.cursor key value first.others first.first x is
+          ∙ ap (λ k. within content (Excluded k) Unbounded)
+          (sym (key-within end len (end + len) c.next_pair.new.bytes key (omega arith) written));
     }

@@ -1,8 +1,9 @@
 use Rattle.std.proofs.Common.{◌≡◌, ◌≤◌, ◌++◌, ◌-◌, ℕ, List, take, drop, length}
 use Rattle.std.specs.Option.{ForSome}
 use Rattle.std.specs.Range.Bound.{bound_map}
+use Rattle.std.specs.declared.ops.Bound.TheVariants.{Unbounded}
 use Rattle.rart_maps.specs.Pairs.{within}
-use Rattle.rart_c.specs.Pages.{bound_behind, entries_from, keys_of}
+use Rattle.rart_c.specs.Pages.{HasLeft, bound_behind, entries_from, keys_of}
 use Rattle.rart_c.specs.Shown.{shown}
 use Rattle.rart_c.proofs.paging.write_page.Given as goal
 
@@ -22,6 +23,8 @@ invariant-loop-len l = record {
   from : within (shown l.table).version.content
       (bound_behind l.last (bound_map (λ low. low.now) l.low) (take l.end l.bytes))
       (bound_map (λ high. high.now) l.high) ≡ left;
+  cursor : ForSome l.cursor (HasLeft (within (shown l.table).version.content
+      (bound_behind l.last (bound_map (λ low. low.now) l.low) (take l.end l.bytes)) Unbounded));
 }
 
 abbrev pub decreases-loop-len : goal.decreases-loop-len

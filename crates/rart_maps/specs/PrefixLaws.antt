@@ -57,6 +57,12 @@ module _ (V : Type 0) where
       value_at (after_prefix_restoring v p other) key
       ≡ (if begins p key then value_at other key else value_at v key)
 
+  -- A part's number is greater by as much as it is told, and what is restored has the sum of both.
+  abbrev pub NumbersAdd : Type 0
+  NumbersAdd = (v other : Version V) (p : List ℕ) (more : ℕ) →
+      ((under_prefix v p more).number ≡ v.number + more)
+      × ((after_prefix_restoring v p other).number ≡ v.number + other.number)
+
   -- ---- lists of pairs
   abbrev pub PairsUnderAreUnder : Type 0
   PairsUnderAreUnder = (m : Map V) (p : List ℕ) → pairs (pairs_under m p) ≡ under m p

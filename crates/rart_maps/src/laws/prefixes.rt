@@ -2,7 +2,7 @@
 //! another map's pairs in its place.
 ghost use Rattle.rart_maps.specs.PrefixLaws.{UnderAnswers, WithoutAnswers, WithAnswers};
 ghost use Rattle.rart_maps.specs.PrefixLaws.{AnswersFixTheMap, HasUnderIsOfAKey};
-ghost use Rattle.rart_maps.specs.PrefixLaws.{PartsAnswer, RemovalsAnswer, RemovalsRaise, RestoringsAnswer};
+ghost use Rattle.rart_maps.specs.PrefixLaws.{PartsAnswer, RemovalsAnswer, RemovalsRaise, RestoringsAnswer, NumbersAdd};
 ghost use Rattle.rart_maps.specs.PrefixLaws.{PairsUnderAreUnder, PairsWithoutAreTheOthers};
 ghost use Rattle.rart_maps.specs.PrefixLaws.{UnderIsTheOthers, RestoringUndoes};
 ghost use Rattle.rart_maps.specs.PrefixLaws.{PuttingBackIsNothing, RemovingRestoresNothing};
@@ -20,12 +20,14 @@ pub fn cut_maps_answer<V>()
 {}
 
 /// What each key has in a part that was kept, after a removal, and in what is restored. A removal
-/// raises the number where something goes; else nothing changes.
+/// raises the number where something goes; else nothing changes. What is restored has the sum of
+/// both numbers.
 pub fn prefix_calls_answer<V>()
     ensures parts { PartsAnswer V }
     ensures removals { RemovalsAnswer V }
     ensures numbers { RemovalsRaise V }
     ensures restorings { RestoringsAnswer V }
+    ensures sums { NumbersAdd V }
 {}
 
 /// The pairs of such maps: those under the prefix, the others, and under the prefix those of the

@@ -1,9 +1,8 @@
 -- The set of tuples that a version stands for: what is done to the version is done to the set.
-use Rattle.std.proofs.Common.{◌≡◌, ◌*◌, ◌<◌, ◌≤◌, ◌^◌, ℕ, zero, suc, length, take, arith, Bool, true, false, cond, not, ◌&&◌, List, [], ◌∷◌, Option, Some, None, is_some, filter, map, get_or, refl, sym, ap, subst, ◌∙◌}
+use Rattle.std.proofs.Common.{◌≡◌, ◌*◌, ◌<◌, ◌≤◌, ◌^◌, ℕ, zero, suc, take, arith, Bool, true, false, cond, not, ◌&&◌, List, [], ◌∷◌, Option, Some, None, is_some, filter, map, get_or, refl, sym, ap, subst, ◌∙◌}
 use Rattle.std.specs.Prelude.{All, IfOk, OnOk, OnErr, Result, Ok, Err, T}
 use Rattle.std.specs.Global.{Vec}
 use Rattle.std.specs.declared.alloc.AllocError.{AllocError}
-use Rattle.std.proofs.lemmas.List.Elements.{All-take}
 use Rattle.std.proofs.lemmas.Bool.{true≢false}
 use Rattle.std.proofs.lemmas.Simd.{map-map}
 use Rattle.std.specs.Cmp.{Equal-is, IsTotalOrder, eq_by_cmp_equiv, on_total}
@@ -25,13 +24,13 @@ use Rattle.tuple_index.specs.declared.tuple.Tuple.{Tuple}
 use Rattle.tuple_index.specs.Decoding.{tuple_at}
 use Rattle.tuple_index.specs.Indexes.{AreTupleKeys, IsNarrow, IsTupleKey, Pair, entry_of, index_of, tuples_in}
 use Rattle.tuple_index.specs.Tuples.{Index, bytes_of, columns_of, has_columns, has_tuple, key_of, listed, no_tuple, tuple_order, with_tuple, without_tuple}
-use Rattle.tuple_index.proofs.TupleKeyLemmas.{columns-kept, key-tuple, narrow-columns, order-kept}
+use Rattle.tuple_index.proofs.TupleKeyLemmas.{columns-kept, key-tuple, order-kept}
 
-total : IsTotalOrder tuple_order
+pub total : IsTotalOrder tuple_order
 total = on_total columns_of nat_list_cmp_total
 
 -- Two tuples with the same columns are the same.
-own-columns : finite.IsAntisymmetric tuple_order
+pub own-columns : finite.IsAntisymmetric tuple_order
 own-columns one other tied =
     ap with_all (byte_order-IsAntisymmetric (columns_of one) (columns_of other) tied)
   where
@@ -90,7 +89,7 @@ mapped : {A B : Type 0} (f : A → B) (b : Bool) (xs ys : List A) →
 mapped f true xs ys = refl
 mapped f false xs ys = refl
 
-where-kept : (p : List ℕ → Bool) (q : Tuple → Bool)
+pub where-kept : (p : List ℕ → Bool) (q : Tuple → Bool)
     (same : (key : List ℕ) → IsTupleKey key → p key ≡ q (tuple_at key)) (list : List Pair) →
     AreTupleKeys list →
     map entry_of (where_key byte_order p list) ≡ where_key tuple_order q (map entry_of list)
@@ -121,7 +120,7 @@ keys-tested : (b : Bool) (pair : Pair) (list : List Pair) → IsTupleKey pair.0 
 keys-tested true pair list is keys = (is, keys)
 keys-tested false pair list is keys = keys
 
-keys-where : (p : List ℕ → Bool) (list : List Pair) → AreTupleKeys list →
+pub keys-where : (p : List ℕ → Bool) (list : List Pair) → AreTupleKeys list →
     AreTupleKeys (where_key byte_order p list)
 keys-where p [] keys = tt
 keys-where p (pair ∷ list) keys =
@@ -131,7 +130,7 @@ keys-where p (pair ∷ list) keys =
 
 module _ (list : List Pair) (sorted : T (is_sorted byte_order list))
     (keys : AreTupleKeys list) where
-  entries-in : finite.entries (tuples_in list) ≡ map entry_of list
+  pub entries-in : finite.entries (tuples_in list) ≡ map entry_of list
   entries-in =
       finite.entries-from_sorted tuple_order (map entry_of list)
       (subst T (sym (sorted-kept list keys)) sorted)
@@ -216,7 +215,7 @@ remove-absent {X = X} {R = R} o same m k lacks =
 
 -- ---- of a map whose keys are tuples' keys
 module _ (m : Map (Unit {0})) (keys : AreTupleKeys (pairs m)) where
-  tuples-entries : finite.entries (tuples_in (pairs m)) ≡ map entry_of (pairs m)
+  pub tuples-entries : finite.entries (tuples_in (pairs m)) ≡ map entry_of (pairs m)
   tuples-entries = entries-in (pairs m) (finite.entries_sorted m) keys
 
   pub contains-tuple : (key : List ℕ) → IsTupleKey key →
@@ -397,8 +396,8 @@ joined one keys shown shows other keys' shown' shows' (Ok found) are =
     ∙ (λ i. filter (has_tuple (shows' i).tuples) (listed (shows i).tuples))
 joined one keys shown shows other keys' shown' shows' (Err refused) are = tt
 
--- ---- of some columns, the first of a tuple that has 0 in the others
-first-columns : (t : Tuple) (count : ℕ) → count ≤ 4 →
+-- ---- of some columns, the first of a tuple
+pub first-columns : (t : Tuple) (count : ℕ) → count ≤ 4 →
     take (4 * count) (key_of t) ≡ bytes_of (take count (columns_of t))
 first-columns t zero few = refl
 first-columns t (suc zero) few = refl
@@ -409,19 +408,14 @@ first-columns t (suc (suc (suc (suc (suc count))))) few = absurd (omega (arith, 
 
 pub queried : (version : Version (Unit {0})) → AreTupleKeys (pairs version.content) →
     (shown : Index) → index_of version ≡ shown →
-    (columns : List ℕ) (t : Tuple) → IsNarrow t → length columns ≤ 4 →
-    take (length columns) (columns_of t) ≡ columns →
-    (prefix : List ℕ) → prefix ≡ take (4 * length columns) (key_of t) →
+    (columns : List ℕ) → All (λ n. n < 2 ^ 32) columns →
+    (prefix : List ℕ) → prefix ≡ bytes_of columns →
     (r : Result (Vec Tuple) AllocError) →
     IfOk r (λ found. found.items ≡ map (λ pair. tuple_at pair.0) (under version.content prefix)) →
     IfOk r (λ found. found.items ≡ filter (has_columns columns) (listed shown.tuples))
-queried version keys shown shows columns t narrow few first prefix is (Ok found) are =
-    let narrow_first = All-take (λ n. n < 2 ^ 32) (length columns) (columns_of t)
-    (narrow-columns t narrow) in
+queried version keys shown shows columns narrow prefix is (Ok found) are =
     are
-    ∙ ap (λ p. map (λ (pair : Pair). tuple_at pair.0) (under version.content p))
-    (is ∙ first-columns t (length columns) few ∙ ap bytes_of first)
-    ∙ tuples-under version.content keys columns
-    (subst (All (λ n. n < 2 ^ 32)) first narrow_first)
+    ∙ ap (λ p. map (λ (pair : Pair). tuple_at pair.0) (under version.content p)) is
+    ∙ tuples-under version.content keys columns narrow
     ∙ ap (λ (index : Index). filter (has_columns columns) (listed index.tuples)) shows
-queried version keys shown shows columns t narrow few first prefix is (Err refused) are = tt
+queried version keys shown shows columns narrow prefix is (Err refused) are = tt

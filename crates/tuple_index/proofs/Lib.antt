@@ -1,4 +1,6 @@
 pub mod ColumnLemmas
+pub mod CutLawLemmas
+pub mod CutLemmas
 pub mod IndexLemmas
 pub mod JoinLemmas
 pub mod TupleKeyLemmas

@@ -1,3 +1,4 @@
+pub mod CutLaws
 pub mod Decoding
 pub mod Indexes
 pub mod Tuples

@@ -1,5 +1,5 @@
 -- Tuples, their order and their keys; and an index, which is a finite set of tuples and a number.
-use Rattle.std.specs.Prelude.{◌≡◌, ℕ, ◌+◌, ◌-◌, ◌<◌, ◌^◌, Bool, List, [], ◌∷◌, refl}
+use Rattle.std.specs.Prelude.{◌≡◌, ℕ, ◌+◌, ◌-◌, ◌<◌, ◌^◌, ◌==◌, Bool, not, List, [], ◌∷◌, ◌++◌, refl}
 use Rattle.std.specs.declared.cmp.Ordering.{Ordering}
 use Rattle.std.specs.Int.{w32, to_be_bytes}
 use Rattle.std.specs.List.{flat_map}
@@ -46,6 +46,28 @@ listed tuples = finite.keys tuples
 -- whether these are the first columns of the tuple
 abbrev pub has_columns : List ℕ → Tuple → Bool
 has_columns columns t = begins columns (columns_of t)
+
+-- ---- a set cut at first columns
+-- the tuples that have these
+abbrev pub tuples_with : Tuples → List ℕ → Tuples
+tuples_with tuples columns = finite.retain_keys tuples (has_columns columns)
+
+-- the tuples that don't
+abbrev pub tuples_without : Tuples → List ℕ → Tuples
+tuples_without tuples columns = finite.retain_keys tuples (λ t. not (has_columns columns t))
+
+-- whether there is a tuple that has them
+abbrev pub has_some_with : Tuples → List ℕ → Bool
+has_some_with tuples columns = not (finite.len (tuples_with tuples columns) == 0)
+
+-- the tuples of either set
+abbrev pub tuples_of_either : Tuples → Tuples → Tuples
+tuples_of_either one other = finite.from_entries (finite.entries one ++ finite.entries other)
+
+-- the set with the tuples of another one that have these first columns, in place of its own
+abbrev pub with_tuples_of : List ℕ → Tuples → Tuples → Tuples
+with_tuples_of columns other tuples =
+    tuples_of_either (tuples_with other columns) (tuples_without tuples columns)
 
 -- ---- an index
 pub record Index : Type 0 where

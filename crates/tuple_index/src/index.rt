@@ -1,8 +1,8 @@
 //! The index: one versioned tree, whose keys are those of the tuples.
-ghost use Rattle.std.specs.Prelude.{◌≡◌, ◌+◌, ◌≤◌, ◌++◌, ◌∷◌, [], length, filter, map, IsOk, IfOk, IsTrue, OnOk, OnErr, if◌then◌else◌};
+ghost use Rattle.std.specs.Prelude.{◌≡◌, ◌+◌, ◌*◌, ◌<◌, ◌^◌, ◌≤◌, ◌++◌, ◌∷◌, [], All, length, take, filter, map, IsOk, IfOk, IsTrue, OnOk, OnErr, if◌then◌else◌};
 ghost use Rattle.rart_maps.specs.Pairs.{common, under};
 ghost use Rattle.tuple_index.specs.Decoding.{tuple_at};
-ghost use Rattle.tuple_index.specs.Tuples.{HasRoom, has_columns, has_tuple, key_of, listed, no_tuple, with_tuple, without_tuple};
+ghost use Rattle.tuple_index.specs.Tuples.{HasRoom, bytes_of, has_columns, has_some_with, has_tuple, key_of, listed, no_tuple, tuples_with, tuples_without, with_tuple, with_tuples_of, without_tuple};
 
 use crate::tuple::Tuple;
 use rart_versioned::{ArrayKey, KeyTrait, VersionedAdaptiveRadixTree};
@@ -109,7 +109,7 @@ impl TupleIndex {
         ensures { IfOk result (λ found. found.items
             ≡ filter (has_columns columns.now) (listed self.now.tuples)) }
     {
-        let padded = Tuple::with_columns(columns).key();
+        let padded = padded_key(columns);
         let prefix = key_with(self.alloc, &padded[..4 * columns.len()])?;
         tuples_under(self.alloc, &self.tree, &prefix)
     }
@@ -121,6 +121,94 @@ impl TupleIndex {
     {
         tuples_of_both(self.alloc, &self.tree, &other.tree)
     }
+
+    /// Whether there is a tuple whose first columns are these, at most four. Of no column it tells
+    /// whether there is any. It takes no memory.
+    ///
+    /// ```
+    /// let knows_someone = facts.has_any(&[KNOWS, ann]);
+    /// ```
+    pub fn has_any(&self, columns: &[u32]) -> bool
+        requires columns { length columns.now ≤ 4 }
+        ensures { result ≡ has_some_with self.now.tuples columns.now }
+    {
+        let key = padded_key(columns);
+        self.tree.contains_prefix_slice(&key[..4 * columns.len()])
+    }
+
+    /// Takes out all tuples whose first columns are these, at most four, and answers whether there
+    /// was one: the number is then one greater, however many they were. Where there was none, set
+    /// and number stay, and no memory is taken. Refused for memory, they are as before.
+    ///
+    /// ```
+    /// let knew_someone = facts.take_all(&[KNOWS, ann])?;
+    /// ```
+    pub fn take_all(&mut self, columns: &[u32]) -> Result<bool, AllocError>
+        requires columns { length columns.now ≤ 4 }
+        requires room { HasRoom self.old 1 }
+        ensures answer { IfOk result (λ some. some ≡ has_some_with self.old.tuples columns.now) }
+        ensures tuples { OnOk result
+            (self.new.tuples ≡ tuples_without self.old.tuples columns.now) }
+        ensures number { IfOk result (λ some. self.new.number
+            ≡ (if some then self.old.number + 1 else self.old.number)) }
+        ensures refused { OnErr result (self.new ≡ self.old) }
+        ensures present { OnErr result (IsTrue (has_some_with self.old.tuples columns.now)) }
+    {
+        let key = padded_key(columns);
+        self.tree.remove_prefix_slice(&key[..4 * columns.len()])
+    }
+
+    /// A set of its own of the tuples whose first columns are these, at most four, its number one
+    /// greater. Refused for memory, which it is not where there is no such tuple, this one is as
+    /// before.
+    ///
+    /// ```
+    /// let of_ann = facts.snapshot_of(&[KNOWS, ann])?;
+    /// ```
+    pub fn snapshot_of(&self, columns: &[u32]) -> Result<TupleIndex, AllocError>
+        requires columns { length columns.now ≤ 4 }
+        requires room { HasRoom self.now 1 }
+        ensures tuples { IfOk result
+            (λ part. part.tuples ≡ tuples_with self.now.tuples columns.now) }
+        ensures number { IfOk result (λ part. part.number ≡ self.now.number + 1) }
+        ensures present { OnErr result (IsTrue (has_some_with self.now.tuples columns.now)) }
+    {
+        let key = padded_key(columns);
+        Ok(TupleIndex {
+            alloc: self.alloc,
+            tree: self.tree.prefix_snapshot_slice(&key[..4 * columns.len()])?,
+        })
+    }
+
+    /// Puts the tuples of another set whose first columns are these, at most four, in place of the
+    /// own ones that begin so. The number is then the sum of both, whether or not a tuple changes.
+    /// The other set stays as it is. Refused for memory, set and number are as before.
+    ///
+    /// ```
+    /// facts.restore_all(&[KNOWS, ann], &yesterday)?;
+    /// ```
+    pub fn restore_all(&mut self, columns: &[u32], from: &TupleIndex) -> Result<(), AllocError>
+        requires columns { length columns.now ≤ 4 }
+        requires room { HasRoom self.old from.now.number }
+        ensures tuples { OnOk result
+            (self.new.tuples ≡ with_tuples_of columns.now from.now.tuples self.old.tuples) }
+        ensures number { OnOk result (self.new.number ≡ self.old.number + from.now.number) }
+        ensures refused { OnErr result (self.new ≡ self.old) }
+    {
+        let key = padded_key(columns);
+        self.tree
+            .restore_prefix_slice(&key[..4 * columns.len()], &from.tree)
+    }
+}
+
+// The key of a tuple with these columns first. Their bytes, which begin it, begin the keys of all
+// such tuples and of no other.
+fn padded_key(columns: &[u32]) -> [u8; 16]
+    requires { length columns.now ≤ 4 }
+    ensures bytes { take (4 * length columns.now) result ≡ bytes_of columns.now }
+    ensures narrow { All (λ column. column < 2 ^ 32) columns.now }
+{
+    Tuple::with_columns(columns).key()
 }
 
 fn key_with(alloc: Global, bytes: &[u8]) -> Result<ArrayKey<16>, AllocError>

@@ -1,6 +1,8 @@
 //! What tuples and their keys have to do with one another: laws, each the contract of a function.
 ghost use Rattle.std.specs.Prelude.{◌≡◌};
 ghost use Rattle.rart_versioned.specs.Bytes.{byte_order};
+ghost use Rattle.tuple_index.specs.CutLaws.{KeptBringsBack, RestoredHas, SomeWithIsATuple};
+ghost use Rattle.tuple_index.specs.CutLaws.{TuplesFixTheSet, WithHas, WithoutHas};
 ghost use Rattle.tuple_index.specs.Tuples.{RoomIsBelowTheLast, key_of, tuple_order};
 
 use crate::tuple::Tuple;
@@ -26,3 +28,18 @@ pub fn tuples_are_ordered_as_their_keys(one: Tuple, other: Tuple) -> Ordering
     let _keys = (one.key(), other.key());
     one.cmp(&other)
 }
+
+/// Which tuples are in a set that was cut at first columns, and when there is one. As sets with the
+/// same tuples are the same, this is all that can be said of each.
+pub fn cut_sets_have_these_tuples()
+    ensures with_columns { WithHas }
+    ensures without { WithoutHas }
+    ensures restored { RestoredHas }
+    ensures all { TuplesFixTheSet }
+    ensures some { SomeWithIsATuple }
+{}
+
+/// What was kept of a set brings it back, if none of the other tuples has come or gone since.
+pub fn restoring_undoes()
+    ensures { KeptBringsBack }
+{}

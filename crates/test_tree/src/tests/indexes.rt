@@ -41,6 +41,12 @@ fn has_room(index: &TupleIndex) -> bool
     index.version() < u64::MAX
 }
 
+fn has_room_for(index: &TupleIndex, from: &TupleIndex) -> bool
+    ensures { IsTrue result → HasRoom index.now from.now.number }
+{
+    index.version() < u64::MAX - from.version()
+}
+
 // The index with all four.
 fn filled(rt: &impl Abort, alloc: Global) -> Result<TupleIndex, AllocError> {
     let mut index = TupleIndex::new(alloc);
@@ -96,5 +102,31 @@ fn index_of_many_tuples_is_asked(rt: HostRuntime) -> Result<(), Fail> {
     }
     assert_eq!(rt; index.query(&[1])?.len(), 300);
     assert_eq!(rt; index.query(&[1, 299])?.len(), 1);
+    Ok(())
+}
+
+// Takes out all tuples with these first columns, and answers them.
+fn cut(rt: &impl Abort, index: &mut TupleIndex, columns: &[u32]) -> Result<TupleIndex, AllocError> {
+    assert!(rt; columns.len() <= 4);
+    assert!(rt; index.has_any(columns));
+    assert!(rt; has_room(index));
+    let part = index.snapshot_of(columns)?;
+    assert!(rt; index.take_all(columns)?);
+    assert!(rt; !index.has_any(columns));
+    Ok(part)
+}
+
+#[test]
+fn index_is_cut_at_first_columns(rt: HostRuntime) -> Result<(), Fail> {
+    let mut index = filled(&rt, rt.alloc())?;
+    let of_seven = cut(&rt, &mut index, &[1, 7])?;
+    assert_found(&rt, &of_seven, &[], &[S, T])?;
+    assert_found(&rt, &index, &[], &[U, V])?;
+    assert!(rt; has_room(&index));
+    assert!(rt; !index.take_all(&[1, 7])?);
+    assert!(rt; has_room_for(&index, &of_seven));
+    index.restore_all(&[1], &of_seven)?;
+    assert_found(&rt, &index, &[], &[S, T, V])?;
+    assert_eq!(rt; index.version(), 10);
     Ok(())
 }

@@ -1,0 +1,2 @@
+pub mod TimeOrderLemmas
+pub mod TimelineLemmas

@@ -178,18 +178,18 @@ module _ {V : Type 0} where
         ap (λ g. entry written before one ++ g) (entries-next one.0 done pair)
         ∙ sym (append_assoc (entry written before one) (entries written one.0 done) _)
 
-  -- The pairs that were taken, as bytes, their count, and the key of the last.
-  pub record IsListed (written : V → List ℕ) (bytes before : List ℕ) (count : ℕ)
+  -- The pairs that were taken, as bytes behind a start, their count, and the key of the last.
+  pub record IsListed (written : V → List ℕ) (start bytes before : List ℕ) (count : ℕ)
       (taken : List (List ℕ × V)) : Type 0 where
-    pub listed : bytes ≡ entries written [] taken
+    pub listed : bytes ≡ start ++ entries written [] taken
     pub last : before ≡ last_key [] taken
     pub counted : count ≡ length taken
 
-  pub listed-none : (written : V → List ℕ) (bytes before : List ℕ) → bytes ≡ [] → before ≡ []
-      → IsListed written bytes before 0 []
+  pub listed-none : (written : V → List ℕ) (start bytes before : List ℕ) → bytes ≡ start
+      → before ≡ [] → IsListed written start bytes before 0 []
   unfolding entries last_key
-  listed-none written bytes before none nothing = record {
-    listed = none;
+  listed-none written start bytes before begins nothing = record {
+    listed = begins ∙ sym (append-nil start);
     last = nothing;
     counted = refl;
   }
@@ -201,15 +201,17 @@ module _ {V : Type 0} where
   last_key-next before (one ∷ done) pair = last_key-next one.0 done pair
 
   -- One pair more was listed.
-  pub listed-next : (written : V → List ℕ) (bytes before bytes' before' : List ℕ)
+  pub listed-next : (written : V → List ℕ) (start bytes before bytes' before' : List ℕ)
       (count count' : ℕ) (taken : List (List ℕ × V)) (key : List ℕ) (x : V)
-      → IsListed written bytes before count taken
+      → IsListed written start bytes before count taken
       → bytes' ≡ bytes ++ entry written before (key, x) → before' ≡ key → count' ≡ count + 1
-      → IsListed written bytes' before' count' (taken ++ (key, x) ∷ [])
-  listed-next written bytes before bytes' before' count count' taken key x is grown last more =
+      → IsListed written start bytes' before' count' (taken ++ (key, x) ∷ [])
+  listed-next written start bytes before bytes' before' count count' taken key x is grown last
+      more =
       record {
         listed = grown ∙ (λ i. is.listed i ++ entry written (is.last i) (key, x))
-            ∙ sym (entries-next written [] taken (key, x));
+            ∙ append_assoc start (entries written [] taken) _
+            ∙ ap (λ g. start ++ g) (sym (entries-next written [] taken (key, x)));
         last = last ∙ sym (last_key-next [] taken (key, x));
         counted = omega (arith, more, is.counted, length-append taken ((key, x) ∷ []));
       }

@@ -1,6 +1,8 @@
+pub mod ChangeFormLemmas
 pub mod EntryLemmas
 pub mod HeadLemmas
 pub mod KeyLemmas
+pub mod ListedLemmas
 pub mod LoadLemmas
 pub mod NumberLemmas
 pub mod PartLemmas

@@ -31,6 +31,12 @@ pub other_passed : {T : Type 0} (r : Result T LoadError) (e : LoadError) (P : Ty
 other_passed (Ok x) e P is on = tt
 other_passed (Err y) e P is on = λ other. on (λ memory. other (is ∙ memory))
 
+-- Nothing is told of want of memory.
+pub other_memory : {T : Type 0} (r : Result T LoadError) (P : Type 0)
+    → IsErrAnd r (λ y. y ≡ Memory) → OnOtherErr r P
+other_memory (Ok x) P is = tt
+other_memory (Err y) P is = λ other. absurd (other is)
+
 module _ {V : Type 0} where
   -- ---- one pair
 

@@ -27,15 +27,15 @@ no_pair (x ∷ xs) is = absurd (omega (arith, is))
 module _ {V : Type 0} (written : V → List ℕ) where
   -- The parts of a version's form, written one by one.
   pub saved-written : (kind count number : ℕ) (v : Version V)
-      (none one two three four all made listed sum : List ℕ) → none ≡ [] → made ≡ head kind
+      (none one two three four all made listed : List ℕ) → none ≡ [] → made ≡ head kind
       → number ≡ v.number → count ≡ length (pairs v.content)
       → listed ≡ entries written [] (pairs v.content)
       → one ≡ none ++ made → two ≡ one ++ leb number → three ≡ two ++ leb count
-      → four ≡ three ++ listed → all ≡ four ++ sum → sum ≡ sha256 four
+      → four ≡ three ++ listed → all ≡ four ++ sha256 four
       → all ≡ saved written kind v
   unfolding saved body
-  saved-written kind count number v none one two three four all made listed sum
-      nothing heads numbers counts lists first second third fourth fifth sums =
+  saved-written kind count number v none one two three four all made listed nothing heads numbers
+      counts lists first second third fourth fifth =
       let few : count ≡ finite.len v.content = counts ∙ sym (finite.len-entries v.content) in
       let one_is : one ≡ head kind = first ∙ (λ i. nothing i ++ heads i) in
       let two_is : two ≡ head kind ++ leb v.number =
@@ -43,7 +43,7 @@ module _ {V : Type 0} (written : V → List ℕ) where
       let three_is : three ≡ head kind ++ leb v.number ++ leb (finite.len v.content) =
       third ∙ (λ i. two_is i ++ leb (few i)) in
       let four_is : four ≡ body written kind v = fourth ∙ (λ i. three_is i ++ lists i) in
-      fifth ∙ (λ i. four_is i ++ (sums ∙ ap sha256 four_is) i)
+      fifth ∙ ap (λ b. b ++ sha256 b) four_is
 
   -- all but the sum, and what stands behind it
   body-then : (kind : ℕ) (v : Version V) (rest : List ℕ) → body written kind v ++ rest
@@ -227,7 +227,7 @@ is_memory Checksum = false
 is_memory (Unsupported format) = false
 
 -- An error that can be no other is want of memory.
-memory_alone : (e : LoadError) → ((e ≢ Memory) → ⊥) → e ≡ Memory
+pub memory_alone : (e : LoadError) → ((e ≢ Memory) → ⊥) → e ≡ Memory
 unfolding is_memory
 memory_alone Memory never = refl
 memory_alone Io never = absurd (never (λ is. false≢true (ap is_memory is)))

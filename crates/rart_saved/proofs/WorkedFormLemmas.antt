@@ -3,6 +3,8 @@ use Rattle.std.proofs.Common.{◌++◌, refl, ap}
 use Rattle.std.specs.FinMap as finite
 use Rattle.sha2.specs.Sha256.{sha256}
 use Rattle.rart_maps.proofs.MapLemmas.{maps}
+use Rattle.rart_saved.specs.ChangeFormLaws.{NoChange, OneOfEach}
+use Rattle.rart_saved.specs.ChangeForms.{both_written, changes_body, changes_head, deed, if_there}
 use Rattle.rart_saved.specs.Forms.{key_form, head, entry, entries, body, saved}
 use Rattle.rart_saved.specs.Numbers.{groups, leb}
 use Rattle.rart_saved.specs.Values.{bytes_of, eight_bytes, sized}
@@ -43,3 +45,12 @@ keys_in_keys = simp (maps, finite.len-entries) refl
 pub sum_behind : SumBehind
 unfolding saved
 sum_behind = ap (λ b. b ++ sha256 b) empty_version
+
+pub no_change : NoChange
+unfolding changes_body changes_head entries leb groups
+no_change = refl
+
+pub one_of_each : OneOfEach
+unfolding changes_body changes_head both_written deed if_there entries entry key_form leb groups
+    sized
+one_of_each = refl

@@ -1,7 +1,8 @@
 -- Which keys may stand behind which.
-use Rattle.std.specs.Prelude.{◌≡◌, ◌≢◌, ◌≤◌, ◌⊎◌, ◌++◌, ℕ, Bool, true, List, take, length}
+use Rattle.std.specs.Prelude.{◌≡◌, ◌≢◌, ◌≤◌, ◌⊎◌, ◌++◌, ℕ, Bool, true, List, Option, take, length}
 use Rattle.rart_below.specs.Bytes.{common_length}
 use Rattle.rart_maps.specs.Order.{IsBefore}
+use Rattle.rart_versioned.specs.Keys.{IsKeyLength}
 use Rattle.rart_saved.specs.Forms.{key_form}
 
 -- The key is the first, or the one before it stands before it.
@@ -19,3 +20,8 @@ pub record Follows (is_first : Bool) (before : List ℕ) (shared : ℕ) (rest : 
 abbrev pub LacksKey : Bool → List ℕ → List ℕ → Type 0
 LacksKey is_first before bytes = (key rest : List ℕ) → IsNext is_first before key
     → bytes ≢ key_form before key ++ rest
+
+-- The same of a key of at most this length.
+abbrev pub LacksAdmittedKey : Option ℕ → Bool → List ℕ → List ℕ → Type 0
+LacksAdmittedKey most is_first before bytes = (key rest : List ℕ) → IsNext is_first before key
+    → IsKeyLength most (length key) → bytes ≢ key_form before key ++ rest

@@ -1,3 +1,6 @@
+pub mod ChangeFormLaws
+pub mod ChangeForms
+pub mod ChangeLoads
 pub mod Forms
 pub mod Keys
 pub mod Laws

@@ -1,22 +1,23 @@
-//! Why bytes were not read as a version, or a version not written.
+//! Why bytes were not read as a version or as changes, or these not written.
 use std::alloc::AllocError;
 use thiserror::Error;
 
-/// Why bytes were not read as a version. Nothing is left behind.
+/// Why bytes were not read as a version, or as a list of changes. Nothing is left behind.
 #[derive(Debug, Clone, Copy, PartialEq, Eq, Error)]
 pub enum LoadError {
     /// Reading failed.
     #[error("reading failed")]
     Io,
-    /// Memory was refused. Only with this error, or `Io`, may the bytes be a version's.
+    /// Memory was refused. Only with this error, or `Io`, may the bytes be what was to be read.
     #[error("out of memory")]
     Memory,
-    /// The bytes end before a version's do.
+    /// The bytes end too early.
     #[error("the bytes end too early")]
     Truncated,
-    /// No version of the kind has this at that byte: a byte of the head, a number in another form,
-    /// a key out of order or of a length that the key type lacks, a value, or bytes behind the end.
-    #[error("byte {at} is no version's")]
+    /// What begins at that byte stands in no form of the kind: a byte of the head, a number in
+    /// another form, a key out of order or of a length that the key type lacks, a value, or bytes
+    /// behind the end.
+    #[error("what begins at byte {at} stands in no form")]
     Malformed { at: usize },
     /// The sum at the end is not that of the bytes before it.
     #[error("the checksum is another one")]
@@ -26,7 +27,7 @@ pub enum LoadError {
     Unsupported { format: u8 },
 }
 
-/// Why a version was not written.
+/// Why a version, or a list of changes, was not written.
 #[derive(Debug, Clone, Copy, PartialEq, Eq, Error)]
 pub enum SaveError {
     /// Writing failed.

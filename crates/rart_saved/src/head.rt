@@ -1,5 +1,6 @@
 //! The head of each file.
 ghost use Rattle.std.specs.Prelude.{◌≡◌, ◌≢◌, ◌++◌, ℕ, List, IfErr, IfOk};
+ghost use Rattle.rart_saved.specs.ChangeForms.{changes_head};
 ghost use Rattle.rart_saved.specs.Forms.{head};
 ghost use Rattle.rart_saved.specs.Parts.{HasPart};
 
@@ -9,20 +10,26 @@ use crate::keys::shared_length;
 /// The number of this format.
 const FORMAT: u8 = 1;
 
-/// The name, the number of the format, and the kind of values.
+/// Of a version: the name, the number of the format, and the kind of values.
 pub(crate) fn head_of(kind: u8) -> [u8; 9]
     ensures { result ≡ head kind }
 {
     [b'c', b'o', b'm', b'f', b'r', b'e', b'y', FORMAT, kind]
 }
 
-/// The place behind the head, where it is the one of this kind.
-pub(crate) fn take_head(bytes: &[u8], kind: u8) -> Result<usize, LoadError>
-    ensures read { IfOk result (λ end. HasPart bytes.now 0 (head kind) end) }
-    ensures refused { IfErr result (λ _. (rest : List ℕ) → bytes.now ≢ head kind ++ rest) }
+/// Of a list of changes, the same with another name.
+pub(crate) fn changes_head_of(kind: u8) -> [u8; 9]
+    ensures { result ≡ changes_head kind }
 {
-    let head = head_of(kind);
-    let shared = shared_length(&head, bytes);
+    [b'c', b'h', b'a', b'n', b'g', b'e', b's', FORMAT, kind]
+}
+
+/// The place behind a head, where the bytes begin with it.
+pub(crate) fn take_head(bytes: &[u8], head: &[u8; 9]) -> Result<usize, LoadError>
+    ensures read { IfOk result (λ end. HasPart bytes.now 0 head.now end) }
+    ensures refused { IfErr result (λ _. (rest : List ℕ) → bytes.now ≢ head.now ++ rest) }
+{
+    let shared = shared_length(head, bytes);
     if shared == 9 {
         return Ok(9);
     }

@@ -1,13 +1,14 @@
 //! Keys as bytes: each by what it has in common with the one before.
-ghost use Rattle.std.specs.Prelude.{◌≡◌, ◌≢◌, ◌≤◌, ◌++◌, ℕ, List, [], true, false, drop, length, IfOk, OnOk};
-ghost use Rattle.rart_below.specs.Bytes.{common_length};
+ghost use Rattle.std.specs.Prelude.{◌≡◌, ◌≢◌, ◌↔◌, ◌≤◌, ◌++◌, ℕ, List, [], true, false, drop, length, IfOk, IsTrue, OnOk};
+ghost use Rattle.rart_below.specs.Bytes.{IsAdmitted, common_length};
 ghost use Rattle.rart_saved.specs.Forms.{key_form};
-ghost use Rattle.rart_saved.specs.Keys.{Follows, IsNext, LacksKey};
+ghost use Rattle.rart_saved.specs.Keys.{Follows, IsNext, LacksAdmittedKey, LacksKey};
 ghost use Rattle.rart_saved.specs.Parts.{HasPart};
 ghost use Rattle.rart_saved.specs.Refusals.{OnOtherErr};
 
 use crate::error::LoadError;
 use crate::numbers::{number_at, put_number};
+use rart_versioned::KeyTrait;
 use std::alloc::AllocError;
 
 /// How many bytes two strings have in common at their start.
@@ -66,6 +67,39 @@ pub(crate) fn take_key(
     key.truncate(shared as usize);
     key.extend_from_slice(&bytes[from..end])?;
     Ok(end)
+}
+
+/// As `take_key`, of a key that this key type admits.
+pub(crate) fn take_admitted_key<K: KeyTrait>(
+    bytes: &[u8],
+    at: usize,
+    is_first: bool,
+    key: &mut Vec<u8>,
+) -> Result<usize, LoadError>
+    requires place { at ≤ length bytes.now }
+    requires first { is_first ≡ true → key.old.items ≡ [] }
+    ensures read { IfOk result (λ end. HasPart bytes.now at
+        (key_form key.old.items key.new.items) end) }
+    ensures next { OnOk result (IsNext is_first key.old.items key.new.items) }
+    ensures admitted { OnOk result (IsAdmitted K.MAXIMUM_SIZE (length key.new.items)) }
+    ensures refused { OnOtherErr result
+        (LacksAdmittedKey K.MAXIMUM_SIZE is_first key.old.items (drop at bytes.now)) }
+{
+    let end = take_key(bytes, at, is_first, key)?;
+    if !is_admitted::<K>(key) {
+        return Err(LoadError::Malformed { at });
+    }
+    Ok(end)
+}
+
+/// Whether a key may be as long as this one.
+fn is_admitted<K: KeyTrait>(key: &[u8]) -> bool
+    ensures { IsTrue result ↔ IsAdmitted K.MAXIMUM_SIZE (length key.now) }
+{
+    match K::MAXIMUM_SIZE {
+        None => true,
+        Some(most) => key.len() <= most,
+    }
 }
 
 /// Whether a key that has just so many bytes in common with the one before, and then these, comes

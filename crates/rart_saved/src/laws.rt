@@ -1,4 +1,5 @@
-//! What the form of a version fixes, and worked forms: laws, each the contract of a function.
+//! What the forms of versions and of changes fix, and worked forms: laws, each the contract of a function.
+ghost use Rattle.rart_saved.specs.ChangeFormLaws.{ChangeFormsAreOfOne, ChangeFormsStandApart, ChangesAreNoVersion, NoChange, OneOfEach};
 ghost use Rattle.rart_saved.specs.Forms.{IsVersionOf};
 ghost use Rattle.rart_saved.specs.SavedLaws.{FormsAreOfOne, FormsStandApart};
 ghost use Rattle.rart_saved.specs.WorkedForms.{NumberOfOneByte, NumberOfTwoBytes, GreatestNumber, NumberAsValue, EmptyVersion, GreatestVersion, EmptyKey, KeysInKeys, SumBehind};
@@ -10,6 +11,20 @@ use rart_versioned::{KeyTrait, VersionedAdaptiveRadixTree};
 pub fn forms_stand_apart<V: SavedValue>()
     ensures one { FormsAreOfOne V.written V.KIND }
     ensures apart { FormsStandApart V.written V.KIND }
+{}
+
+/// Lists of changes whose bytes are equal are equal, no list's bytes begin another's, and neither a
+/// list's bytes begin a version's nor the other way.
+pub fn change_forms_stand_apart<V: SavedValue>()
+    ensures one { ChangeFormsAreOfOne V.written V.KIND }
+    ensures apart { ChangeFormsStandApart V.written V.KIND }
+    ensures version { ChangesAreNoVersion V.written V.KIND }
+{}
+
+/// Worked forms of changes: none, and one key inserted, one replaced and one removed.
+pub fn worked_change_forms()
+    ensures none { NoChange }
+    ensures each { OneOfEach }
 {}
 
 /// Worked forms: numbers at the ends of what a byte holds, the greatest, and one as a value; the

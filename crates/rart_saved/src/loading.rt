@@ -1,8 +1,7 @@
 //! Bytes are read as a version.
-ghost use Rattle.std.specs.Prelude.{◌≡◌, ◌≢◌, ◌↔◌, ◌+◌, ◌≤◌, [], IfOk, IsTrue, OnErr, OnOk, drop, length, take, true};
+ghost use Rattle.std.specs.Prelude.{◌≡◌, ◌≢◌, ◌↔◌, ◌+◌, ◌≤◌, [], ◌∷◌, ◌++◌, IfOk, IsTrue, OnErr, OnOk, drop, length, take, true};
 ghost use Rattle.std.specs.FinMap as finite;
 ghost use Rattle.sha2.specs.Sha256.{sha256};
-ghost use Rattle.rart_below.specs.Bytes.{IsAdmitted};
 ghost use Rattle.rart_below.specs.Clones.{ClonesEqual};
 ghost use Rattle.rart_maps.specs.Pairs.{pairs};
 ghost use Rattle.rart_maps.specs.Versions.{HasRoom, has_no_key, with_key};
@@ -13,13 +12,13 @@ ghost use Rattle.rart_saved.specs.Parts.{HasPart};
 ghost use Rattle.rart_saved.specs.Refusals.{OnOtherErr};
 
 use crate::error::LoadError;
-use crate::head::take_head;
-use crate::keys::take_key;
+use crate::head::{head_of, take_head};
+use crate::keys::take_admitted_key;
 use crate::numbers::number_at;
 use crate::value::SavedValue;
 use rart_versioned::{KeyTrait, VersionedAdaptiveRadixTree};
 use sha2::{Digest, Sha256};
-use std::alloc::Global;
+use std::alloc::{AllocError, Global};
 
 /// The version whose form these bytes are. All others are refused.
 ///
@@ -51,7 +50,7 @@ fn read_version<K: KeyTrait, V: SavedValue>(
     ensures refused { OnOtherErr result
         (LacksVersion V.written V.KIND K.MAXIMUM_SIZE bytes.now) }
 {
-    let at = take_head(bytes, V::KIND)?;
+    let at = take_head(bytes, &head_of(V::KIND))?;
     let (number, at) = number_at(bytes, at)?;
     let (count, from) = number_at(bytes, at)?;
     if count > number {
@@ -111,27 +110,22 @@ fn take_pair<K: KeyTrait, V: SavedValue>(
     ensures refused { OnOtherErr result (LacksPair V.written K.MAXIMUM_SIZE (has_no_key tree.old)
         key.old.items (drop at bytes.now)) }
 {
-    let from = take_key(bytes, at, tree.is_empty(), key)?;
-    if !is_admitted::<K>(key) {
-        return Err(LoadError::Malformed { at });
-    }
+    let from = take_admitted_key::<K>(bytes, at, tree.is_empty(), key)?;
     let (value, end) = V::read(alloc, bytes, from)?;
     tree.insert_slice(key.as_slice(), value)?;
     Ok(end)
 }
 
-/// Whether a key may be as long as this one.
-fn is_admitted<K: KeyTrait>(key: &[u8]) -> bool
-    ensures { IsTrue result ↔ IsAdmitted K.MAXIMUM_SIZE (length key.now) }
+/// Puts one more behind the others.
+pub(crate) fn push_one<T: Drop>(list: &mut Vec<T>, one: T) -> Result<(), AllocError>
+    ensures { OnOk result (list.new.items ≡ list.old.items ++ one ∷ []) }
 {
-    match K::MAXIMUM_SIZE {
-        None => true,
-        Some(most) => key.len() <= most,
-    }
+    list.push(one)?;
+    Ok(())
 }
 
 /// Whether the bytes end with the sum of those before a place, from there on.
-fn check_sum(bytes: &[u8], at: usize) -> Result<(), LoadError>
+pub(crate) fn check_sum(bytes: &[u8], at: usize) -> Result<(), LoadError>
     requires { at ≤ length bytes.now }
     ensures read { OnOk result (drop at bytes.now ≡ sha256 (take at bytes.now)) }
     ensures refused { OnErr result (drop at bytes.now ≢ sha256 (take at bytes.now)) }

@@ -1,7 +1,8 @@
 //! A version is written as bytes.
 ghost use Rattle.std.specs.Prelude.{◌≡◌, ◌+◌, ◌<◌, ◌^◌, ◌++◌, [], length, IfOk, OnOk};
+ghost use Rattle.sha2.specs.Sha256.{sha256};
 ghost use Rattle.rart_maps.specs.Pairs.{pairs};
-ghost use Rattle.rart_saved.specs.Forms.{entry, entries, saved};
+ghost use Rattle.rart_saved.specs.Forms.{entry, entries, key_form, saved};
 
 use crate::head::head_of;
 use crate::keys::put_key;
@@ -29,17 +30,25 @@ pub fn save_slice<K: KeyTrait, V: SavedValue>(
     put_number(&mut bytes, tree.version())?;
     put_number(&mut bytes, listed.count)?;
     bytes.extend_from_slice(listed.bytes.as_slice())?;
-    let sum = Sha256::digest(bytes.as_slice());
-    bytes.extend_from_slice(&sum)?;
+    put_sum(&mut bytes)?;
     Ok(bytes)
 }
 
-/// Pairs as bytes, how many they are, and the key of the last.
+/// Puts the sum of what is there behind it.
+pub(crate) fn put_sum(bytes: &mut Vec<u8>) -> Result<(), AllocError>
+    ensures { OnOk result (bytes.new.items ≡ bytes.old.items ++ sha256 bytes.old.items) }
+{
+    let sum = Sha256::digest(bytes.as_slice());
+    bytes.extend_from_slice(&sum)?;
+    Ok(())
+}
+
+/// Pairs as bytes, behind what was there, how many they are, and the key of the last.
 #[derive(Drop)]
-struct Listed {
-    bytes: Vec<u8>,
-    count: u64,
-    before: Vec<u8>,
+pub(crate) struct Listed {
+    pub(crate) bytes: Vec<u8>,
+    pub(crate) count: u64,
+    pub(crate) before: Vec<u8>,
 }
 
 /// The pairs of a version, each behind the one before it.
@@ -74,8 +83,20 @@ fn put_pair<V: SavedValue>(listed: &mut Listed, key: &[u8], value: &V) -> Result
     ensures count { OnOk result (listed.new.count ≡ listed.old.count + 1) }
     ensures before { OnOk result (listed.new.before.items ≡ key.now) }
 {
-    put_key(&mut listed.bytes, listed.before.as_slice(), key)?;
+    put_next_key(listed, key)?;
     value.write(&mut listed.bytes)?;
+    Ok(())
+}
+
+/// The key of one more pair. Refused for memory, some of its bytes may be there.
+pub(crate) fn put_next_key(listed: &mut Listed, key: &[u8]) -> Result<(), AllocError>
+    requires room { listed.old.count + 1 < 2 ^ 64 }
+    ensures bytes { OnOk result (listed.new.bytes.items ≡ listed.old.bytes.items
+        ++ key_form listed.old.before.items key.now) }
+    ensures count { OnOk result (listed.new.count ≡ listed.old.count + 1) }
+    ensures before { OnOk result (listed.new.before.items ≡ key.now) }
+{
+    put_key(&mut listed.bytes, listed.before.as_slice(), key)?;
     listed.before.clear();
     listed.before.extend_from_slice(key)?;
     listed.count += 1;

@@ -217,8 +217,9 @@ fn errors_say_what_happened(rt: HostRuntime) -> Result<(), Fail> {
     )?;
     assert_eq!(rt;
         loads.as_str(),
-        "reading failed; out of memory; the bytes end too early; byte 9 is no version's; \
-         the checksum is another one; format 2 is not supported"
+        "reading failed; out of memory; the bytes end too early; \
+         what begins at byte 9 stands in no form; the checksum is another one; \
+         format 2 is not supported"
     );
     let (io, memory) = (SaveError::Io, SaveError::Memory);
     let saves = format!(in rt.alloc(); "{io}; {memory}")?;
@@ -228,9 +229,9 @@ fn errors_say_what_happened(rt: HostRuntime) -> Result<(), Fail> {
 
 /// Gives and takes nothing, and fails so.
 #[derive(Drop)]
-struct Broken {
-    calls: usize,
-    kind: io::ErrorKind,
+pub(crate) struct Broken {
+    pub(crate) calls: usize,
+    pub(crate) kind: io::ErrorKind,
 }
 
 impl Read for Broken {

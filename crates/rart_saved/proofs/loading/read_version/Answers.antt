@@ -13,15 +13,16 @@ returns-in_err-at-clause-refused g c =
     let written = g.V.SavedValue.written in
     let kind = g.V.SavedValue.KIND in
     other_error _ (LacksVersion written kind g.K.KeyTrait.MAXIMUM_SIZE c.args.bytes.now)
-    (λ v is stands. subst (λ k. (rest : List ℕ) → c.args.bytes.now ≢ head k ++ rest)
-    c.KIND.ensures c.in_err-at.ensures.refused _ (stands ∙ saved-then written kind v))
+    (λ v is stands. subst (λ h. (rest : List ℕ) → c.args.bytes.now ≢ h ++ rest)
+    (c.head_of.ensures ∙ ap head c.KIND.ensures) c.in_err-at.ensures.refused _
+    (stands ∙ saved-then written kind v))
 
 pub returns-in_err-number-clause-refused : goal.returns-in_err-number-clause-refused
 returns-in_err-number-clause-refused g c =
     let written = g.V.SavedValue.written in
     let kind = g.V.SavedValue.KIND in
-    let heads = subst (λ k. HasPart c.args.bytes.now 0 (head k) c.in_ok-at.at) c.KIND.ensures
-    c.in_ok-at.ensures.read in
+    let heads = subst (λ h. HasPart c.args.bytes.now 0 h c.in_ok-at.at)
+    (c.head_of.ensures ∙ ap head c.KIND.ensures) c.in_ok-at.ensures.read in
     other_error _ (LacksVersion written kind g.K.KeyTrait.MAXIMUM_SIZE c.args.bytes.now)
     (λ v is stands. c.in_err-number.ensures.refused v.number _ is.fits
     (opened-head written kind c.args.bytes.now v stands c.in_ok-at.at heads))
@@ -30,8 +31,8 @@ pub returns-in_err-count-clause-refused : goal.returns-in_err-count-clause-refus
 returns-in_err-count-clause-refused g c =
     let written = g.V.SavedValue.written in
     let kind = g.V.SavedValue.KIND in
-    let heads = subst (λ k. HasPart c.args.bytes.now 0 (head k) c.in_ok-at.at) c.KIND.ensures
-    c.in_ok-at.ensures.read in
+    let heads = subst (λ h. HasPart c.args.bytes.now 0 h c.in_ok-at.at)
+    (c.head_of.ensures ∙ ap head c.KIND.ensures) c.in_ok-at.ensures.read in
     other_error _ (LacksVersion written kind g.K.KeyTrait.MAXIMUM_SIZE c.args.bytes.now)
     (λ v is stands. c.in_err-count.ensures.refused (finite.len v.content) _
     (omega (arith, is.few, is.fits))
@@ -42,8 +43,8 @@ pub returns-then-count-number-clause-refused : goal.returns-then-count-number-cl
 returns-then-count-number-clause-refused g c _ v is stands =
     let written = g.V.SavedValue.written in
     let kind = g.V.SavedValue.KIND in
-    let heads = subst (λ k. HasPart c.args.bytes.now 0 (head k) c.in_ok-at.at) c.KIND.ensures
-    c.in_ok-at.ensures.read in
+    let heads = subst (λ h. HasPart c.args.bytes.now 0 h c.in_ok-at.at)
+    (c.head_of.ensures ∙ ap head c.KIND.ensures) c.in_ok-at.ensures.read in
     omega (
       arith,
       is.few,
@@ -59,8 +60,8 @@ pub returns-in_err-end-clause-refused : goal.returns-in_err-end-clause-refused
 returns-in_err-end-clause-refused g c =
     let written = g.V.SavedValue.written in
     let kind = g.V.SavedValue.KIND in
-    let heads = subst (λ k. HasPart c.args.bytes.now 0 (head k) c.in_ok-at.at) c.KIND.ensures
-    c.in_ok-at.ensures.read in
+    let heads = subst (λ h. HasPart c.args.bytes.now 0 h c.in_ok-at.at)
+    (c.head_of.ensures ∙ ap head c.KIND.ensures) c.in_ok-at.ensures.read in
     other_passed _ c.in_err-end.field-0.0
     (LacksVersion written kind g.K.KeyTrait.MAXIMUM_SIZE c.args.bytes.now)
     c.from_residual-in_err-end.ensures.1
@@ -75,8 +76,8 @@ pub returns-in_err-check_sum-clause-refused : goal.returns-in_err-check_sum-clau
 returns-in_err-check_sum-clause-refused g c =
     let written = g.V.SavedValue.written in
     let kind = g.V.SavedValue.KIND in
-    let heads = subst (λ k. HasPart c.args.bytes.now 0 (head k) c.in_ok-at.at) c.KIND.ensures
-    c.in_ok-at.ensures.read in
+    let heads = subst (λ h. HasPart c.args.bytes.now 0 h c.in_ok-at.at)
+    (c.head_of.ensures ∙ ap head c.KIND.ensures) c.in_ok-at.ensures.read in
     other_error _ (LacksVersion written kind g.K.KeyTrait.MAXIMUM_SIZE c.args.bytes.now)
     (λ v is stands. c.in_err-check_sum.ensures.refused
     (opened-all written kind c.args.bytes.now v stands g.met.V.SavedValue.apart c.in_ok-at.at
@@ -86,8 +87,8 @@ returns-in_err-check_sum-clause-refused g c =
 
 pub returns-clause-read : goal.returns-clause-read
 returns-clause-read g c =
-    let heads = subst (λ k. HasPart c.args.bytes.now 0 (head k) c.in_ok-at.at) c.KIND.ensures
-    c.in_ok-at.ensures.read in
+    let heads = subst (λ h. HasPart c.args.bytes.now 0 h c.in_ok-at.at)
+    (c.head_of.ensures ∙ ap head c.KIND.ensures) c.in_ok-at.ensures.read in
     saved-read g.V.SavedValue.written g.V.SavedValue.KIND c.in_ok-number.number
     c.in_ok-count.count c.in_ok-at.at c.in_ok-number.at c.in_ok-count.from c.in_ok-end.end
     c.args.bytes.now c.take_pairs.new.tree heads c.in_ok-number.ensures.read

@@ -1,6 +1,4 @@
-use Rattle.std.proofs.Common.{◌++◌, drop, length, sym, ap, subst, ◌∙◌}
-use Rattle.std.proofs.lemmas.Bool.{false≢true}
-use Rattle.rart_below.specs.Bytes.{IsAdmitted}
+use Rattle.std.proofs.Common.{◌++◌, drop, sym, ap, subst, ◌∙◌}
 use Rattle.rart_maps.specs.Versions.{has_no_key, with_key}
 use Rattle.rart_saved.specs.Keys.{IsNext}
 use Rattle.rart_saved.specs.Loads.{LacksPair}
@@ -16,19 +14,8 @@ returns-in_err-from-clause-refused g c =
     c.from_residual.ensures.1
     (λ other key x rest next long stands.
     c.in_err-from.ensures.refused other key (written x ++ rest)
-    (subst (λ f. IsNext f c.args.key.now.items key) (sym c.is_empty.ensures) next)
+    (subst (λ f. IsNext f c.args.key.now.items key) (sym c.is_empty.ensures) next) long
     (stands ∙ entry-then written c.args.key.now.items key x rest))
-
-pub returns-then-not-is_admitted-clause-refused : goal.returns-then-not-is_admitted-clause-refused
-returns-then-not-is_admitted-clause-refused g c _ key x rest next long stands =
-    let written = g.V.SavedValue.written in
-    let same =
-    (entry-opened written c.args.bytes.now c.args.key.now.items key c.take_key.new.key.items x rest
-    c.args.at c.in_ok-from.from c.in_ok-from.ensures.read stands).0 in
-    let admitted : IsAdmitted g.K.KeyTrait.MAXIMUM_SIZE (length c.deref.result.now) =
-    subst (λ k. IsAdmitted g.K.KeyTrait.MAXIMUM_SIZE (length k))
-    (sym (c.deref.ensures.value ∙ same)) long.0 in
-    false≢true (sym c.if-not-is_admitted.true ∙ c.is_admitted.ensures.1 admitted)
 
 pub returns-in_err-value-clause-refused : goal.returns-in_err-value-clause-refused
 returns-in_err-value-clause-refused g c =
@@ -39,15 +26,16 @@ returns-in_err-value-clause-refused g c =
     c.from_residual-in_err-value.ensures.1
     (λ other key x rest next long stands.
     c.in_err-value.ensures.refused other x rest
-    (entry-opened written c.args.bytes.now c.args.key.now.items key c.take_key.new.key.items x rest
-    c.args.at c.in_ok-from.from c.in_ok-from.ensures.read stands).1)
+    (entry-opened written c.args.bytes.now c.args.key.now.items key
+    c.take_admitted_key.new.key.items x rest c.args.at c.in_ok-from.from
+    c.in_ok-from.ensures.read stands).1)
 
 pub returns-clause-read : goal.returns-clause-read
 returns-clause-read g c = (
   c.in_ok-value.value,
-  entry-read g.V.SavedValue.written c.args.bytes.now c.args.key.now.items c.take_key.new.key.items
-      c.in_ok-value.value c.args.at c.in_ok-from.from c.in_ok-value.end c.in_ok-from.ensures.read
-      c.in_ok-value.ensures.read,
+  entry-read g.V.SavedValue.written c.args.bytes.now c.args.key.now.items
+      c.take_admitted_key.new.key.items c.in_ok-value.value c.args.at c.in_ok-from.from
+      c.in_ok-value.end c.in_ok-from.ensures.read c.in_ok-value.ensures.read,
   c.in_ok-insert_slice.ensures.set
       ∙ ap (λ k. with_key c.args.tree.now k c.in_ok-value.value 1) c.as_slice.ensures.value,
 )

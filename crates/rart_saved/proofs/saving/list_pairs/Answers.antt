@@ -11,7 +11,7 @@ pub listing-init : goal.listing-init
 listing-init g c = (
   [],
   (pairs c.args.tree.now.content, c.in_ok-items.ensures, refl),
-  listed-none g.V.SavedValue.written _ _ c.new.ensures.items c.new-2.ensures.items,
+  listed-none g.V.SavedValue.written [] _ _ c.new.ensures.items c.new-2.ensures.items,
 )
 
 pub put_pair-requires : goal.put_pair-requires
@@ -42,7 +42,7 @@ listing-preserved g c =
     let value = c.in_ok-key.value in (
       before.0 ++ (bytes key, value.now) ∷ [],
       taken-pair bytes (pairs c.args.tree.now.content) before.0 _ _ (key, value) before.1 gives,
-      listed-next g.V.SavedValue.written _ _ _ _ _ _ before.0 (bytes key) value.now before.2
+      listed-next g.V.SavedValue.written [] _ _ _ _ _ _ before.0 (bytes key) value.now before.2
           (c.in_ok-put_pair.ensures.bytes
           ∙ ap (λ k. c.listing.listed.bytes.items
           ++ entry g.V.SavedValue.written c.listing.listed.before.items (k, value.now))

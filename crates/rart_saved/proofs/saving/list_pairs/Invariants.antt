@@ -1,4 +1,4 @@
-use Rattle.std.proofs.Common.{ℕ, List}
+use Rattle.std.proofs.Common.{ℕ, List, []}
 use Rattle.rart_maps.specs.Iterations.{IsTakenFrom}
 use Rattle.rart_maps.specs.Pairs.{pairs}
 use Rattle.rart_versioned.proofs.UnversionedLemmas.{count_left}
@@ -9,7 +9,7 @@ abbrev pub invariant-listing : goal.invariant-listing
 invariant-listing g l =
     (taken : List (List ℕ × g.row.V.Denot))
     × IsTakenFrom (pairs l.tree.content) taken l.items
-    × IsListed g.V.SavedValue.written l.listed.bytes.items l.listed.before.items l.listed.count
+    × IsListed g.V.SavedValue.written [] l.listed.bytes.items l.listed.before.items l.listed.count
     taken
 
 abbrev pub decreases-listing : goal.decreases-listing

@@ -1,0 +1,4 @@
+//! A list of changes as bytes, as `rart_changes` lists them.
+pub(crate) mod loading;
+pub(crate) mod saving;
+mod values;

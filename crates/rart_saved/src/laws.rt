@@ -1,11 +1,19 @@
-//! What the forms of versions and of changes fix, and worked forms: laws, each the contract of a function.
+//! What the forms of versions and of changes fix, and worked forms: laws, each the contract of a
+//! function.
+ghost use Rattle.std.specs.Prelude.{◌≡◌, IfErr, IfOk};
+ghost use Rattle.rart_below.specs.Clones.{ClonesEqual};
 ghost use Rattle.rart_saved.specs.ChangeFormLaws.{ChangeFormsAreOfOne, ChangeFormsStandApart, ChangesAreNoVersion, NoChange, OneOfEach};
 ghost use Rattle.rart_saved.specs.Forms.{IsVersionOf};
 ghost use Rattle.rart_saved.specs.SavedLaws.{FormsAreOfOne, FormsStandApart};
+ghost use Rattle.rart_saved.specs.declared.error.LoadError.TheVariants.{Memory};
 ghost use Rattle.rart_saved.specs.WorkedForms.{NumberOfOneByte, NumberOfTwoBytes, GreatestNumber, NumberAsValue, EmptyVersion, GreatestVersion, EmptyKey, KeysInKeys, SumBehind};
 
+use crate::error::LoadError;
+use crate::loading::load_slice;
+use crate::saving::save_slice;
 use crate::value::SavedValue;
 use rart_versioned::{KeyTrait, VersionedAdaptiveRadixTree};
+use std::alloc::Global;
 
 /// Versions whose bytes are equal are equal, and no version's bytes begin another's.
 pub fn forms_stand_apart<V: SavedValue>()
@@ -47,4 +55,18 @@ pub fn trees_are_versions<K: KeyTrait, V: SavedValue>(tree: &VersionedAdaptiveRa
     ensures { IsVersionOf K.MAXIMUM_SIZE tree.now }
 {
     tree.know_keys_for_proof();
+}
+
+/// What is saved is loaded again, or memory is refused.
+pub fn forms_are_given_back<K: KeyTrait, V: SavedValue>(
+    alloc: Global,
+    tree: &VersionedAdaptiveRadixTree<K, V>,
+) -> Result<VersionedAdaptiveRadixTree<K, V>, LoadError>
+    requires clones { ClonesEqual V.is_clone }
+    ensures same { IfOk result (λ back. back ≡ tree.now) }
+    ensures memory { IfErr result (λ error. error ≡ Memory) }
+{
+    trees_are_versions(tree);
+    let bytes = save_slice(alloc, tree)?;
+    load_slice(alloc, bytes.as_slice())
 }

@@ -109,6 +109,9 @@ fn each_flipped_bit_is_refused(rt: HostRuntime) -> Result<(), Fail> {
             bytes[at] ^= bit;
             let answer = load_slice::<VectorKey, u64>(alloc, bytes.as_slice());
             assert!(rt; answer.is_err());
+            if at < 7 {
+                assert!(rt; matches!(answer, Err(LoadError::Malformed { at: told }) if told == at));
+            }
             if at == 7 {
                 let format = bytes[7];
                 assert!(rt;
@@ -196,6 +199,9 @@ fn each_refusal_tells_its_place(rt: HostRuntime) -> Result<(), Fail> {
     // (a number of two groups that fits one, two pairs at number 1, and `a` behind `b`)
     let longer = refusal(alloc, &[128, 0])?;
     assert!(rt; longer == Some(LoadError::Malformed { at: 9 }));
+    // (ten groups, each of which says that one more follows)
+    let eleven = refusal(alloc, &[255; 10])?;
+    assert!(rt; eleven == Some(LoadError::Malformed { at: 18 }));
     let many = refusal(alloc, &[1, 2])?;
     assert!(rt; many == Some(LoadError::Malformed { at: 10 }));
     let back = refusal(alloc, &[2, 2, 0, 1, 98, 7, 0, 0, 0, 0, 0, 0, 0, 0, 1, 97])?;

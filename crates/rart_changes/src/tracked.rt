@@ -28,6 +28,9 @@ use std::marker::Model;
 ///
 /// Contracts see it as the base, the current version, and the finite set of touched keys. A key
 /// that was not touched has what it has in the base.
+///
+/// It has no calls of a prefix, which would touch each key under it: set or take out these keys, or
+/// change a plain version by `restore_prefix` and begin with that.
 pub struct TrackedTree<K: KeyTrait, V: Clone> {
     pub(crate) alloc: Global,
     pub(crate) base: VersionedAdaptiveRadixTree<K, V>,

@@ -1,8 +1,9 @@
 -- The worked lines, by computation.
-use Rattle.std.proofs.Common.{[], ◌∷◌, ◌++◌, refl}
+use Rattle.std.proofs.Common.{[], ◌∷◌, ◌++◌, refl, arith}
+use Rattle.std.proofs.lemmas.Bool.Decides.{nat_tests}
 use Rattle.std.specs.Prelude.{codes}
 use Rattle.std.specs.Fmt.{digits}
-use Rattle.vtree.specs.WorkedLines.{WorkedNumbers, WorkedSplits, WorkedBadLines, WorkedTexts}
+use Rattle.vtree.specs.WorkedLines.{WorkedNumbers, WorkedSplits, WorkedBadLines, WorkedTexts, WorkedReplies}
 use Rattle.vtree.proofs.GrammarLemmas.{bad_by}
 
 pub worked_numbers : WorkedNumbers
@@ -71,5 +72,9 @@ worked_bad_bys = (
   bad_by (codes "try-update 00000000000000000000 'abcdefghijklmnop 18446744073709551615 insert 18446744073709551614 1") refl,
 )
 
--- worked numbers, splits, bad lines and texts
-pub ruleset worked_lines = (worked_numbers, worked_splits, worked_bad_bys, worked_texts)
+pub worked_replies : WorkedReplies
+worked_replies = grind (arith, nat_tests)
+
+-- worked numbers, splits, bad lines, texts and replies
+pub ruleset worked_lines =
+    (worked_numbers, worked_splits, worked_bad_bys, worked_texts, worked_replies)

@@ -1,9 +1,10 @@
--- Worked lines, found by hand: numbers, splits, bad lines, and texts of replies.
+-- Worked lines, found by hand: numbers, splits, bad lines, texts of replies, and what stands in one.
 use Rattle.std.specs.Prelude.{◌≡◌, [], ◌∷◌, ◌++◌, codes, true, false, Some, None}
 use Rattle.rart_family.specs.Replies.{Place, Discarded, Number, Flag, Value, Entries, Values, Stopped, Pairs, ValuePairs, Count, Failed, NoVersion, NoRoom, NoMemory}
 use Rattle.vtree.specs.Lines.{lines_of, words, number_of}
 use Rattle.vtree.specs.Grammar.{IsBad}
 use Rattle.vtree.specs.ReplyTexts.{reply_line, bad_line}
+use Rattle.vtree.specs.Laws.{Stands}
 
 -- Numbers have 1 to 20 digits, and are below 2^64.
 abbrev pub WorkedNumbers : Type 0
@@ -94,3 +95,24 @@ WorkedTexts =
     × (reply_line NoRoom ≡ codes "no room\n")
     × (reply_line NoMemory ≡ codes "no memory\n")
     × (bad_line ≡ codes "bad line\n")
+
+-- A reply of each kind can stand in a line with the greatest number, 2^64 - 1, and with a key of the
+-- least and the greatest byte, `!` and `~`.
+abbrev pub WorkedReplies : Type 0
+WorkedReplies =
+    Stands (Place 18446744073709551615)
+    × Stands Discarded
+    × Stands (Number 18446744073709551615)
+    × Stands (Flag true)
+    × Stands (Value (Some 18446744073709551615))
+    × Stands (Value None)
+    × Stands (Entries ((33 ∷ 126 ∷ [], 18446744073709551615) ∷ ([], 0) ∷ []))
+    × Stands (Values (18446744073709551615 ∷ 0 ∷ []))
+    × Stands (Stopped (18446744073709551615 ∷ []) true)
+    × Stands (Pairs ((33 ∷ 126 ∷ [], 18446744073709551615, 18446744073709551615) ∷ []))
+    × Stands (ValuePairs ((18446744073709551615, 18446744073709551615) ∷ []))
+    × Stands (Count 18446744073709551615)
+    × Stands Failed
+    × Stands NoVersion
+    × Stands NoRoom
+    × Stands NoMemory

@@ -1,7 +1,7 @@
 //! What the definitions of lines, replies and transcripts mean: laws, each the contract of a
 //! function that does nothing.
 ghost use Rattle.vtree.specs.ServingLaws.{InputIsRead, RefusalsChangeNothing, RefusalsAreOfMemory, WritingIsBehind, WholeLinesAreWritten, FailedReadsLeaveAPrefix, FailedWritesLeaveAPrefix, ReadingTakesNoMemory};
-ghost use Rattle.vtree.specs.WorkedLines.{WorkedNumbers, WorkedSplits, WorkedBadLines, WorkedTexts};
+ghost use Rattle.vtree.specs.WorkedLines.{WorkedNumbers, WorkedSplits, WorkedBadLines, WorkedTexts, WorkedReplies};
 ghost use Rattle.vtree.specs.WorkedCommandLines.{WorkedChangeLines, WorkedReadLines, WorkedWalkLines, WorkedIntersectionLines};
 ghost use Rattle.vtree.specs.WorkedRuns.{FirstRun, WorkedRuns};
 ghost use Rattle.vtree.specs.Laws.{WordsAreRead, WordsAreOneCommand, OwnLinesAreRead, GoodWordsAreOwn, OwnWordsAreGood, TranscriptsAgree, BadLinesChangeNothing, OwnRepliesAreTranscripts, EachLineGives, LinesAreRead, TextsAreLines, BadTextIsNoReply, TextsTell, TellingFixesText};
@@ -57,12 +57,13 @@ pub fn worked_command_lines()
 {}
 
 #[tactic(auto, using(crate::proofs::WorkedLineLemmas::worked_lines))]
-/// Worked numbers, splits, bad lines and texts, found by hand.
+/// Worked numbers, splits, bad lines, texts, and replies that can stand in a line, found by hand.
 pub fn worked_lines()
     ensures numbers { WorkedNumbers }
     ensures splits { WorkedSplits }
     ensures bad { WorkedBadLines }
     ensures texts { WorkedTexts }
+    ensures replies { WorkedReplies }
 {}
 
 #[tactic(auto, using(crate::proofs::WorkedTranscriptLemmas::runs))]

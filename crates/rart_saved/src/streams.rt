@@ -46,7 +46,7 @@ pub fn save<K: KeyTrait, V: SavedValue, W: Write>(
 /// Writes the bytes of a list of changes, as `save_changes_slice` gives them, otherwise as `save`.
 ///
 /// ```
-/// save_changes(alloc, draft.changes()?.as_slice(), &mut connection)?;
+/// save_changes(alloc, draft.changes()?.as_slice(), &mut file)?;
 /// ```
 pub fn save_changes<K: KeyTrait, V: SavedValue, W: Write>(
     alloc: Global,
@@ -97,7 +97,7 @@ pub fn load<K: KeyTrait, V: SavedValue, R: Read>(
 /// Reads all that a reader gives, as `load_changes_slice` reads it.
 ///
 /// ```
-/// let changes: Vec<KeyChange<VectorKey, u64>> = load_changes(alloc, &mut connection)?;
+/// let changes: Vec<KeyChange<VectorKey, u64>> = load_changes(alloc, &mut reader)?;
 /// ```
 ///
 /// `Io` comes where reading failed.

@@ -42,7 +42,8 @@ impl<K: KeyTrait, V: Clone + Drop> VersionedAdaptiveRadixTree<K, V> {
     /// ```
     /// let mut cursor = list.cursor_from(Bound::Included(tea.as_ref()))?;
     /// while let Some(price) = cursor.next_value()? {
-    ///     sum_of_lengths += cursor.key().len();
+    ///     names += cursor.key().len();
+    ///     prices.push(*price)?;
     /// }
     /// ```
     ///

@@ -7,8 +7,9 @@ use Rattle.std.specs.Ordering.{eq_by_cmp}
 use Rattle.std.proofs.lemmas.Bool.{and_parts, and_from, false≢true, ne_eqb}
 use Rattle.rart_maps.proofs.ElementLemmas.{Contains-entries, Contains-here, Contains-nil}
 use Rattle.tuple_index.specs.declared.tuple.Tuple.{Tuple}
-use Rattle.tuple_index.specs.CutLaws.{KeptBringsBack, RestoredHas, SomeWithIsATuple, TuplesFixTheSet, WithHas, WithoutHas}
-use Rattle.tuple_index.specs.Tuples.{Tuples, has_columns, has_tuple, tuple_order, tuples_of_either, tuples_with, tuples_without, with_tuples_of}
+use Rattle.rart_maps.proofs.OrderLemmas.{begins_is_of_rest}
+use Rattle.tuple_index.specs.CutLaws.{ColumnsAreFirst, KeptBringsBack, RestoredHas, SomeWithIsATuple, TuplesFixTheSet, WithHas, WithoutHas}
+use Rattle.tuple_index.specs.Tuples.{Tuples, columns_of, has_columns, has_tuple, tuple_order, tuples_of_either, tuples_with, tuples_without, with_tuples_of}
 use Rattle.tuple_index.proofs.IndexLemmas.{own-columns, total}
 
 kept : (t : Bool) (o : Option (Unit {0})) → is_some (cond t o None) ≡ (is_some o && t)
@@ -16,6 +17,9 @@ kept true None = refl
 kept true (Some x) = refl
 kept false None = refl
 kept false (Some x) = refl
+
+pub columns_are_first : ColumnsAreFirst
+columns_are_first columns t = begins_is_of_rest columns (columns_of t)
 
 -- a tuple is in what a test keeps of a set where it was there and passes
 retained : (tuples : Tuples) (p : Tuple → Bool) (t : Tuple) →

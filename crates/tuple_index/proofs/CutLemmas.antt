@@ -1,6 +1,6 @@
 -- The set of tuples that a version stands for, cut at first columns: what a call makes of the pairs
 -- under their bytes it makes of the tuples that begin so.
-use Rattle.std.proofs.Common.{◌≡◌, ◌<◌, ◌^◌, ◌+◌, ℕ, length, Bool, true, false, cond, not, List, [], ◌∷◌, ◌++◌, map, refl, sym, ap, subst, ◌∙◌}
+use Rattle.std.proofs.Common.{◌≡◌, ◌⊎◌, ⊎_elim, inl, inr, ◌<◌, ◌^◌, ◌+◌, ℕ, length, Bool, true, false, cond, not, List, [], ◌∷◌, ◌++◌, map, refl, sym, ap, subst, ◌∙◌}
 use Rattle.std.specs.Prelude.{◌==◌, All, IfOk, OnOk, OnErr, Result, Ok, Err, None}
 use Rattle.std.specs.declared.alloc.AllocError.{AllocError}
 use Rattle.std.specs.declared.cmp.Ordering.{Ordering}
@@ -286,3 +286,24 @@ module _ (columns : List ℕ) (narrow : All (λ n. n < 2 ^ 32) columns)
       ap (λ m. tuples_in (pairs m)) (part-content part kept)
       ∙ tuples-part columns narrow before.content keys
       ∙ ap (λ tuples. tuples_with tuples columns) shown-tuples
+
+-- ---- of two indexes: whether one of them has such a tuple
+pub either-refused : (columns : List ℕ) → All (λ n. n < 2 ^ 32) columns →
+    (prefix : List ℕ) → prefix ≡ bytes_of columns →
+    (one : Version (Unit {0})) → AreTupleKeys (pairs one.content) →
+    (shown : Index) → index_of one ≡ shown →
+    (other : Version (Unit {0})) → AreTupleKeys (pairs other.content) →
+    (shown' : Index) → index_of other ≡ shown' →
+    {A : Type 0} (r : Result A AllocError) →
+    OnErr r ((has_under one prefix ≡ true) ⊎ (has_under other prefix ≡ true)) →
+    OnErr r ((has_some_with shown.tuples columns ≡ true)
+    ⊎ (has_some_with shown'.tuples columns ≡ true))
+either-refused columns narrow prefix is one keys shown shows other keys' shown' shows' (Ok done)
+    either =
+    tt
+either-refused columns narrow prefix is one keys shown shows other keys' shown' shows' (Err e)
+    either =
+    ⊎_elim
+    (λ mine. inl (sym (some-shown columns narrow prefix is one keys shown shows) ∙ mine))
+    (λ theirs. inr (sym (some-shown columns narrow prefix is other keys' shown' shows') ∙ theirs))
+    either

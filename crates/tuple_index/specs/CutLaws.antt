@@ -1,7 +1,12 @@
 -- Laws that show what a set of tuples cut at first columns is.
-use Rattle.std.specs.Prelude.{◌≡◌, ◌↔◌, ◌&&◌, ℕ, List, not, IsTrue, if◌then◌else◌}
+use Rattle.std.specs.Prelude.{◌≡◌, ◌↔◌, ◌++◌, ◌&&◌, ℕ, List, not, IsTrue, if◌then◌else◌}
 use Rattle.tuple_index.specs.declared.tuple.Tuple.{Tuple}
-use Rattle.tuple_index.specs.Tuples.{Tuples, has_columns, has_some_with, has_tuple, tuples_with, tuples_without, with_tuples_of}
+use Rattle.tuple_index.specs.Tuples.{Tuples, columns_of, has_columns, has_some_with, has_tuple, tuples_with, tuples_without, with_tuples_of}
+
+-- A tuple has these first columns where its columns are these, and others behind them.
+abbrev pub ColumnsAreFirst : Type 0
+ColumnsAreFirst = (columns : List ℕ) (t : Tuple) →
+    IsTrue (has_columns columns t) ↔ ((rest : List ℕ) × (columns_of t ≡ columns ++ rest))
 
 -- ---- which tuples are in it: this says all of it, as sets with the same tuples are one
 abbrev pub WithHas : Type 0

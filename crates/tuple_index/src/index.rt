@@ -1,5 +1,5 @@
 //! The index: one versioned tree, whose keys are those of the tuples.
-ghost use Rattle.std.specs.Prelude.{◌≡◌, ◌+◌, ◌*◌, ◌<◌, ◌^◌, ◌≤◌, ◌++◌, ◌∷◌, [], All, length, take, filter, map, IsOk, IfOk, IsTrue, OnOk, OnErr, if◌then◌else◌};
+ghost use Rattle.std.specs.Prelude.{◌≡◌, ◌⊎◌, ◌+◌, ◌*◌, ◌<◌, ◌^◌, ◌≤◌, ◌++◌, ◌∷◌, [], All, length, take, filter, map, IsOk, IfOk, IsTrue, OnOk, OnErr, if◌then◌else◌};
 ghost use Rattle.rart_maps.specs.Pairs.{common, under};
 ghost use Rattle.tuple_index.specs.Decoding.{tuple_at};
 ghost use Rattle.tuple_index.specs.Tuples.{HasRoom, bytes_of, has_columns, has_some_with, has_tuple, key_of, listed, no_tuple, tuples_with, tuples_without, with_tuple, with_tuples_of, without_tuple};
@@ -182,7 +182,8 @@ impl TupleIndex {
 
     /// Puts the tuples of another set whose first columns are these, at most four, in place of the
     /// own ones that begin so. The number is then the sum of both, whether or not a tuple changes.
-    /// The other set stays as it is. Refused for memory, set and number are as before.
+    /// The other set stays as it is. Refused for memory, which it is not where neither has such a
+    /// tuple, set and number are as before.
     ///
     /// ```
     /// facts.restore_all(&[KNOWS, ann], &yesterday)?;
@@ -194,6 +195,8 @@ impl TupleIndex {
             (self.new.tuples ≡ with_tuples_of columns.now from.now.tuples self.old.tuples) }
         ensures number { OnOk result (self.new.number ≡ self.old.number + from.now.number) }
         ensures refused { OnErr result (self.new ≡ self.old) }
+        ensures present { OnErr result (IsTrue (has_some_with self.old.tuples columns.now)
+            ⊎ IsTrue (has_some_with from.now.tuples columns.now)) }
     {
         let key = padded_key(columns);
         self.tree

@@ -1,7 +1,7 @@
 //! What tuples and their keys have to do with one another: laws, each the contract of a function.
 ghost use Rattle.std.specs.Prelude.{◌≡◌};
 ghost use Rattle.rart_versioned.specs.Bytes.{byte_order};
-ghost use Rattle.tuple_index.specs.CutLaws.{KeptBringsBack, RestoredHas, SomeWithIsATuple};
+ghost use Rattle.tuple_index.specs.CutLaws.{ColumnsAreFirst, KeptBringsBack, RestoredHas, SomeWithIsATuple};
 ghost use Rattle.tuple_index.specs.CutLaws.{TuplesFixTheSet, WithHas, WithoutHas};
 ghost use Rattle.tuple_index.specs.Tuples.{RoomIsBelowTheLast, key_of, tuple_order};
 
@@ -30,8 +30,9 @@ pub fn tuples_are_ordered_as_their_keys(one: Tuple, other: Tuple) -> Ordering
 }
 
 /// Which tuples are in a set that was cut at first columns, and when there is one. As sets with the
-/// same tuples are the same, this is all that can be said of each.
+/// same tuples are the same, this is all that can be said of each. And what first columns are.
 pub fn cut_sets_have_these_tuples()
+    ensures columns { ColumnsAreFirst }
     ensures with_columns { WithHas }
     ensures without { WithoutHas }
     ensures restored { RestoredHas }

@@ -1,4 +1,4 @@
-use Rattle.tuple_index.proofs.CutLemmas.{restored-keys, restored-tuples}
+use Rattle.tuple_index.proofs.CutLemmas.{either-refused, restored-keys, restored-tuples}
 use Rattle.tuple_index.proofs.index.TupleIndex.restore_all.Goals as goal
 
 pub invariant_of-self : goal.invariant_of-self
@@ -17,3 +17,11 @@ returns-clause-tuples c =
     c.self.inside.tree c.self.invariant c.args.self.now c.self.view_is
     c.restore_prefix_slice.new.self c.from.inside.tree c.from.invariant c.args.from.now
     c.from.view_is c.restore_prefix_slice.result c.restore_prefix_slice.ensures.restored
+
+pub returns-clause-present : goal.returns-clause-present
+returns-clause-present c =
+    either-refused c.args.columns.now c.padded_key-key.ensures.narrow _
+    c.padded_key-key.ensures.bytes
+    c.self.inside.tree c.self.invariant c.args.self.now c.self.view_is
+    c.from.inside.tree c.from.invariant c.args.from.now c.from.view_is
+    c.restore_prefix_slice.result c.restore_prefix_slice.ensures.present

@@ -1,17 +1,23 @@
 //! What the forms of versions and of changes fix, and worked forms: laws, each the contract of a
 //! function.
-ghost use Rattle.std.specs.Prelude.{◌≡◌, IfErr, IfOk};
+ghost use Rattle.std.specs.Prelude.{◌≡◌, ◌⊎◌, IfErr, IfOk, map};
 ghost use Rattle.rart_below.specs.Clones.{ClonesEqual};
+ghost use Rattle.rart_changes.specs.Shown.{shown_change};
+ghost use Rattle.rart_saved.specs.ChangeForms.{IsChangeList};
 ghost use Rattle.rart_saved.specs.ChangeFormLaws.{ChangeFormsAreOfOne, ChangeFormsStandApart, ChangesAreNoVersion, NoChange, OneOfEach};
 ghost use Rattle.rart_saved.specs.Forms.{IsVersionOf};
 ghost use Rattle.rart_saved.specs.SavedLaws.{FormsAreOfOne, FormsStandApart};
-ghost use Rattle.rart_saved.specs.declared.error.LoadError.TheVariants.{Memory};
+ghost use Rattle.rart_saved.specs.declared.error.LoadError.TheVariants.{Io, Memory};
 ghost use Rattle.rart_saved.specs.WorkedForms.{NumberOfOneByte, NumberOfTwoBytes, GreatestNumber, NumberAsValue, EmptyVersion, GreatestVersion, EmptyKey, KeysInKeys, SumBehind};
 
+use crate::changes::loading::load_changes_slice;
+use crate::changes::saving::save_changes_slice;
 use crate::error::LoadError;
 use crate::loading::load_slice;
 use crate::saving::save_slice;
+use crate::streams::{load, load_changes};
 use crate::value::SavedValue;
+use rart_changes::KeyChange;
 use rart_versioned::{KeyTrait, VersionedAdaptiveRadixTree};
 use std::alloc::Global;
 
@@ -69,4 +75,46 @@ pub fn forms_are_given_back<K: KeyTrait, V: SavedValue>(
     trees_are_versions(tree);
     let bytes = save_slice(alloc, tree)?;
     load_slice(alloc, bytes.as_slice())
+}
+
+/// The same over a stream of these bytes, where reading may fail too.
+pub fn forms_are_given_back_by_streams<K: KeyTrait, V: SavedValue>(
+    alloc: Global,
+    tree: &VersionedAdaptiveRadixTree<K, V>,
+) -> Result<VersionedAdaptiveRadixTree<K, V>, LoadError>
+    requires clones { ClonesEqual V.is_clone }
+    ensures same { IfOk result (λ back. back ≡ tree.now) }
+    ensures errors { IfErr result (λ error. (error ≡ Memory) ⊎ (error ≡ Io)) }
+{
+    trees_are_versions(tree);
+    let bytes = save_slice(alloc, tree)?;
+    load(alloc, &mut bytes.as_slice())
+}
+
+/// What is saved of changes whose keys ascend is loaded again, or memory is refused.
+pub fn changes_are_given_back<K: KeyTrait, V: SavedValue>(
+    alloc: Global,
+    list: &[KeyChange<K, V>],
+) -> Result<Vec<KeyChange<K, V>>, LoadError>
+    requires { IsChangeList K.MAXIMUM_SIZE (map (shown_change K.bytes) list.now) }
+    ensures same { IfOk result (λ back. map (shown_change K.bytes) back.items
+        ≡ map (shown_change K.bytes) list.now) }
+    ensures memory { IfErr result (λ error. error ≡ Memory) }
+{
+    let bytes = save_changes_slice(alloc, list)?;
+    load_changes_slice(alloc, bytes.as_slice())
+}
+
+/// The same over a stream of these bytes, where reading may fail too.
+pub fn changes_are_given_back_by_streams<K: KeyTrait, V: SavedValue>(
+    alloc: Global,
+    list: &[KeyChange<K, V>],
+) -> Result<Vec<KeyChange<K, V>>, LoadError>
+    requires { IsChangeList K.MAXIMUM_SIZE (map (shown_change K.bytes) list.now) }
+    ensures same { IfOk result (λ back. map (shown_change K.bytes) back.items
+        ≡ map (shown_change K.bytes) list.now) }
+    ensures errors { IfErr result (λ error. (error ≡ Memory) ⊎ (error ≡ Io)) }
+{
+    let bytes = save_changes_slice(alloc, list)?;
+    load_changes(alloc, &mut bytes.as_slice())
 }

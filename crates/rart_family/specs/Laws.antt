@@ -2,7 +2,7 @@
 use Rattle.std.specs.Prelude.{◌≡◌, ◌≢◌, ℕ, ◌<◌, ◌≤◌, false, List, length, map, Option, Some, None, slice_get, IfSome, ◌⊎◌, ⊤}
 use Rattle.std.specs.declared.ops.Bound.{Bound}
 use Rattle.rart_family.specs.declared.family.command.Command.{Command}
-use Rattle.rart_family.specs.declared.family.command.Command.TheVariants.{Discard, Version as NumberOf, IsEmpty, Get, Remove, Delete, Update, TryUpdate, Iter, Range, Prefix, Matches, MatchesEach, Views, PrefixViews, RangeViews, Intersect, IntersectViews, IntersectValues, IntersectCount}
+use Rattle.rart_family.specs.declared.family.command.Command.TheVariants.{Discard, Insert, Snapshot, Version as NumberOf, IsEmpty, Get, Remove, Delete, Update, TryUpdate, Iter, Range, Prefix, Matches, MatchesEach, Views, PrefixViews, RangeViews, Intersect, IntersectViews, IntersectValues, IntersectCount}
 use Rattle.rart_maps.specs.Versions.{has_key}
 use Rattle.rart_family.specs.Replies.{Reply, Pairs, ValuePairs, NoVersion, NoRoom, NoMemory}
 use Rattle.rart_family.specs.Families.{Family, Call, Discards, Reads, Meets, Changes, version_at, call_of, reply_to, after}
@@ -127,3 +127,27 @@ module _ (K V : Type 0) (bytes : K → List ℕ) where
       ≡ swapped_reply (reply_to bytes f (IntersectValues left right)))
       × (reply_to bytes f (IntersectCount right left)
       ≡ reply_to bytes f (IntersectCount left right))
+
+  -- ---- what each of these is, of commands of each kind
+  abbrev pub ReadersOnlyRead : Type 0
+  ReadersOnlyRead = (place other : ℕ) (key : K)
+      → OnlyReads {V = V} (call_of bytes (Get place key))
+      × OnlyReads {V = V} (call_of bytes (Iter place))
+      × OnlyReads {V = V} (call_of bytes (Prefix place key))
+      × OnlyReads {V = V} (call_of bytes (IntersectCount place other))
+
+  -- Of places that are there a command changes the one that it names, or none.
+  abbrev pub ChangesAreOfAPlace : Type 0
+  ChangesAreOfAPlace = (place other : ℕ) (key : K) (value : V)
+      → (place_changed {V = V} (call_of bytes (Insert place key value)) ≡ Some place)
+      × (place_changed {V = V} (call_of bytes (Remove place key)) ≡ Some place)
+      × (place_changed {V = V} (call_of bytes (Discard place)) ≡ Some place)
+      × (place_changed {V = V} (call_of bytes (Snapshot place)) ≡ None)
+      × (place_changed {V = V} (call_of bytes (Get place key)) ≡ None)
+      × (place_changed {V = V} (call_of bytes (IntersectCount place other)) ≡ None)
+
+  abbrev pub SomeTakeNoMemory : Type 0
+  SomeTakeNoMemory = (f : Family V) (place other : ℕ) (key : K)
+      → TakesNoMemory f (Discard place) × TakesNoMemory f (NumberOf place)
+      × TakesNoMemory f (IntersectCount place other)
+      × (LacksKey f place key → TakesNoMemory f (Get place key) × TakesNoMemory f (Remove place key))

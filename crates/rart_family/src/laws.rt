@@ -1,5 +1,5 @@
 //! What the definitions of families mean: laws, each the contract of a function that does nothing.
-ghost use Rattle.rart_family.specs.Laws.{StepsAreIsolated, PlacesStay, RepliesFixSteps, RepliesFixRuns, StepsReplyTheirOwn, RunsReplyToEach, NoReplyIsWant, NoWantWithoutMemory, NoWantBeforeLack, ReadsLeaveFamily, VisitorsReplyAsIterators, IntersectionsSwap};
+ghost use Rattle.rart_family.specs.Laws.{StepsAreIsolated, PlacesStay, RepliesFixSteps, RepliesFixRuns, StepsReplyTheirOwn, RunsReplyToEach, NoReplyIsWant, NoWantWithoutMemory, NoWantBeforeLack, ReadsLeaveFamily, ReadersOnlyRead, ChangesAreOfAPlace, SomeTakeNoMemory, VisitorsReplyAsIterators, IntersectionsSwap};
 ghost use Rattle.rart_family.specs.WorkedCosts.{CostsAreWorked};
 ghost use Rattle.rart_family.specs.WorkedRuns.{RunsAreWorked};
 
@@ -48,6 +48,14 @@ pub fn want_of_memory_is_bounded<K: KeyTrait, V>()
 pub fn reads_leave_families<K: KeyTrait, V>()
     ensures family { ReadsLeaveFamily K V K.bytes }
     ensures visitors { VisitorsReplyAsIterators K V K.bytes }
+{}
+
+/// Commands of each kind: that they only read, which place they may change, that they take no
+/// memory.
+pub fn commands_are_of_kinds<K: KeyTrait, V>()
+    ensures reads { ReadersOnlyRead K V K.bytes }
+    ensures changes { ChangesAreOfAPlace K V K.bytes }
+    ensures memory { SomeTakeNoMemory K V K.bytes }
 {}
 
 /// With its places swapped, an intersection is replied the same keys with their values swapped, and

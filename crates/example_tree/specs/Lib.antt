@@ -1,3 +1,4 @@
 pub mod Counting
 pub mod InCommon
 pub mod Listing
+pub mod Sorting

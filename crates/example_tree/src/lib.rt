@@ -9,6 +9,7 @@ pub mod in_common;
 pub mod listing;
 pub mod prices;
 pub mod snapshots;
+pub mod sorting;
 pub mod stock;
 pub mod values;
 pub mod visiting;

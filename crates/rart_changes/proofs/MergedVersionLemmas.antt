@@ -14,7 +14,7 @@ use Rattle.rart_maps.specs.ChangeLists.{Change, changes, differ, patched}
 use Rattle.rart_maps.specs.Merges.{Answers, Conflict, answered, conflicts, in_conflict}
 use Rattle.rart_maps.proofs.ChangeLemmas.{KeysAscend-kept, changes-ascend, changes-from, changes-to}
 use Rattle.rart_maps.proofs.MergeLemmas.{conflicts_are_found, conflicts_ascend}
-use Rattle.rart_changes.specs.Merging.{Answerable, AnswerableStepByStep, AnswersAreMerged, AnswersBy, AsksInOrder, KeepsAsked, Replies, RepliesUpTo, Reply, change_for}
+use Rattle.rart_changes.specs.Merging.{AnswersAreKept, KeepsReplies, Answerable, AnswerableStepByStep, AnswersAreMerged, AnswersBy, AsksInOrder, KeepsAsked, Replies, RepliesUpTo, Reply, change_for}
 
 module _ {V : Type 0} (same : V → V → Bool) (ours : Map V) where
   -- what the three have at a key that theirs changed
@@ -123,6 +123,22 @@ module _ {F A V : Type 0} (g : Mut F A (Option V)) (Shows : A → Conflict V →
           ∙ ap (λ list. list ++ up_to.1)
           (sym (replies-asked asked keeps up_to.0 f f' up_to.2.calls)),
     ),
+  )
+
+  replies-kept : (kept : F → List (Reply V)) → KeepsReplies g Shows kept
+      → (replies : List (Reply V)) (f f' : F) → Replies g Shows f replies f'
+      → kept f' ≡ kept f ++ replies
+  replies-kept kept keeps [] f f' calls = ap kept (sym calls) ∙ sym (append-nil (kept f))
+  replies-kept kept keeps (reply ∷ replies) f f' calls =
+      replies-kept kept keeps replies calls.0 f' calls.2
+      ∙ ap (λ list. list ++ replies) (keeps f reply.0 reply.1 calls.0 calls.1)
+      ∙ append_assoc (kept f) (reply ∷ []) replies
+
+  pub answers_are_kept : (same : V → V → Bool) → AnswersAreKept g Shows same
+  answers_are_kept same kept keeps f f' base ours theirs after merges = (
+    merges.replies,
+    replies-kept kept keeps merges.replies f f' merges.calls,
+    merges.content,
   )
 
   callable-first : (f : F) (conflict c : Conflict V) (rest left : List (Conflict V)) (f' : F)

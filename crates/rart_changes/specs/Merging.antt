@@ -100,6 +100,18 @@ module _ {F A V : Type 0} (g : Mut F A (Option V)) (Shows : A → Conflict V →
       × ((all : List (Conflict V)) → IsAskedUpTo f all f'
       → (rest : List (Conflict V)) × (asked f ++ all ≡ asked f' ++ rest))
 
+  -- To say what it answered: a closure that keeps each conflict with its answer. What a merge leaves
+  -- has these answers.
+  abbrev pub KeepsReplies : (F → List (Reply V)) → Type 0
+  KeepsReplies kept = (f : F) (conflict : Conflict V) (answer : Option V) (f' : F) →
+      CalledOn g Shows f conflict answer f' → kept f' ≡ kept f ++ (conflict, answer) ∷ []
+
+  abbrev pub AnswersAreKept : (V → V → Bool) → Type 0
+  AnswersAreKept same = (kept : F → List (Reply V)) → KeepsReplies kept → (f f' : F)
+      (base ours theirs after : Map V) → MergesTo same f base ours theirs f' after
+      → (replies : List (Reply V)) × (kept f' ≡ kept f ++ replies)
+      × (after ≡ patched (patched ours (changes same base theirs)) (map change_for replies))
+
   -- What may be asked about the conflicts may be asked about the first, and, whatever that leaves,
   -- about the others.
   abbrev pub AnswerableStepByStep : Type 0

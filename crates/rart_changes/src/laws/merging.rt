@@ -1,5 +1,5 @@
 //! What the words on merges mean: laws, each the contract of a function that does nothing.
-ghost use Rattle.rart_changes.specs.Merging.{AnswersAreMerged, AnswerableStepByStep, ArgumentsShowTheirConflicts, AsksInOrder, ByLentConflict};
+ghost use Rattle.rart_changes.specs.Merging.{AnswersAreKept, AnswersAreMerged, AnswerableStepByStep, ArgumentsShowTheirConflicts, AsksInOrder, ByLentConflict};
 
 use rart_below::KeyTrait;
 
@@ -14,14 +14,15 @@ pub fn answers_are_merged<
     ensures { AnswersAreMerged F.FnMut (ByLentConflict K.bytes) V.eq }
 {}
 
-/// The closure is asked about each conflict once, in order; where the merge is refused, about the
-/// first ones. It must take the first of them, and then, whatever it leaves, the others.
+/// The closure is asked about each conflict once, in order, and what the merge leaves has the answers
+/// that it gave; where the merge is refused, it is asked about the first ones. It must take the first of them, and then, whatever it leaves, the others.
 pub fn merges_ask_in_order<
     K: KeyTrait,
     V: Eq,
     F: FnMut(&K, Option<&V>, Option<&V>, Option<&V>) -> Option<V>,
 >()
     ensures asked { AsksInOrder F.FnMut (ByLentConflict K.bytes) V.eq }
+    ensures kept { AnswersAreKept F.FnMut (ByLentConflict K.bytes) V.eq }
     ensures answerable { AnswerableStepByStep F.FnMut (ByLentConflict K.bytes) }
 {}
 

@@ -1,8 +1,11 @@
 use Rattle.rart_changes.proofs.laws.merging.merges_ask_in_order.Goals as goal
-use Rattle.rart_changes.proofs.MergedVersionLemmas.{answerable_step_by_step, asks_in_order}
+use Rattle.rart_changes.proofs.MergedVersionLemmas.{answerable_step_by_step, answers_are_kept, asks_in_order}
 
 pub returns-clause-asked : goal.returns-clause-asked
 returns-clause-asked g c = asks_in_order _ _ _
 
 pub returns-clause-answerable : goal.returns-clause-answerable
 returns-clause-answerable g c = answerable_step_by_step _ _
+
+pub returns-clause-kept : goal.returns-clause-kept
+returns-clause-kept g c = answers_are_kept _ _ _

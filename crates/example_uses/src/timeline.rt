@@ -1,5 +1,6 @@
 //! Records by id and time, each under its id, a slash and the time: the newest of an id until a
-//! time, and from there its history backwards, a step at a time.
+//! time, and from there its history backwards, a step at a time. An id has no slash: the records of
+//! `a/b` would be found as those of `a` too.
 ghost use Rattle.std.specs.Prelude.{◌≡◌, ◌<◌, ◌^◌, ℕ, List, Some, IfOk, OnErr, OnOk};
 ghost use Rattle.std.specs.Range.Bound.{bound_map};
 ghost use Rattle.std.specs.declared.ops.Bound.TheVariants.{Excluded, Included};

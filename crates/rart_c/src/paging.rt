@@ -193,8 +193,8 @@ pub(crate) fn next_pair<'a, V: Clone + Drop>(
     first_behind(table, low, high, written, last, room)
 }
 
-/// The next pair of a cursor, where its key meets an upper bound. The key is written to the front of
-/// the room, if it fits. Refused for memory, the room is as before.
+/// The next pair of a cursor, where its key meets an upper bound. The key is written to the front
+/// of the room, if it fits. Refused for memory, the room is as before.
 fn next_of<'a, V: Drop>(
     cursor: &mut VersionedCursor<'a, VectorPartial, V>,
     high: Bound<&[u8]>,

@@ -100,8 +100,8 @@ module _ {F A V : Type 0} (g : Mut F A (Option V)) (Shows : A → Conflict V →
       × ((all : List (Conflict V)) → IsAskedUpTo f all f'
       → (rest : List (Conflict V)) × (asked f ++ all ≡ asked f' ++ rest))
 
-  -- To say what it answered: a closure that keeps each conflict with its answer. What a merge leaves
-  -- has these answers.
+  -- To say what it answered: a closure that keeps each conflict with its answer. What a merge
+  -- leaves has these answers.
   abbrev pub KeepsReplies : (F → List (Reply V)) → Type 0
   KeepsReplies kept = (f : F) (conflict : Conflict V) (answer : Option V) (f' : F) →
       CalledOn g Shows f conflict answer f' → kept f' ≡ kept f ++ (conflict, answer) ∷ []

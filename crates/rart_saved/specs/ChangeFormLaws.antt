@@ -1,4 +1,4 @@
--- What the form of a list of changes fixes, and worked forms, written out by hand: all but the sums.
+-- What the form of a list of changes fixes, and worked forms, written out by hand, without sums.
 use Rattle.std.specs.Prelude.{◌≡◌, ◌≢◌, ℕ, List, [], ◌∷◌, ◌++◌, Some, None, codes}
 use Rattle.rart_maps.specs.ChangeLists.{Change}
 use Rattle.rart_maps.specs.Versions.{Version}

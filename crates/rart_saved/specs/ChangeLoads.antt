@@ -1,4 +1,5 @@
--- What is not there where bytes were refused as changes, and what is given back where they were not.
+-- What is not there where bytes were refused as changes, and what is given back where they are
+-- not.
 use Rattle.std.specs.Prelude.{◌≡◌, ◌≢◌, ◌⊎◌, ℕ, List, [], ◌++◌, Bool, true, Contains, Option, Result, MatchResult, length, map}
 use Rattle.rart_maps.specs.ChangeLists.{Change}
 use Rattle.rart_maps.specs.FoundLaws.{KeysAscend}

@@ -1,4 +1,4 @@
--- Worked lines, found by hand: numbers, splits, bad lines, texts of replies, and what stands in one.
+-- Worked lines, found by hand: numbers, splits, bad lines, texts of replies, and what can stand.
 use Rattle.std.specs.Prelude.{◌≡◌, [], ◌∷◌, ◌++◌, codes, true, false, Some, None}
 use Rattle.rart_family.specs.Replies.{Place, Discarded, Number, Flag, Value, Entries, Values, Stopped, Pairs, ValuePairs, Count, Failed, NoVersion, NoRoom, NoMemory}
 use Rattle.vtree.specs.Lines.{lines_of, words, number_of}
@@ -96,8 +96,8 @@ WorkedTexts =
     × (reply_line NoMemory ≡ codes "no memory\n")
     × (bad_line ≡ codes "bad line\n")
 
--- A reply of each kind can stand in a line with the greatest number, 2^64 - 1, and with a key of the
--- least and the greatest byte, `!` and `~`.
+-- A reply of each kind can stand in a line with the greatest number, 2^64 - 1, and with a key of
+-- the least and the greatest byte, `!` and `~`.
 abbrev pub WorkedReplies : Type 0
 WorkedReplies =
     Stands (Place 18446744073709551615)

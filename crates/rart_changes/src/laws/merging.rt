@@ -14,8 +14,9 @@ pub fn answers_are_merged<
     ensures { AnswersAreMerged F.FnMut (ByLentConflict K.bytes) V.eq }
 {}
 
-/// The closure is asked about each conflict once, in order, and what the merge leaves has the answers
-/// that it gave; where the merge is refused, it is asked about the first ones. It must take the first of them, and then, whatever it leaves, the others.
+/// The closure is asked about each conflict once, in order, and what the merge leaves has the
+/// answers that it gave. Where the merge is refused, it is asked about the first ones. It must take
+/// the first of them, and then, whatever it leaves, the others.
 pub fn merges_ask_in_order<
     K: KeyTrait,
     V: Eq,

@@ -207,8 +207,8 @@ impl<K: KeyTrait, V: Clone + Drop> VersionedAdaptiveRadixTree<K, V> {
     ///
     /// The number is then the sum of both, whether or not a pair changes: a version that is
     /// restored from one fixed version again and again rises by that one's number each time, and
-    /// not at all where that is 0. Refused for memory, map and number are as before. It is not refused
-    /// where neither has a key that the prefix begins.
+    /// not at all where that is 0. Refused for memory, map and number are as before. It is not
+    /// refused where neither has a key that the prefix begins.
     ///
     /// With the pairs `a` 1, `ab` 2, `abc` 3, `ac` 4 here and `aba` 20, `abc` 30, `b` 50 there, the
     /// prefix `ab` leaves `a` 1, `aba` 20, `abc` 30, `ac` 4; the empty one makes this map that one.

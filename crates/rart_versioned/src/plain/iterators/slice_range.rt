@@ -37,8 +37,8 @@ impl<'a, K: KeyTrait, V> Model for VersionedSliceRange<'a, K, V> {
 
 impl<K: KeyTrait, V: Clone + Drop> VersionedAdaptiveRadixTree<K, V> {
     /// The pairs within a lower and an upper bound, as `range` gives them, by bounds that are
-    /// bytes: no key is made for them. Rust's `BTreeMap` takes borrowed bounds in `range`; rart does
-    /// not.
+    /// bytes: no key is made for them. Rust's `BTreeMap` takes borrowed bounds in `range`; rart
+    /// does not.
     ///
     /// ```
     /// let found = list.range_slice(Bound::Included(first.as_ref()), Bound::Unbounded)?;

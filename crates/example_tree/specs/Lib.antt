@@ -1,4 +1,3 @@
 pub mod Counting
 pub mod InCommon
 pub mod Listing
-pub mod Sorting

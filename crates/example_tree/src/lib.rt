@@ -9,7 +9,6 @@ pub mod in_common;
 pub mod listing;
 pub mod prices;
 pub mod snapshots;
-pub mod sorting;
 pub mod stock;
 pub mod values;
 pub mod visiting;

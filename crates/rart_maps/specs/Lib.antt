@@ -3,6 +3,7 @@ pub mod ChangeLaws
 pub mod ChangeLists
 pub mod ChangeVisits
 pub mod Changes
+pub mod Disorders
 pub mod FoundLaws
 pub mod IterationLaws
 pub mod Iterations

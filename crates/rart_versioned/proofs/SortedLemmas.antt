@@ -13,6 +13,7 @@ use Rattle.std.proofs.lemmas.Map.Text.{is_eq-slice_cmp}
 use Rattle.std.proofs.lemmas.Slice.Eq.{bytes_eq-Decides}
 use Rattle.rart_below.specs.Bytes.{IsAdmitted, byte_order}
 use Rattle.rart_below.specs.Plain.{by_bytes}
+use Rattle.rart_maps.specs.Disorders.{IsDisorderAt}
 use Rattle.rart_maps.specs.Order.{IsBefore}
 use Rattle.rart_maps.specs.Pairs.{pairs}
 use Rattle.rart_maps.specs.Points.{points}
@@ -26,7 +27,7 @@ use Rattle.rart_ways.specs.Runs.{AllLong}
 use Rattle.rart_ways.proofs.NodeRunLemmas.{pair-at}
 use Rattle.rart_versioned.specs.Keys.{IsKey}
 use Rattle.rart_versioned.specs.Roots.{IsSound, map_of}
-use Rattle.rart_versioned.specs.Sorted.{AscendTo, IsDisorderAt}
+use Rattle.rart_versioned.specs.Sorted.{AscendTo}
 use Rattle.rart_versioned.proofs.NodePointLemmas.{nodes-points}
 use Rattle.rart_versioned.proofs.VersionMapLemmas.{get-found, pairs-map}
 

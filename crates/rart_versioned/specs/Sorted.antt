@@ -1,15 +1,9 @@
--- Pairs that ascend by their keys, and pairs that do not.
+-- Pairs that ascend by their keys.
 use Rattle.std.specs.Prelude.{◌≡◌, ◌+◌, ◌<◌, ℕ, List, Option, Some, slice_get}
 use Rattle.rart_maps.specs.Order.{IsBefore}
 use Rattle.rart_versioned.specs.Keys.{IsKey}
 
 module _ {K V : Type 0} (bytes : K → List ℕ) where
-  -- The key at this place does not stand behind the one before it.
-  abbrev pub IsDisorderAt : ℕ → List (K × V) → Type 0
-  IsDisorderAt at pairs = (before : ℕ) × (p : K × V) × (q : K × V) × (at ≡ before + 1)
-      × (slice_get pairs before ≡ Some p) × (slice_get pairs at ≡ Some q)
-      × ¬ IsBefore (bytes p.0) (bytes q.0)
-
   -- Of the first so many, each key stands behind the one before it, and is one that may be.
   pub record AscendTo (most : Option ℕ) (count : ℕ) (pairs : List (K × V)) : Type 0 where
     pub ascend : (i : ℕ) (p q : K × V) → i + 1 < count → slice_get pairs i ≡ Some p

@@ -1,4 +1,5 @@
 //! Worked values of what is read off maps and of the bounds, found by hand.
+ghost use Rattle.rart_maps.specs.Disorders.{DisordersAreWorked};
 ghost use Rattle.rart_maps.specs.WorkedBounds.{LookupOfNoByte, LookupOfThreeBytes, ChangeOfNoByte, ChangeOfThreeBytes, TouchOfNoByte, TouchOfThreeBytes, MeetOfTwo, MeetBelowOne, MeetWithItself, MeetOfEmpty, ReachOfTwo, ReachOfAll, ReachOfNone, MeetOfDistinct, MeetInsideKeys, ReachOfFive, ReachOfOne, ReachPastKeys, WalkOfThree, WalkOfOneBelowOther, WalkOfNone, ReachByPairsOfTwo, ReachByPairsOfAll, ReachByPairsOfNone, ReachByPairsOfThree, RangeOfTwo, RangeOfAll, RangeReversed, RangeOfNone, RangeOfNoneBelow};
 ghost use Rattle.rart_maps.specs.WorkedPairs.{WithinIncluded, WithinExcluded, WithinOtherKeys, WithinLowAlone, WithinHighAlone, WithinReversed, WithinOneKey, WithinNoKey, UnderTwo, UnderOne, UnderItself, UnderEmpty, UnderNone, PrefixMatchesShortestFirst, PrefixMatchesOfKey, PrefixMatchesNone, LongestInside, LongestIsItself, LongestIsEmpty, LongestNone, CommonLeftFirst, CommonNone, CommonOfTwo, CommonOfOne, CommonOfEmpty, SharedOfTwo, SharedOfOne, SharedOfEmpty};
 
@@ -94,4 +95,9 @@ pub fn worked_walks()
     ensures reversed { RangeReversed }
     ensures none_within { RangeOfNone }
     ensures none_below { RangeOfNoneBelow }
+{}
+
+/// Worked values: which of two keys is out of order.
+pub fn worked_disorders()
+    ensures { DisordersAreWorked }
 {}

@@ -3,11 +3,12 @@
 ghost use Rattle.std.specs.Prelude.{◌≡◌, ◌+◌, ◌<◌, ◌≤◌, ◌^◌, ℕ, All, Err, IfOk, IfNone, IfSome, IsTrue, Some, false, length, slice_get, true};
 ghost use Rattle.std.specs.FinSet as set;
 ghost use Rattle.rart_below.specs.Plain.{by_bytes};
+ghost use Rattle.rart_maps.specs.Disorders.{IsDisorderAt};
 ghost use Rattle.rart_maps.specs.Order.{IsBefore};
 ghost use Rattle.rart_maps.specs.Pairs as maps;
 ghost use Rattle.rart_maps.specs.Points.{points};
 ghost use Rattle.rart_versioned.specs.Keys.{IsKey};
-ghost use Rattle.rart_versioned.specs.Sorted.{AscendTo, IsDisorderAt};
+ghost use Rattle.rart_versioned.specs.Sorted.{AscendTo};
 
 use crate::counted::tree::VersionedAdaptiveRadixTree;
 use rart_below::{KeyTrait, Partial, compare_bytes};

@@ -2,8 +2,8 @@
 //! A tree made of pairs that ascend, with no count.
 ghost use Rattle.std.specs.Prelude.{◌≡◌, ◌≤◌, ℕ, Err, IfOk, length};
 ghost use Rattle.rart_below.specs.Plain.{by_bytes};
+ghost use Rattle.rart_maps.specs.Disorders.{IsDisorderAt};
 ghost use Rattle.rart_maps.specs.Pairs as maps;
-ghost use Rattle.rart_versioned.specs.Sorted.{IsDisorderAt};
 
 use crate::counted::{SortedError, VersionedAdaptiveRadixTree};
 use rart_below::KeyTrait;

@@ -5,11 +5,12 @@ use Rattle.std.specs.FinSet as set
 use Rattle.std.proofs.lemmas.Bool.{eqb-true}
 use Rattle.rart_below.specs.Bytes.{byte_order}
 use Rattle.rart_below.specs.Plain.{by_bytes}
+use Rattle.rart_maps.specs.Disorders.{IsDisorderAt}
 use Rattle.rart_maps.specs.Pairs.{pairs}
 use Rattle.rart_maps.specs.Points.{points}
 use Rattle.rart_maps.proofs.PairLawLemmas.{pairs-empty}
 use Rattle.rart_maps.proofs.PointLemmas.{points_are_few}
-use Rattle.rart_versioned.specs.Sorted.{AscendTo, IsDisorderAt}
+use Rattle.rart_versioned.specs.Sorted.{AscendTo}
 use Rattle.rart_versioned.proofs.SortedLemmas.{ascend-sorted, long-none, pairs-root, points-root, sound-root}
 use Rattle.rart_versioned.proofs.counted.tree.VersionedAdaptiveRadixTree.from_sorted_counted.Goals as goal
 

@@ -1,9 +1,9 @@
-use Rattle.std.proofs.Common.{◌≡◌, ◌+◌, ℕ, List, [], ◌∷◌, Some, ⊎_elim, inl, refl, ap, arith, subst, sym, ◌∙◌}
+use Rattle.std.proofs.Common.{◌≡◌, ℕ, List, [], ◌∷◌, ⊎_elim, inl, refl, ap, arith, subst, sym, ◌∙◌}
 use Rattle.std.specs.Prelude.{codes, slice_get}
 use Rattle.std.proofs.lemmas.Option.{same_Some}
 use Rattle.rart_maps.specs.Order.{IsBefore}
-use Rattle.example_tree.specs.Sorting.{IsOutOfOrderAt}
-use Rattle.example_tree.proofs.sorting.disorders_are_worked.Goals as goal
+use Rattle.rart_maps.specs.Disorders.{IsOutOfOrderAt}
+use Rattle.rart_maps.proofs.laws.worked.worked_disorders.Goals as goal
 
 in-order : ¬ IsOutOfOrderAt 1 ((codes "a", 1) ∷ (codes "b", 2) ∷ [])
 in-order found =

@@ -1,15 +1,14 @@
 -- Sets of bytes in four words of 64 bits.
-use Rattle.std.proofs.Common.{◌≡◌, ◌<◌, ◌≤◌, ◌≢◌, inl, inr, ℕ, zero, suc, length, ◌+◌, ◌*◌, ◌/◌, ◌%◌, ◌^◌, w64, Bool, true, false, List, [], ◌∷◌, take, cond, refl, ap, sym, ◌∙◌, arith, get_or, get_or-set_same, get_or-set_other, set, Option, None, Some}
-use Rattle.std.specs.Prelude.{◌==◌, ◌&&◌, ◌||◌, not, nat_lt, if◌then◌else◌, bit_and, bit_or, is_some, min}
+use Rattle.std.proofs.Common.{◌≡◌, ◌<◌, ◌≢◌, inl, inr, ℕ, zero, suc, length, ◌+◌, ◌*◌, ◌/◌, ◌%◌, ◌^◌, w64, Bool, true, false, List, [], ◌∷◌, take, cond, refl, ap, sym, ◌∙◌, arith, get_or, get_or-set_same, get_or-set_other, set, Option, None, Some}
+use Rattle.std.specs.Prelude.{◌==◌, ◌&&◌, ◌||◌, not, bit_and, bit_or, is_some, min}
 use Rattle.std.specs.Cmp.{unsigned_tied}
 use Rattle.std.specs.Int.{bit_at, bit_not, trailing_zeros}
-use Rattle.std.proofs.lemmas.Bool.{cases_eq, cases_lt, eq-eqb, ne_eqb, false≢true, lt-ltb}
+use Rattle.std.proofs.lemmas.Bool.{cases_eq, cases_lt, eq-eqb, ne_eqb, false≢true}
 use Rattle.std.proofs.lemmas.List.{get_or_past}
 use Rattle.std.proofs.lemmas.Nat.Bits.{bit_at-lt, bit_at-zero, bit_at_and, bit_at_set_same, bit_at_set_other, bit_at_clear_same, bit_at_clear_other, bit_at-trailing_zeros}
 use Rattle.rart_below.specs.ByteSets.{has_bit}
 use Rattle.rart_below.specs.Children.{child_at}
-use Rattle.rart_below.specs.Layouts.{slot_children, named_slots, keyed_children, is_filled}
-use Rattle.rart_below.proofs.IndexedMappingLemmas.{IsKept, child_at-named, held_once, absent_past}
+use Rattle.rart_below.specs.Layouts.{keyed_children, is_filled}
 
 -- A word has no bit where it is 0.
 pub no-word : (words : List ℕ) (byte : ℕ) → get_or words (byte / 64) 0 ≡ 0
@@ -256,49 +255,6 @@ first-taken words place wide within before some fits =
           ∙ bit-removed words (place * 64 + zeros) wide first.fits byte,
     )
 
--- ---- a set of four words that were made one by one
--- Each word has the bits of its 64 bytes, and no other byte has one.
-pub bits-of-words : (bit : ℕ → Bool) (a b c d : ℕ)
-    → ((place : ℕ) → place < 64 → (bit_at a place == 1) ≡ bit (0 + place))
-    → ((place : ℕ) → place < 64 → (bit_at b place == 1) ≡ bit (64 + place))
-    → ((place : ℕ) → place < 64 → (bit_at c place == 1) ≡ bit (128 + place))
-    → ((place : ℕ) → place < 64 → (bit_at d place == 1) ≡ bit (192 + place))
-    → ((byte : ℕ) → 256 ≤ byte → bit byte ≡ false) → (byte : ℕ)
-    → has_bit (a ∷ b ∷ c ∷ d ∷ []) byte ≡ bit byte
-bits-of-words bit a b c d in_a in_b in_c in_d past byte =
-    let words : List ℕ = a ∷ b ∷ c ∷ d ∷ [] in
-    let low : byte % 64 < 64 = omega arith in
-    let at : (place : ℕ) → byte / 64 ≡ place
-    → has_bit words byte ≡ (bit_at (get_or words place 0) (byte % 64) == 1) =
-    λ place e. ap (λ (n : ℕ). bit_at (get_or words n 0) (byte % 64) == 1) e in
-    elim (cases_lt byte 128) [
-      | inl lower ↦ elim (cases_lt byte 64) [
-        | inl first ↦
-            let here : byte / 64 ≡ 0 = omega (arith, first) in
-            let same : 0 + byte % 64 ≡ byte = omega (arith, first) in
-            at 0 here ∙ (in_a (byte % 64) low ∙ ap bit same)
-        | inr second ↦
-            let here : byte / 64 ≡ 1 = omega (arith, second, lower) in
-            let same : 64 + byte % 64 ≡ byte = omega (arith, second, lower) in
-            at 1 here ∙ (in_b (byte % 64) low ∙ ap bit same)
-      ]
-      | inr upper ↦ elim (cases_lt byte 192) [
-        | inl third ↦
-            let here : byte / 64 ≡ 2 = omega (arith, upper, third) in
-            let same : 128 + byte % 64 ≡ byte = omega (arith, upper, third) in
-            at 2 here ∙ (in_c (byte % 64) low ∙ ap bit same)
-        | inr fourth ↦ elim (cases_lt byte 256) [
-          | inl last ↦
-              let here : byte / 64 ≡ 3 = omega (arith, fourth, last) in
-              let same : 192 + byte % 64 ≡ byte = omega (arith, fourth, last) in
-              at 3 here ∙ (in_d (byte % 64) low ∙ ap bit same)
-          | inr beyond ↦
-              no-word words byte (get_or_past words (byte / 64) 0 (omega (arith, beyond)))
-              ∙ sym (past byte beyond)
-        ]
-      ]
-    ]
-
 -- ---- the bytes of a mapping
 pub some-where : {C : Type 0} (byte key : ℕ) (child : C) (rest : List (ℕ × C))
     → is_some (child_at byte ((key, child) ∷ rest)) ≡ (byte == key || is_some (child_at byte rest))
@@ -321,38 +277,3 @@ keys-some byte (key ∷ keys) (None ∷ slots) filled = absurd (false≢true fil
 keys-some byte (key ∷ keys) (Some child ∷ slots) filled =
     ap (λ (t : Bool). byte == key || t) (keys-some byte keys slots filled)
     ∙ sym (some-where byte key child (keyed_children keys slots))
-
-not-none : {C : Type 0} (slot : Option C) → slot ≢ None → is_some slot ≡ true
-not-none None some = absurd (some refl)
-not-none (Some child) some = refl
-
--- the entries of an index that name a slot
-pub named-some : {C : Type 0} (byte : ℕ) (index : List ℕ) (slots : List (Option C)) (used : ℕ)
-    → IsKept index slots used → byte < 256
-    → nat_lt (get_or index byte 0) 48
-    ≡ is_some (child_at byte (slot_children 0 (named_slots slots index)))
-named-some byte index slots used kept fits = elim (cases_lt (get_or index byte 0) 48) [
-  | inl named ↦
-      let some = (held_once byte (get_or index byte 0) index slots used kept fits refl named).1 in
-      lt-ltb (get_or index byte 0) 48 named
-      ∙ sym (ap is_some (child_at-named byte index slots used kept fits)
-      ∙ not-none (get_or slots (get_or index byte 0) None) some)
-  | inr beyond ↦
-      let none : nat_lt (get_or index byte 0) 48 ≡ false = grind (arith, beyond) in
-      none ∙ sym (ap is_some (absent_past byte index slots used kept fits beyond))
-]
-
--- a word of their bits
-pub named-word : {C : Type 0} (first place word : ℕ) (index : List ℕ) (slots : List (Option C))
-    (used : ℕ) → IsKept index slots used → first + place < 256
-    → bit_at word place ≡ (if nat_lt (get_or index (first + place) 0) 48 then 1 else 0)
-    → (bit_at word place == 1)
-    ≡ is_some (child_at (first + place) (slot_children 0 (named_slots slots index)))
-named-word first place word index slots used kept fits is =
-    ap (λ (n : ℕ). n == 1) is
-    ∙ (by (nat_lt (get_or index (first + place) 0) 48)
-    ∙ named-some (first + place) index slots used kept fits)
-  where
-    by : (t : Bool) → ((if t then 1 else 0) == 1) ≡ t
-    by true = refl
-    by false = refl

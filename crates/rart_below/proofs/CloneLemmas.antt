@@ -153,15 +153,15 @@ module _ {C : Type 0} (Tied : C → C → Type 0) where
 
   -- the test of a mapping by an index, on both
   pub indexed-order : (index : List ℕ) (slots copies : List (Option C)) (used : ℕ)
-      → AllZip (SlotTied Tied) slots copies
+      (bytes bytes' : ByteSet) → bytes' ≡ bytes → AllZip (SlotTied Tied) slots copies
       → SameBytes Tied (slot_children 0 (named_slots slots index))
       (slot_children 0 (named_slots copies index))
-      × (indexed.in_order index copies used ≡ indexed.in_order index slots used)
-  indexed-order index slots copies used h =
-      let tied =
-      slots-tied 0 (named_slots slots index) (named_slots copies index)
-      (named_slots-tied slots copies index h) in
+      × (indexed.in_order index copies used bytes' ≡ indexed.in_order index slots used bytes)
+  indexed-order index slots copies used bytes bytes' same h =
+      let all = named_slots-tied slots copies index h in
+      let tied = slots-tied 0 (named_slots slots index) (named_slots copies index) all in
+      let marked = bytes-tied bytes 0 (named_slots slots index) (named_slots copies index) all in
       let long = (slots-tied 0 slots copies h).1 in
       let marks = marks-tied slots copies h in
       let named = named-tied 0 slots copies index h in
-      (tied.0, rw (long, marks, named) refl)
+      (tied.0, rw (same, long, marks, named, marked) refl)

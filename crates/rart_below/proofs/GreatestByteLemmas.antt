@@ -1,12 +1,12 @@
 -- The greatest number below an end at which a test holds, found by words of 64 bits.
-use Rattle.std.proofs.Common.{◌≡◌, ◌<◌, ◌≤◌, inl, inr, ℕ, suc, ◌+◌, ◌-◌, ◌*◌, ◌/◌, ◌%◌, ◌^◌, w64, Bool, true, false, List, refl, ap, sym, ◌∙◌, subst, arith, Option, None, Some}
-use Rattle.std.specs.Prelude.{◌==◌, is_some, min, bit_and}
+use Rattle.std.proofs.Common.{◌≡◌, ◌<◌, ◌≤◌, inl, inr, ℕ, suc, ◌+◌, ◌-◌, ◌*◌, ◌/◌, ◌%◌, ◌^◌, w64, Bool, false, ap, sym, ◌∙◌, subst, arith, Some}
+use Rattle.std.specs.Prelude.{◌==◌, min, bit_and}
 use Rattle.std.specs.Int.{bit_at, leading_zeros}
 use Rattle.std.proofs.Math.Nat.{div-eq_of_lt-le, two-pow-succ}
 use Rattle.std.proofs.lemmas.Bool.{cases_lt}
 use Rattle.std.proofs.lemmas.Nat.{leading_top}
 use Rattle.std.proofs.lemmas.Nat.Bits.{bit_at-lt, bit_at-zero, bit_at_above, bit_at_and, bit_at_ones, bit_at_ones_above, ones_shr}
-use Rattle.rart_below.specs.ByteSets.{has_bit, IsGreatestBelow}
+use Rattle.rart_below.specs.ByteSets.{IsGreatestBelow}
 
 -- a search downwards that has come so far, and found nothing: the numbers from 256 on were left out
 abbrev pub HasNoneDownTo : ℕ → ℕ → (ℕ → Bool) → Type 0

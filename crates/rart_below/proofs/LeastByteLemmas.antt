@@ -104,14 +104,6 @@ least_to from first least holds before found = (
   ],
 )
 
-pub least_out : (from first : ℕ) (holds : ℕ → Bool) → HasNoneTo from first holds
-    → ((byte : ℕ) → first ≤ byte → holds byte ≡ false) → IsLeastFrom from holds None
-least_out from first holds before none =
-    λ byte le. elim (cases_lt byte first) [
-      | inl early ↦ before.1 byte le early
-      | inr late ↦ none byte late
-    ]
-
 -- ---- the child of the least byte that has one
 pub not-some : {C : Type 0} (slot : Option C) → is_some slot ≡ false → slot ≡ None
 not-some None is = refl

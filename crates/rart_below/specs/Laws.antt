@@ -94,10 +94,15 @@ module _ {C : Type 0} where
   pub indexed-fits : (mapping : IndexedMapping C) → IsTrue (indexed_in_order mapping)
       → length (indexed_children mapping) ≤ 48
   indexed-fits mapping order =
+      let all =
+      and_parts (length mapping.index == 256 && length mapping.children.slots == 48
+      && mapping.used == marks_of mapping.children.slots
+      && is_named_once 0 mapping.children.slots mapping.index)
+      (marks_slots mapping.bytes 0 (named_slots mapping.children.slots mapping.index)) order in
       let parts =
       and_parts (length mapping.index == 256 && length mapping.children.slots == 48
       && mapping.used == marks_of mapping.children.slots)
-      (is_named_once 0 mapping.children.slots mapping.index) order in
+      (is_named_once 0 mapping.children.slots mapping.index) all.0 in
       let lists =
       and_parts (length mapping.index == 256 && length mapping.children.slots == 48)
       (mapping.used == marks_of mapping.children.slots) parts.0 in

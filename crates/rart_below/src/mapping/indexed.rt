@@ -1,9 +1,7 @@
 // Ported from rart 0.11.0 (Apache-2.0), and rewritten.
 //! The mapping of width 48: an index from each byte to its slot.
-ghost use Rattle.std.specs.Int.{bit_at};
-ghost use Rattle.std.specs.Prelude.{◌≡◌, ◌+◌, ◌<◌, ◌≤◌, ℕ, [], length, IsTrue, is_some, if◌then◌else◌, nat_lt, slice_index_or};
-ghost use Rattle.rart_below.specs.ByteSets.{IsLeastFrom};
-ghost use Rattle.rart_below.specs.Children.{child_at, children_below, children_from};
+ghost use Rattle.std.specs.Prelude.{◌≡◌, ◌≤◌, [], None, length, IsTrue};
+ghost use Rattle.rart_below.specs.Children.{children_below, children_from};
 ghost use Rattle.rart_below.specs.Layouts.{SameBytes};
 ghost use Rattle.rart_below.specs.IndexedMapping.{indexed_children, indexed_in_order};
 
@@ -13,18 +11,19 @@ use super::{Clear, NodeMapping};
 use crate::byte_set::ByteSet;
 use std::alloc::AllocError;
 use std::array;
-use std::simd::prelude::*;
 
 /// An entry of the index that names no slot, as each does that is not below the number of slots.
 const NO_SLOT: u8 = 48;
 
-/// A mapping of up to 48 children: an index that gives each byte's slot, the slots, and one bit for
-/// each slot, which is set where the slot is in use.
+/// A mapping of up to 48 children: an index that gives each byte's slot, the slots, one bit for each
+/// slot, which is set where the slot is in use, and the bytes that have a child, so that a walk need
+/// not go over the index.
 #[derive(Drop)]
 pub struct IndexedMapping<C> {
     index: [u8; 256],
     children: SlotArray<Option<C>, 48>,
     used: u64,
+    bytes: ByteSet,
 }
 
 impl<C> IndexedMapping<C> {
@@ -43,29 +42,12 @@ impl<C> IndexedMapping<C> {
                 ),
             },
             used: 0,
+            bytes: ByteSet::new(),
         }
     }
 }
 
 impl<C: Drop> IndexedMapping<C> {
-    /// The least byte with a child that is not below the number. It looks at 64 entries of the
-    /// index at once.
-    fn least_from(&self, from: usize) -> Option<u8>
-        requires { IsTrue (indexed_in_order self.now) }
-        ensures { IsLeastFrom from (λ byte. is_some (child_at byte (indexed_children self.now)))
-            result }
-    {
-        let mut first = from;
-        while first < 256 {
-            let word = named_at(&self.index, first / 64 * 64) >> (first % 64);
-            if word != 0 {
-                return Some((first + word.trailing_zeros() as usize) as u8);
-            }
-            first = first / 64 * 64 + 64;
-        }
-        None
-    }
-
     /// Moves the children into another mapping, which is empty and has room for them, in one walk
     /// over the index. This one is left empty.
     pub fn move_into<M: NodeMapping<C>>(&mut self, to: &mut M)
@@ -123,6 +105,7 @@ impl<C: Drop> NodeMapping<C> for IndexedMapping<C> {
         replace_slot(&mut self.children.slots, place as usize, child);
         self.index[byte as usize] = place as u8;
         self.used |= 1 << place;
+        self.bytes.insert(byte);
     }
 
     fn replace_child(&mut self, byte: u8, child: C) -> C {
@@ -140,11 +123,12 @@ impl<C: Drop> NodeMapping<C> for IndexedMapping<C> {
         }
         self.index[byte as usize] = NO_SLOT;
         self.used &= !(1 << place);
+        self.bytes.remove(byte);
         take_slot(&mut self.children.slots, place as usize)
     }
 
     fn next_from(&self, from: usize) -> Option<(u8, &C)> {
-        let byte = self.least_from(from)?;
+        let byte = self.bytes.least_from(from)?;
         match self.seek_child(byte) {
             Some(child) => Some((byte, child)),
             None => unreachable!(),
@@ -156,16 +140,9 @@ impl<C: Drop> NodeMapping<C> for IndexedMapping<C> {
         usize::from(least)
     }
 
-    // Where most bytes have a child, it is quicker to look at the entry first.
     #[inline(always)]
     fn next_child(&self, from: &mut usize) -> Option<&C> {
-        if *from < 256 {
-            if let Some(child) = self.seek_child(*from as u8) {
-                *from += 1;
-                return Some(child);
-            }
-        }
-        let byte = self.least_from(*from)?;
+        let byte = self.bytes.least_from(*from)?;
         *from = byte as usize + 1;
         self.seek_child(byte)
     }
@@ -182,36 +159,19 @@ impl<C: Drop> NodeMapping<C> for IndexedMapping<C> {
     }
 
     fn prev_child(&self, end: &mut usize) -> Option<&C> {
-        let byte = self.bytes().greatest_below(*end)?;
+        let byte = self.bytes.greatest_below(*end)?;
         *end = byte as usize;
         self.seek_child(byte)
     }
 
     #[inline]
     fn bytes(&self) -> ByteSet {
-        ByteSet {
-            words: [
-                named_at(&self.index, 0),
-                named_at(&self.index, 64),
-                named_at(&self.index, 128),
-                named_at(&self.index, 192),
-            ],
-        }
+        self.bytes.copy()
     }
 
     ghost ascending = { indexed-ascending };
 
     ghost fits = { indexed-fits };
-}
-
-/// Which of the 64 entries from the first on name a slot: a bit for each.
-fn named_at(index: &[u8], first: usize) -> u64
-    requires { first + 64 ≤ length index.now }
-    ensures { (place : ℕ) → place < 64 → bit_at result place
-        ≡ (if nat_lt (slice_index_or index.now (first + place) 0) 48 then 1 else 0) }
-{
-    let entries = u8x64::from_slice(&index[first..]);
-    entries.simd_lt(u8x64::splat(NO_SLOT)).to_bitmask()
 }
 
 impl<C> Clear<C> for IndexedMapping<C> {
@@ -228,6 +188,7 @@ impl<C> Clear<C> for IndexedMapping<C> {
         clear_slots(&mut self.children.slots);
         self.index = [NO_SLOT; 256];
         self.used = 0;
+        self.bytes = ByteSet::new();
     }
 }
 
@@ -242,6 +203,7 @@ impl<C: Clone + Drop> Clone for IndexedMapping<C> {
                 slots: self.children.slots.clone()?,
             },
             used: self.used,
+            bytes: self.bytes.copy(),
         })
     }
 }

@@ -15,7 +15,7 @@ fn nodes_and_their_parts_take_so_many_bytes(rt: HostRuntime) -> Result<(), Fail>
         (size_of::<Pointer>(), 8),
         (size_of::<SortedKeyedMapping<Pointer, 4>>(), 72),
         (size_of::<SortedKeyedMapping<Pointer, 16>>(), 280),
-        (size_of::<IndexedMapping<Pointer>>(), 1032),
+        (size_of::<IndexedMapping<Pointer>>(), 1064),
         (size_of::<DirectMapping<Pointer>>(), 4136),
     ] {
         assert_eq!(rt; taken, wanted);

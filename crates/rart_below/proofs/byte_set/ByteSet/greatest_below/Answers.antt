@@ -1,4 +1,4 @@
-use Rattle.std.proofs.Common.{◌<◌, ◌≤◌, ◌+◌, ◌-◌, ◌*◌, ◌/◌, ◌%◌, ◌^◌, ◌≡◌, w64, bit_and, get_or, subst, arith, Some}
+use Rattle.std.proofs.Common.{◌<◌, ◌+◌, ◌-◌, ◌*◌, ◌/◌, ◌%◌, ◌^◌, ◌≡◌, w64, bit_and, get_or, subst, arith, Some}
 use Rattle.std.specs.Int.{leading_zeros}
 use Rattle.std.proofs.lemmas.Nat.{and_le_l}
 use Rattle.rart_below.specs.ByteSets.{has_byte, IsGreatestBelow}

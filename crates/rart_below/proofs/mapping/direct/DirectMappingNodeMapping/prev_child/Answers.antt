@@ -1,4 +1,4 @@
-use Rattle.std.proofs.Common.{◌<◌, ℕ, arith, length, sym, ◌∙◌, subst, option_copied}
+use Rattle.std.proofs.Common.{◌<◌, arith, length, sym, ◌∙◌, subst, option_copied}
 use Rattle.rart_below.specs.ByteSets.{has_byte}
 use Rattle.rart_below.specs.Children.{children_below, TakesLast}
 use Rattle.rart_below.specs.Laws.{slots-ascending}

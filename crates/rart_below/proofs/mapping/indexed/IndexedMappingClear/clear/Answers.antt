@@ -8,5 +8,6 @@ returns-clause-empty g c = no_named_slots 0 _ (replicate 256 48) c.clear_slots.e
 
 pub returns-clause-order : goal.returns-clause-order
 returns-clause-order g c order =
-    let kept = kept_from_order _ _ _ order in
-    (starts 256 _ refl (c.clear_slots.auto.slots ∙ kept.enough) c.clear_slots.ensures).0
+    let kept = kept_from_order _ _ _ _ order in
+    (starts 256 _ _ refl (c.clear_slots.auto.slots ∙ kept.enough) c.clear_slots.ensures
+    c.new-self.ensures).0

@@ -12,4 +12,7 @@ returns g c =
     ])
     c.args.self.now.children.slots c.in_ok-clone.field-0
     (c.in_ok-clone.ensures {u = tt}).cases.whole in
-    record { cases = indexed-order Tied c.args.self.now.index _ _ c.args.self.now.used slots }
+    record {
+      cases = indexed-order Tied c.args.self.now.index _ _ c.args.self.now.used _ _ c.copy.ensures.same
+          slots;
+    }

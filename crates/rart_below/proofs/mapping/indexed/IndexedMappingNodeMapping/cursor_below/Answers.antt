@@ -7,7 +7,7 @@ use Rattle.rart_below.proofs.mapping.indexed.IndexedMappingNodeMapping.cursor_be
 pub returns : goal.returns
 returns g c =
     let mapping = c.args.self.now in
-    let kept = kept_from_order mapping.index mapping.children.slots mapping.used c.requires in
+    let kept = kept_from_order mapping.index mapping.children.slots mapping.used mapping.bytes c.requires in
     record {
       below = refl;
       all = λ past. all_below c.args.end (indexed_children mapping)

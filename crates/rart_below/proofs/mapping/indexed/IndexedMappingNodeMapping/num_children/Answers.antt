@@ -4,5 +4,5 @@ use Rattle.rart_below.proofs.mapping.indexed.IndexedMappingNodeMapping.num_child
 pub returns : goal.returns
 returns g c =
     let mapping = c.args.self.now in
-    let kept = kept_from_order mapping.index mapping.children.slots mapping.used c.requires in
+    let kept = kept_from_order mapping.index mapping.children.slots mapping.used mapping.bytes c.requires in
     count_ones-kept _ _ _ kept

@@ -5,7 +5,7 @@ use Rattle.rart_below.proofs.mapping.indexed.IndexedMappingNodeMapping.replace_c
 pub replace_slot-requires : goal.replace_slot-requires
 replace_slot-requires g c =
     let mapping = c.args.self.now in
-    let kept = kept_from_order mapping.index mapping.children.slots mapping.used c.requires.order in
+    let kept = kept_from_order mapping.index mapping.children.slots mapping.used mapping.bytes c.requires.order in
     let within =
     named_within c.args.byte _ _ _ kept
     (omega (arith, c.ranges.byte.fits)) c.requires.present in
@@ -14,7 +14,7 @@ replace_slot-requires g c =
 pub unreachable-requires : goal.unreachable-requires
 unreachable-requires g c =
     let mapping = c.args.self.now in
-    let kept = kept_from_order mapping.index mapping.children.slots mapping.used c.requires.order in
+    let kept = kept_from_order mapping.index mapping.children.slots mapping.used mapping.bytes c.requires.order in
     let within =
     named_within c.args.byte _ _ _ kept
     (omega (arith, c.ranges.byte.fits)) c.requires.present in
@@ -24,18 +24,18 @@ unreachable-requires g c =
 pub returns-clause-order : goal.returns-clause-order
 returns-clause-order g c =
     let mapping = c.args.self.now in
-    let kept = kept_from_order mapping.index mapping.children.slots mapping.used c.requires.order in
+    let kept = kept_from_order mapping.index mapping.children.slots mapping.used mapping.bytes c.requires.order in
     let within =
     named_within c.args.byte _ _ _ kept
     (omega (arith, c.ranges.byte.fits)) c.requires.present in
-    (replaced c.args.byte _ c.args.child _ _ _ _ _ kept
+    (replaced c.args.byte _ c.args.child _ _ _ _ _ _ c.requires.order
     (omega (arith, c.ranges.byte.fits)) refl within (c.in-Some.ensures {u = tt}).value
     (c.in-Some.ensures {u = tt}).after).0
 
 pub returns-clause-value : goal.returns-clause-value
 returns-clause-value g c =
     let mapping = c.args.self.now in
-    let kept = kept_from_order mapping.index mapping.children.slots mapping.used c.requires.order in
+    let kept = kept_from_order mapping.index mapping.children.slots mapping.used mapping.bytes c.requires.order in
     let within =
     named_within c.args.byte _ _ _ kept
     (omega (arith, c.ranges.byte.fits)) c.requires.present in
@@ -45,10 +45,10 @@ returns-clause-value g c =
 pub returns-clause-children : goal.returns-clause-children
 returns-clause-children g c =
     let mapping = c.args.self.now in
-    let kept = kept_from_order mapping.index mapping.children.slots mapping.used c.requires.order in
+    let kept = kept_from_order mapping.index mapping.children.slots mapping.used mapping.bytes c.requires.order in
     let within =
     named_within c.args.byte _ _ _ kept
     (omega (arith, c.ranges.byte.fits)) c.requires.present in
-    (replaced c.args.byte _ c.args.child _ _ _ _ _ kept
+    (replaced c.args.byte _ c.args.child _ _ _ _ _ _ c.requires.order
     (omega (arith, c.ranges.byte.fits)) refl within (c.in-Some.ensures {u = tt}).value
     (c.in-Some.ensures {u = tt}).after).1

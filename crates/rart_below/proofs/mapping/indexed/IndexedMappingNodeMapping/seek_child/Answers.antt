@@ -5,6 +5,6 @@ use Rattle.rart_below.proofs.mapping.indexed.IndexedMappingNodeMapping.seek_chil
 pub returns : goal.returns
 returns g c =
     let mapping = c.args.self.now in
-    let kept = kept_from_order mapping.index mapping.children.slots mapping.used c.requires in
+    let kept = kept_from_order mapping.index mapping.children.slots mapping.used mapping.bytes c.requires in
     c.child_in.ensures ∙ sym (child_at-named c.args.byte _ _ _ kept
     (omega (arith, c.ranges.byte.fits)))

@@ -7,6 +7,7 @@ pub mod MeetLemmas
 pub mod VersionKeyLemmas
 pub mod VersionIterationLemmas
 pub mod DiffEndLemmas
+pub mod EndPairLemmas
 pub mod KeyLengthLemmas
 pub mod LendingLemmas
 pub mod VersionFoundLemmas

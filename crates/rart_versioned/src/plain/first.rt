@@ -1,8 +1,8 @@
 // Ported from rart 0.11.0 (Apache-2.0), and rewritten.
-//! The first of the pairs from a lower bound on, with no count.
+//! The first of the pairs, of all or from a lower bound on, with no count.
 ghost use Rattle.std.specs.Range.Bound.{bound_map};
 ghost use Rattle.std.specs.declared.ops.Bound.TheVariants.{Unbounded};
-ghost use Rattle.rart_maps.specs.Pairs.{within};
+ghost use Rattle.rart_maps.specs.Pairs.{pairs, within};
 ghost use Rattle.rart_ways.specs.Firsts.{Finds};
 
 use crate::counted::VersionedAdaptiveRadixTree;
@@ -27,5 +27,16 @@ impl<K: KeyTrait, V: Clone + Drop> VersionedAdaptiveRadixTree<K, V> {
             Unbounded) result room.old room.new }
     {
         self.first_slice_counted(low, room, &mut Work::new())
+    }
+    /// The first of all pairs, otherwise as `first_slice`: `BTreeMap::first_key_value`.
+    ///
+    /// ```
+    /// let mut room = [0; 16];
+    /// let found = list.first(&mut room);
+    /// ```
+    pub fn first(&self, room: &mut [u8]) -> Option<(usize, &V)>
+        ensures { Finds (pairs self.now.content) result room.old room.new }
+    {
+        self.first_counted(room, &mut Work::new())
     }
 }

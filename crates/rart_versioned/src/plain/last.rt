@@ -1,9 +1,9 @@
 // Ported from rart 0.11.0 (Apache-2.0), and rewritten.
-//! The last of the pairs up to an upper bound, with no count.
+//! The last of the pairs, of all or up to an upper bound, with no count.
 ghost use Rattle.std.specs.Prelude.{reverse};
 ghost use Rattle.std.specs.Range.Bound.{bound_map};
 ghost use Rattle.std.specs.declared.ops.Bound.TheVariants.{Unbounded};
-ghost use Rattle.rart_maps.specs.Pairs.{within};
+ghost use Rattle.rart_maps.specs.Pairs.{pairs, within};
 ghost use Rattle.rart_ways.specs.Firsts.{Finds};
 
 use crate::counted::VersionedAdaptiveRadixTree;
@@ -28,5 +28,16 @@ impl<K: KeyTrait, V: Clone + Drop> VersionedAdaptiveRadixTree<K, V> {
             (bound_map (λ high. high.now) high.entry))) result room.old room.new }
     {
         self.last_slice_counted(high, room, &mut Work::new())
+    }
+    /// The last of all pairs, otherwise as `last_slice`: `BTreeMap::last_key_value`.
+    ///
+    /// ```
+    /// let mut room = [0; 16];
+    /// let found = list.last(&mut room);
+    /// ```
+    pub fn last(&self, room: &mut [u8]) -> Option<(usize, &V)>
+        ensures { Finds (reverse (pairs self.now.content)) result room.old room.new }
+    {
+        self.last_counted(room, &mut Work::new())
     }
 }

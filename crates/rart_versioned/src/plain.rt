@@ -3,6 +3,7 @@
 //! iterators, whose `next` makes one.
 
 mod count;
+mod debug;
 mod diff;
 mod first;
 mod get_mut;

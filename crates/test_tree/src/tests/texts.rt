@@ -1,4 +1,5 @@
-//! The texts of errors.
+//! The texts of errors, and of a tree.
+use crate::tests::trees::tree_of;
 use rart_versioned::InsertError;
 use std::test::Fail;
 
@@ -11,5 +12,13 @@ fn refused_insertion_tells_why(rt: HostRuntime) -> Result<(), Fail> {
         text.as_str(),
         "the number of the tree can't rise, out of memory"
     );
+    Ok(())
+}
+
+#[test]
+fn tree_is_written_as_a_map(rt: HostRuntime) -> Result<(), Fail> {
+    let tree = tree_of(&rt, rt.alloc(), &[(b"tea", 300), (b"\xff\"", 2)])?;
+    let text = format!(in rt.alloc(); "{tree:?}")?;
+    assert_eq!(rt; text.as_str(), "{\"tea\": 300, b\"\\xff\\\"\": 2}");
     Ok(())
 }

@@ -39,6 +39,7 @@ impl<'a, V: Value> Range<'a, V> {
 impl<V: Value> Iterator for Range<'_, V> {
     type Item = (Vec<u8>, V);
 
+    #[inline]
     fn next(&mut self) -> Option<(Vec<u8>, V)> {
         self.walk.next(&self.map.tree)
     }
@@ -55,34 +56,35 @@ impl<V: Value> FusedIterator for Range<'_, V> {}
 /// What is left, as std shows a map, each key as text with escapes.
 impl<V: Value> fmt::Debug for Range<'_, V> {
     fn fmt(&self, f: &mut fmt::Formatter<'_>) -> fmt::Result {
-        let pairs = self.clone().map(|(key, value)| (Text(key), value.shown()));
-        f.debug_map().entries(pairs).finish()
+        show(self.clone(), f)
     }
 }
 
-/// All pairs of a map, in the order of their keys, each key a copy. It knows how many are left.
+// How far a walk over all pairs has come, and how many are left.
 #[derive(Clone)]
-pub struct Iter<'a, V: Value> {
-    range: Range<'a, V>,
+struct Whole<V: Value> {
+    walk: Walk<V>,
     left: usize,
 }
 
-impl<'a, V: Value> Iter<'a, V> {
-    pub(crate) fn new(map: &'a Map<V>) -> Iter<'a, V> {
-        Iter {
-            range: Range::new(map, Walk::over_all()),
+impl<V: Value> Whole<V> {
+    fn of(map: &Map<V>) -> Whole<V> {
+        Whole {
+            walk: Walk::over_all(),
             left: map.len(),
         }
     }
-}
 
-impl<V: Value> Iterator for Iter<'_, V> {
-    type Item = (Vec<u8>, V);
+    /// The next pair, lent.
+    #[inline]
+    fn next<'a>(&'a mut self, map: &Map<V>) -> Option<(&'a [u8], &'a V::Lent)> {
+        self.left = self.left.checked_sub(1)?;
+        self.walk.next_lent(&map.tree)
+    }
 
-    fn next(&mut self) -> Option<(Vec<u8>, V)> {
-        let pair = self.range.next()?;
-        self.left -= 1;
-        Some(pair)
+    fn next_back(&mut self, map: &Map<V>) -> Option<(Vec<u8>, V)> {
+        self.left = self.left.checked_sub(1)?;
+        self.walk.next_back(&map.tree)
     }
 
     fn size_hint(&self) -> (usize, Option<usize>) {
@@ -90,11 +92,39 @@ impl<V: Value> Iterator for Iter<'_, V> {
     }
 }
 
+/// All pairs of a map, in the order of their keys, each key a copy. It knows how many are left.
+#[derive(Clone)]
+pub struct Iter<'a, V: Value> {
+    map: &'a Map<V>,
+    whole: Whole<V>,
+}
+
+impl<'a, V: Value> Iter<'a, V> {
+    pub(crate) fn new(map: &'a Map<V>) -> Iter<'a, V> {
+        Iter {
+            map,
+            whole: Whole::of(map),
+        }
+    }
+}
+
+impl<V: Value> Iterator for Iter<'_, V> {
+    type Item = (Vec<u8>, V);
+
+    #[inline]
+    fn next(&mut self) -> Option<(Vec<u8>, V)> {
+        let (key, value) = self.whole.next(self.map)?;
+        Some((key.to_vec(), value.to_owned()))
+    }
+
+    fn size_hint(&self) -> (usize, Option<usize>) {
+        self.whole.size_hint()
+    }
+}
+
 impl<V: Value> DoubleEndedIterator for Iter<'_, V> {
     fn next_back(&mut self) -> Option<(Vec<u8>, V)> {
-        let pair = self.range.next_back()?;
-        self.left -= 1;
-        Some(pair)
+        self.whole.next_back(self.map)
     }
 }
 
@@ -102,24 +132,23 @@ impl<V: Value> ExactSizeIterator for Iter<'_, V> {}
 
 impl<V: Value> FusedIterator for Iter<'_, V> {}
 
+/// What is left, as of [`Range`].
 impl<V: Value> fmt::Debug for Iter<'_, V> {
     fn fmt(&self, f: &mut fmt::Formatter<'_>) -> fmt::Result {
-        self.range.fmt(f)
+        show(self.clone(), f)
     }
 }
 
 /// All pairs of a map that is given up, in the order of their keys.
 pub struct IntoIter<V: Value> {
     map: Map<V>,
-    walk: Walk<V>,
-    left: usize,
+    whole: Whole<V>,
 }
 
 impl<V: Value> IntoIter<V> {
     pub(crate) fn new(map: Map<V>) -> IntoIter<V> {
         IntoIter {
-            left: map.len(),
-            walk: Walk::over_all(),
+            whole: Whole::of(&map),
             map,
         }
     }
@@ -128,28 +157,34 @@ impl<V: Value> IntoIter<V> {
 impl<V: Value> Iterator for IntoIter<V> {
     type Item = (Vec<u8>, V);
 
+    #[inline]
     fn next(&mut self) -> Option<(Vec<u8>, V)> {
-        let pair = self.walk.next(&self.map.tree)?;
-        self.left -= 1;
-        Some(pair)
+        let (key, value) = self.whole.next(&self.map)?;
+        Some((key.to_vec(), value.to_owned()))
     }
 
     fn size_hint(&self) -> (usize, Option<usize>) {
-        (self.left, Some(self.left))
+        self.whole.size_hint()
     }
 }
 
 impl<V: Value> DoubleEndedIterator for IntoIter<V> {
     fn next_back(&mut self) -> Option<(Vec<u8>, V)> {
-        let pair = self.walk.next_back(&self.map.tree)?;
-        self.left -= 1;
-        Some(pair)
+        self.whole.next_back(&self.map)
     }
 }
 
 impl<V: Value> ExactSizeIterator for IntoIter<V> {}
 
 impl<V: Value> FusedIterator for IntoIter<V> {}
+
+/// What is left, as of [`Range`].
+impl<V: Value> fmt::Debug for IntoIter<V> {
+    fn fmt(&self, f: &mut fmt::Formatter<'_>) -> fmt::Result {
+        let (map, whole) = (&self.map, self.whole.clone());
+        show(Iter { map, whole }, f)
+    }
+}
 
 /// The keys of a map, in order, each a copy.
 #[derive(Clone, Debug)]
@@ -158,8 +193,10 @@ pub struct Keys<'a, V: Value>(pub(crate) Iter<'a, V>);
 impl<V: Value> Iterator for Keys<'_, V> {
     type Item = Vec<u8>;
 
+    #[inline]
     fn next(&mut self) -> Option<Vec<u8>> {
-        self.0.next().map(|pair| pair.0)
+        let (key, _) = self.0.whole.next(self.0.map)?;
+        Some(key.to_vec())
     }
 
     fn size_hint(&self) -> (usize, Option<usize>) {
@@ -184,8 +221,10 @@ pub struct Values<'a, V: Value>(pub(crate) Iter<'a, V>);
 impl<V: Value> Iterator for Values<'_, V> {
     type Item = V;
 
+    #[inline]
     fn next(&mut self) -> Option<V> {
-        self.0.next().map(|pair| pair.1)
+        let (_, value) = self.0.whole.next(self.0.map)?;
+        Some(value.to_owned())
     }
 
     fn size_hint(&self) -> (usize, Option<usize>) {
@@ -202,3 +241,12 @@ impl<V: Value> DoubleEndedIterator for Values<'_, V> {
 impl<V: Value> ExactSizeIterator for Values<'_, V> {}
 
 impl<V: Value> FusedIterator for Values<'_, V> {}
+
+/// Shows pairs as std shows a map, each key as text with escapes.
+fn show<V: Value>(
+    pairs: impl Iterator<Item = (Vec<u8>, V)>,
+    f: &mut fmt::Formatter<'_>,
+) -> fmt::Result {
+    let shown = pairs.map(|(key, value)| (Text(key), value.shown()));
+    f.debug_map().entries(shown).finish()
+}

@@ -4,7 +4,6 @@ use crate::sys::{
     self, ABSENT, DIFFERENT, DONE, EXCLUDED, INCLUDED, LAST_NUMBER, NOT_EMPTY, RartBytes,
     RartBytesEntry, RartEntry, RartTree, TOO_LONG, TOO_SMALL, UNBOUNDED,
 };
-use crate::walk::Page;
 use std::cell::UnsafeCell;
 use std::ops::Bound;
 use std::panic::RefUnwindSafe;
@@ -312,24 +311,24 @@ impl Tree<RartTree> {
         found(answer, value)
     }
 
-    /// Fills a page without entries with the first pairs within two bounds, at most so many as are
-    /// asked for. Answers whether others may be left.
-    pub fn fill(
+    /// Writes the first pairs within two bounds, as many as there are entries: their keys one behind
+    /// the other to the front of `bytes`, which is made longer where it has to be. Answers how many
+    /// they are: none where none is there.
+    pub fn page(
         &self,
         (low, high): (Bound<&[u8]>, Bound<&[u8]>),
-        asked: usize,
-        page: &mut Page<u64>,
-    ) -> bool {
+        bytes: &mut Vec<u8>,
+        entries: &mut [RartEntry],
+    ) -> usize {
         let (low, low_kind) = parts_of(low);
         let (high, high_kind) = parts_of(high);
-        let mut entries = [RartEntry::default(); 64];
-        let asked = asked.min(entries.len());
-        let (mut count, mut needed) = (0, asked * KEY_ROOM);
+        let (mut count, mut needed) = (0, entries.len() * KEY_ROOM);
         loop {
-            make_room(&mut page.bytes, needed);
+            make_room(bytes, needed);
             let (from, to) = ((low.as_ptr(), low.len()), (high.as_ptr(), high.len()));
-            let (at, end) = (page.bytes.as_mut_ptr(), page.bytes.len());
-            // SAFETY: as above; the page, the entries and both numbers are this call's own.
+            let (at, end) = (bytes.as_mut_ptr(), bytes.len());
+            // SAFETY: as above; both numbers are this call's own, and `bytes` and `entries` are
+            // borrowed to be written, so no two overlap.
             let answer = unsafe {
                 sys::rart_page(
                     self.handle.get(),
@@ -342,18 +341,13 @@ impl Tree<RartTree> {
                     at,
                     end,
                     entries.as_mut_ptr(),
-                    asked,
+                    entries.len(),
                     &mut count,
                     &mut needed,
                 )
             };
             if answer != TOO_SMALL {
-                let mut start = 0;
-                for it in &entries[..count] {
-                    page.entries.push_back((start..it.end, it.value));
-                    start = it.end;
-                }
-                return answer == DONE;
+                return count;
             }
         }
     }
@@ -424,24 +418,24 @@ impl Tree<RartBytes> {
         Some((key_len, value))
     }
 
-    /// Fills a page without entries with the first pairs within two bounds, at most so many as are
-    /// asked for. Answers whether others may be left.
-    pub fn fill(
+    /// Writes the first pairs within two bounds, as many as there are entries: each value behind its
+    /// key, to the front of `bytes`, which is made longer where it has to be. Answers how many they
+    /// are: none where none is there.
+    pub fn page(
         &self,
         (low, high): (Bound<&[u8]>, Bound<&[u8]>),
-        asked: usize,
-        page: &mut Page<Vec<u8>>,
-    ) -> bool {
+        bytes: &mut Vec<u8>,
+        entries: &mut [RartBytesEntry],
+    ) -> usize {
         let (low, low_kind) = parts_of(low);
         let (high, high_kind) = parts_of(high);
-        let mut entries = [RartBytesEntry::default(); 64];
-        let asked = asked.min(entries.len());
-        let (mut count, mut key_len, mut len) = (0, asked * PAIR_ROOM, 0);
+        let (mut count, mut key_len, mut len) = (0, entries.len() * PAIR_ROOM, 0);
         loop {
-            make_room(&mut page.bytes, key_len + len);
+            make_room(bytes, key_len + len);
             let (from, to) = ((low.as_ptr(), low.len()), (high.as_ptr(), high.len()));
-            let (at, end) = (page.bytes.as_mut_ptr(), page.bytes.len());
-            // SAFETY: as above; the page, the entries and the numbers are this call's own.
+            let (at, end) = (bytes.as_mut_ptr(), bytes.len());
+            // SAFETY: as above; the numbers are this call's own, and `bytes` and `entries` are
+            // borrowed to be written, so no two overlap.
             let answer = unsafe {
                 sys::rart_bytes_page(
                     self.handle.get(),
@@ -454,20 +448,14 @@ impl Tree<RartBytes> {
                     at,
                     end,
                     entries.as_mut_ptr(),
-                    asked,
+                    entries.len(),
                     &mut count,
                     &mut key_len,
                     &mut len,
                 )
             };
             if answer != TOO_SMALL {
-                let mut start = 0;
-                for it in &entries[..count] {
-                    let value = page.bytes[it.key_end..it.end].to_vec();
-                    page.entries.push_back((start..it.key_end, value));
-                    start = it.end;
-                }
-                return answer == DONE;
+                return count;
             }
         }
     }

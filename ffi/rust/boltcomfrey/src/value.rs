@@ -1,8 +1,7 @@
 //! What a map may have as values, and the calls of the library on such maps.
 use crate::error::Refusal;
 use crate::raw::{Handle, Tree};
-use crate::sys::{RartBytes, RartTree};
-use crate::walk::Page;
+use crate::sys::{RartBytes, RartBytesEntry, RartEntry, RartTree};
 use std::fmt::Debug;
 use std::hash::Hash;
 use std::ops::Bound;
@@ -47,8 +46,11 @@ impl<T: AsRef<[u8]>> Given<Vec<u8>> for T {
 pub trait Calls: Sized {
     type Handle: Handle;
 
-    /// As which a change takes a value.
-    type Lent: ?Sized;
+    /// As which a change takes a value, and a page lends it.
+    type Lent: ?Sized + ToOwned<Owned = Self>;
+
+    /// What a page has of each pair.
+    type Entry: Clone + Default;
 
     /// As which a value is shown: a byte string as text.
     type Shown: Debug;
@@ -102,19 +104,31 @@ pub trait Calls: Sized {
         room: &mut Vec<u8>,
     ) -> Option<(usize, Self)>;
 
-    /// Fills a page without entries with the first pairs within two bounds, at most so many as are
-    /// asked for, and one at least where there is one. Answers whether others may be left.
-    fn fill(
+    /// Writes the first pairs within two bounds to the front of `bytes`, which is made longer where
+    /// it has to be, and of `entries`: as many as there are entries, or fewer, one at least where
+    /// there is one. Answers how many they are.
+    fn page(
         tree: &Tree<Self::Handle>,
         within: (Bound<&[u8]>, Bound<&[u8]>),
-        asked: usize,
-        page: &mut Page<Self>,
-    ) -> bool;
+        bytes: &mut Vec<u8>,
+        entries: &mut [Self::Entry],
+    ) -> usize;
+
+    /// Where the pair of an entry ends among the bytes of its page.
+    fn end(entry: &Self::Entry) -> usize;
+
+    /// The pair of an entry, which begins here among the bytes of its page.
+    fn pair<'a>(
+        entry: &'a Self::Entry,
+        bytes: &'a [u8],
+        start: usize,
+    ) -> (&'a [u8], &'a Self::Lent);
 }
 
 impl Calls for u64 {
     type Handle = RartTree;
     type Lent = u64;
+    type Entry = RartEntry;
     type Shown = u64;
 
     fn shown(self) -> u64 {
@@ -165,22 +179,30 @@ impl Calls for u64 {
         tree.last(high, room)
     }
 
-    fn fill(
+    fn page(
         tree: &Tree<RartTree>,
         within: (Bound<&[u8]>, Bound<&[u8]>),
-        asked: usize,
-        page: &mut Page<u64>,
-    ) -> bool {
-        if asked > 1 {
-            return tree.fill(within, asked, page);
-        }
-        page.fill_by_first(within, |low, room| tree.first(low, room))
+        bytes: &mut Vec<u8>,
+        entries: &mut [RartEntry],
+    ) -> usize {
+        tree.page(within, bytes, entries)
+    }
+
+    #[inline]
+    fn end(entry: &RartEntry) -> usize {
+        entry.end
+    }
+
+    #[inline]
+    fn pair<'a>(entry: &'a RartEntry, bytes: &'a [u8], start: usize) -> (&'a [u8], &'a u64) {
+        (&bytes[start..entry.end], &entry.value)
     }
 }
 
 impl Calls for Vec<u8> {
     type Handle = RartBytes;
     type Lent = [u8];
+    type Entry = RartBytesEntry;
     type Shown = Text;
 
     fn shown(self) -> Text {
@@ -247,16 +269,24 @@ impl Calls for Vec<u8> {
         tree.last(high, room)
     }
 
-    fn fill(
+    fn page(
         tree: &Tree<RartBytes>,
         within: (Bound<&[u8]>, Bound<&[u8]>),
-        asked: usize,
-        page: &mut Page<Vec<u8>>,
-    ) -> bool {
-        if asked > 1 {
-            return tree.fill(within, asked, page);
-        }
-        page.fill_by_first(within, |low, room| tree.first(low, room))
+        bytes: &mut Vec<u8>,
+        entries: &mut [RartBytesEntry],
+    ) -> usize {
+        tree.page(within, bytes, entries)
+    }
+
+    #[inline]
+    fn end(entry: &RartBytesEntry) -> usize {
+        entry.end
+    }
+
+    #[inline]
+    fn pair<'a>(entry: &'a RartBytesEntry, bytes: &'a [u8], start: usize) -> (&'a [u8], &'a [u8]) {
+        let (key_end, end) = (entry.key_end, entry.end);
+        (&bytes[start..key_end], &bytes[key_end..end])
     }
 }
 

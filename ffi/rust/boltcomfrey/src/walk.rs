@@ -1,37 +1,74 @@
 //! How far a walk over a map has come: it takes the pairs by pages, from the back one by one.
 use crate::raw::Tree;
 use crate::value::{Calls, Value};
-use std::collections::VecDeque;
 use std::ops::{Bound, Range};
 
-// Many walks end at their first pair, which one search finds. Each later page has room for four
-// times as many pairs.
-const MOST_PAIRS: usize = 64;
+// Many walks end at their first pairs. One over all begins with a page of so many, any other with
+// one pair, which a search finds. Each later page has room for four times as many.
+const FIRST_PAIRS: usize = 4;
+const MOST_PAIRS: usize = 256;
 
-/// Pairs in the order of their keys: each entry says where its key is among the bytes, and its
-/// value.
+/// Pairs in the order of their keys, as the library writes them.
 #[derive(Clone)]
-pub struct Page<V> {
-    // Room for keys, kept from page to page. What stands behind the last one says nothing.
-    pub bytes: Vec<u8>,
-    pub entries: VecDeque<(Range<usize>, V)>,
+struct Page<V: Value> {
+    // Room, kept from page to page. What stands behind what was written says nothing.
+    bytes: Vec<u8>,
+    entries: Vec<V::Entry>,
+    // Which entries are left, and where the first of them begins among the bytes.
+    left: Range<usize>,
+    start: usize,
 }
 
-impl<V> Page<V> {
-    /// Fills the page with the first pair within two bounds, by a search for the first behind the
-    /// lower one. Answers whether others may be left.
-    pub fn fill_by_first(
-        &mut self,
-        (low, high): (Bound<&[u8]>, Bound<&[u8]>),
-        first: impl FnOnce(Bound<&[u8]>, &mut Vec<u8>) -> Option<(usize, V)>,
-    ) -> bool {
-        match first(low, &mut self.bytes) {
-            Some((len, value)) if meets(&self.bytes[..len], high) => {
-                self.entries.push_back((0..len, value));
-                true
-            }
-            _ => false,
+impl<V: Value> Page<V> {
+    fn new() -> Page<V> {
+        Page {
+            bytes: Vec::new(),
+            entries: Vec::new(),
+            left: 0..0,
+            start: 0,
         }
+    }
+
+    /// Takes the first pairs within two bounds in place of these, at most so many.
+    fn fill(
+        &mut self,
+        tree: &Tree<<V as Calls>::Handle>,
+        within: (Bound<&[u8]>, Bound<&[u8]>),
+        most: usize,
+    ) {
+        self.entries.resize(most, V::Entry::default());
+        let count = V::page(tree, within, &mut self.bytes, &mut self.entries);
+        (self.left, self.start) = (0..count, 0);
+    }
+
+    #[inline]
+    fn next(&mut self) -> Option<(&[u8], &V::Lent)> {
+        let entry = &self.entries[self.left.next()?];
+        let start = self.start;
+        self.start = V::end(entry);
+        Some(V::pair(entry, &self.bytes, start))
+    }
+
+    fn next_back(&mut self) -> Option<(&[u8], &V::Lent)> {
+        let pair = self.left.clone().next_back();
+        self.left.end -= usize::from(pair.is_some());
+        pair.map(|at| self.pair(at))
+    }
+
+    /// The last pair.
+    fn last(&self) -> Option<(&[u8], &V::Lent)> {
+        let at = self.left.clone().next_back()?;
+        Some(self.pair(at))
+    }
+
+    /// The pair of an entry that is left.
+    fn pair(&self, at: usize) -> (&[u8], &V::Lent) {
+        let start = if at == self.left.start {
+            self.start
+        } else {
+            V::end(&self.entries[at - 1])
+        };
+        V::pair(&self.entries[at], &self.bytes, start)
     }
 }
 
@@ -56,14 +93,14 @@ fn is_behind(key: &[u8], low: Bound<&[u8]>) -> bool {
 /// A walk over the pairs within two bounds, and how far it has come from either end. The tree stands
 /// elsewhere, and doesn't change meanwhile.
 #[derive(Clone)]
-pub struct Walk<V> {
+pub struct Walk<V: Value> {
     // What is left behind the page.
     low: Bound<Vec<u8>>,
     high: Bound<Vec<u8>>,
-    asked: usize,
     is_last: bool,
-    // What is left of the page.
+    // What is left of the page, and how many pairs the next one may have.
     page: Page<V>,
+    asked: usize,
 }
 
 impl<V: Value> Walk<V> {
@@ -71,19 +108,16 @@ impl<V: Value> Walk<V> {
         Walk {
             low: low.map(<[u8]>::to_vec),
             high: high.map(<[u8]>::to_vec),
-            asked: 1,
             is_last: false,
-            page: Page {
-                bytes: Vec::new(),
-                entries: VecDeque::new(),
-            },
+            page: Page::new(),
+            asked: 1,
         }
     }
 
-    /// Over all pairs, which begin with a page of several.
+    /// Over all pairs.
     pub fn over_all() -> Walk<V> {
         let mut walk = Walk::within((Bound::Unbounded, Bound::Unbounded));
-        walk.asked = 4;
+        walk.asked = FIRST_PAIRS;
         walk
     }
 
@@ -94,12 +128,43 @@ impl<V: Value> Walk<V> {
         Walk::within((Bound::Included(prefix), high))
     }
 
+    /// The next pair, copied.
+    #[inline]
     pub fn next(&mut self, tree: &Tree<<V as Calls>::Handle>) -> Option<(Vec<u8>, V)> {
-        if self.page.entries.is_empty() && !self.is_last {
+        if self.asked == 1 {
+            return self.first(tree);
+        }
+        let (key, value) = self.next_lent(tree)?;
+        Some((key.to_vec(), value.to_owned()))
+    }
+
+    /// The next pair, as it stands in the page.
+    #[inline]
+    pub fn next_lent(
+        &mut self,
+        tree: &Tree<<V as Calls>::Handle>,
+    ) -> Option<(&[u8], &<V as Calls>::Lent)> {
+        if self.page.left.is_empty() && !self.is_last {
             self.turn(tree);
         }
-        let (key, value) = self.page.entries.pop_front()?;
-        Some((self.page.bytes[key].to_vec(), value))
+        self.page.next()
+    }
+
+    /// The first pair, by a search. The next one stands in a page.
+    fn first(&mut self, tree: &Tree<<V as Calls>::Handle>) -> Option<(Vec<u8>, V)> {
+        self.asked = FIRST_PAIRS;
+        let low = self.low.as_ref().map(Vec::as_slice);
+        let high = self.high.as_ref().map(Vec::as_slice);
+        let mut key = Vec::new();
+        if let Some((len, value)) = V::first(tree, low, &mut key) {
+            key.truncate(len);
+            if meets(&key, high) {
+                self.low = Bound::Excluded(key.clone());
+                return Some((key, value));
+            }
+        }
+        self.is_last = true;
+        None
     }
 
     /// The last pair, by a search: of those behind the page, else of the page.
@@ -116,18 +181,20 @@ impl<V: Value> Walk<V> {
             }
             self.is_last = true;
         }
-        let (key, value) = self.page.entries.pop_back()?;
-        Some((self.page.bytes[key].to_vec(), value))
+        let (key, value) = self.page.next_back()?;
+        Some((key.to_vec(), value.to_owned()))
     }
 
     /// Takes the next page, which begins behind the last key of this one.
+    #[cold]
     fn turn(&mut self, tree: &Tree<<V as Calls>::Handle>) {
-        let (low, high) = (self.low.as_ref(), self.high.as_ref());
-        let within = (low.map(Vec::as_slice), high.map(Vec::as_slice));
-        self.is_last = !V::fill(tree, within, self.asked, &mut self.page);
+        let low = self.low.as_ref().map(Vec::as_slice);
+        let high = self.high.as_ref().map(Vec::as_slice);
+        self.page.fill(tree, (low, high), self.asked);
         self.asked = MOST_PAIRS.min(self.asked * 4);
-        if let Some((key, _)) = self.page.entries.back() {
-            self.low = Bound::Excluded(self.page.bytes[key.clone()].to_vec());
+        match self.page.last() {
+            Some((key, _)) => self.low = Bound::Excluded(key.to_vec()),
+            None => self.is_last = true,
         }
     }
 }

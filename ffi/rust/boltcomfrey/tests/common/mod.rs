@@ -77,7 +77,10 @@ impl<V: Clone + PartialEq> Model<V> {
     }
 
     /// The pairs within two bounds, as the map gives them.
-    fn range(&self, range: impl RangeBounds<Vec<u8>>) -> impl DoubleEndedIterator<Item = (Vec<u8>, V)> {
+    fn range(
+        &self,
+        range: impl RangeBounds<Vec<u8>>,
+    ) -> impl DoubleEndedIterator<Item = (Vec<u8>, V)> {
         self.pairs
             .range(range)
             .map(|(key, value)| (key.clone(), value.clone()))
@@ -380,20 +383,20 @@ impl<V: Drawn> Compared<V> {
         } else {
             (other, key)
         };
-        let mut pairs = map.range(low.clone()..=high.clone());
-        let mut wanted = model.range(low.clone()..=high.clone());
+        let pairs = map.range(low.clone()..=high.clone());
         assert!(pairs.clone().eq(model.range(low.clone()..=high.clone())));
-        assert!(pairs.clone().rev().eq(model.range(low.clone()..=high.clone()).rev()));
-        loop {
-            let (pair, other) = match self.random.below(2) {
-                0 => (pairs.next(), wanted.next()),
-                _ => (pairs.next_back(), wanted.next_back()),
-            };
-            assert_eq!(pair, other);
-            if pair.is_none() {
-                break;
-            }
-        }
+        assert!(
+            pairs
+                .clone()
+                .rev()
+                .eq(model.range(low.clone()..=high.clone()).rev())
+        );
+        expect_from_both_ends(
+            &mut self.random,
+            pairs,
+            model.range(low.clone()..=high.clone()),
+        );
+        expect_from_both_ends(&mut self.random, map.iter(), model.range(..));
         let within = (Included(low.as_slice()), Excluded(high.as_slice()));
         assert_eq!(map.range(within).count(), model.range(low..high).count());
     }
@@ -441,6 +444,24 @@ impl<V: Drawn> Compared<V> {
         if let Err(refusal) = told {
             assert_eq!(refusal, Refusal::NoMemory);
             self.refused += 1;
+        }
+    }
+}
+
+/// That both give the same from whatever end.
+fn expect_from_both_ends<T: PartialEq + Debug>(
+    random: &mut Random,
+    mut given: impl DoubleEndedIterator<Item = T>,
+    mut wanted: impl DoubleEndedIterator<Item = T>,
+) {
+    loop {
+        let (it, other) = match random.below(2) {
+            0 => (given.next(), wanted.next()),
+            _ => (given.next_back(), wanted.next_back()),
+        };
+        assert_eq!(it, other);
+        if it.is_none() {
+            return;
         }
     }
 }

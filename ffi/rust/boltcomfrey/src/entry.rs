@@ -12,12 +12,8 @@ pub struct Entry<'a, V: Value> {
 }
 
 impl<'a, V: Value + Given<V>> Entry<'a, V> {
-    pub(crate) fn new(map: &'a mut Map<V>, key: &[u8]) -> Entry<'a, V> {
-        Entry {
-            value: map.get(key),
-            key: key.to_vec(),
-            map,
-        }
+    pub(crate) fn new(map: &'a mut Map<V>, key: Vec<u8>, value: Option<V>) -> Entry<'a, V> {
+        Entry { map, key, value }
     }
 
     /// The key.
@@ -48,10 +44,15 @@ impl<'a, V: Value + Given<V>> Entry<'a, V> {
 
     /// As `or_insert`, of a value that is made where it is needed.
     pub fn or_insert_with(self, make: impl FnOnce() -> V) -> Result<V, Refusal> {
+        self.or_insert_with_key(|_| make())
+    }
+
+    /// As `or_insert`, of a value that is made of the key where it is needed.
+    pub fn or_insert_with_key(self, make: impl FnOnce(&[u8]) -> V) -> Result<V, Refusal> {
         if let Some(value) = self.value {
             return Ok(value);
         }
-        let value = make();
+        let value = make(&self.key);
         self.map.set(&self.key, value.clone())?;
         Ok(value)
     }
@@ -62,6 +63,34 @@ impl<'a, V: Value + Given<V>> Entry<'a, V> {
         V: Default,
     {
         self.or_insert_with(V::default)
+    }
+
+    /// Sets the key to a value, and gives the one before. Refused, nothing has changed.
+    ///
+    /// ```
+    /// # use boltcomfrey::VersionedMap;
+    /// let mut prices = VersionedMap::from([("tea", 300), ("milk", 100)]);
+    /// let dearest = prices.last_entry().expect("there are prices");
+    /// assert_eq!(dearest.insert(350)?, Some(300));
+    /// # Ok::<(), boltcomfrey::Refusal>(())
+    /// ```
+    pub fn insert(self, value: V) -> Result<Option<V>, Refusal> {
+        self.map.set(&self.key, value)?;
+        Ok(self.value)
+    }
+
+    /// Takes the key out, and gives its value, if it is there. Refused, nothing has changed.
+    ///
+    /// ```
+    /// # use boltcomfrey::VersionedMap;
+    /// let mut prices = VersionedMap::from([("tea", 300)]);
+    /// assert_eq!(prices.entry("tea").remove()?, Some(300));
+    /// assert_eq!(prices.entry("milk").remove()?, None);
+    /// # Ok::<(), boltcomfrey::Refusal>(())
+    /// ```
+    pub fn remove(self) -> Result<Option<V>, Refusal> {
+        self.map.delete(&self.key)?;
+        Ok(self.value)
     }
 
     /// Sets the key to what `f` makes of its value, if it is there. Refused, nothing has changed.

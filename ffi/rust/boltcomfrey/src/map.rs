@@ -6,6 +6,7 @@ use crate::key_range::KeyRange;
 use crate::raw::Tree;
 use crate::value::{Calls, Given, Value};
 use crate::walk::Walk;
+use std::iter::FusedIterator;
 use std::ops::Bound;
 
 /// An ordered map from byte strings to values, of which snapshots change independently: a
@@ -338,9 +339,11 @@ impl<V: Value> Map<V> {
     ///
     /// ```
     /// # use boltcomfrey::VersionedMap;
-    /// assert_eq!(VersionedMap::from([("tea", 300)]).into_keys().count(), 1);
+    /// assert_eq!(VersionedMap::from([("tea", 300)]).into_keys().len(), 1);
     /// ```
-    pub fn into_keys(self) -> impl Iterator<Item = Vec<u8>> {
+    pub fn into_keys(
+        self,
+    ) -> impl DoubleEndedIterator<Item = Vec<u8>> + ExactSizeIterator + FusedIterator {
         self.into_iter().map(|pair| pair.0)
     }
 
@@ -350,7 +353,9 @@ impl<V: Value> Map<V> {
     /// # use boltcomfrey::VersionedMap;
     /// assert_eq!(VersionedMap::from([("tea", 300)]).into_values().max(), Some(300));
     /// ```
-    pub fn into_values(self) -> impl Iterator<Item = V> {
+    pub fn into_values(
+        self,
+    ) -> impl DoubleEndedIterator<Item = V> + ExactSizeIterator + FusedIterator {
         self.into_iter().map(|pair| pair.1)
     }
 
@@ -655,7 +660,38 @@ impl<V: Value> Map<V> {
     where
         V: Given<V>,
     {
-        Entry::new(self, key.as_ref())
+        let (key, value) = (key.as_ref().to_vec(), self.get(&key));
+        Entry::new(self, key, value)
+    }
+
+    /// The first key, to be changed or taken out, if there is one.
+    ///
+    /// ```
+    /// # use boltcomfrey::VersionedMap;
+    /// let mut prices = VersionedMap::from([("tea", 300), ("milk", 100)]);
+    /// assert_eq!(prices.first_entry().map(|it| it.key().to_vec()), Some(b"milk".to_vec()));
+    /// ```
+    pub fn first_entry(&mut self) -> Option<Entry<'_, V>>
+    where
+        V: Given<V>,
+    {
+        let (key, value) = self.first_key_value()?;
+        Some(Entry::new(self, key, Some(value)))
+    }
+
+    /// The last key, to be changed or taken out, if there is one.
+    ///
+    /// ```
+    /// # use boltcomfrey::VersionedMap;
+    /// let mut prices = VersionedMap::from([("tea", 300), ("milk", 100)]);
+    /// assert_eq!(prices.last_entry().map(|it| it.key().to_vec()), Some(b"tea".to_vec()));
+    /// ```
+    pub fn last_entry(&mut self) -> Option<Entry<'_, V>>
+    where
+        V: Given<V>,
+    {
+        let (key, value) = self.last_key_value()?;
+        Some(Entry::new(self, key, Some(value)))
     }
 
     /// Has a key what `f` makes of its value, or of the lack of one: `Some` sets it, `None` takes it

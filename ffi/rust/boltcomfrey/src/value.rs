@@ -35,6 +35,12 @@ impl Given<u64> for u64 {
     }
 }
 
+impl Given<u64> for &u64 {
+    fn given(&self) -> &u64 {
+        self
+    }
+}
+
 impl<T: AsRef<[u8]>> Given<Vec<u8>> for T {
     fn given(&self) -> &[u8] {
         self.as_ref()

@@ -5,7 +5,7 @@ use std::ops::{Bound, Range};
 
 // Many walks end at their first pairs. One over all begins with a page of so many, any other with
 // one pair, which a search finds. Each later page has room for four times as many.
-const FIRST_PAIRS: usize = 4;
+const FIRST_PAIRS: usize = 8;
 const MOST_PAIRS: usize = 256;
 
 /// Pairs in the order of their keys, as the library writes them.
@@ -144,8 +144,8 @@ impl<V: Value> Walk<V> {
         &mut self,
         tree: &Tree<<V as Calls>::Handle>,
     ) -> Option<(&[u8], &<V as Calls>::Lent)> {
-        if self.page.left.is_empty() && !self.is_last {
-            self.turn(tree);
+        if self.page.left.is_empty() && !self.turn(tree) {
+            return None;
         }
         self.page.next()
     }
@@ -185,9 +185,13 @@ impl<V: Value> Walk<V> {
         Some((key.to_vec(), value.to_owned()))
     }
 
-    /// Takes the next page, which begins behind the last key of this one.
+    /// Takes the next page, which begins behind the last key of this one. Answers whether it has a
+    /// pair.
     #[cold]
-    fn turn(&mut self, tree: &Tree<<V as Calls>::Handle>) {
+    fn turn(&mut self, tree: &Tree<<V as Calls>::Handle>) -> bool {
+        if self.is_last {
+            return false;
+        }
         let low = self.low.as_ref().map(Vec::as_slice);
         let high = self.high.as_ref().map(Vec::as_slice);
         self.page.fill(tree, (low, high), self.asked);
@@ -196,6 +200,7 @@ impl<V: Value> Walk<V> {
             Some((key, _)) => self.low = Bound::Excluded(key.to_vec()),
             None => self.is_last = true,
         }
+        !self.is_last
     }
 }
 

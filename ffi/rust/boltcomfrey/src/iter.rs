@@ -60,7 +60,7 @@ impl<V: Value> fmt::Debug for Range<'_, V> {
     }
 }
 
-// How far a walk over all pairs has come, and how many are left.
+/// How far a walk over all pairs has come, and how many are left.
 #[derive(Clone)]
 struct Whole<V: Value> {
     walk: Walk<V>,

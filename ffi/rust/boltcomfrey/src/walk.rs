@@ -4,7 +4,8 @@ use crate::value::{Calls, Value};
 use std::ops::{Bound, Range};
 
 // Many walks end at their first pairs. One over all begins with a page of so many, any other with
-// one pair, which a search finds. Each later page has room for four times as many.
+// one pair, which a search finds, and then such a page. Each later one has room for four times as
+// many.
 const FIRST_PAIRS: usize = 8;
 const MOST_PAIRS: usize = 256;
 
@@ -50,9 +51,8 @@ impl<V: Value> Page<V> {
     }
 
     fn next_back(&mut self) -> Option<(&[u8], &V::Lent)> {
-        let pair = self.left.clone().next_back();
-        self.left.end -= usize::from(pair.is_some());
-        pair.map(|at| self.pair(at))
+        let at = self.left.next_back()?;
+        Some(self.pair(at))
     }
 
     /// The last pair.
@@ -61,7 +61,7 @@ impl<V: Value> Page<V> {
         Some(self.pair(at))
     }
 
-    /// The pair of an entry that is left.
+    /// The pair of an entry that is or was left.
     fn pair(&self, at: usize) -> (&[u8], &V::Lent) {
         let start = if at == self.left.start {
             self.start

@@ -149,8 +149,8 @@ static inline size_t rart_prefix_end(uint8_t *prefix, size_t len) {
 // What a caller owes to each call:
 // - a tree is all zeros, or as a call left it, and is copied nowhere; one that is moved leaves its
 //   old place all zeros;
-// - no pointer is null, also of no bytes; but rart_clear takes a null tree, and what sets or takes
-//   out a key takes null for a value before that isn't wanted;
+// - no pointer is null, but of bytes or entries that are none; rart_clear takes a null tree, and
+//   what sets or takes out a key takes null for a value before that isn't wanted;
 // - no two pointers of one call overlap: two trees of it are two, and no key that is handed in lies
 //   in the room that the call writes to;
 // - trees that come from one tree, also through others, stay on one thread, as their nodes count
@@ -683,7 +683,74 @@ rart_answer rart_bytes_restore_prefix(
 );
 
 // The calls that take null: of these names the library's own functions, which don't, are written in
-// brackets, as (rart_clear)(tree).
+// brackets, as (rart_clear)(tree). For bytes or entries that are none they are given this place.
+static const uint64_t rart_nowhere = 0;
+
+RART_NONNULL_AT(1, 4) RART_MUST_USE RART_CHANGES(1) RART_READS(2, 3) RART_WRITES(4)
+static inline rart_answer rart_get_any(rart_tree *RART_ALONE tree, const uint8_t *RART_ALONE key,
+    size_t key_len, uint64_t *RART_ALONE value) {
+    return (rart_get)(tree, key_len > 0 ? key : (const uint8_t *)&rart_nowhere, key_len, value);
+}
+#define rart_get(...) rart_get_any(__VA_ARGS__)
+
+RART_NONNULL_AT(1, 4, 5) RART_MUST_USE RART_CHANGES(1) RART_READS(2, 3) RART_WRITES(4)
+RART_WRITES(5)
+static inline rart_answer rart_longest_any(rart_tree *RART_ALONE tree,
+    const uint8_t *RART_ALONE probe, size_t probe_len, size_t *RART_ALONE len,
+    uint64_t *RART_ALONE value) {
+    return (rart_longest)(tree, probe_len > 0 ? probe : (const uint8_t *)&rart_nowhere, probe_len,
+        len, value);
+}
+#define rart_longest(...) rart_longest_any(__VA_ARGS__)
+
+RART_NONNULL_AT(1, 6, 7) RART_MUST_USE RART_CHANGES(1) RART_READS(2, 3) RART_WRITES(4, 5)
+RART_WRITES(6) RART_WRITES(7)
+static inline rart_answer rart_seek_any(rart_tree *RART_ALONE tree, const uint8_t *RART_ALONE from,
+    size_t from_len, uint8_t *RART_ALONE room, size_t room_len, size_t *RART_ALONE len,
+    uint64_t *RART_ALONE value) {
+    return (rart_seek)(tree, from_len > 0 ? from : (const uint8_t *)&rart_nowhere, from_len,
+        room_len > 0 ? room : (uint8_t *)&rart_nowhere, room_len, len, value);
+}
+#define rart_seek(...) rart_seek_any(__VA_ARGS__)
+
+RART_NONNULL_AT(1, 6, 7) RART_MUST_USE RART_CHANGES(1) RART_READS(2, 3) RART_WRITES(4, 5)
+RART_WRITES(6) RART_WRITES(7)
+static inline rart_answer rart_next_any(rart_tree *RART_ALONE tree, const uint8_t *RART_ALONE after,
+    size_t after_len, uint8_t *RART_ALONE room, size_t room_len, size_t *RART_ALONE len,
+    uint64_t *RART_ALONE value) {
+    return (rart_next)(tree, after_len > 0 ? after : (const uint8_t *)&rart_nowhere, after_len,
+        room_len > 0 ? room : (uint8_t *)&rart_nowhere, room_len, len, value);
+}
+#define rart_next(...) rart_next_any(__VA_ARGS__)
+
+RART_NONNULL_AT(1, 6, 7) RART_MUST_USE RART_CHANGES(1) RART_READS(2, 3) RART_WRITES(4, 5)
+RART_WRITES(6) RART_WRITES(7)
+static inline rart_answer rart_seek_back_any(rart_tree *RART_ALONE tree,
+    const uint8_t *RART_ALONE from, size_t from_len, uint8_t *RART_ALONE room, size_t room_len,
+    size_t *RART_ALONE len, uint64_t *RART_ALONE value) {
+    return (rart_seek_back)(tree, from_len > 0 ? from : (const uint8_t *)&rart_nowhere, from_len,
+        room_len > 0 ? room : (uint8_t *)&rart_nowhere, room_len, len, value);
+}
+#define rart_seek_back(...) rart_seek_back_any(__VA_ARGS__)
+
+RART_NONNULL_AT(1, 6, 7) RART_MUST_USE RART_CHANGES(1) RART_READS(2, 3) RART_WRITES(4, 5)
+RART_WRITES(6) RART_WRITES(7)
+static inline rart_answer rart_prev_any(rart_tree *RART_ALONE tree,
+    const uint8_t *RART_ALONE before, size_t before_len, uint8_t *RART_ALONE room, size_t room_len,
+    size_t *RART_ALONE len, uint64_t *RART_ALONE value) {
+    return (rart_prev)(tree, before_len > 0 ? before : (const uint8_t *)&rart_nowhere, before_len,
+        room_len > 0 ? room : (uint8_t *)&rart_nowhere, room_len, len, value);
+}
+#define rart_prev(...) rart_prev_any(__VA_ARGS__)
+
+RART_NONNULL_AT(1, 4, 5) RART_MUST_USE RART_CHANGES(1) RART_WRITES(2, 3) RART_WRITES(4)
+RART_WRITES(5)
+static inline rart_answer rart_last_any(rart_tree *RART_ALONE tree, uint8_t *RART_ALONE room,
+    size_t room_len, size_t *RART_ALONE len, uint64_t *RART_ALONE value) {
+    return (rart_last)(tree, room_len > 0 ? room : (uint8_t *)&rart_nowhere, room_len, len, value);
+}
+#define rart_last(...) rart_last_any(__VA_ARGS__)
+
 static inline void rart_clear_any(rart_tree *tree) {
     if (tree != NULL) {
         (rart_clear)(tree);
@@ -691,56 +758,128 @@ static inline void rart_clear_any(rart_tree *tree) {
 }
 #define rart_clear(...) rart_clear_any(__VA_ARGS__)
 
-RART_NONNULL_AT(1, 2) RART_MUST_USE RART_READS(2, 3)
-static inline rart_answer rart_insert_any(
-    rart_tree *tree,
-    const uint8_t *key,
-    size_t key_len,
-    uint64_t value,
-    uint64_t *replaced
-) {
+RART_NONNULL_AT(1) RART_MUST_USE RART_CHANGES(1) RART_READS(2, 3) RART_WRITES(5)
+static inline rart_answer rart_insert_any(rart_tree *RART_ALONE tree, const uint8_t *RART_ALONE key,
+    size_t key_len, uint64_t value, uint64_t *RART_ALONE replaced) {
     uint64_t unwanted;
-    return (rart_insert)(tree, key, key_len, value, replaced != NULL ? replaced : &unwanted);
+    return (rart_insert)(tree, key_len > 0 ? key : (const uint8_t *)&rart_nowhere, key_len, value,
+        replaced != NULL ? replaced : &unwanted);
 }
 #define rart_insert(...) rart_insert_any(__VA_ARGS__)
 
-RART_NONNULL_AT(1, 2) RART_MUST_USE RART_READS(2, 3)
-static inline rart_answer rart_remove_any(
-    rart_tree *tree,
-    const uint8_t *key,
-    size_t key_len,
-    uint64_t *value
-) {
+RART_NONNULL_AT(1) RART_MUST_USE RART_CHANGES(1) RART_READS(2, 3) RART_WRITES(4)
+static inline rart_answer rart_remove_any(rart_tree *RART_ALONE tree, const uint8_t *RART_ALONE key,
+    size_t key_len, uint64_t *RART_ALONE value) {
     uint64_t unwanted;
-    return (rart_remove)(tree, key, key_len, value != NULL ? value : &unwanted);
+    return (rart_remove)(tree, key_len > 0 ? key : (const uint8_t *)&rart_nowhere, key_len,
+        value != NULL ? value : &unwanted);
 }
 #define rart_remove(...) rart_remove_any(__VA_ARGS__)
 
-RART_NONNULL_AT(1, 2) RART_MUST_USE RART_READS(2, 3)
-static inline rart_answer rart_add_any(
-    rart_tree *tree,
-    const uint8_t *key,
-    size_t key_len,
-    uint64_t value,
-    uint64_t *found
-) {
+RART_NONNULL_AT(1) RART_MUST_USE RART_CHANGES(1) RART_READS(2, 3) RART_WRITES(5)
+static inline rart_answer rart_add_any(rart_tree *RART_ALONE tree, const uint8_t *RART_ALONE key,
+    size_t key_len, uint64_t value, uint64_t *RART_ALONE found) {
     uint64_t unwanted;
-    return (rart_add)(tree, key, key_len, value, found != NULL ? found : &unwanted);
+    return (rart_add)(tree, key_len > 0 ? key : (const uint8_t *)&rart_nowhere, key_len, value,
+        found != NULL ? found : &unwanted);
 }
 #define rart_add(...) rart_add_any(__VA_ARGS__)
 
-RART_NONNULL_AT(1, 2) RART_MUST_USE RART_READS(2, 3)
-static inline rart_answer rart_replace_any(
-    rart_tree *tree,
-    const uint8_t *key,
-    size_t key_len,
-    uint64_t value,
-    uint64_t *replaced
-) {
+RART_NONNULL_AT(1) RART_MUST_USE RART_CHANGES(1) RART_READS(2, 3) RART_WRITES(5)
+static inline rart_answer rart_replace_any(rart_tree *RART_ALONE tree,
+    const uint8_t *RART_ALONE key, size_t key_len, uint64_t value, uint64_t *RART_ALONE replaced) {
     uint64_t unwanted;
-    return (rart_replace)(tree, key, key_len, value, replaced != NULL ? replaced : &unwanted);
+    return (rart_replace)(tree, key_len > 0 ? key : (const uint8_t *)&rart_nowhere, key_len, value,
+        replaced != NULL ? replaced : &unwanted);
 }
 #define rart_replace(...) rart_replace_any(__VA_ARGS__)
+
+RART_NONNULL_AT(1, 12, 13) RART_MUST_USE RART_CHANGES(1) RART_READS(2, 3) RART_READS(5, 6)
+RART_WRITES(8, 9) RART_WRITES(10, 11) RART_WRITES(12) RART_WRITES(13)
+static inline rart_answer rart_page_any(rart_tree *RART_ALONE tree, const uint8_t *RART_ALONE low,
+    size_t low_len, uint8_t low_kind, const uint8_t *RART_ALONE high, size_t high_len,
+    uint8_t high_kind, uint8_t *RART_ALONE bytes, size_t bytes_len, rart_entry *RART_ALONE entries,
+    size_t entries_len, size_t *RART_ALONE count, size_t *RART_ALONE needed) {
+    return (rart_page)(tree, low_len > 0 ? low : (const uint8_t *)&rart_nowhere, low_len, low_kind,
+        high_len > 0 ? high : (const uint8_t *)&rart_nowhere, high_len, high_kind,
+        bytes_len > 0 ? bytes : (uint8_t *)&rart_nowhere, bytes_len,
+        entries_len > 0 ? entries : (rart_entry *)&rart_nowhere, entries_len, count, needed);
+}
+#define rart_page(...) rart_page_any(__VA_ARGS__)
+
+RART_NONNULL_AT(1, 6) RART_MUST_USE RART_CHANGES(1) RART_READS(2, 3) RART_WRITES(4, 5)
+RART_WRITES(6)
+static inline rart_answer rart_bytes_get_any(rart_bytes *RART_ALONE tree,
+    const uint8_t *RART_ALONE key, size_t key_len, uint8_t *RART_ALONE into, size_t into_len,
+    size_t *RART_ALONE len) {
+    return (rart_bytes_get)(tree, key_len > 0 ? key : (const uint8_t *)&rart_nowhere, key_len,
+        into_len > 0 ? into : (uint8_t *)&rart_nowhere, into_len, len);
+}
+#define rart_bytes_get(...) rart_bytes_get_any(__VA_ARGS__)
+
+RART_NONNULL_AT(1, 4, 7) RART_MUST_USE RART_CHANGES(1) RART_READS(2, 3) RART_WRITES(4)
+RART_WRITES(5, 6) RART_WRITES(7)
+static inline rart_answer rart_bytes_longest_any(rart_bytes *RART_ALONE tree,
+    const uint8_t *RART_ALONE probe, size_t probe_len, size_t *RART_ALONE key_len,
+    uint8_t *RART_ALONE into, size_t into_len, size_t *RART_ALONE len) {
+    return (rart_bytes_longest)(tree, probe_len > 0 ? probe : (const uint8_t *)&rart_nowhere,
+        probe_len, key_len, into_len > 0 ? into : (uint8_t *)&rart_nowhere, into_len, len);
+}
+#define rart_bytes_longest(...) rart_bytes_longest_any(__VA_ARGS__)
+
+RART_NONNULL_AT(1, 6, 9) RART_MUST_USE RART_CHANGES(1) RART_READS(2, 3) RART_WRITES(4, 5)
+RART_WRITES(6) RART_WRITES(7, 8) RART_WRITES(9)
+static inline rart_answer rart_bytes_seek_any(rart_bytes *RART_ALONE tree,
+    const uint8_t *RART_ALONE from, size_t from_len, uint8_t *RART_ALONE room, size_t room_len,
+    size_t *RART_ALONE key_len, uint8_t *RART_ALONE into, size_t into_len, size_t *RART_ALONE len) {
+    return (rart_bytes_seek)(tree, from_len > 0 ? from : (const uint8_t *)&rart_nowhere, from_len,
+        room_len > 0 ? room : (uint8_t *)&rart_nowhere, room_len, key_len,
+        into_len > 0 ? into : (uint8_t *)&rart_nowhere, into_len, len);
+}
+#define rart_bytes_seek(...) rart_bytes_seek_any(__VA_ARGS__)
+
+RART_NONNULL_AT(1, 6, 9) RART_MUST_USE RART_CHANGES(1) RART_READS(2, 3) RART_WRITES(4, 5)
+RART_WRITES(6) RART_WRITES(7, 8) RART_WRITES(9)
+static inline rart_answer rart_bytes_next_any(rart_bytes *RART_ALONE tree,
+    const uint8_t *RART_ALONE after, size_t after_len, uint8_t *RART_ALONE room, size_t room_len,
+    size_t *RART_ALONE key_len, uint8_t *RART_ALONE into, size_t into_len, size_t *RART_ALONE len) {
+    return (rart_bytes_next)(tree, after_len > 0 ? after : (const uint8_t *)&rart_nowhere,
+        after_len, room_len > 0 ? room : (uint8_t *)&rart_nowhere, room_len, key_len,
+        into_len > 0 ? into : (uint8_t *)&rart_nowhere, into_len, len);
+}
+#define rart_bytes_next(...) rart_bytes_next_any(__VA_ARGS__)
+
+RART_NONNULL_AT(1, 6, 9) RART_MUST_USE RART_CHANGES(1) RART_READS(2, 3) RART_WRITES(4, 5)
+RART_WRITES(6) RART_WRITES(7, 8) RART_WRITES(9)
+static inline rart_answer rart_bytes_seek_back_any(rart_bytes *RART_ALONE tree,
+    const uint8_t *RART_ALONE from, size_t from_len, uint8_t *RART_ALONE room, size_t room_len,
+    size_t *RART_ALONE key_len, uint8_t *RART_ALONE into, size_t into_len, size_t *RART_ALONE len) {
+    return (rart_bytes_seek_back)(tree, from_len > 0 ? from : (const uint8_t *)&rart_nowhere,
+        from_len, room_len > 0 ? room : (uint8_t *)&rart_nowhere, room_len, key_len,
+        into_len > 0 ? into : (uint8_t *)&rart_nowhere, into_len, len);
+}
+#define rart_bytes_seek_back(...) rart_bytes_seek_back_any(__VA_ARGS__)
+
+RART_NONNULL_AT(1, 6, 9) RART_MUST_USE RART_CHANGES(1) RART_READS(2, 3) RART_WRITES(4, 5)
+RART_WRITES(6) RART_WRITES(7, 8) RART_WRITES(9)
+static inline rart_answer rart_bytes_prev_any(rart_bytes *RART_ALONE tree,
+    const uint8_t *RART_ALONE before, size_t before_len, uint8_t *RART_ALONE room, size_t room_len,
+    size_t *RART_ALONE key_len, uint8_t *RART_ALONE into, size_t into_len, size_t *RART_ALONE len) {
+    return (rart_bytes_prev)(tree, before_len > 0 ? before : (const uint8_t *)&rart_nowhere,
+        before_len, room_len > 0 ? room : (uint8_t *)&rart_nowhere, room_len, key_len,
+        into_len > 0 ? into : (uint8_t *)&rart_nowhere, into_len, len);
+}
+#define rart_bytes_prev(...) rart_bytes_prev_any(__VA_ARGS__)
+
+RART_NONNULL_AT(1, 4, 7) RART_MUST_USE RART_CHANGES(1) RART_WRITES(2, 3) RART_WRITES(4)
+RART_WRITES(5, 6) RART_WRITES(7)
+static inline rart_answer rart_bytes_last_any(rart_bytes *RART_ALONE tree, uint8_t *RART_ALONE room,
+    size_t room_len, size_t *RART_ALONE key_len, uint8_t *RART_ALONE into, size_t into_len,
+    size_t *RART_ALONE len) {
+    return (rart_bytes_last)(tree, room_len > 0 ? room : (uint8_t *)&rart_nowhere, room_len,
+        key_len, into_len > 0 ? into : (uint8_t *)&rart_nowhere, into_len, len);
+}
+#define rart_bytes_last(...) rart_bytes_last_any(__VA_ARGS__)
 
 static inline void rart_bytes_clear_any(rart_bytes *tree) {
     if (tree != NULL) {
@@ -748,6 +887,103 @@ static inline void rart_bytes_clear_any(rart_bytes *tree) {
     }
 }
 #define rart_bytes_clear(...) rart_bytes_clear_any(__VA_ARGS__)
+
+RART_NONNULL_AT(1) RART_MUST_USE RART_CHANGES(1) RART_READS(2, 3) RART_READS(4, 5)
+static inline rart_answer rart_bytes_insert_any(rart_bytes *RART_ALONE tree,
+    const uint8_t *RART_ALONE key, size_t key_len, const uint8_t *RART_ALONE value,
+    size_t value_len) {
+    return (rart_bytes_insert)(tree, key_len > 0 ? key : (const uint8_t *)&rart_nowhere, key_len,
+        value_len > 0 ? value : (const uint8_t *)&rart_nowhere, value_len);
+}
+#define rart_bytes_insert(...) rart_bytes_insert_any(__VA_ARGS__)
+
+RART_NONNULL_AT(1) RART_MUST_USE RART_CHANGES(1) RART_READS(2, 3)
+static inline rart_answer rart_bytes_remove_any(rart_bytes *RART_ALONE tree,
+    const uint8_t *RART_ALONE key, size_t key_len) {
+    return (rart_bytes_remove)(tree, key_len > 0 ? key : (const uint8_t *)&rart_nowhere, key_len);
+}
+#define rart_bytes_remove(...) rart_bytes_remove_any(__VA_ARGS__)
+
+RART_NONNULL_AT(1) RART_MUST_USE RART_CHANGES(1) RART_READS(2, 3) RART_READS(4, 5)
+static inline rart_answer rart_bytes_add_any(rart_bytes *RART_ALONE tree,
+    const uint8_t *RART_ALONE key, size_t key_len, const uint8_t *RART_ALONE value,
+    size_t value_len) {
+    return (rart_bytes_add)(tree, key_len > 0 ? key : (const uint8_t *)&rart_nowhere, key_len,
+        value_len > 0 ? value : (const uint8_t *)&rart_nowhere, value_len);
+}
+#define rart_bytes_add(...) rart_bytes_add_any(__VA_ARGS__)
+
+RART_NONNULL_AT(1) RART_MUST_USE RART_CHANGES(1) RART_READS(2, 3) RART_READS(4, 5)
+static inline rart_answer rart_bytes_replace_any(rart_bytes *RART_ALONE tree,
+    const uint8_t *RART_ALONE key, size_t key_len, const uint8_t *RART_ALONE value,
+    size_t value_len) {
+    return (rart_bytes_replace)(tree, key_len > 0 ? key : (const uint8_t *)&rart_nowhere, key_len,
+        value_len > 0 ? value : (const uint8_t *)&rart_nowhere, value_len);
+}
+#define rart_bytes_replace(...) rart_bytes_replace_any(__VA_ARGS__)
+
+RART_NONNULL_AT(1, 12, 13, 14) RART_MUST_USE RART_CHANGES(1) RART_READS(2, 3) RART_READS(5, 6)
+RART_WRITES(8, 9) RART_WRITES(10, 11) RART_WRITES(12) RART_WRITES(13) RART_WRITES(14)
+static inline rart_answer rart_bytes_page_any(rart_bytes *RART_ALONE tree,
+    const uint8_t *RART_ALONE low, size_t low_len, uint8_t low_kind, const uint8_t *RART_ALONE high,
+    size_t high_len, uint8_t high_kind, uint8_t *RART_ALONE bytes, size_t bytes_len,
+    rart_bytes_entry *RART_ALONE entries, size_t entries_len, size_t *RART_ALONE count,
+    size_t *RART_ALONE key_len, size_t *RART_ALONE len) {
+    return (rart_bytes_page)(tree, low_len > 0 ? low : (const uint8_t *)&rart_nowhere, low_len,
+        low_kind, high_len > 0 ? high : (const uint8_t *)&rart_nowhere, high_len, high_kind,
+        bytes_len > 0 ? bytes : (uint8_t *)&rart_nowhere, bytes_len,
+        entries_len > 0 ? entries : (rart_bytes_entry *)&rart_nowhere, entries_len, count, key_len,
+        len);
+}
+#define rart_bytes_page(...) rart_bytes_page_any(__VA_ARGS__)
+
+RART_NONNULL_AT(1, 4) RART_MUST_USE RART_CHANGES(1) RART_READS(2, 3) RART_WRITES(4)
+static inline rart_answer rart_remove_prefix_any(rart_tree *RART_ALONE tree,
+    const uint8_t *RART_ALONE prefix, size_t prefix_len, size_t *RART_ALONE removed) {
+    return (rart_remove_prefix)(tree, prefix_len > 0 ? prefix : (const uint8_t *)&rart_nowhere,
+        prefix_len, removed);
+}
+#define rart_remove_prefix(...) rart_remove_prefix_any(__VA_ARGS__)
+
+RART_NONNULL_AT(1, 4) RART_MUST_USE RART_CHANGES(1) RART_READS(2, 3) RART_CHANGES(4)
+static inline rart_answer rart_prefix_snapshot_any(rart_tree *RART_ALONE tree,
+    const uint8_t *RART_ALONE prefix, size_t prefix_len, rart_tree *RART_ALONE part) {
+    return (rart_prefix_snapshot)(tree, prefix_len > 0 ? prefix : (const uint8_t *)&rart_nowhere,
+        prefix_len, part);
+}
+#define rart_prefix_snapshot(...) rart_prefix_snapshot_any(__VA_ARGS__)
+
+RART_NONNULL_AT(1, 4) RART_MUST_USE RART_CHANGES(1) RART_READS(2, 3) RART_CHANGES(4)
+static inline rart_answer rart_restore_prefix_any(rart_tree *RART_ALONE tree,
+    const uint8_t *RART_ALONE prefix, size_t prefix_len, rart_tree *RART_ALONE from) {
+    return (rart_restore_prefix)(tree, prefix_len > 0 ? prefix : (const uint8_t *)&rart_nowhere,
+        prefix_len, from);
+}
+#define rart_restore_prefix(...) rart_restore_prefix_any(__VA_ARGS__)
+
+RART_NONNULL_AT(1, 4) RART_MUST_USE RART_CHANGES(1) RART_READS(2, 3) RART_WRITES(4)
+static inline rart_answer rart_bytes_remove_prefix_any(rart_bytes *RART_ALONE tree,
+    const uint8_t *RART_ALONE prefix, size_t prefix_len, size_t *RART_ALONE removed) {
+    return (rart_bytes_remove_prefix)(tree,
+        prefix_len > 0 ? prefix : (const uint8_t *)&rart_nowhere, prefix_len, removed);
+}
+#define rart_bytes_remove_prefix(...) rart_bytes_remove_prefix_any(__VA_ARGS__)
+
+RART_NONNULL_AT(1, 4) RART_MUST_USE RART_CHANGES(1) RART_READS(2, 3) RART_CHANGES(4)
+static inline rart_answer rart_bytes_prefix_snapshot_any(rart_bytes *RART_ALONE tree,
+    const uint8_t *RART_ALONE prefix, size_t prefix_len, rart_bytes *RART_ALONE part) {
+    return (rart_bytes_prefix_snapshot)(tree,
+        prefix_len > 0 ? prefix : (const uint8_t *)&rart_nowhere, prefix_len, part);
+}
+#define rart_bytes_prefix_snapshot(...) rart_bytes_prefix_snapshot_any(__VA_ARGS__)
+
+RART_NONNULL_AT(1, 4) RART_MUST_USE RART_CHANGES(1) RART_READS(2, 3) RART_CHANGES(4)
+static inline rart_answer rart_bytes_restore_prefix_any(rart_bytes *RART_ALONE tree,
+    const uint8_t *RART_ALONE prefix, size_t prefix_len, rart_bytes *RART_ALONE from) {
+    return (rart_bytes_restore_prefix)(tree,
+        prefix_len > 0 ? prefix : (const uint8_t *)&rart_nowhere, prefix_len, from);
+}
+#define rart_bytes_restore_prefix(...) rart_bytes_restore_prefix_any(__VA_ARGS__)
 
 #ifdef __cplusplus
 }

@@ -17,23 +17,23 @@ static size_t value_of(uint64_t number, uint8_t *value) {
 static rart_answer insert(size_t at, const struct key *key, uint64_t number) {
     uint8_t value[MOST_VALUE] = {0};
     size_t len = value_of(number, value);
-    return rart_bytes_insert(&trees[at], key->bytes, key->len, value, len);
+    return rart_bytes_insert(&trees[at], BYTES_OF(key), at_times_null(value, len), len);
 }
 
 static rart_answer add(size_t at, const struct key *key, uint64_t number) {
     uint8_t value[MOST_VALUE] = {0};
     size_t len = value_of(number, value);
-    return rart_bytes_add(&trees[at], key->bytes, key->len, value, len);
+    return rart_bytes_add(&trees[at], BYTES_OF(key), at_times_null(value, len), len);
 }
 
 static rart_answer replace(size_t at, const struct key *key, uint64_t number) {
     uint8_t value[MOST_VALUE] = {0};
     size_t len = value_of(number, value);
-    return rart_bytes_replace(&trees[at], key->bytes, key->len, value, len);
+    return rart_bytes_replace(&trees[at], BYTES_OF(key), at_times_null(value, len), len);
 }
 
 static rart_answer take_out(size_t at, const struct key *key) {
-    return rart_bytes_remove(&trees[at], key->bytes, key->len);
+    return rart_bytes_remove(&trees[at], BYTES_OF(key));
 }
 
 // A room for the value of this key, or for one that isn't there.
@@ -57,15 +57,15 @@ static void expect_value(size_t at, size_t wanted, rart_answer answer, const str
 static void look(size_t at, const struct key *key, size_t wanted) {
     struct room room = room_for_value(at, wanted);
     rart_answer answer =
-        rart_bytes_get(&trees[at], key->bytes, key->len, room.bytes, room.size, &room.len);
+        rart_bytes_get(&trees[at], BYTES_OF(key), ROOM_OF(&room), &room.len);
     expect_value(at, wanted, answer, &room, true);
 }
 
 static void look_longest(size_t at, const struct key *probe, size_t wanted) {
     struct room room = room_for_value(at, wanted);
     size_t len = NO_NUMBER;
-    rart_answer answer = rart_bytes_longest(&trees[at], probe->bytes, probe->len, &len, room.bytes,
-                                            room.size, &room.len);
+    rart_answer answer =
+        rart_bytes_longest(&trees[at], BYTES_OF(probe), &len, ROOM_OF(&room), &room.len);
     EXPECT(len == (wanted < KEYS ? key_of(wanted).len : NO_NUMBER));
     expect_value(at, wanted, answer, &room, true);
 }
@@ -90,8 +90,8 @@ static void look_last(size_t at, const struct key *to, bool is_strict, size_t wa
 
 static void look_last_of_all(size_t at, size_t wanted) {
     struct room key = room_for_key(wanted), value = room_for_value(at, wanted);
-    rart_answer answer = rart_bytes_last(&trees[at], key.bytes, key.size, &key.len, value.bytes,
-                                         value.size, &value.len);
+    rart_answer answer =
+        rart_bytes_last(&trees[at], ROOM_OF(&key), &key.len, ROOM_OF(&value), &value.len);
     bool fits = has_key(&key, wanted);
     expect_value(at, wanted, answer, &value, fits);
 }
@@ -149,9 +149,10 @@ static bool read_page(size_t at, struct bound *low, const struct bound *high) {
     memset(page.bytes, NO_BYTE, MOST_PAGE);
     unsigned long long before = requests_refused();
     rart_answer answer =
-        rart_bytes_page(&trees[at], low->key.bytes, low->key.len, low->kind, high->key.bytes,
-                        high->key.len, high->kind, page.bytes, page.room, page.entries, page.most,
-                        &page.count, &page.key_len, &page.len);
+        rart_bytes_page(&trees[at], BYTES_OF(&low->key), low->kind, BYTES_OF(&high->key),
+                        high->kind, page.room > 0 ? page.bytes : NULL, page.room,
+                        page.most > 0 ? page.entries : NULL, page.most, &page.count,
+                        &page.key_len, &page.len);
     unheeded += requests_refused() - before;
     EXPECT(page.count <= page.most);
     size_t end = expect_pairs(at, &page, low, high), next = first_within(at, low, high);

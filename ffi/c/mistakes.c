@@ -8,12 +8,14 @@ rart_answer call(rart_tree *tree, uint8_t room[8]) {
     uint64_t value;
     size_t len;
 #if MISTAKE == 0
-    return rart_next(tree, tea, sizeof tea, room, 8, &len, &value);
+    return rart_get(tree, NULL, 0, &value) == RART_DONE
+               ? rart_next(tree, tea, sizeof tea, room, 8, &len, &value)
+               : rart_seek(tree, NULL, 0, NULL, 0, &len, &value);
 #elif MISTAKE == 1 // an answer that nobody looks at
     rart_insert(tree, tea, 3, 350, &value);
     return RART_DONE;
-#elif MISTAKE == 2 // a null pointer, also of no bytes
-    return rart_get(tree, NULL, 0, &value);
+#elif MISTAKE == 2 // a null pointer for the value
+    return rart_get(tree, tea, 3, NULL);
 #elif MISTAKE == 3 // a key that is said to be longer than it is
     return rart_get(tree, tea, 4, &value);
 #elif MISTAKE == 4 // room that is said to be longer than it is
@@ -36,5 +38,9 @@ rart_answer call(rart_tree *tree, uint8_t room[8]) {
 #elif MISTAKE == 11 // a number of 32 bits for the value
     uint32_t price;
     return rart_get(tree, tea, 3, &price);
+#elif MISTAKE == 12 // a null pointer for some bytes
+    return rart_get(tree, NULL, 3, &value);
+#elif MISTAKE == 13 // a null tree
+    return rart_get(NULL, tea, 3, &value);
 #endif
 }

@@ -7,23 +7,23 @@
 static rart_answer insert(size_t at, const struct key *key, uint64_t value) {
     uint64_t replaced = NO_NUMBER;
     if (random_below(8) == 0) {
-        return rart_insert(&trees[at], key->bytes, key->len, value, NULL);
+        return rart_insert(&trees[at], BYTES_OF(key), value, NULL);
     }
-    rart_answer answer = rart_insert(&trees[at], key->bytes, key->len, value, &replaced);
+    rart_answer answer = rart_insert(&trees[at], BYTES_OF(key), value, &replaced);
     EXPECT(replaced == (answer == RART_DONE ? tables[at].values[key->number] : NO_NUMBER));
     return answer;
 }
 
 static rart_answer add(size_t at, const struct key *key, uint64_t value) {
     uint64_t found = NO_NUMBER;
-    rart_answer answer = rart_add(&trees[at], key->bytes, key->len, value, &found);
+    rart_answer answer = rart_add(&trees[at], BYTES_OF(key), value, &found);
     EXPECT(found == (answer == RART_DONE ? tables[at].values[key->number] : NO_NUMBER));
     return answer;
 }
 
 static rart_answer replace(size_t at, const struct key *key, uint64_t value) {
     uint64_t replaced = NO_NUMBER;
-    rart_answer answer = rart_replace(&trees[at], key->bytes, key->len, value, &replaced);
+    rart_answer answer = rart_replace(&trees[at], BYTES_OF(key), value, &replaced);
     EXPECT(replaced == (answer == RART_DONE ? tables[at].values[key->number] : NO_NUMBER));
     return answer;
 }
@@ -31,9 +31,9 @@ static rart_answer replace(size_t at, const struct key *key, uint64_t value) {
 static rart_answer take_out(size_t at, const struct key *key) {
     uint64_t value = NO_NUMBER;
     if (random_below(8) == 0) {
-        return rart_remove(&trees[at], key->bytes, key->len, NULL);
+        return rart_remove(&trees[at], BYTES_OF(key), NULL);
     }
-    rart_answer answer = rart_remove(&trees[at], key->bytes, key->len, &value);
+    rart_answer answer = rart_remove(&trees[at], BYTES_OF(key), &value);
     EXPECT(value == (answer == RART_DONE ? tables[at].values[key->number] : NO_NUMBER));
     return answer;
 }
@@ -46,14 +46,14 @@ static void expect_value(size_t at, size_t wanted, rart_answer answer, uint64_t 
 
 static void look(size_t at, const struct key *key, size_t wanted) {
     uint64_t value = NO_NUMBER;
-    rart_answer answer = rart_get(&trees[at], key->bytes, key->len, &value);
+    rart_answer answer = rart_get(&trees[at], BYTES_OF(key), &value);
     expect_value(at, wanted, answer, value);
 }
 
 static void look_longest(size_t at, const struct key *probe, size_t wanted) {
     size_t len = NO_NUMBER;
     uint64_t value = NO_NUMBER;
-    rart_answer answer = rart_longest(&trees[at], probe->bytes, probe->len, &len, &value);
+    rart_answer answer = rart_longest(&trees[at], BYTES_OF(probe), &len, &value);
     EXPECT(len == (wanted < KEYS ? key_of(wanted).len : NO_NUMBER));
     expect_value(at, wanted, answer, value);
 }
@@ -85,7 +85,7 @@ static void look_last(size_t at, const struct key *to, bool is_strict, size_t wa
 static void look_last_of_all(size_t at, size_t wanted) {
     struct room room = room_for_key(wanted);
     uint64_t value = NO_NUMBER;
-    rart_answer answer = rart_last(&trees[at], room.bytes, room.size, &room.len, &value);
+    rart_answer answer = rart_last(&trees[at], ROOM_OF(&room), &room.len, &value);
     expect_pair(at, wanted, answer, &room, value);
 }
 
@@ -136,9 +136,10 @@ static bool read_page(size_t at, struct bound *low, const struct bound *high) {
                         .needed = NO_NUMBER};
     memset(page.bytes, NO_BYTE, MOST_PAGE);
     unsigned long long before = requests_refused();
-    rart_answer answer = rart_page(&trees[at], low->key.bytes, low->key.len, low->kind,
-                                   high->key.bytes, high->key.len, high->kind, page.bytes,
-                                   page.room, page.entries, page.most, &page.count, &page.needed);
+    rart_answer answer = rart_page(
+        &trees[at], BYTES_OF(&low->key), low->kind, BYTES_OF(&high->key), high->kind,
+        page.room > 0 ? page.bytes : NULL, page.room, page.most > 0 ? page.entries : NULL,
+        page.most, &page.count, &page.needed);
     unheeded += requests_refused() - before;
     EXPECT(page.count <= page.most);
     size_t end = expect_pairs(at, &page, low, high), next = first_within(at, low, high);

@@ -75,6 +75,14 @@ static struct key key_of(size_t number) {
     return key;
 }
 
+// The bytes of a key, or of a room, and how many they are: where there is none, at times null.
+#define BYTES_OF(key) at_times_null((key)->bytes, (key)->len), (key)->len
+#define ROOM_OF(room) (uint8_t *)at_times_null((room)->bytes, (room)->size), (room)->size
+
+static const uint8_t *at_times_null(const uint8_t *bytes, size_t len) {
+    return len > 0 || random_below(2) == 0 ? bytes : NULL;
+}
+
 // A key of any length, which random numbers would seldom be.
 static struct key random_key(void) {
     size_t number = 0;
@@ -295,7 +303,7 @@ static void expect_copy(size_t at, size_t to, bool is_snapshot) {
 static size_t first_under(size_t at, size_t number, const struct key *prefix) {
     size_t first = first_from(at, number);
     struct key key = key_of(first < KEYS ? first : 0);
-    bool is_under = key.len >= prefix->len && memcmp(key.bytes, prefix->bytes, prefix->len) == 0;
+    bool is_under = key.len >= prefix->len && memcmp(key.bytes, BYTES_OF(prefix)) == 0;
     return first < KEYS && is_under ? first : KEYS;
 }
 
@@ -324,7 +332,7 @@ static void expect_remove_prefix(size_t at, const struct key *prefix) {
     bool has_room = tables[at].number < UINT64_MAX;
     rart_answer wanted = count == 0 ? RART_ABSENT : has_room ? RART_DONE : RART_LAST_NUMBER;
     rart_answer answer =
-        CALL(remove_prefix)(&trees[at], prefix->bytes, prefix->len, &removed);
+        CALL(remove_prefix)(&trees[at], BYTES_OF(prefix), &removed);
     bool was_refused = is_refused(answer, wanted);
     EXPECT(!was_refused || count > 0);
     EXPECT(removed == (answer == RART_DONE ? count : NO_NUMBER));
@@ -337,7 +345,7 @@ static void expect_remove_prefix(size_t at, const struct key *prefix) {
 static void expect_prefix_snapshot(size_t at, size_t to, const struct key *prefix) {
     bool has_room = tables[at].number < UINT64_MAX;
     rart_answer answer =
-        CALL(prefix_snapshot)(&trees[at], prefix->bytes, prefix->len, &trees[to]);
+        CALL(prefix_snapshot)(&trees[at], BYTES_OF(prefix), &trees[to]);
     if (!is_refused(answer, has_room ? RART_DONE : RART_LAST_NUMBER) && has_room) {
         tables[to] = tables[at];
         cut_table(to, prefix, true);
@@ -352,7 +360,7 @@ static void expect_restore_prefix(size_t at, size_t from, const struct key *pref
     bool has_room = tables[from].number <= UINT64_MAX - tables[at].number;
     rart_answer wanted = is_long ? RART_TOO_LONG : has_room ? RART_DONE : RART_LAST_NUMBER;
     rart_answer answer =
-        CALL(restore_prefix)(&trees[at], prefix->bytes, prefix->len, &trees[from]);
+        CALL(restore_prefix)(&trees[at], BYTES_OF(prefix), &trees[from]);
     if (!is_refused(answer, wanted) && wanted == RART_DONE) {
         cut_table(at, prefix, false);
         for (size_t next = first_under(from, prefix->number, prefix); next < KEYS;

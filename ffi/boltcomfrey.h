@@ -550,6 +550,29 @@ rart_answer rart_bytes_remove(
 RART_NONNULL RART_MUST_USE RART_CHANGES(1) RART_CHANGES(2)
 rart_answer rart_equals(rart_tree *RART_ALONE tree, rart_tree *RART_ALONE other);
 
+// Makes part the map of the pairs of tree alone whose key other lacks, or has with another value,
+// its number that of tree, and frees what part was. Keys may be as long in it as in tree. With the
+// trees exchanged it is the other side of what differs. RART_NO_MEMORY says that memory was
+// refused: part is as before then.  It goes once through both, and takes memory for each pair of
+// part.
+RART_NONNULL RART_MUST_USE RART_CHANGES(1) RART_CHANGES(2) RART_CHANGES(3)
+rart_answer rart_difference(
+    rart_tree *RART_ALONE tree,
+    rart_tree *RART_ALONE other,
+    rart_tree *RART_ALONE part
+);
+
+// Makes part the map of the pairs of tree alone whose key other has too, its number that of tree,
+// and frees what part was. Keys may be as long in it as in tree. RART_NO_MEMORY says that memory
+// was refused: part is as before then.  It goes through both only where keys of both can lie, and
+// takes memory for each pair of part.
+RART_NONNULL RART_MUST_USE RART_CHANGES(1) RART_CHANGES(2) RART_CHANGES(3)
+rart_answer rart_intersection(
+    rart_tree *RART_ALONE tree,
+    rart_tree *RART_ALONE other,
+    rart_tree *RART_ALONE part
+);
+
 // Sets a key to a copy of the value where it is not there, the number then one greater, and answers
 // RART_ABSENT. Where it is there nothing changes, and it answers RART_DONE. RART_TOO_LONG says that
 // the key is longer than a key may be, RART_LAST_NUMBER that it is not there and the number can't
@@ -581,6 +604,29 @@ rart_answer rart_bytes_replace(
 // nothing of them.
 RART_NONNULL RART_MUST_USE RART_CHANGES(1) RART_CHANGES(2)
 rart_answer rart_bytes_equals(rart_bytes *RART_ALONE tree, rart_bytes *RART_ALONE other);
+
+// Makes part the map of the pairs of tree alone whose key other lacks, or has with another value,
+// its number that of tree, and frees what part was. Keys may be as long in it as in tree. With the
+// trees exchanged it is the other side of what differs. RART_NO_MEMORY says that memory was
+// refused: part is as before then.  It goes once through both, and takes memory for each pair of
+// part.
+RART_NONNULL RART_MUST_USE RART_CHANGES(1) RART_CHANGES(2) RART_CHANGES(3)
+rart_answer rart_bytes_difference(
+    rart_bytes *RART_ALONE tree,
+    rart_bytes *RART_ALONE other,
+    rart_bytes *RART_ALONE part
+);
+
+// Makes part the map of the pairs of tree alone whose key other has too, its number that of tree,
+// and frees what part was. Keys may be as long in it as in tree. RART_NO_MEMORY says that memory
+// was refused: part is as before then.  It goes through both only where keys of both can lie, and
+// takes memory for each pair of part.
+RART_NONNULL RART_MUST_USE RART_CHANGES(1) RART_CHANGES(2) RART_CHANGES(3)
+rart_answer rart_bytes_intersection(
+    rart_bytes *RART_ALONE tree,
+    rart_bytes *RART_ALONE other,
+    rart_bytes *RART_ALONE part
+);
 
 // Writes the first pairs within two bounds, as many as there is room for: to the front of bytes
 // each key and its value behind it, an entry of each pair to the front of entries, and how many

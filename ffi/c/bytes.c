@@ -14,6 +14,12 @@ static size_t value_of(uint64_t number, uint8_t *value) {
     return len;
 }
 
+static bool is_same(uint64_t number, uint64_t other) {
+    uint8_t one[MOST_VALUE] = {0}, another[MOST_VALUE] = {0};
+    size_t len = value_of(number, one);
+    return value_of(other, another) == len && memcmp(one, another, len) == 0;
+}
+
 static rart_answer insert(size_t at, const struct key *key, uint64_t number) {
     uint8_t value[MOST_VALUE] = {0};
     size_t len = value_of(number, value);

@@ -3,6 +3,10 @@
 #define CALL(name) rart_##name
 #include "shared.h"
 
+static bool is_same(uint64_t value, uint64_t other) {
+    return value == other;
+}
+
 // (a value before that isn't wanted may go nowhere)
 static rart_answer insert(size_t at, const struct key *key, uint64_t value) {
     uint64_t replaced = NO_NUMBER;

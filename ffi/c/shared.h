@@ -185,6 +185,9 @@ static void look_last(size_t at, const struct key *to, bool is_strict, size_t wa
 static void look_last_of_all(size_t at, size_t wanted);
 static void read_all(size_t at);
 
+// Whether the values that two numbers stand for are the same.
+static bool is_same(uint64_t value, uint64_t other);
+
 // What refusing.c keeps to and counts.
 void refuse_one_in(unsigned long long so_many);
 unsigned long long requests_refused(void);
@@ -454,12 +457,38 @@ static void expect_equals(size_t at, size_t other) {
     rart_answer wanted = RART_DONE;
     for (size_t key = 0; key < KEYS; key++) {
         bool is_here = tables[at].has[key], is_there = tables[other].has[key];
-        bool differs = is_here && tables[at].values[key] != tables[other].values[key];
-        if (is_here != is_there || (is_there && differs)) {
+        if (is_here != is_there ||
+            (is_there && !is_same(tables[at].values[key], tables[other].values[key]))) {
             wanted = RART_DIFFERENT;
         }
     }
     is_refused(CALL(equals)(&trees[at], &trees[other]), wanted);
+}
+
+// The pairs of a tree alone whose key another one has too; or lacks, or has with another value. (Of
+// a visit that was refused memory more may be refused, until it ends.)
+static void expect_part(size_t at, size_t other, size_t to, bool is_common) {
+    struct key key = random_key();
+    unsigned long long before = requests_refused();
+    rart_answer answer = is_common ? CALL(intersection)(&trees[at], &trees[other], &trees[to])
+                                   : CALL(difference)(&trees[at], &trees[other], &trees[to]);
+    if (is_refused(answer, RART_DONE)) {
+        unheeded += requests_refused() - before - 1;
+    } else {
+        tables[to] = tables[at];
+        for (size_t number = first_from(at, 0); number < KEYS;
+             number = first_from(at, number_behind(number))) {
+            bool is_there = tables[other].has[number];
+            bool equals =
+                is_there && is_same(tables[at].values[number], tables[other].values[number]);
+            tables[to].has[number] = is_common ? is_there : !equals;
+            tables[to].len -= !tables[to].has[number];
+        }
+    }
+    expect_state(at, &key);
+    expect_state(other, &key);
+    expect_state(to, &key);
+    read_all(to);
 }
 
 struct bound {
@@ -497,9 +526,15 @@ static void make_call(size_t at) {
     } else if (what < 20) {
         expect_copy(at, other, random_below(2) == 0);
         expect_equals(at, other);
-    } else if (what < 40) {
+    } else if (what < 37) {
         count_common(at, other);
         expect_equals(at, other);
+    } else if (what < 40) {
+        size_t third = other;
+        while (third == at || third == other) {
+            third = random_below(TREES);
+        }
+        expect_part(at, other, third, random_below(2) == 0);
     } else if (what < 60) {
         read_all(at);
     } else if (what < 70) {
@@ -565,7 +600,7 @@ static void run_long(void) {
 
 // Makes random calls. The first word is how many, 100,000 without it; with a second one new block
 // in that many is refused, and some that are to be longer. Each refusal refuses one call, but those
-// within pages, and at the end no block is left.
+// within pages and further ones within a visit, and at the end no block is left.
 static int compare(int count, char **words, const char *values) {
     unsigned long long calls = count > 1 ? strtoull(words[1], NULL, 10) : 100000;
     for (size_t at = 0; at < TREES; at++) {

@@ -1,4 +1,5 @@
 pub mod AnswerLawLemmas
+pub mod DifferenceLemmas
 pub mod EmptyLemmas
 pub mod EqualityLemmas
 pub mod Handles

@@ -1,6 +1,7 @@
 pub mod AnswerLaws
 pub mod Answers
 pub mod Choices
+pub mod Differences
 pub mod Equality
 pub mod Firsts
 pub mod Lends

@@ -2,7 +2,7 @@
 use Rattle.std.specs.Prelude.{◌≤◌, ℕ, IsTrue, List, length, refl}
 use Rattle.std.specs.Coded.{Coded, code_by, coded×, coded_ℕ}
 use Rattle.rart_c.specs.declared.limits.TheConstants.{LONGEST_KEY}
-use Rattle.rart_maps.specs.Versions.{Version, empty_at, has_key, version_code}
+use Rattle.rart_maps.specs.Versions.{Map, Version, empty_at, has_key, version_code}
 
 pub record Tree (V : Type 0) : Type 0 where
   pub version : Version V
@@ -21,6 +21,11 @@ module _ {V : Type 0} where
   -- the same with another version
   abbrev pub of_version : Tree V → Version V → Tree V
   of_version tree version = record { version = version; longest = tree.longest }
+
+  -- the same with another map, its number the same
+  abbrev pub of_content : Tree V → Map V → Tree V
+  of_content tree content =
+      of_version tree (record { content = content; number = tree.version.number })
 
   -- the same, keys as long as this
   abbrev pub with_longest : Tree V → ℕ → Tree V

@@ -1,6 +1,7 @@
 //! What the numbers that C reads are, and what they tell.
 ghost use Rattle.std.specs.Prelude.{◌≡◌, [], ◌∷◌};
 ghost use Rattle.rart_c.specs.AnswerLaws.{AnswersTell, ReadsTell, FirstsTell, FirstStringsTell, RefusalsTell, PagesTell, PageAnswersTell, EqualityTells};
+ghost use Rattle.rart_c.specs.Differences.{DifferenceIsOfPairs, IntersectionIsOfKeys};
 ghost use Rattle.rart_c.specs.WorkedWords.{WorkedAdditions, WorkedBounds, WorkedComparisons, WorkedStrings, CountIsTold, LongestIsTold};
 ghost use Rattle.rart_c.specs.declared.answer.TheConstants.{DONE, ABSENT, LAST_NUMBER, NO_MEMORY, TOO_SMALL, NO_ENTRIES, TOO_LONG, NOT_EMPTY, DIFFERENT};
 ghost use Rattle.rart_c.specs.declared.limits.TheConstants.{LONGEST_KEY};
@@ -26,6 +27,13 @@ pub fn answers_tell<X>()
     ensures page_answers { PageAnswersTell }
     ensures refusals { RefusalsTell }
     ensures equality { EqualityTells X }
+{}
+
+/// The difference of two maps has the pairs that the one has and the other hasn't, where equal
+/// values are the same; their intersection has those of the one whose key both have.
+pub fn parts_are_of_both<V: Eq>()
+    ensures difference { DifferenceIsOfPairs V.eq }
+    ensures intersection { IntersectionIsOfKeys V }
 {}
 
 /// Worked values, found by hand: bounds by their kinds, what a page of byte strings has of a pair,

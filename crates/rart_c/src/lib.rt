@@ -9,6 +9,7 @@ mod answer;
 mod bytes;
 mod changing;
 mod choosing;
+mod combining;
 mod comparing;
 mod handle;
 mod laws;

@@ -2,7 +2,7 @@
 use crate::answer::{ABSENT, DIFFERENT, DONE, NOT_EMPTY, TOO_LONG, TOO_SMALL};
 use crate::changing::{rart_clear, rart_insert, rart_remove};
 use crate::choosing::{rart_add, rart_replace};
-use crate::comparing::rart_equals;
+use crate::comparing::{rart_difference, rart_equals, rart_intersection};
 use crate::handle::RartTree;
 use crate::limits::{rart_longest_key, rart_set_longest_key};
 use crate::paging::{EXCLUDED, INCLUDED, RartEntry, rart_page};
@@ -168,6 +168,29 @@ fn pages_are_read(rt: HostRuntime) {
         &mut needed,
     );
     assert_eq!(rt; (page, count, needed), (TOO_SMALL, 0, 3));
+}
+
+#[test]
+fn parts_are_made_of_two_trees(rt: HostRuntime) {
+    let alloc = rt.alloc();
+    let mut tree = tree_of(alloc, &[(b"a", 1), (b"b", 2), (b"c", 3)]);
+    let mut other = tree_of(alloc, &[(b"b", 2), (b"c", 4), (b"d", 5)]);
+    let mut part = RartTree::empty(alloc);
+    let mut value = 0;
+    assert_eq!(rt;
+        rart_difference(alloc, &mut tree, &mut other, &mut part),
+        DONE
+    );
+    assert_eq!(rt; (rart_len(&mut part), rart_version(&mut part)), (2, 3));
+    let found = rart_get(&mut part, b"c", &mut value);
+    assert_eq!(rt; (found, value), (DONE, 3));
+    assert_eq!(rt;
+        rart_intersection(alloc, &mut other, &mut tree, &mut part),
+        DONE
+    );
+    assert_eq!(rt; rart_len(&mut part), 2);
+    let found = rart_get(&mut part, b"c", &mut value);
+    assert_eq!(rt; (found, value), (DONE, 4));
 }
 
 #[test]

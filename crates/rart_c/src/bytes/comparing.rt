@@ -1,9 +1,14 @@
-//! What C calls to compare trees of byte strings.
-ghost use Rattle.std.specs.Prelude.{◌≡◌};
+//! What C calls to compare trees of byte strings, and to have what one of them has beside the
+//! other.
+ghost use Rattle.std.specs.Prelude.{◌≡◌, ◌⊎◌, nat_eq};
+ghost use Rattle.std.specs.Cmp.Lexicographic.{pointwise};
+ghost use Rattle.rart_c.specs.Differences.{difference, intersection};
 ghost use Rattle.rart_c.specs.Equality.{TellsEqual};
+ghost use Rattle.rart_c.specs.Trees.{of_content};
 
-use crate::answer::tell_equal;
+use crate::answer::{DONE, NO_MEMORY, tell_equal};
 use crate::bytes::handle::RartBytes;
+use crate::combining;
 use crate::lent;
 use std::alloc::Global;
 
@@ -22,4 +27,57 @@ pub extern "C" fn rart_bytes_equals(
     ensures other_same { other.new.shows ≡ other.old.shows }
 {
     tell_equal(lent::equals(alloc, tree.table(), other.table()))
+}
+
+/// Makes `part` the map of the pairs of `tree` alone whose key `other` lacks, or has with another
+/// value, its number that of `tree`, and frees what `part` was. Keys may be as long in it as in
+/// `tree`. With the trees exchanged it is the other side of what differs. `NO_MEMORY` says that
+/// memory was refused: `part` is as before then.
+///
+/// It goes once through both, and takes memory for each pair of `part`.
+#[unsafe(no_mangle)]
+pub extern "C" fn rart_bytes_difference(
+    alloc: Global,
+    tree: &mut RartBytes,
+    other: &mut RartBytes,
+    part: &mut RartBytes,
+) -> u8
+    ensures done { (result ≡ NO_MEMORY) ⊎ ((result ≡ DONE)
+        × (part.new.shows ≡ of_content tree.old.shows (difference (pointwise nat_eq)
+        tree.old.shows.version.content other.old.shows.version.content))) }
+    ensures refused { result ≡ NO_MEMORY → part.new.shows ≡ part.old.shows }
+    ensures same { tree.new.shows ≡ tree.old.shows }
+    ensures other_same { other.new.shows ≡ other.old.shows }
+{
+    let Ok(made) = combining::difference(alloc, tree.table(), other.table()) else {
+        return NO_MEMORY;
+    };
+    *part = RartBytes::of(made);
+    DONE
+}
+
+/// Makes `part` the map of the pairs of `tree` alone whose key `other` has too, its number that of
+/// `tree`, and frees what `part` was. Keys may be as long in it as in `tree`. `NO_MEMORY` says that
+/// memory was refused: `part` is as before then.
+///
+/// It goes through both only where keys of both can lie, and takes memory for each pair of `part`.
+#[unsafe(no_mangle)]
+pub extern "C" fn rart_bytes_intersection(
+    alloc: Global,
+    tree: &mut RartBytes,
+    other: &mut RartBytes,
+    part: &mut RartBytes,
+) -> u8
+    ensures done { (result ≡ NO_MEMORY) ⊎ ((result ≡ DONE)
+        × (part.new.shows ≡ of_content tree.old.shows (intersection
+        tree.old.shows.version.content other.old.shows.version.content))) }
+    ensures refused { result ≡ NO_MEMORY → part.new.shows ≡ part.old.shows }
+    ensures same { tree.new.shows ≡ tree.old.shows }
+    ensures other_same { other.new.shows ≡ other.old.shows }
+{
+    let Ok(made) = combining::intersection(alloc, tree.table(), other.table()) else {
+        return NO_MEMORY;
+    };
+    *part = RartBytes::of(made);
+    DONE
 }

@@ -2,7 +2,7 @@
 use crate::answer::{ABSENT, DIFFERENT, DONE, NOT_EMPTY, TOO_LONG, TOO_SMALL};
 use crate::bytes::changing::{rart_bytes_clear, rart_bytes_insert, rart_bytes_remove};
 use crate::bytes::choosing::{rart_bytes_add, rart_bytes_replace};
-use crate::bytes::comparing::rart_bytes_equals;
+use crate::bytes::comparing::{rart_bytes_difference, rart_bytes_equals, rart_bytes_intersection};
 use crate::bytes::handle::RartBytes;
 use crate::bytes::limits::{rart_bytes_longest_key, rart_bytes_set_longest_key};
 use crate::bytes::paging::{RartBytesEntry, rart_bytes_page};
@@ -184,6 +184,32 @@ fn pages_are_read(rt: HostRuntime) {
         &mut len,
     );
     assert_eq!(rt; (page, count, key_len, len), (TOO_SMALL, 0, 2, 3));
+}
+
+#[test]
+fn parts_are_made_of_two_trees(rt: HostRuntime) {
+    let alloc = rt.alloc();
+    let mut tree = tree_of(alloc, &[(b"a", b"1"), (b"b", b"2"), (b"c", b"3")]);
+    let mut other = tree_of(alloc, &[(b"b", b"2"), (b"c", b"4"), (b"d", b"5")]);
+    let mut part = RartBytes::empty(alloc);
+    let (mut into, mut len) = (*b"..", 0);
+    assert_eq!(rt;
+        rart_bytes_difference(alloc, &mut tree, &mut other, &mut part),
+        DONE
+    );
+    assert_eq!(rt;
+        (rart_bytes_len(&mut part), rart_bytes_version(&mut part)),
+        (2, 3)
+    );
+    let found = rart_bytes_get(&mut part, b"c", &mut into, &mut len);
+    assert_eq!(rt; (found, &into), (DONE, b"3."));
+    assert_eq!(rt;
+        rart_bytes_intersection(alloc, &mut other, &mut tree, &mut part),
+        DONE
+    );
+    assert_eq!(rt; rart_bytes_len(&mut part), 2);
+    let found = rart_bytes_get(&mut part, b"c", &mut into, &mut len);
+    assert_eq!(rt; (found, &into), (DONE, b"4."));
 }
 
 #[test]

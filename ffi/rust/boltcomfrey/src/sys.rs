@@ -235,6 +235,8 @@ unsafe extern "C" {
     ) -> u8;
     pub fn rart_bytes_remove(tree: *mut RartBytes, key: *const u8, key_len: usize) -> u8;
     pub fn rart_equals(tree: *mut RartTree, other: *mut RartTree) -> u8;
+    pub fn rart_difference(tree: *mut RartTree, other: *mut RartTree, part: *mut RartTree) -> u8;
+    pub fn rart_intersection(tree: *mut RartTree, other: *mut RartTree, part: *mut RartTree) -> u8;
     pub fn rart_bytes_add(
         tree: *mut RartBytes,
         key: *const u8,
@@ -250,6 +252,16 @@ unsafe extern "C" {
         value_len: usize,
     ) -> u8;
     pub fn rart_bytes_equals(tree: *mut RartBytes, other: *mut RartBytes) -> u8;
+    pub fn rart_bytes_difference(
+        tree: *mut RartBytes,
+        other: *mut RartBytes,
+        part: *mut RartBytes,
+    ) -> u8;
+    pub fn rart_bytes_intersection(
+        tree: *mut RartBytes,
+        other: *mut RartBytes,
+        part: *mut RartBytes,
+    ) -> u8;
     pub fn rart_bytes_page(
         tree: *mut RartBytes,
         low: *const u8,

@@ -1,13 +1,13 @@
 -- The part of a map that another one lacks or has too: what it answers, and that a visit of what
 -- differs or is in common meets its pairs.
-use Rattle.std.proofs.Common.{◌≡◌, ◌∙◌, ◌↔◌, ◌≤◌, ◌<◌, ◌+◌, ℕ, Bool, true, false, cond, not, List, [], ◌∷◌, ◌++◌, Option, Some, None, IsTrue, Contains, ap, get_or, unwrap_or, append-nil, append_assoc, arith, filter, filter_map, is_some, length, option_map, refl, subst, sym}
+use Rattle.std.proofs.Common.{◌≡◌, ◌∙◌, ◌≤◌, ℕ, Bool, true, false, cond, not, List, [], ◌∷◌, ◌++◌, Option, Some, None, IsTrue, Contains, ap, get_or, unwrap_or, append-nil, append_assoc, arith, filter, filter_map, is_some, length, option_map, refl, subst, sym}
 use Rattle.std.proofs.lemmas.Bool.{false≢true}
 use Rattle.std.proofs.lemmas.List.{length-map}
 use Rattle.std.proofs.lemmas.List.Sums.{count_by-le-length, length-filter}
 use Rattle.std.proofs.lemmas.Option.{get_or_from_slice_get, slice_get-map, slice_get_within}
 use Rattle.std.specs.FinMap as finite
 use Rattle.std.specs.Fn.{Mut}
-use Rattle.std.specs.List.{cons_option, slice_get}
+use Rattle.std.specs.List.{cons_option}
 use Rattle.rart_below.specs.Plain.{by_bytes}
 use Rattle.std.specs.Prelude.{IfOk, Result, Ok, Err}
 use Rattle.rart_c.specs.Trees.{Tree, of_content}
@@ -218,9 +218,10 @@ module _ {V : Type 0} (same : V → V → Bool) where
         ))
 
 pub difference_is_of_pairs : {V : Type 0} (same : V → V → Bool) → DifferenceIsOfPairs same
-difference_is_of_pairs same decides m other key x =
-    (difference-from same m other decides key x,
-    λ both. difference-to same m other decides key x both.0 both.1)
+difference_is_of_pairs same decides m other key x = (
+  difference-from same m other decides key x,
+  λ both. difference-to same m other decides key x both.0 both.1,
+)
 
 -- ---- what is in common
 module _ {V : Type 0} (m other : Map V) where

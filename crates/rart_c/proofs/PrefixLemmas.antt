@@ -1,5 +1,5 @@
 -- How many keys there are under a prefix and without it, and how long they are.
-use Rattle.std.proofs.Common.{◌≡◌, ◌∙◌, ◌+◌, ◌-◌, ◌≤◌, ◌==◌, ℕ, List, Option, None, Some, IsTrue, true, false, Bool, ap, arith, cond, is_some, length, not, refl, subst, sym}
+use Rattle.std.proofs.Common.{◌≡◌, ◌∙◌, ◌+◌, ◌-◌, ◌≤◌, ◌==◌, ℕ, List, Option, None, true, false, Bool, ap, arith, cond, is_some, length, not, refl, sym}
 use Rattle.std.proofs.lemmas.Bool.{false≢true}
 use Rattle.std.proofs.lemmas.Bool.Decides.{nat_tests}
 use Rattle.std.proofs.lemmas.List.Filters.{length-filter_both}
@@ -10,7 +10,7 @@ use Rattle.rart_maps.proofs.PrefixLawLemmas.{pairs_under_are_under, pairs_withou
 use Rattle.rart_maps.proofs.PrefixLemmas.{same_map, get-with_prefix_of, get-without_prefix, value_at-under_prefix, value_at-prefix_removal}
 use Rattle.rart_maps.specs.Pairs.{pairs, under}
 use Rattle.rart_maps.specs.Prefixes.{after_prefix_removal, after_prefix_restoring, has_under, pairs_under, under_prefix, with_prefix_of, without_prefix}
-use Rattle.rart_maps.specs.Versions.{Map, Version, empty_at, has_key, value_at}
+use Rattle.rart_maps.specs.Versions.{Map, Version, empty_at, value_at}
 use Rattle.rart_versioned.proofs.VersionPrefixLemmas.{no-root-none}
 
 none-of : (n : ℕ) → not (n == 0) ≡ false → 0 ≡ n

@@ -1,5 +1,5 @@
 -- The worked words, by computation.
-use Rattle.std.proofs.Common.{◌≡◌, ◌+◌, ℕ, suc, List, ◌∷◌, Some, arith, length, refl, ap, ◌∙◌}
+use Rattle.std.proofs.Common.{ℕ, List, Some, arith, length, refl, ap, ◌∙◌}
 use Rattle.std.specs.Option.{option_map}
 use Rattle.rart_maps.proofs.MapLemmas.{maps}
 use Rattle.rart_c.specs.Under.{some_of}

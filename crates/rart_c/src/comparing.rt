@@ -5,9 +5,8 @@ ghost use Rattle.rart_c.specs.Equality.{TellsEqual};
 ghost use Rattle.rart_c.specs.Trees.{of_content};
 
 use crate::answer::{DONE, NO_MEMORY, tell_equal};
-use crate::combining;
 use crate::handle::RartTree;
-use crate::lent;
+use crate::{combining, lent};
 use std::alloc::Global;
 
 /// Whether both trees have the same keys with the same values, whatever their numbers: answers

@@ -1,4 +1,4 @@
-use Rattle.std.proofs.Common.{◌≡◌, ◌≤◌, ◌∙◌, Err, ap, arith, length, subst, sym}
+use Rattle.std.proofs.Common.{◌∙◌, Err, ap, arith, subst, sym}
 use Rattle.rart_c.proofs.DifferenceLemmas.{few-items, items-ascend, items-counted, keys-of}
 use Rattle.rart_c.proofs.table.Table.part.Goals as goal
 use Rattle.rart_c.specs.Differences.{ArePairsOf, by_key}

@@ -1,4 +1,4 @@
-use Rattle.std.proofs.Common.{◌≡◌, ◌-◌, ◌≤◌, ap, arith, length, subst, sym}
+use Rattle.std.proofs.Common.{◌≡◌, arith, length, subst, sym}
 use Rattle.rart_c.proofs.PrefixLemmas.{KeepsLimit-without, few-under, len-after, none-removed}
 use Rattle.rart_c.proofs.table.Table.remove_prefix.Goals as goal
 use Rattle.rart_maps.specs.Pairs.{under}

@@ -306,7 +306,7 @@ static void expect_copy(size_t at, size_t to, bool is_snapshot) {
 static size_t first_under(size_t at, size_t number, const struct key *prefix) {
     size_t first = first_from(at, number);
     struct key key = key_of(first < KEYS ? first : 0);
-    bool is_under = key.len >= prefix->len && memcmp(key.bytes, BYTES_OF(prefix)) == 0;
+    bool is_under = key.len >= prefix->len && memcmp(key.bytes, prefix->bytes, prefix->len) == 0;
     return first < KEYS && is_under ? first : KEYS;
 }
 

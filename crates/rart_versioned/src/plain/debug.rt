@@ -1,3 +1,4 @@
+// Ported from rart 0.11.0 (Apache-2.0), and rewritten.
 //! A tree as text, for `{:?}`.
 use crate::counted::VersionedAdaptiveRadixTree;
 use rart_below::KeyTrait;

@@ -15,9 +15,9 @@ use std::array;
 /// An entry of the index that names no slot, as each does that is not below the number of slots.
 const NO_SLOT: u8 = 48;
 
-/// A mapping of up to 48 children: an index that gives each byte's slot, the slots, one bit for each
-/// slot, which is set where the slot is in use, and the bytes that have a child, so that a walk need
-/// not go over the index.
+/// A mapping of up to 48 children: an index that gives each byte's slot, the slots, one bit for
+/// each slot, which is set where the slot is in use, and the bytes that have a child, so that a
+/// walk need not go over the index.
 #[derive(Drop)]
 pub struct IndexedMapping<C> {
     index: [u8; 256],

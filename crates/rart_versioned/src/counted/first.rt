@@ -36,8 +36,8 @@ impl<K: KeyTrait, V: Clone + Drop> VersionedAdaptiveRadixTree<K, V> {
         }
     }
 
-    /// As `first`, with the nodes entered counted into `work`: at most one for each byte of the key,
-    /// and one; and at least one where there is a key in the map.
+    /// As `first`, with the nodes entered counted into `work`: at most one for each byte of the
+    /// key, and one; and at least one where there is a key in the map.
     pub fn first_counted(&self, room: &mut [u8], work: &mut Work) -> Option<(usize, &V)>
         ensures first { Finds (pairs self.now.content) result room.old room.new }
         ensures counted { CountsUpTo (1 + found_length result) 0 work.old work.new }

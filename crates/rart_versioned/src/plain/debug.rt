@@ -7,9 +7,9 @@ use std::ops::Bound;
 use std::str;
 
 impl<K: KeyTrait, V: Clone + Debug + Drop> Debug for VersionedAdaptiveRadixTree<K, V> {
-    /// Its pairs as a `BTreeMap` writes them, `{"tea": 300}`: a key that is UTF-8 as text, any other
-    /// as a byte string, `b"\xff"`. Where memory is refused on the way, the answer is an error, and
-    /// the text ends there.
+    /// Its pairs as a `BTreeMap` writes them, `{"tea": 300}`: a key that is UTF-8 as text, any
+    /// other as a byte string, `b"\xff"`. Where memory is refused on the way, the answer is an
+    /// error, and the text ends there.
     fn fmt<W: Write>(&self, f: &mut Formatter<W>) -> fmt::Result {
         let Ok(mut cursor) = self.cursor_from(Bound::Unbounded) else {
             return Err(fmt::Error);

@@ -1,5 +1,5 @@
 -- The bytes of the slots in use, as a set.
-use Rattle.std.proofs.Common.{◌≡◌, ◌<◌, ◌≢◌, inl, inr, ℕ, zero, suc, length, ◌+◌, Bool, true, false, List, [], ◌∷◌, refl, ap, sym, ◌∙◌, arith, get_or, get_or-set_same, get_or-set_other, set, Option, None, Some}
+use Rattle.std.proofs.Common.{◌≡◌, ◌<◌, ◌≢◌, ◌⊎◌, inl, inr, ℕ, zero, suc, length, ◌+◌, Bool, true, false, List, [], ◌∷◌, refl, ap, sym, ◌∙◌, arith, get_or, get_or-set_same, get_or-set_other, set, Option, None, Some}
 use Rattle.std.specs.Prelude.{◌&&◌, ◌==◌, ◌||◌, not, is_some, if◌then◌else◌}
 use Rattle.std.proofs.lemmas.Bool.{and_parts, and_from, cases_eq, eq-eqb, ne_eqb, false≢true}
 use Rattle.rart_below.specs.ByteSets.{has_byte, marks_slots}
@@ -18,6 +18,11 @@ agreed false true is = sym is
 agreed false false is = refl
 
 module _ {C : Type 0} where
+  used-or-empty : (slot : Option C) (has : Bool) → has ≡ is_some slot
+      → (has ≡ true) ⊎ (slot ≡ None)
+  used-or-empty None has is = inr refl
+  used-or-empty (Some child) has is = inl is
+
   marks-each : (bytes : ByteSet) (first : ℕ) (slots : List (Option C))
       → marks_slots bytes first slots ≡ true → (place : ℕ) → place < length slots
       → has_byte bytes (first + place) ≡ is_some (get_or slots place None)
@@ -119,3 +124,13 @@ module _ {C : Type 0} where
       → AreMarked bytes slots
   marked-none slots bytes none empty =
       λ place lt. none place ∙ ap is_some (sym (empty place lt))
+
+  -- where those slots are empty that were, and those whose byte is in the set
+  pub marked-empty : (slots slots' : List (Option C)) (bytes : ByteSet) → AreMarked bytes slots
+      → length slots' ≡ length slots
+      → ((place : ℕ) → (has_byte bytes place ≡ true) ⊎ (get_or slots place None ≡ None)
+      → get_or slots' place None ≡ None)
+      → (place : ℕ) → place < length slots' → get_or slots' place None ≡ None
+  marked-empty slots slots' bytes marked long empty = λ place lt.
+      empty place (used-or-empty (get_or slots place None) (has_byte bytes place)
+      (marked place (omega (arith, lt, long))))

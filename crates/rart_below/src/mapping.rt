@@ -35,13 +35,13 @@ pub trait Clear<C> {
     /// Whether the lists inside are in step, and the bytes strictly ascend.
     ghost in_order: { Self → Bool };
 
-    /// Drops the children. Lists that were in step are in step.
+    /// Drops the children of lists that are in step, which are in step then too.
     fn clear(&mut self)
     where
         C: Drop,
         ensures order { IsTrue (in_order self.old) → IsTrue (in_order self.new) }
-        ensures dropped { AreEmpty (slots self.new) }
-        ensures empty { children self.new ≡ [] };
+        ensures dropped { IsTrue (in_order self.old) → AreEmpty (slots self.new) }
+        ensures empty { IsTrue (in_order self.old) → children self.new ≡ [] };
 }
 
 /// A finite map from bytes to children, visited ascending.

@@ -1,6 +1,7 @@
 // Ported from rart 0.11.0 (Apache-2.0), and rewritten.
 //! The mapping of width 256: a slot for each byte.
-ghost use Rattle.std.specs.Prelude.{◌≡◌, [], None, IsTrue};
+ghost use Rattle.std.specs.Prelude.{◌≡◌, ◌≤◌, ◌⊎◌, ℕ, true, [], None, IsTrue, length, slice_index_or};
+ghost use Rattle.rart_below.specs.ByteSets.{has_byte};
 ghost use Rattle.rart_below.specs.Children.{children_below, children_from};
 ghost use Rattle.rart_below.specs.Layouts.{SameBytes};
 ghost use Rattle.rart_below.specs.DirectMapping.{direct_children, direct_in_order};
@@ -11,6 +12,9 @@ use super::{Clear, NodeMapping};
 use crate::byte_set::ByteSet;
 use std::alloc::AllocError;
 use std::array;
+
+/// So many children are dropped by a walk over all slots, fewer by one over their bytes.
+const HALF: usize = 128;
 
 /// A mapping of up to 256 children: a slot for each byte, a count, and the bytes that have a child,
 /// so that a walk need not go over the free slots.
@@ -151,9 +155,27 @@ impl<C> Clear<C> for DirectMapping<C> {
     where
         C: Drop,
     {
-        clear_slots(&mut self.children.slots);
+        empty_slots(&mut self.children.slots, self.count, &self.bytes);
         self.count = 0;
         self.bytes = ByteSet::new();
+    }
+}
+
+/// Empties the slots of these bytes, where they stand; where those are many, all slots.
+fn empty_slots<C: Drop>(slots: &mut [Option<C>], many: usize, bytes: &ByteSet)
+    requires { 256 ≤ length slots.old }
+    ensures { (place : ℕ)
+        → (has_byte bytes.now place ≡ true) ⊎ (slice_index_or slots.old place None ≡ None)
+        → slice_index_or slots.new place None ≡ None }
+{
+    if many >= HALF {
+        clear_slots(slots);
+        return;
+    }
+    let mut from = 0;
+    while let Some(byte) = bytes.least_from(from) {
+        slots[byte as usize] = None;
+        from = usize::from(byte) + 1;
     }
 }
 

@@ -4,7 +4,7 @@ use Rattle.rart_below.proofs.SlotLemmas.{no_named_slots}
 use Rattle.rart_below.proofs.mapping.indexed.IndexedMappingClear.clear.Goals as goal
 
 pub returns-clause-empty : goal.returns-clause-empty
-returns-clause-empty g c = no_named_slots 0 _ (replicate 256 48) c.clear_slots.ensures
+returns-clause-empty g c order = no_named_slots 0 _ (replicate 256 48) c.clear_slots.ensures
 
 pub returns-clause-order : goal.returns-clause-order
 returns-clause-order g c order =

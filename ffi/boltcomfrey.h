@@ -370,6 +370,27 @@ rart_answer rart_page(
     size_t *RART_ALONE needed
 );
 
+// As rart_page, from the last pair on: the last pairs within two bounds, descending, as many as
+// there is room for. The next page ends RART_EXCLUDED at a copy of the last key. It searches from
+// key to key, and takes no memory.
+RART_NONNULL RART_MUST_USE RART_CHANGES(1) RART_READS(2, 3) RART_READS(5, 6) RART_WRITES(8, 9)
+RART_WRITES(10, 11) RART_WRITES(12) RART_WRITES(13)
+rart_answer rart_page_back(
+    rart_tree *RART_ALONE tree,
+    const uint8_t *RART_ALONE low,
+    size_t low_len,
+    uint8_t low_kind,
+    const uint8_t *RART_ALONE high,
+    size_t high_len,
+    uint8_t high_kind,
+    uint8_t *RART_ALONE bytes,
+    size_t bytes_len,
+    rart_entry *RART_ALONE entries,
+    size_t entries_len,
+    size_t *RART_ALONE count,
+    size_t *RART_ALONE needed
+);
+
 // Makes copy the same map, its number one greater, and frees what copy was. Keys may be as long in
 // it. RART_LAST_NUMBER says that the number can't be raised, RART_NO_MEMORY that memory was
 // refused: copy is as before then.
@@ -652,6 +673,27 @@ rart_answer rart_bytes_page(
     size_t *RART_ALONE len
 );
 
+// As rart_bytes_page, from the last pair on: the last pairs within two bounds, descending, as
+// rart_page_back has them.
+RART_NONNULL RART_MUST_USE RART_CHANGES(1) RART_READS(2, 3) RART_READS(5, 6) RART_WRITES(8, 9)
+RART_WRITES(10, 11) RART_WRITES(12) RART_WRITES(13) RART_WRITES(14)
+rart_answer rart_bytes_page_back(
+    rart_bytes *RART_ALONE tree,
+    const uint8_t *RART_ALONE low,
+    size_t low_len,
+    uint8_t low_kind,
+    const uint8_t *RART_ALONE high,
+    size_t high_len,
+    uint8_t high_kind,
+    uint8_t *RART_ALONE bytes,
+    size_t bytes_len,
+    rart_bytes_entry *RART_ALONE entries,
+    size_t entries_len,
+    size_t *RART_ALONE count,
+    size_t *RART_ALONE key_len,
+    size_t *RART_ALONE len
+);
+
 // Takes out all pairs whose key the prefix begins, the number then one greater. Answers RART_DONE
 // and writes how many there were, or answers RART_ABSENT where there is none, and then nothing
 // changed. RART_LAST_NUMBER says that there is one and the number can't be raised, RART_NO_MEMORY
@@ -853,6 +895,20 @@ static inline rart_answer rart_page_any(rart_tree *RART_ALONE tree, const uint8_
 }
 #define rart_page(...) rart_page_any(__VA_ARGS__)
 
+RART_NONNULL_AT(1, 12, 13) RART_MUST_USE RART_CHANGES(1) RART_READS(2, 3) RART_READS(5, 6)
+RART_WRITES(8, 9) RART_WRITES(10, 11) RART_WRITES(12) RART_WRITES(13)
+static inline rart_answer rart_page_back_any(rart_tree *RART_ALONE tree,
+    const uint8_t *RART_ALONE low, size_t low_len, uint8_t low_kind, const uint8_t *RART_ALONE high,
+    size_t high_len, uint8_t high_kind, uint8_t *RART_ALONE bytes, size_t bytes_len,
+    rart_entry *RART_ALONE entries, size_t entries_len, size_t *RART_ALONE count,
+    size_t *RART_ALONE needed) {
+    return (rart_page_back)(tree, low_len > 0 ? low : (const uint8_t *)&rart_nowhere, low_len,
+        low_kind, high_len > 0 ? high : (const uint8_t *)&rart_nowhere, high_len, high_kind,
+        bytes_len > 0 ? bytes : (uint8_t *)&rart_nowhere, bytes_len,
+        entries_len > 0 ? entries : (rart_entry *)&rart_nowhere, entries_len, count, needed);
+}
+#define rart_page_back(...) rart_page_back_any(__VA_ARGS__)
+
 RART_NONNULL_AT(1, 6) RART_MUST_USE RART_CHANGES(1) RART_READS(2, 3) RART_WRITES(4, 5)
 RART_WRITES(6)
 static inline rart_answer rart_bytes_get_any(rart_bytes *RART_ALONE tree,
@@ -982,6 +1038,21 @@ static inline rart_answer rart_bytes_page_any(rart_bytes *RART_ALONE tree,
         len);
 }
 #define rart_bytes_page(...) rart_bytes_page_any(__VA_ARGS__)
+
+RART_NONNULL_AT(1, 12, 13, 14) RART_MUST_USE RART_CHANGES(1) RART_READS(2, 3) RART_READS(5, 6)
+RART_WRITES(8, 9) RART_WRITES(10, 11) RART_WRITES(12) RART_WRITES(13) RART_WRITES(14)
+static inline rart_answer rart_bytes_page_back_any(rart_bytes *RART_ALONE tree,
+    const uint8_t *RART_ALONE low, size_t low_len, uint8_t low_kind, const uint8_t *RART_ALONE high,
+    size_t high_len, uint8_t high_kind, uint8_t *RART_ALONE bytes, size_t bytes_len,
+    rart_bytes_entry *RART_ALONE entries, size_t entries_len, size_t *RART_ALONE count,
+    size_t *RART_ALONE key_len, size_t *RART_ALONE len) {
+    return (rart_bytes_page_back)(tree, low_len > 0 ? low : (const uint8_t *)&rart_nowhere, low_len,
+        low_kind, high_len > 0 ? high : (const uint8_t *)&rart_nowhere, high_len, high_kind,
+        bytes_len > 0 ? bytes : (uint8_t *)&rart_nowhere, bytes_len,
+        entries_len > 0 ? entries : (rart_bytes_entry *)&rart_nowhere, entries_len, count, key_len,
+        len);
+}
+#define rart_bytes_page_back(...) rart_bytes_page_back_any(__VA_ARGS__)
 
 RART_NONNULL_AT(1, 4) RART_MUST_USE RART_CHANGES(1) RART_READS(2, 3) RART_WRITES(4)
 static inline rart_answer rart_remove_prefix_any(rart_tree *RART_ALONE tree,

@@ -6,6 +6,7 @@ pub mod Handles
 pub mod LengthLemmas
 pub mod LimitLemmas
 pub mod PageLemmas
+pub mod PageOrderLemmas
 pub mod Parts
 pub mod Pointers
 pub mod PrefixLemmas

@@ -1,6 +1,6 @@
 -- Pages: how the pairs within two bounds stand to those from the lower one on, and to those behind
 -- one of them; and what one pair more is.
-use Rattle.std.proofs.Common.{◌≡◌, ◌+◌, ◌<◌, ◌≤◌, ⊎_elim, inr, ℕ, suc, Bool, true, false, List, [], ◌∷◌, ◌++◌, length, take, drop, get_or, drop-cons, refl, arith, sym, ap, subst, ◌∙◌}
+use Rattle.std.proofs.Common.{◌≡◌, ◌+◌, ◌<◌, ◌≤◌, ⊎_elim, inr, ℕ, suc, true, false, List, [], ◌∷◌, ◌++◌, length, take, drop, get_or, drop-cons, refl, arith, sym, ap, subst, ◌∙◌}
 use Rattle.std.proofs.Math.ListN.{set}
 use Rattle.std.proofs.Math.Seq.{set-append_seam, take-add}
 use Rattle.std.proofs.lemmas.Bool.Decides.{nat_tests}
@@ -25,7 +25,7 @@ use Rattle.rart_c.specs.Pages.{entries_of, written_of}
 use Rattle.rart_ways.specs.Firsts.{IsFirst}
 
 -- what stands behind a string that meets a lower bound meets it too
-MeetsLow-behind : (low : Bound (List ℕ)) (u w : List ℕ) → MeetsLow low u → IsBefore u w
+pub MeetsLow-behind : (low : Bound (List ℕ)) (u w : List ℕ) → MeetsLow low u → IsBefore u w
     → MeetsLow low w
 MeetsLow-behind (Included a) u w meets before =
     ⊎_elim
@@ -120,19 +120,6 @@ module _ {V : Type 0} (m : Map V) (low high : Bound (List ℕ)) where
     pub first-past : is_up_to_end (as_partial_cmp byte_order) high first.key ≡ false
         → within m low high ≡ []
     first-past past = within-past (first.key, value) first.others first.first past
-
-    -- whether there is a pair tells whether it is this one
-    pub first-told : (told : Bool) → told ≡ not (length (within m low high) == 0)
-        → is_up_to_end (as_partial_cmp byte_order) high first.key ≡ told
-    first-told told is =
-        elim (is_up_to_end (as_partial_cmp byte_order) high first.key) as (λ b.
-        is_up_to_end (as_partial_cmp byte_order) high first.key ≡ b → b ≡ told) [
-          | true ↦ λ meets. some-not_none (first.key, value) (first-meets meets).others
-              ∙ sym (is ∙ ap (λ (list : List (List ℕ × V)). not (length list == 0))
-              (first-meets meets).first)
-          | false ↦ λ past. sym (is ∙ ap (λ (list : List (List ℕ × V)). not (length list == 0))
-              (first-past past))
-        ] refl
 
 -- ---- one pair more
 module _ {V E : Type 0} (bytes_of : List ℕ × V → List ℕ) (entry_of : ℕ → List ℕ × V → E) where

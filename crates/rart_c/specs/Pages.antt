@@ -1,5 +1,5 @@
 -- A page: the first of the pairs within two bounds, as many as there is room for.
-use Rattle.std.specs.Prelude.{◌≡◌, ◌+◌, ◌<◌, ◌⊎◌, ◌++◌, ◌==◌, if◌then◌else◌, ℕ, zero, suc, ⊤, List, [], ◌∷◌, Option, Some, None, drop, length, take}
+use Rattle.std.specs.Prelude.{◌≡◌, ◌+◌, ◌<◌, ◌⊎◌, ◌++◌, ◌==◌, if◌then◌else◌, ℕ, zero, suc, ⊤, Bool, List, reverse, [], ◌∷◌, Option, Some, None, drop, length, take}
 use Rattle.std.specs.Borrow.{Bor}
 use Rattle.std.specs.List.{flat_map}
 use Rattle.std.specs.declared.ops.Bound.{Bound}
@@ -8,6 +8,13 @@ use Rattle.rart_c.specs.declared.answer.TheConstants.{DONE, ABSENT, TOO_SMALL, N
 use Rattle.rart_c.specs.declared.bytes.paging.RartBytesEntry.{RartBytesEntry}
 use Rattle.rart_c.specs.declared.paging.RartEntry.{RartEntry}
 use Rattle.rart_c.specs.declared.paging.TheConstants.{INCLUDED, EXCLUDED}
+use Rattle.rart_c.specs.declared.paging.Order.{Order}
+use Rattle.rart_c.specs.declared.paging.Order.TheVariants.{Ascending, Descending}
+use Rattle.std.specs.Ordering.{as_partial_cmp}
+use Rattle.std.specs.Range.Bound.{is_from_start, is_up_to_end}
+use Rattle.rart_below.specs.Bytes.{byte_order}
+use Rattle.rart_maps.specs.Pairs.{within}
+use Rattle.rart_maps.specs.Versions.{Map}
 use Rattle.rart_versioned.specs.Cursors.{Cursor}
 use Rattle.rart_ways.specs.Firsts.{IsFirst}
 
@@ -116,13 +123,24 @@ module _ {V : Type 0} where
   FindsFirst pairs None before after = pairs ≡ []
   FindsFirst pairs (Some found) before after = IsFirst pairs found.0 found.1.now before after
 
--- the bound behind the last key that was written, which begins and ends here; or the lower one,
--- where none was
+-- the bound behind the last key that was written, which begins and ends here; or the one at which
+-- the page starts, where none was
 abbrev pub bound_behind : Option (ℕ × ℕ) → Bound (List ℕ) → List ℕ → Bound (List ℕ)
-bound_behind None low written = low
-bound_behind (Some last) low written = Excluded (drop last.0 (take last.1 written))
+bound_behind None from written = from
+bound_behind (Some last) from written = Excluded (drop last.0 (take last.1 written))
+
+-- whether a key meets the bound to which pairs go in an order
+abbrev pub is_before_end : Order → Bound (List ℕ) → List ℕ → Bool
+is_before_end Ascending to key = is_up_to_end (as_partial_cmp byte_order) to key
+is_before_end Descending to key = is_from_start (as_partial_cmp byte_order) to key
 
 module _ {V : Type 0} where
-  -- A cursor has these pairs left.
-  abbrev pub HasLeft : List (List ℕ × V) → Cursor V → Type 0
-  HasLeft pairs cursor = cursor.left ≡ pairs
+  -- the pairs from one bound to another, in an order
+  abbrev pub range_in : Order → Map V → Bound (List ℕ) → Bound (List ℕ) → List (List ℕ × V)
+  range_in Ascending m from to = within m from to
+  range_in Descending m from to = reverse (within m to from)
+
+  -- A cursor has left the pairs from a bound on. Those that descend have none.
+  abbrev pub IsCursorFor : Order → Map V → Bound (List ℕ) → Cursor V → Type 0
+  IsCursorFor Ascending m from cursor = cursor.left ≡ within m from Unbounded
+  IsCursorFor Descending m from cursor = ⊥

@@ -6,7 +6,6 @@ ghost use Rattle.std.specs.Range.Bound.{bound_map};
 ghost use Rattle.std.specs.declared.ops.Bound.TheVariants.{Unbounded};
 ghost use Rattle.rart_c.specs.Answers.{Explains};
 ghost use Rattle.rart_c.specs.Longest.{length_found, longest_length};
-ghost use Rattle.rart_c.specs.Pages.{HasLeft};
 ghost use Rattle.rart_c.specs.Shown.{shown};
 ghost use Rattle.rart_below.specs.Clones.{ClonesEqual};
 ghost use Rattle.rart_maps.specs.ChangeLaws.{Decides};
@@ -108,8 +107,8 @@ pub(crate) fn cursor<'a, V: Clone + Drop>(
     table: Option<&'a Table<V>>,
     low: Bound<&[u8]>,
 ) -> Option<VersionedCursor<'a, VectorPartial, V>>
-    ensures { ForSome result (HasLeft (within (shown table.entry).version.content
-        (bound_map (λ low. low.now) low.entry) Unbounded)) }
+    ensures { ForSome result (λ cursor. cursor.left ≡ within (shown table.entry).version.content
+        (bound_map (λ low. low.now) low.entry) Unbounded) }
 {
     table?.tree.cursor_from(low).ok()
 }

@@ -1,15 +1,16 @@
 //! What C calls to read a page: the pairs within two bounds, as many as there is room for.
-ghost use Rattle.std.specs.Prelude.{◌≡◌, ◌≤◌, ◌∷◌, ℕ, IfOk, List, OnErr, OnOk, drop, length, take};
+ghost use Rattle.std.specs.Prelude.{◌≡◌, ◌≤◌, ◌==◌, ◌∷◌, ℕ, IfOk, List, OnErr, OnOk, drop, length, not, reverse, take};
 ghost use Rattle.std.specs.Option.{ForSome};
 ghost use Rattle.std.specs.Ordering.{as_partial_cmp};
-ghost use Rattle.std.specs.Range.Bound.{bound_map, is_up_to_end};
+ghost use Rattle.std.specs.Range.Bound.{bound_map, is_from_start, is_up_to_end};
 ghost use Rattle.std.specs.declared.ops.Bound.TheVariants.{Excluded, Unbounded};
 ghost use Rattle.rart_below.specs.Bytes.{byte_order};
-ghost use Rattle.rart_c.specs.Pages.{FindsFirst, HasLeft, TellsPage, WritesPage, bound_behind, bound_of, first_length};
+ghost use Rattle.rart_c.specs.Pages.{FindsFirst, IsCursorFor, TellsPage, WritesPage, bound_behind, bound_of, first_length, is_before_end, range_in};
 ghost use Rattle.rart_c.specs.Shown.{shown};
 ghost use Rattle.rart_maps.specs.FoundLaws.{KeysAscend};
 ghost use Rattle.rart_maps.specs.Pairs.{within};
 ghost use Rattle.rart_versioned.specs.Iterators.{up_to};
+ghost use Rattle.rart_ways.specs.Firsts.{Finds};
 
 use crate::answer::{ABSENT, DONE, NO_ENTRIES, TOO_SMALL};
 use crate::handle::RartTree;
@@ -31,6 +32,13 @@ pub const UNBOUNDED: u8 = 2;
 
 /// A page of at most so many entries is found by searching.
 const FEW: usize = 4;
+
+/// The order in which a page has its pairs.
+#[derive(Clone, Copy, PartialEq, Eq)]
+pub(crate) enum Order {
+    Ascending,
+    Descending,
+}
 
 /// Where the key of an entry ends among the bytes of its page, and its value.
 #[repr(C)]
@@ -68,7 +76,34 @@ pub extern "C" fn rart_page(
     ensures same { tree.new.shows ≡ tree.old.shows }
 {
     let (low, high) = (bound_of(low_kind, low), bound_of(high_kind, high));
-    let (written, next) = write_page(tree.table(), low, high, bytes, entries);
+    let (written, next) = write_page(tree.table(), Order::Ascending, low, high, bytes, entries);
+    *count = written;
+    tell_page(written, entries.len(), next, needed)
+}
+
+/// As `rart_page`, from the last pair on: the last pairs within two bounds, descending, as many as
+/// there is room for. The next page ends `EXCLUDED` at a copy of the last key. It searches from key
+/// to key, and takes no memory.
+#[unsafe(no_mangle)]
+pub extern "C" fn rart_page_back(
+    tree: &mut RartTree,
+    low: &[u8],
+    low_kind: u8,
+    high: &[u8],
+    high_kind: u8,
+    bytes: &mut [u8],
+    entries: &mut [RartEntry],
+    count: &mut usize,
+    needed: &mut usize,
+) -> u8
+    ensures page { (left : List (List ℕ × ℕ))
+        × WritesPage (reverse (within tree.old.shows.version.content (bound_of low_kind low.now)
+        (bound_of high_kind high.now))) left count.new bytes.new entries.old entries.new
+        × TellsPage count.new (length entries.old) left result needed.old needed.new }
+    ensures same { tree.new.shows ≡ tree.old.shows }
+{
+    let (low, high) = (bound_of(low_kind, low), bound_of(high_kind, high));
+    let (written, next) = write_page(tree.table(), Order::Descending, high, low, bytes, entries);
     *count = written;
     tell_page(written, entries.len(), next, needed)
 }
@@ -104,27 +139,29 @@ fn tell_page(count: usize, room: usize, next: Option<usize>, needed: &mut usize)
     TOO_SMALL
 }
 
-/// Writes the first pairs within two bounds. Gives how many have room, and how long the key is of
-/// the next, if there is one.
+/// Writes the first pairs from one bound to another, in an order. Gives how many have room, and how
+/// long the key is of the next, if there is one.
 fn write_page(
     table: Option<&Table<u64>>,
-    low: Bound<&[u8]>,
-    high: Bound<&[u8]>,
+    order: Order,
+    from: Bound<&[u8]>,
+    to: Bound<&[u8]>,
     bytes: &mut [u8],
     entries: &mut [RartEntry],
 ) -> (usize, Option<usize>)
     ensures { (left : List (List ℕ × ℕ))
-        × WritesPage (within (shown table.entry).version.content
-        (bound_map (λ low. low.now) low.entry) (bound_map (λ high. high.now) high.entry)) left
+        × WritesPage (range_in order (shown table.entry).version.content
+        (bound_map (λ from. from.now) from.entry) (bound_map (λ to. to.now) to.entry)) left
         result.0 bytes.new entries.old entries.new
         × (result.1 ≡ first_length left) }
 {
-    let mut cursor = cursor_for(table, low, entries.len());
+    let mut cursor = cursor_for(table, order, from, entries.len());
     let mut last = None;
     let mut end = 0;
     let mut count = 0;
     loop {
-        let Some((len, value)) = next_pair(&mut cursor, table, low, high, bytes, last, end) else {
+        let next = next_pair(&mut cursor, table, order, from, to, bytes, last, end);
+        let Some((len, value)) = next else {
             return (count, None);
         };
         if bytes.len() - end < len || count == entries.len() {
@@ -139,58 +176,60 @@ fn write_page(
 }
 
 /// A cursor before the pairs from a bound on, for so many of them: none for a few, which are found
-/// sooner by searching, nor where memory is refused.
+/// sooner by searching, nor where they descend, nor where memory is refused.
 pub(crate) fn cursor_for<'a, V: Clone + Drop>(
     table: Option<&'a Table<V>>,
-    low: Bound<&[u8]>,
+    order: Order,
+    from: Bound<&[u8]>,
     room: usize,
 ) -> Option<VersionedCursor<'a, VectorPartial, V>>
-    ensures { ForSome result (HasLeft (within (shown table.entry).version.content
-        (bound_map (λ low. low.now) low.entry) Unbounded)) }
+    ensures { ForSome result (IsCursorFor order (shown table.entry).version.content
+        (bound_map (λ from. from.now) from.entry)) }
 {
-    if room <= FEW {
+    if room <= FEW || order == Order::Descending {
         return None;
     }
-    lent::cursor(table, low)
+    lent::cursor(table, from)
 }
 
-/// The first of the pairs within two bounds behind the last key that was written, which begins and
-/// ends here; or from the lower bound on, where none was. Its key is written from `end` on, if it
-/// fits. A cursor, where there is one, has left what is behind that key. Where it is refused memory
-/// it is let go, and the pair is found by searching: so none is refused.
+/// The first of the pairs from one bound to another, in an order, behind the last key that was
+/// written, which begins and ends here; or of all of them, where none was. Its key is written from
+/// `end` on, if it fits. A cursor, where there is one, has left what is behind that key. Where it is
+/// refused memory it is let go, and the pair is found by searching: so none is refused.
 pub(crate) fn next_pair<'a, V: Clone + Drop>(
     cursor: &mut Option<VersionedCursor<'a, VectorPartial, V>>,
     table: Option<&'a Table<V>>,
-    low: Bound<&[u8]>,
-    high: Bound<&[u8]>,
+    order: Order,
+    from: Bound<&[u8]>,
+    to: Bound<&[u8]>,
     bytes: &mut [u8],
     last: Option<(usize, usize)>,
     end: usize,
 ) -> Option<(usize, &'a V)>
     requires end { end ≤ length bytes.old }
     requires last { ForSome last (λ last. (last.0 ≤ last.1) × (last.1 ≤ end)) }
-    requires cursor { ForSome cursor.old (HasLeft (within (shown table).version.content
-        (bound_behind last (bound_map (λ low. low.now) low) (take end bytes.old)) Unbounded)) }
+    requires cursor { ForSome cursor.old (IsCursorFor order (shown table).version.content
+        (bound_behind last (bound_map (λ from. from.now) from) (take end bytes.old))) }
     ensures kept { take end bytes.new ≡ take end bytes.old }
-    ensures first { FindsFirst (within (shown table.entry).version.content
-        (bound_behind last (bound_map (λ low. low.now) low.entry) (take end bytes.old))
-        (bound_map (λ high. high.now) high.entry)) result
+    ensures first { FindsFirst (range_in order (shown table.entry).version.content
+        (bound_behind last (bound_map (λ from. from.now) from.entry) (take end bytes.old))
+        (bound_map (λ to. to.now) to.entry)) result
         (drop end bytes.old) (drop end bytes.new) }
     ensures cursor { (key : List ℕ) (value : V) (others : List (List ℕ × V))
-        → within (shown table.entry).version.content
-        (bound_behind last (bound_map (λ low. low.now) low.entry) (take end bytes.old))
-        (bound_map (λ high. high.now) high.entry) ≡ (key, value) ∷ others
-        → ForSome cursor.new (HasLeft (within (shown table.entry).version.content
-        (Excluded key) Unbounded)) }
+        → range_in order (shown table.entry).version.content
+        (bound_behind last (bound_map (λ from. from.now) from.entry) (take end bytes.old))
+        (bound_map (λ to. to.now) to.entry) ≡ (key, value) ∷ others
+        → ForSome cursor.new (IsCursorFor order (shown table.entry).version.content
+        (Excluded key)) }
 {
     let (written, room) = bytes.split_at_mut(end);
     if let Some(open) = cursor {
-        if let Ok(found) = next_of(open, high, room) {
+        if let Ok(found) = next_of(open, to, room) {
             return found;
         }
     }
     *cursor = None;
-    first_behind(table, low, high, written, last, room)
+    first_behind(table, order, from, to, written, last, room)
 }
 
 /// The next pair of a cursor, where its key meets an upper bound. The key is written to the front
@@ -212,7 +251,7 @@ fn next_of<'a, V: Drop>(
         return Ok(None);
     };
     let key = cursor.key();
-    if !meets(key, high) {
+    if !is_up_to(key, high) {
         return Ok(None);
     }
     write_key(key, room);
@@ -232,61 +271,113 @@ fn write_key(key: &[u8], room: &mut [u8])
 /// The same, what is written apart from the room behind it.
 fn first_behind<'a, V: Clone + Drop>(
     table: Option<&'a Table<V>>,
-    low: Bound<&[u8]>,
-    high: Bound<&[u8]>,
+    order: Order,
+    from: Bound<&[u8]>,
+    to: Bound<&[u8]>,
     written: &[u8],
     last: Option<(usize, usize)>,
     room: &mut [u8],
 ) -> Option<(usize, &'a V)>
     requires { ForSome last (λ last. (last.0 ≤ last.1) × (last.1 ≤ length written.now)) }
-    ensures { FindsFirst (within (shown table.entry).version.content
-        (bound_behind last (bound_map (λ low. low.now) low.entry) written.now)
-        (bound_map (λ high. high.now) high.entry)) result room.old room.new }
+    ensures { FindsFirst (range_in order (shown table.entry).version.content
+        (bound_behind last (bound_map (λ from. from.now) from.entry) written.now)
+        (bound_map (λ to. to.now) to.entry)) result room.old room.new }
 {
     match last {
-        None => first_within(table, low, high, room),
+        None => first_within(table, order, from, to, room),
         Some((start, stop)) => {
-            first_within(
-                table,
-                Bound::Excluded(&written[..stop][start..]),
-                high,
-                room,
-            )
+            let from = Bound::Excluded(&written[..stop][start..]);
+            first_within(table, order, from, to, room)
         }
     }
 }
 
-/// The first of the pairs within two bounds, if there is one. Where its key doesn't fit, whether it
-/// meets the upper bound is asked of the table.
+/// The first of the pairs from one bound to another, in an order, if there is one. Where its key
+/// doesn't fit, whether it meets the other bound is asked of the table.
 fn first_within<'a, V: Clone + Drop>(
     table: Option<&'a Table<V>>,
-    low: Bound<&[u8]>,
-    high: Bound<&[u8]>,
+    order: Order,
+    from: Bound<&[u8]>,
+    to: Bound<&[u8]>,
     room: &mut [u8],
 ) -> Option<(usize, &'a V)>
-    ensures { FindsFirst (within (shown table.entry).version.content
-        (bound_map (λ low. low.now) low.entry) (bound_map (λ high. high.now) high.entry)) result
+    ensures { FindsFirst (range_in order (shown table.entry).version.content
+        (bound_map (λ from. from.now) from.entry) (bound_map (λ to. to.now) to.entry)) result
         room.old room.new }
 {
-    let Some((len, value)) = lent::first(table, low, room) else {
+    let Some((len, value)) = first_from(table, order, from, room) else {
         return None;
     };
     let is_within = if len <= room.len() {
-        meets(&room[..len], high)
+        meets(&room[..len], order, to)
     } else {
-        lent::has_within(table, low, high)
+        has_any(table, order, from, to)
     };
     if is_within { Some((len, value)) } else { None }
 }
 
+/// The first of the pairs from a bound on, in an order, if there is one.
+fn first_from<'a, V: Clone + Drop>(
+    table: Option<&'a Table<V>>,
+    order: Order,
+    from: Bound<&[u8]>,
+    room: &mut [u8],
+) -> Option<(usize, &'a V)>
+    ensures { Finds (range_in order (shown table.entry).version.content
+        (bound_map (λ from. from.now) from.entry) Unbounded) result room.old room.new }
+{
+    match order {
+        Order::Ascending => lent::first(table, from, room),
+        Order::Descending => lent::last(table, from, room),
+    }
+}
+
+/// Whether there is a pair from one bound to another, in an order.
+fn has_any<V: Clone + Drop>(
+    table: Option<&Table<V>>,
+    order: Order,
+    from: Bound<&[u8]>,
+    to: Bound<&[u8]>,
+) -> bool
+    ensures { result ≡ not (length (range_in order (shown table.entry).version.content
+        (bound_map (λ from. from.now) from.entry) (bound_map (λ to. to.now) to.entry)) == 0) }
+{
+    match order {
+        Order::Ascending => lent::has_within(table, from, to),
+        Order::Descending => lent::has_within(table, to, from),
+    }
+}
+
+/// Whether a key meets the bound to which pairs go in an order.
+fn meets(key: &[u8], order: Order, to: Bound<&[u8]>) -> bool
+    ensures { result ≡ is_before_end order (bound_map (λ to. to.now) to.entry) key.now }
+{
+    match order {
+        Order::Ascending => is_up_to(key, to),
+        Order::Descending => is_from(key, to),
+    }
+}
+
 /// Whether a key meets an upper bound.
-fn meets(key: &[u8], high: Bound<&[u8]>) -> bool
+fn is_up_to(key: &[u8], high: Bound<&[u8]>) -> bool
     ensures { result ≡ is_up_to_end (as_partial_cmp byte_order)
         (bound_map (λ high. high.now) high.entry) key.now }
 {
     match high {
         Bound::Included(high) => compare_bytes(key, high).is_le(),
         Bound::Excluded(high) => compare_bytes(key, high).is_lt(),
+        Bound::Unbounded => true,
+    }
+}
+
+/// Whether a key meets a lower bound.
+fn is_from(key: &[u8], low: Bound<&[u8]>) -> bool
+    ensures { result ≡ is_from_start (as_partial_cmp byte_order)
+        (bound_map (λ low. low.now) low.entry) key.now }
+{
+    match low {
+        Bound::Included(low) => compare_bytes(low, key).is_le(),
+        Bound::Excluded(low) => compare_bytes(low, key).is_lt(),
         Bound::Unbounded => true,
     }
 }

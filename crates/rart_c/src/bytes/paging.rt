@@ -1,14 +1,14 @@
 //! What C calls to read a page of a tree of byte strings.
-ghost use Rattle.std.specs.Prelude.{◌≡◌, ◌+◌, ◌<◌, ◌≤◌, ◌↔◌, ℕ, IsTrue, List, drop, length, take};
+ghost use Rattle.std.specs.Prelude.{◌≡◌, ◌+◌, ◌<◌, ◌≤◌, ◌↔◌, ℕ, IsTrue, List, drop, length, reverse, take};
 ghost use Rattle.std.specs.Range.Bound.{bound_map};
-ghost use Rattle.rart_c.specs.Pages.{TellsPageSo, WritesStrings, bound_of, first_told, lengths_of};
+ghost use Rattle.rart_c.specs.Pages.{TellsPageSo, WritesStrings, bound_of, first_told, lengths_of, range_in};
 ghost use Rattle.rart_c.specs.Shown.{shown};
 ghost use Rattle.rart_maps.specs.Pairs.{within};
 
 use crate::answer::{ABSENT, DONE, NO_ENTRIES, TOO_SMALL};
 use crate::bytes::handle::RartBytes;
 use crate::bytes::value::Bytes;
-use crate::paging::{bound_of, cursor_for, next_pair};
+use crate::paging::{Order, bound_of, cursor_for, next_pair};
 use crate::table::Table;
 use std::ops::Bound;
 
@@ -46,7 +46,35 @@ pub extern "C" fn rart_bytes_page(
     ensures same { tree.new.shows ≡ tree.old.shows }
 {
     let (low, high) = (bound_of(low_kind, low), bound_of(high_kind, high));
-    let (written, next) = write_page(tree.table(), low, high, bytes, entries);
+    let (written, next) = write_page(tree.table(), Order::Ascending, low, high, bytes, entries);
+    *count = written;
+    tell_page(written, entries.len(), next, key_len, len)
+}
+
+/// As `rart_bytes_page`, from the last pair on: the last pairs within two bounds, descending, as
+/// `rart_page_back` has them.
+#[unsafe(no_mangle)]
+pub extern "C" fn rart_bytes_page_back(
+    tree: &mut RartBytes,
+    low: &[u8],
+    low_kind: u8,
+    high: &[u8],
+    high_kind: u8,
+    bytes: &mut [u8],
+    entries: &mut [RartBytesEntry],
+    count: &mut usize,
+    key_len: &mut usize,
+    len: &mut usize,
+) -> u8
+    ensures page { (left : List (List ℕ × List ℕ))
+        × WritesStrings (reverse (within tree.old.shows.version.content (bound_of low_kind low.now)
+        (bound_of high_kind high.now))) left count.new bytes.new entries.old entries.new
+        × TellsPageSo lengths_of count.new (length entries.old) left result
+        (key_len.old, len.old) (key_len.new, len.new) }
+    ensures same { tree.new.shows ≡ tree.old.shows }
+{
+    let (low, high) = (bound_of(low_kind, low), bound_of(high_kind, high));
+    let (written, next) = write_page(tree.table(), Order::Descending, high, low, bytes, entries);
     *count = written;
     tell_page(written, entries.len(), next, key_len, len)
 }
@@ -77,27 +105,29 @@ fn tell_page(
     TOO_SMALL
 }
 
-/// Writes the first pairs within two bounds. Gives how many have room, and how long the key is of
-/// the next and its value, if there is one.
+/// Writes the first pairs from one bound to another, in an order. Gives how many have room, and how
+/// long the key is of the next and its value, if there is one.
 fn write_page(
     table: Option<&Table<Bytes>>,
-    low: Bound<&[u8]>,
-    high: Bound<&[u8]>,
+    order: Order,
+    from: Bound<&[u8]>,
+    to: Bound<&[u8]>,
     bytes: &mut [u8],
     entries: &mut [RartBytesEntry],
 ) -> (usize, Option<(usize, usize)>)
     ensures { (left : List (List ℕ × List ℕ))
-        × WritesStrings (within (shown table.entry).version.content
-        (bound_map (λ low. low.now) low.entry) (bound_map (λ high. high.now) high.entry)) left
+        × WritesStrings (range_in order (shown table.entry).version.content
+        (bound_map (λ from. from.now) from.entry) (bound_map (λ to. to.now) to.entry)) left
         result.0 bytes.new entries.old entries.new
         × (result.1 ≡ first_told lengths_of left) }
 {
-    let mut cursor = cursor_for(table, low, entries.len());
+    let mut cursor = cursor_for(table, order, from, entries.len());
     let mut last = None;
     let mut end = 0;
     let mut count = 0;
     loop {
-        let Some((len, value)) = next_pair(&mut cursor, table, low, high, bytes, last, end) else {
+        let next = next_pair(&mut cursor, table, order, from, to, bytes, last, end);
+        let Some((len, value)) = next else {
             return (count, None);
         };
         let string = value.as_slice();

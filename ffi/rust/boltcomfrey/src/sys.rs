@@ -146,6 +146,21 @@ unsafe extern "C" {
         count: *mut usize,
         needed: *mut usize,
     ) -> u8;
+    pub fn rart_page_back(
+        tree: *mut RartTree,
+        low: *const u8,
+        low_len: usize,
+        low_kind: u8,
+        high: *const u8,
+        high_len: usize,
+        high_kind: u8,
+        bytes: *mut u8,
+        bytes_len: usize,
+        entries: *mut RartEntry,
+        entries_len: usize,
+        count: *mut usize,
+        needed: *mut usize,
+    ) -> u8;
     pub fn rart_bytes_snapshot(tree: *mut RartBytes, copy: *mut RartBytes) -> u8;
     pub fn rart_bytes_clone(tree: *mut RartBytes, copy: *mut RartBytes) -> u8;
     pub fn rart_bytes_new_at(tree: *mut RartBytes, number: u64) -> u8;
@@ -263,6 +278,22 @@ unsafe extern "C" {
         part: *mut RartBytes,
     ) -> u8;
     pub fn rart_bytes_page(
+        tree: *mut RartBytes,
+        low: *const u8,
+        low_len: usize,
+        low_kind: u8,
+        high: *const u8,
+        high_len: usize,
+        high_kind: u8,
+        bytes: *mut u8,
+        bytes_len: usize,
+        entries: *mut RartBytesEntry,
+        entries_len: usize,
+        count: *mut usize,
+        key_len: *mut usize,
+        len: *mut usize,
+    ) -> u8;
+    pub fn rart_bytes_page_back(
         tree: *mut RartBytes,
         low: *const u8,
         low_len: usize,

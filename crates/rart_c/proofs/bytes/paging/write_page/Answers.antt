@@ -3,18 +3,18 @@ use Rattle.std.proofs.Math.ListN.{set}
 use Rattle.std.proofs.lemmas.List.{append_assoc, length-append, length-drop, length-set}
 use Rattle.std.proofs.lemmas.Option.{same_Some}
 use Rattle.std.specs.Range.Bound.{bound_map}
-use Rattle.std.specs.declared.ops.Bound.TheVariants.{Excluded, Unbounded}
-use Rattle.rart_maps.specs.Pairs.{within}
-use Rattle.rart_c.specs.Pages.{bound_behind, string_entry_of, strings_of, written_of}
-use Rattle.rart_c.proofs.PageLemmas.{entries-set, kept-through, key-string, key-within, more-written, same-within, within-behind, written-more}
+use Rattle.std.specs.declared.ops.Bound.TheVariants.{Excluded}
+use Rattle.rart_c.specs.Pages.{IsCursorFor, bound_behind, range_in, string_entry_of, strings_of, written_of}
+use Rattle.rart_c.proofs.PageLemmas.{entries-set, kept-through, key-string, key-within, more-written, same-within, written-more}
+use Rattle.rart_c.proofs.PageOrderLemmas.{range-behind}
 use Rattle.rart_c.specs.Shown.{shown}
 use Rattle.rart_c.proofs.bytes.paging.write_page.Goals as goal
 
 pub loop-len-init : goal.loop-len-init
 loop-len-init c = record {
   page = [];
-  left = within (shown c.args.table).version.content (bound_map (λ low. low.now) c.args.low)
-      (bound_map (λ high. high.now) c.args.high);
+  left = range_in c.args.order (shown c.args.table).version.content
+      (bound_map (λ from. from.now) c.args.from) (bound_map (λ to. to.now) c.args.to);
   range_is = refl;
   many = refl;
   end_is = refl;
@@ -23,15 +23,16 @@ loop-len-init c = record {
   fits = omega arith;
   most = omega arith;
   last = λ x is. cc;
-  from = refl;
+  behind = refl;
   cursor = c.cursor_for-cursor.ensures;
 }
 
 pub loop-len-preserved : goal.loop-len-preserved
 loop-len-preserved c =
     let content = (shown c.args.table).version.content in
-    let low = bound_map (λ low. low.now) c.args.low in
-    let high = bound_map (λ high. high.now) c.args.high in
+    let from = bound_map (λ from. from.now) c.args.from in
+    let to = bound_map (λ to. to.now) c.args.to in
+    let order = c.args.order in
     let i = c.loop-len.invariant in
     let first = c.in-Some.ensures.first in
     let key = first.key in
@@ -41,7 +42,7 @@ loop-len-preserved c =
     let string = c.as_slice-string.result.now in
     let long = first.long in
     let as-long : length string ≡ length value = ap length c.as_slice-string.ensures in
-    let between = c.next_pair.new.bytes in
+    let between = c.next_pair-next.new.bytes in
     let after = c.put.new.bytes in
     let full : ¬ (length between - end < len + length string) =
     λ less. let wrong : false ≡ true = sym c.if-has_no_room.false ∙ c.has_no_room.ensures.1 less in
@@ -49,7 +50,7 @@ loop-len-preserved c =
     let more = c.if-count-entries.false in
     let fits = i.fits in
     let ends = i.end_is in
-    let same = c.next_pair.auto.bytes in
+    let same = c.next_pair-next.auto.bytes in
     let same-after = c.put.auto.bytes in
     let size = length-drop end c.loop-len.bytes in
     let written = first.written (omega (arith, size, full, same, fits)) in
@@ -66,7 +67,7 @@ loop-len-preserved c =
       page = i.page ++ (key, value) ∷ [];
       left = first.others;
       range_is =
-          i.range_is ∙ ap (λ z. i.page ++ z) (sym i.from ∙ first.first)
+          i.range_is ∙ ap (λ z. i.page ++ z) (sym i.behind ∙ first.first)
           ∙ sym (append_assoc i.page ((key, value) ∷ []) first.others);
       many = let n = length-append i.page ((key, value) ∷ []) in let m = i.many in
           omega (arith, n, m);
@@ -91,13 +92,12 @@ loop-len-preserved c =
       last = λ x is. subst (λ (last : ℕ × ℕ). (last.0 ≤ last.1)
           × (last.1 ≤ end + len + length string))
           (same_Some (end, end + len) x is) (omega arith, omega arith);
-      from = ap (λ k. within content (Excluded k) high)
+      behind = ap (λ k. range_in order content (Excluded k) to)
           (key-within end len (end + len + length string) after key (omega arith) key-is)
-          ∙ within-behind content
-          (bound_behind c.loop-len.last low (take end c.loop-len.bytes)) high (key, value)
+          ∙ range-behind order content
+          (bound_behind c.loop-len.last from (take end c.loop-len.bytes)) to (key, value)
           first.others first.first;
-      cursor = λ x is.
-          c.in-Some.ensures.cursor key value first.others first.first x is
-          ∙ ap (λ k. within content (Excluded k) Unbounded)
-          (sym (key-within end len (end + len + length string) after key (omega arith) key-is));
+      cursor = λ x is. subst (λ k. IsCursorFor order content (Excluded k) x)
+          (sym (key-within end len (end + len + length string) after key (omega arith) key-is))
+          (c.in-Some.ensures.cursor key value first.others first.first x is);
     }

@@ -1,6 +1,6 @@
 use Rattle.std.proofs.Common.{ap, ◌∙◌}
 use Rattle.std.specs.Ordering.{is_le, is_lt}
-use Rattle.rart_c.proofs.paging.meets.Goals as goal
+use Rattle.rart_c.proofs.paging.is_up_to.Goals as goal
 
 pub returns-in-Included : goal.returns-in-Included
 returns-in-Included c =

@@ -112,21 +112,21 @@ struct page {
     size_t most, count, key_len, len;
 };
 
-// That a page has the first pairs within two bounds, each key with its value behind it. The lower
-// bound goes on to the last of them. Gives where it ends.
-static size_t expect_pairs(size_t at, const struct page *page, struct bound *low,
-                           const struct bound *high) {
+// That a page has the first pairs of a range, each key with its value behind it. The range goes on
+// behind them. Gives where the page ends.
+static size_t expect_pairs(size_t at, const struct page *page, struct range *range) {
     size_t end = 0;
     for (size_t entry = 0; entry < page->count; entry++) {
         uint8_t value[MOST_VALUE] = {0};
-        size_t wanted = first_within(at, low, high), start = end;
+        size_t wanted = next_within(at, range), start = end;
         EXPECT(wanted < KEYS);
-        *low = (struct bound){.key = key_of(wanted), .kind = RART_EXCLUDED};
-        size_t len = value_of(tables[at].values[wanted], value), key_end = start + low->key.len;
+        struct key key = key_of(wanted);
+        go_on(range, wanted);
+        size_t len = value_of(tables[at].values[wanted], value), key_end = start + key.len;
         end = key_end + len;
         EXPECT(page->entries[entry].key_end == key_end && page->entries[entry].end == end);
         EXPECT(end <= page->room);
-        EXPECT(memcmp(page->bytes + start, low->key.bytes, low->key.len) == 0);
+        EXPECT(memcmp(page->bytes + start, key.bytes, key.len) == 0);
         EXPECT(memcmp(page->bytes + key_end, value, len) == 0);
     }
     return end;
@@ -144,8 +144,8 @@ static void expect_kept(const struct page *page) {
 
 // Reads a page of any length. Where a pair is left it is full, and one without a pair has no room
 // for an entry, or says how long the key and the value of that are. Tells whether one is left; the
-// lower bound goes on.
-static bool read_page(size_t at, struct bound *low, const struct bound *high) {
+// range goes on.
+static bool read_page(size_t at, struct range *range) {
     uint8_t value[MOST_VALUE];
     struct page page = {.room = random_below(MOST_PAGE + 1),
                         .most = random_below(MOST_ENTRIES + 1),
@@ -154,14 +154,13 @@ static bool read_page(size_t at, struct bound *low, const struct bound *high) {
                         .len = NO_NUMBER};
     memset(page.bytes, NO_BYTE, MOST_PAGE);
     unsigned long long before = requests_refused();
-    rart_answer answer =
-        rart_bytes_page(&trees[at], BYTES_OF(&low->key), low->kind, BYTES_OF(&high->key),
-                        high->kind, page.room > 0 ? page.bytes : NULL, page.room,
-                        page.most > 0 ? page.entries : NULL, page.most, &page.count,
-                        &page.key_len, &page.len);
+    rart_answer answer = (range->descends ? rart_bytes_page_back_any : rart_bytes_page_any)(
+        &trees[at], BYTES_OF(&range->low.key), range->low.kind, BYTES_OF(&range->high.key),
+        range->high.kind, page.room > 0 ? page.bytes : NULL, page.room,
+        page.most > 0 ? page.entries : NULL, page.most, &page.count, &page.key_len, &page.len);
     unheeded += requests_refused() - before;
     EXPECT(page.count <= page.most);
-    size_t end = expect_pairs(at, &page, low, high), next = first_within(at, low, high);
+    size_t end = expect_pairs(at, &page, range), next = next_within(at, range);
     size_t key_len = next < KEYS ? key_of(next).len : NO_NUMBER;
     size_t len = next < KEYS ? value_of(tables[at].values[next], value) : NO_NUMBER;
     EXPECT(next == KEYS || page.count == page.most || page.room - end < key_len + len);
@@ -174,11 +173,11 @@ static bool read_page(size_t at, struct bound *low, const struct bound *high) {
 }
 
 static void read_all(size_t at) {
-    struct bound low = random_bound(), high = random_bound();
+    struct range range = {random_bound(), random_bound(), random_below(2) == 0};
     if (random_below(2) == 0) {
         walk(at);
     } else {
-        while (read_page(at, &low, &high)) {
+        while (read_page(at, &range)) {
         }
     }
 }

@@ -103,18 +103,18 @@ struct page {
     size_t most, count, needed;
 };
 
-// That a page has the first pairs within two bounds, one behind the other. The lower bound goes on
-// to the last of them. Gives where it ends.
-static size_t expect_pairs(size_t at, const struct page *page, struct bound *low,
-                           const struct bound *high) {
+// That a page has the first pairs of a range, one behind the other. The range goes on behind them.
+// Gives where the page ends.
+static size_t expect_pairs(size_t at, const struct page *page, struct range *range) {
     size_t end = 0;
     for (size_t entry = 0; entry < page->count; entry++) {
-        size_t wanted = first_within(at, low, high), start = end;
+        size_t wanted = next_within(at, range), start = end;
         EXPECT(wanted < KEYS);
-        *low = (struct bound){.key = key_of(wanted), .kind = RART_EXCLUDED};
-        end += low->key.len;
+        struct key key = key_of(wanted);
+        go_on(range, wanted);
+        end += key.len;
         EXPECT(page->entries[entry].end == end && end <= page->room);
-        EXPECT(memcmp(page->bytes + start, low->key.bytes, low->key.len) == 0);
+        EXPECT(memcmp(page->bytes + start, key.bytes, key.len) == 0);
         EXPECT(page->entries[entry].value == tables[at].values[wanted]);
     }
     return end;
@@ -131,22 +131,21 @@ static void expect_kept(const struct page *page) {
 }
 
 // Reads a page of any length. Where a pair is left it is full, and one without a pair has no room
-// for an entry, or says how long the key of that is. Tells whether one is left; the lower bound goes
-// on.
-static bool read_page(size_t at, struct bound *low, const struct bound *high) {
+// for an entry, or says how long the key of that is. Tells whether one is left; the range goes on.
+static bool read_page(size_t at, struct range *range) {
     struct page page = {.room = random_below(MOST_PAGE + 1),
                         .most = random_below(MOST_ENTRIES + 1),
                         .count = NO_NUMBER,
                         .needed = NO_NUMBER};
     memset(page.bytes, NO_BYTE, MOST_PAGE);
     unsigned long long before = requests_refused();
-    rart_answer answer = rart_page(
-        &trees[at], BYTES_OF(&low->key), low->kind, BYTES_OF(&high->key), high->kind,
-        page.room > 0 ? page.bytes : NULL, page.room, page.most > 0 ? page.entries : NULL,
-        page.most, &page.count, &page.needed);
+    rart_answer answer = (range->descends ? rart_page_back_any : rart_page_any)(
+        &trees[at], BYTES_OF(&range->low.key), range->low.kind, BYTES_OF(&range->high.key),
+        range->high.kind, page.room > 0 ? page.bytes : NULL, page.room,
+        page.most > 0 ? page.entries : NULL, page.most, &page.count, &page.needed);
     unheeded += requests_refused() - before;
     EXPECT(page.count <= page.most);
-    size_t end = expect_pairs(at, &page, low, high), next = first_within(at, low, high);
+    size_t end = expect_pairs(at, &page, range), next = next_within(at, range);
     size_t len = next < KEYS ? key_of(next).len : NO_NUMBER;
     EXPECT(next == KEYS || page.count == page.most || page.room - end < len);
     rart_answer empty = page.most == 0 ? RART_NO_ENTRIES : RART_TOO_SMALL;
@@ -157,11 +156,11 @@ static bool read_page(size_t at, struct bound *low, const struct bound *high) {
 }
 
 static void read_all(size_t at) {
-    struct bound low = random_bound(), high = random_bound();
+    struct range range = {random_bound(), random_bound(), random_below(2) == 0};
     if (random_below(2) == 0) {
         walk(at);
     } else {
-        while (read_page(at, &low, &high)) {
+        while (read_page(at, &range)) {
         }
     }
 }

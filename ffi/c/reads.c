@@ -56,6 +56,8 @@ static void read_numbers(rart_tree *tree, rart_tree *same, size_t keys) {
     EXPECT(rart_last(tree, room, 8, &len, &value) == (keys ? RART_DONE : RART_ABSENT));
     EXPECT(rart_page(tree, none, 0, RART_UNBOUNDED, none, 0, RART_UNBOUNDED, room, 8, entries, 2,
                      &count, &needed) == (keys ? RART_DONE : RART_ABSENT));
+    EXPECT(rart_page_back(tree, none, 0, RART_UNBOUNDED, none, 0, RART_UNBOUNDED, room, 8, entries,
+                          2, &count, &needed) == (keys ? RART_DONE : RART_ABSENT));
     EXPECT(count == keys && rart_common(tree, same) == keys);
     EXPECT(rart_equals(tree, same) == RART_DONE);
     EXPECT(rart_snapshot(tree, &copy) == RART_DONE && rart_clone(tree, &copy) == RART_DONE);
@@ -81,6 +83,8 @@ static void read_strings(rart_bytes *tree, rart_bytes *same, size_t keys) {
     size_t count;
     EXPECT(rart_bytes_page(tree, none, 0, RART_UNBOUNDED, none, 0, RART_UNBOUNDED, room, 8, entries,
                            2, &count, &key_len, &len) == wanted);
+    EXPECT(rart_bytes_page_back(tree, none, 0, RART_UNBOUNDED, none, 0, RART_UNBOUNDED, room, 8,
+                                entries, 2, &count, &key_len, &len) == wanted);
     EXPECT(count == (keys ? 1 : 0) || count == keys);
     EXPECT(rart_bytes_common(tree, same) == keys);
     EXPECT(rart_bytes_equals(tree, same) == RART_DONE);

@@ -501,17 +501,44 @@ static struct bound random_bound(void) {
     return (struct bound){.key = random_key(), .kind = (uint8_t)random_below(5)};
 }
 
-// The number of a tree's first key within two bounds, KEYS where there is none.
-static size_t first_within(size_t at, const struct bound *low, const struct bound *high) {
-    size_t from = low->kind == RART_INCLUDED   ? low->key.number
-                  : low->kind == RART_EXCLUDED ? number_behind(low->key.number)
-                                               : 0;
-    size_t number = first_from(at, from);
-    struct key key = key_of(number < KEYS ? number : 0);
-    bool meets_high = high->kind == RART_INCLUDED   ? !is_before(&high->key, &key)
-                      : high->kind == RART_EXCLUDED ? is_before(&key, &high->key)
-                                                    : true;
-    return meets_high ? number : KEYS;
+// Whether a key meets a lower bound, and whether it meets an upper one.
+static bool is_from(const struct key *key, const struct bound *low) {
+    return low->kind == RART_INCLUDED   ? !is_before(key, &low->key)
+           : low->kind == RART_EXCLUDED ? is_before(&low->key, key)
+                                        : true;
+}
+
+static bool is_up_to(const struct key *key, const struct bound *high) {
+    return high->kind == RART_INCLUDED   ? !is_before(&high->key, key)
+           : high->kind == RART_EXCLUDED ? is_before(key, &high->key)
+                                         : true;
+}
+
+// What pages are asked for: the pairs within two bounds, in an order.
+struct range {
+    struct bound low, high;
+    bool descends;
+};
+
+// The number of a tree's next key of a range, KEYS where there is none.
+static size_t next_within(size_t at, const struct range *range) {
+    size_t last = KEYS;
+    for (size_t next = first_from(at, 0); next < KEYS; next = first_from(at, number_behind(next))) {
+        struct key key = key_of(next);
+        if (is_from(&key, &range->low) && is_up_to(&key, &range->high)) {
+            last = next;
+            if (!range->descends) {
+                break;
+            }
+        }
+    }
+    return last;
+}
+
+// The range behind this key of it.
+static void go_on(struct range *range, size_t number) {
+    struct bound behind = {.key = key_of(number), .kind = RART_EXCLUDED};
+    *(range->descends ? &range->high : &range->low) = behind;
 }
 
 static void make_call(size_t at) {

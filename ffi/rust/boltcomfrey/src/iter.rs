@@ -6,10 +6,8 @@ use std::iter::FusedIterator;
 
 /// The pairs of a map within two bounds, in the order of their keys, each key a copy.
 ///
-/// It takes them by pages. The library needs no memory for it; the pages, and the copies of keys
-/// and of byte strings, do.
-///
-/// From the back each pair is a search of its own.
+/// It takes them by pages from either end. The library needs no memory for it; the pages, and the
+/// copies of keys and of byte strings, do.
 ///
 /// It borrows the map, which doesn't change meanwhile, and stays on its thread.
 ///

@@ -13,6 +13,13 @@ use std::ptr::{eq, null_mut};
 const KEY_ROOM: usize = 32;
 const PAIR_ROOM: usize = 64;
 
+/// The order in which a page has its pairs.
+#[derive(Clone, Copy)]
+pub enum Order {
+    Ascending,
+    Descending,
+}
+
 /// A tree as C holds it, and the calls that are the same whatever its values.
 pub trait Handle: Sized {
     const EMPTY: Self;
@@ -311,17 +318,22 @@ impl Tree<RartTree> {
         found(answer, value)
     }
 
-    /// Writes the first pairs within two bounds, as many as there are entries: their keys one behind
-    /// the other to the front of `bytes`, which is made longer where it has to be. Answers how many
-    /// they are: none where none is there.
+    /// Writes the first pairs within two bounds in an order, as many as there are entries: their keys
+    /// one behind the other to the front of `bytes`, which is made longer where it has to be.
+    /// Answers how many they are: none where none is there.
     pub fn page(
         &self,
+        order: Order,
         (low, high): (Bound<&[u8]>, Bound<&[u8]>),
         bytes: &mut Vec<u8>,
         entries: &mut [RartEntry],
     ) -> usize {
         let (low, low_kind) = parts_of(low);
         let (high, high_kind) = parts_of(high);
+        let call = match order {
+            Order::Ascending => sys::rart_page,
+            Order::Descending => sys::rart_page_back,
+        };
         let (mut count, mut needed) = (0, entries.len() * KEY_ROOM);
         loop {
             make_room(bytes, needed);
@@ -330,7 +342,7 @@ impl Tree<RartTree> {
             // SAFETY: as above; both numbers are this call's own, and `bytes` and `entries` are
             // borrowed to be written, so no two overlap.
             let answer = unsafe {
-                sys::rart_page(
+                call(
                     self.handle.get(),
                     from.0,
                     from.1,
@@ -418,17 +430,22 @@ impl Tree<RartBytes> {
         Some((key_len, value))
     }
 
-    /// Writes the first pairs within two bounds, as many as there are entries: each value behind its
-    /// key, to the front of `bytes`, which is made longer where it has to be. Answers how many they
-    /// are: none where none is there.
+    /// Writes the first pairs within two bounds in an order, as many as there are entries: each value
+    /// behind its key, to the front of `bytes`, which is made longer where it has to be. Answers how
+    /// many they are: none where none is there.
     pub fn page(
         &self,
+        order: Order,
         (low, high): (Bound<&[u8]>, Bound<&[u8]>),
         bytes: &mut Vec<u8>,
         entries: &mut [RartBytesEntry],
     ) -> usize {
         let (low, low_kind) = parts_of(low);
         let (high, high_kind) = parts_of(high);
+        let call = match order {
+            Order::Ascending => sys::rart_bytes_page,
+            Order::Descending => sys::rart_bytes_page_back,
+        };
         let (mut count, mut key_len, mut len) = (0, entries.len() * PAIR_ROOM, 0);
         loop {
             make_room(bytes, key_len + len);
@@ -437,7 +454,7 @@ impl Tree<RartBytes> {
             // SAFETY: as above; the numbers are this call's own, and `bytes` and `entries` are
             // borrowed to be written, so no two overlap.
             let answer = unsafe {
-                sys::rart_bytes_page(
+                call(
                     self.handle.get(),
                     from.0,
                     from.1,

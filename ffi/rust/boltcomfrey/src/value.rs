@@ -1,6 +1,6 @@
 //! What a map may have as values, and the calls of the library on such maps.
 use crate::error::Refusal;
-use crate::raw::{Handle, Tree};
+use crate::raw::{Handle, Order, Tree};
 use crate::sys::{RartBytes, RartBytesEntry, RartEntry, RartTree};
 use std::fmt::Debug;
 use std::hash::Hash;
@@ -110,11 +110,12 @@ pub trait Calls: Sized {
         room: &mut Vec<u8>,
     ) -> Option<(usize, Self)>;
 
-    /// Writes the first pairs within two bounds to the front of `bytes`, which is made longer where
-    /// it has to be, and of `entries`: as many as there are entries, or fewer, one at least where
-    /// there is one. Answers how many they are.
+    /// Writes the first pairs within two bounds in an order to the front of `bytes`, which is made
+    /// longer where it has to be, and of `entries`: as many as there are entries, or fewer, one at
+    /// least where there is one. Answers how many they are.
     fn page(
         tree: &Tree<Self::Handle>,
+        order: Order,
         within: (Bound<&[u8]>, Bound<&[u8]>),
         bytes: &mut Vec<u8>,
         entries: &mut [Self::Entry],
@@ -187,11 +188,12 @@ impl Calls for u64 {
 
     fn page(
         tree: &Tree<RartTree>,
+        order: Order,
         within: (Bound<&[u8]>, Bound<&[u8]>),
         bytes: &mut Vec<u8>,
         entries: &mut [RartEntry],
     ) -> usize {
-        tree.page(within, bytes, entries)
+        tree.page(order, within, bytes, entries)
     }
 
     #[inline]
@@ -277,11 +279,12 @@ impl Calls for Vec<u8> {
 
     fn page(
         tree: &Tree<RartBytes>,
+        order: Order,
         within: (Bound<&[u8]>, Bound<&[u8]>),
         bytes: &mut Vec<u8>,
         entries: &mut [RartBytesEntry],
     ) -> usize {
-        tree.page(within, bytes, entries)
+        tree.page(order, within, bytes, entries)
     }
 
     #[inline]

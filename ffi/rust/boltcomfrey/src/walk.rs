@@ -1,5 +1,5 @@
-//! How far a walk over a map has come: it takes the pairs by pages, from the back one by one.
-use crate::raw::Tree;
+//! How far a walk over a map has come: from either end it takes the pairs by pages.
+use crate::raw::{Order, Tree};
 use crate::value::{Calls, Value};
 use std::ops::{Bound, Range};
 
@@ -9,7 +9,7 @@ use std::ops::{Bound, Range};
 const FIRST_PAIRS: usize = 8;
 const MOST_PAIRS: usize = 256;
 
-/// Pairs in the order of their keys, as the library writes them.
+/// Pairs in an order of their keys, as the library writes them.
 #[derive(Clone)]
 struct Page<V: Value> {
     // Room, kept from page to page. What stands behind what was written says nothing.
@@ -30,15 +30,16 @@ impl<V: Value> Page<V> {
         }
     }
 
-    /// Takes the first pairs within two bounds in place of these, at most so many.
+    /// Takes the first pairs within two bounds in an order in place of these, at most so many.
     fn fill(
         &mut self,
         tree: &Tree<<V as Calls>::Handle>,
+        order: Order,
         within: (Bound<&[u8]>, Bound<&[u8]>),
         most: usize,
     ) {
         self.entries.resize(most, V::Entry::default());
-        let count = V::page(tree, within, &mut self.bytes, &mut self.entries);
+        let count = V::page(tree, order, within, &mut self.bytes, &mut self.entries);
         (self.left, self.start) = (0..count, 0);
     }
 
@@ -94,13 +95,15 @@ fn is_behind(key: &[u8], low: Bound<&[u8]>) -> bool {
 /// elsewhere, and doesn't change meanwhile.
 #[derive(Clone)]
 pub struct Walk<V: Value> {
-    // What is left behind the page.
+    // What is left between the pages, unless nothing is.
     low: Bound<Vec<u8>>,
     high: Bound<Vec<u8>>,
     is_last: bool,
-    // What is left of the page, and how many pairs the next one may have.
-    page: Page<V>,
+    // What is left of the page of either end, and how many pairs its next one may have.
+    front: Page<V>,
     asked: usize,
+    back: Page<V>,
+    asked_back: usize,
 }
 
 impl<V: Value> Walk<V> {
@@ -109,15 +112,17 @@ impl<V: Value> Walk<V> {
             low: low.map(<[u8]>::to_vec),
             high: high.map(<[u8]>::to_vec),
             is_last: false,
-            page: Page::new(),
+            front: Page::new(),
             asked: 1,
+            back: Page::new(),
+            asked_back: 1,
         }
     }
 
     /// Over all pairs.
     pub fn over_all() -> Walk<V> {
         let mut walk = Walk::within((Bound::Unbounded, Bound::Unbounded));
-        walk.asked = FIRST_PAIRS;
+        (walk.asked, walk.asked_back) = (FIRST_PAIRS, FIRST_PAIRS);
         walk
     }
 
@@ -132,27 +137,44 @@ impl<V: Value> Walk<V> {
     #[inline]
     pub fn next(&mut self, tree: &Tree<<V as Calls>::Handle>) -> Option<(Vec<u8>, V)> {
         if self.asked == 1 {
-            return self.first(tree);
+            if let Some(pair) = self.first(tree) {
+                return Some(pair);
+            }
         }
-        let (key, value) = self.next_lent(tree)?;
-        Some((key.to_vec(), value.to_owned()))
+        self.next_lent(tree).map(copied::<V>)
     }
 
-    /// The next pair, as it stands in the page.
+    /// The next pair, as it stands in its page.
     #[inline]
     pub fn next_lent(
         &mut self,
         tree: &Tree<<V as Calls>::Handle>,
     ) -> Option<(&[u8], &<V as Calls>::Lent)> {
-        if self.page.left.is_empty() && !self.turn(tree) {
-            return None;
+        if self.front.left.is_empty() && !self.turn(tree) {
+            return self.back.next_back();
         }
-        self.page.next()
+        self.front.next()
     }
 
-    /// The first pair, by a search. The next one stands in a page.
+    /// The last pair, copied.
+    pub fn next_back(&mut self, tree: &Tree<<V as Calls>::Handle>) -> Option<(Vec<u8>, V)> {
+        if self.asked_back == 1 {
+            if let Some(pair) = self.last(tree) {
+                return Some(pair);
+            }
+        }
+        if self.back.left.is_empty() && !self.turn_back(tree) {
+            return self.front.next_back().map(copied::<V>);
+        }
+        self.back.next().map(copied::<V>)
+    }
+
+    /// The first pair between the pages, by a search. The next one stands in a page.
     fn first(&mut self, tree: &Tree<<V as Calls>::Handle>) -> Option<(Vec<u8>, V)> {
         self.asked = FIRST_PAIRS;
+        if self.is_last {
+            return None;
+        }
         let low = self.low.as_ref().map(Vec::as_slice);
         let high = self.high.as_ref().map(Vec::as_slice);
         let mut key = Vec::new();
@@ -167,26 +189,28 @@ impl<V: Value> Walk<V> {
         None
     }
 
-    /// The last pair, by a search: of those behind the page, else of the page.
-    pub fn next_back(&mut self, tree: &Tree<<V as Calls>::Handle>) -> Option<(Vec<u8>, V)> {
-        if !self.is_last {
-            let mut key = Vec::new();
-            let high = self.high.as_ref().map(Vec::as_slice);
-            if let Some((len, value)) = V::last(tree, high, &mut key) {
-                key.truncate(len);
-                if is_behind(&key, self.low.as_ref().map(Vec::as_slice)) {
-                    self.high = Bound::Excluded(key.clone());
-                    return Some((key, value));
-                }
-            }
-            self.is_last = true;
+    /// The last pair between the pages, by a search. The one before it stands in a page.
+    fn last(&mut self, tree: &Tree<<V as Calls>::Handle>) -> Option<(Vec<u8>, V)> {
+        self.asked_back = FIRST_PAIRS;
+        if self.is_last {
+            return None;
         }
-        let (key, value) = self.page.next_back()?;
-        Some((key.to_vec(), value.to_owned()))
+        let low = self.low.as_ref().map(Vec::as_slice);
+        let high = self.high.as_ref().map(Vec::as_slice);
+        let mut key = Vec::new();
+        if let Some((len, value)) = V::last(tree, high, &mut key) {
+            key.truncate(len);
+            if is_behind(&key, low) {
+                self.high = Bound::Excluded(key.clone());
+                return Some((key, value));
+            }
+        }
+        self.is_last = true;
+        None
     }
 
-    /// Takes the next page, which begins behind the last key of this one. Answers whether it has a
-    /// pair.
+    /// Takes the next page from the front, which begins behind the last key of the one before.
+    /// Answers whether it has a pair.
     #[cold]
     fn turn(&mut self, tree: &Tree<<V as Calls>::Handle>) -> bool {
         if self.is_last {
@@ -194,14 +218,38 @@ impl<V: Value> Walk<V> {
         }
         let low = self.low.as_ref().map(Vec::as_slice);
         let high = self.high.as_ref().map(Vec::as_slice);
-        self.page.fill(tree, (low, high), self.asked);
+        self.front
+            .fill(tree, Order::Ascending, (low, high), self.asked);
         self.asked = MOST_PAIRS.min(self.asked * 4);
-        match self.page.last() {
+        match self.front.last() {
             Some((key, _)) => self.low = Bound::Excluded(key.to_vec()),
             None => self.is_last = true,
         }
         !self.is_last
     }
+
+    /// Takes the next page from the back, as `turn` does from the front.
+    #[cold]
+    fn turn_back(&mut self, tree: &Tree<<V as Calls>::Handle>) -> bool {
+        if self.is_last {
+            return false;
+        }
+        let low = self.low.as_ref().map(Vec::as_slice);
+        let high = self.high.as_ref().map(Vec::as_slice);
+        self.back
+            .fill(tree, Order::Descending, (low, high), self.asked_back);
+        self.asked_back = MOST_PAIRS.min(self.asked_back * 4);
+        match self.back.last() {
+            Some((key, _)) => self.high = Bound::Excluded(key.to_vec()),
+            None => self.is_last = true,
+        }
+        !self.is_last
+    }
+}
+
+// A pair, copied.
+fn copied<V: Value>((key, value): (&[u8], &<V as Calls>::Lent)) -> (Vec<u8>, V) {
+    (key.to_vec(), value.to_owned())
 }
 
 // The upper bound of the keys that a prefix begins.

@@ -8,6 +8,7 @@ pub mod VersionKeyLemmas
 pub mod VersionIterationLemmas
 pub mod DiffEndLemmas
 pub mod EndPairLemmas
+pub mod ExtendLemmas
 pub mod KeyLengthLemmas
 pub mod LendingLemmas
 pub mod VersionFoundLemmas

@@ -1,6 +1,8 @@
 pub mod Asks
 pub mod ChangeCounts
 pub mod Cursors
+pub mod ExtendLaws
+pub mod Extended
 pub mod Iterators
 pub mod Keys
 pub mod Lent

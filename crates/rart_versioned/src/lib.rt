@@ -6,6 +6,7 @@
 #![tactic(auto)]
 
 mod counted;
+pub mod laws;
 mod plain;
 
 pub use counted::{Missing, SortedError, VersionedAdaptiveRadixTree};

@@ -5,6 +5,7 @@
 mod count;
 mod debug;
 mod diff;
+mod extend;
 mod first;
 mod get_mut;
 mod insert;

@@ -1,14 +1,14 @@
 -- What maps children commutes with what is done to one under its byte.
-use Rattle.std.proofs.Common.{◌≡◌, ℕ, List, [], ◌∷◌, ◌++◌, true, false, not, Option, Some, None, cond, drop, length, refl, ap, ◌∙◌}
+use Rattle.std.proofs.Common.{◌≡◌, ℕ, List, [], ◌∷◌, true, false, not, Option, Some, None, cond, drop, take, length, refl, ap, ◌∙◌}
 use Rattle.std.specs.Prelude.{◌==◌, nat_le, nat_lt, is_some}
 use Rattle.std.specs.Option.{option_map}
-use Rattle.std.proofs.lemmas.List.{drop-map, length-map, map-append}
+use Rattle.std.proofs.lemmas.List.{drop-map, take-map, length-map, map-append}
 use Rattle.std.specs.Ordering.{nat_cmp, eq_by_cmp}
 use Rattle.std.specs.FinMap.Entries.{find, put, by_order}
 use Rattle.std.specs.declared.cmp.Ordering.TheVariants.{Less, Equal, Greater}
 use Rattle.rart_below.specs.Children.{child_at, with_child, without_child, children_below, children_from, first_of, map_children, IsLastOf, TakesEntry, TakesFirst, TakesLast}
 use Rattle.rart_below.proofs.MoveLemmas.{children_from-zero}
-use Rattle.rart_node.specs.Contents.{left_at}
+use Rattle.rart_node.specs.Contents.{before_at, left_at}
 
 -- at its beginning a walk has all
 pub left_at-zero : {X : Type 0} (width : ℕ) (es : List (ℕ × X)) → left_at width 0 es ≡ es
@@ -89,6 +89,27 @@ module _ {X Y : Type 0} (f : X → Y) where
     takes.0,
     ap (map_children f) takes.1 ∙ map-append (λ e. (e.0, f e.1)) after ((takes.0, x) ∷ []),
   )
+
+  -- the others are left then
+  pub takes_last-map_children : (before : List (ℕ × X)) (o : Option X) (after : List (ℕ × X))
+      → TakesLast before o after
+      → TakesLast (map_children f before) (option_map f o) (map_children f after)
+  takes_last-map_children before None after takes =
+      (ap (map_children f) takes.0, ap (map_children f) takes.1)
+  takes_last-map_children before (Some x) after takes = (
+    takes.0,
+    ap (map_children f) takes.1 ∙ map-append (λ e. (e.0, f e.1)) after ((takes.0, x) ∷ []),
+  )
+
+  pub before_at-map_children : (width end : ℕ) (es : List (ℕ × X))
+      → before_at width end (map_children f es) ≡ map_children f (before_at width end es)
+  before_at-map_children width end es =
+      elim (nat_lt width 17) as (λ t.
+      cond t (take end (map_children f es)) (children_below end (map_children f es))
+      ≡ map_children f (cond t (take end es) (children_below end es))) [
+        | true ↦ take-map (λ e. (e.0, f e.1)) end es
+        | false ↦ children_below-map_children end es
+      ]
 
   pub left_at-map_children : (width from : ℕ) (es : List (ℕ × X))
       → left_at width from (map_children f es) ≡ map_children f (left_at width from es)

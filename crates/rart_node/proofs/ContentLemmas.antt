@@ -10,7 +10,7 @@ use Rattle.rart_node.specs.Contents.{Content, before_at, content_shape, left_at,
 use Rattle.rart_node.specs.Shape.{Shape, node, node_of, prefix_of, value_of, width_of, children_of, with_children, with_value, with_replaced, with_deleted, with_added, widened, widenings, is_full_at, entries_of-forest_of, IsAscending, IsFull, IsFullAt}
 use Rattle.rart_node.specs.Seen.{Seen, shape_of}
 use Rattle.rart_node.specs.NodeShapes.{seen_node, entry_shape, shapes_of_content, node_of_content, if_in_order}
-use Rattle.rart_node.proofs.ChildMapLemmas.{length-map_children, child_at-map_children, with_child-map_children, without_child-map_children, children_below-map_children, children_from-map_children, first_of-map_children, last-map_children, left_at-map_children, takes-map_children, takes_entry-map_children}
+use Rattle.rart_node.proofs.ChildMapLemmas.{length-map_children, child_at-map_children, with_child-map_children, without_child-map_children, before_at-map_children, children_below-map_children, children_from-map_children, first_of-map_children, last-map_children, left_at-map_children, takes-map_children, takes_entry-map_children, takes_last-map_children}
 
 -- a list that ascends is none that stands for disorder
 in_order-ascending : {V : Type 0} (in_order : Bool) (children : List (ℕ × Shape V))
@@ -136,6 +136,40 @@ module _ {V : Type 0} {prefix : List ℕ} {value : Option V} (content : Content 
       left-seen from order ∙ ap (map_children shape_of) is
       ∙ sym (ap (children_from least) (children-ascending order)
       ∙ children_from-map_children shape_of least children_in)
+
+  -- what a walk back has left
+  pub before-seen : (end : ℕ) → IsAscending seen.shape
+      → before_at (width_of seen.shape) end (children_of seen.shape)
+      ≡ map_children shape_of (before_at (content_shape content).width end children_in)
+  before-seen end order =
+      (λ i. before_at (width-seen i) end (children-ascending order i))
+      ∙ before_at-map_children shape_of (content_shape content).width end children_in
+
+  -- the last of them is taken
+  pub takes_last-seen : (end later : ℕ) (o : Option (Seen V)) → IsAscending seen.shape
+      → TakesLast (before_at (content_shape content).width end children_in) o
+      (before_at (content_shape content).width later children_in)
+      → TakesLast (before_at (width_of seen.shape) end (children_of seen.shape))
+      (option_map shape_of o) (before_at (width_of seen.shape) later (children_of seen.shape))
+  takes_last-seen end later o order takes =
+      rw (before-seen end order, before-seen later order)
+      (takes_last-map_children shape_of _ o _ takes)
+
+  -- from a cursor back a walk has all children, or those below its number
+  pub back-of-all : (end : ℕ) → IsAscending seen.shape
+      → before_at (content_shape content).width end children_in ≡ children_in
+      → before_at (width_of seen.shape) end (children_of seen.shape) ≡ children_of seen.shape
+  back-of-all end order is =
+      before-seen end order ∙ ap (map_children shape_of) is ∙ sym (children-ascending order)
+
+  pub back-seen : (most end : ℕ) → IsAscending seen.shape
+      → before_at (content_shape content).width end children_in ≡ children_below most children_in
+      → before_at (width_of seen.shape) end (children_of seen.shape)
+      ≡ children_below most (children_of seen.shape)
+  back-seen most end order is =
+      before-seen end order ∙ ap (map_children shape_of) is
+      ∙ sym (ap (children_below most) (children-ascending order)
+      ∙ children_below-map_children shape_of most children_in)
 
   -- what a walk back takes first is the last of the children below its number
   pub last-of-all : (from later : ℕ) (o : Option (Seen V)) → IsAscending seen.shape

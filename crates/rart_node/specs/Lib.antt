@@ -9,3 +9,4 @@ pub mod Seen
 pub mod Shape
 pub mod Trees
 pub mod VersionedNodeIter
+pub mod VersionedNodeRevIter

@@ -19,6 +19,7 @@ mod matching;
 mod node;
 mod node_iter;
 mod node_ref;
+mod node_rev_iter;
 mod wide_box;
 mod work;
 
@@ -27,4 +28,5 @@ pub use matching::{rest_of, strip_prefix};
 pub use node::VersionedNode;
 pub use node_iter::VersionedNodeIter;
 pub use node_ref::NodeRef;
+pub use node_rev_iter::VersionedNodeRevIter;
 pub use work::Work;

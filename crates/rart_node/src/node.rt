@@ -3,9 +3,9 @@
 ghost use Rattle.std.specs.Prelude.{◌≡◌, ◌<◌, ◌==◌, ◌+◌, ◌↔◌, ℕ, IsErrOf, IsOk, IsSome, IsTrue, IfOk, OnOk, OnErr, Some, None, [], length, not};
 ghost use Rattle.std.specs.Option.{option_map, option_copied};
 ghost use Rattle.rart_below.specs.ByteSets.{AreBytesOf, AreBytesOfBoth};
-ghost use Rattle.rart_below.specs.Children.{child_at, children_below, children_from, first_of, IsLastOf, TakesEntry, TakesFirst};
+ghost use Rattle.rart_below.specs.Children.{child_at, children_below, children_from, first_of, IsLastOf, TakesEntry, TakesFirst, TakesLast};
 ghost use Rattle.rart_below.specs.Clones.{ClonesEqual};
-ghost use Rattle.rart_node.specs.Contents.{left_at};
+ghost use Rattle.rart_node.specs.Contents.{before_at, left_at};
 ghost use Rattle.rart_node.specs.Seen.{shape_of};
 ghost use Rattle.rart_node.specs.Shape.{node_of, prefix_of, value_of, width_of, width_for, children_of, with_value, with_prefix, with_replaced, with_deleted, with_added, with_width, widenings, wider, FitsWidth, IsAscending, IsFull};
 
@@ -14,6 +14,7 @@ use crate::grow_error::GrowError;
 use crate::held::Held;
 use crate::node_iter::VersionedNodeIter;
 use crate::node_ref::NodeRef;
+use crate::node_rev_iter::VersionedNodeRevIter;
 use crate::work::Work;
 use rart_below::{ByteSet, Partial, SortedKeyedMapping};
 use std::alloc::{AllocError, Global};
@@ -78,6 +79,7 @@ impl<P: Partial, V: Drop> Drop for VersionedNode<P, V> {
 impl<P: Partial, V: Drop> VersionedNode<P, V> {
     ghost use Rattle.rart_node.specs.NodeShapes.{entry_shape};
     ghost use Rattle.rart_node.specs.VersionedNodeIter.{children_left};
+    ghost use Rattle.rart_node.specs.VersionedNodeRevIter.{children_before};
     ghost use Rattle.rart_node.specs.Lent.{LendsChild, LendsValue};
     ghost use Rattle.std.specs.Borrow.{sem};
 
@@ -231,6 +233,31 @@ impl<P: Partial, V: Drop> VersionedNode<P, V> {
         }
     }
 
+    /// The children, descending. rart has no such call.
+    pub fn iter_rev(&self) -> VersionedNodeRevIter<'_, P, V>
+        requires { IsAscending self.now.shape }
+        ensures order { IsAscending result.node.now.shape }
+        ensures children { children_before result ≡ children_of self.now.shape }
+    {
+        VersionedNodeRevIter {
+            node: self,
+            end: self.content.cursor_below(256),
+        }
+    }
+
+    /// The children below a byte, descending: below 0, none. rart has no such call.
+    pub fn iter_rev_below(&self, byte: u8) -> VersionedNodeRevIter<'_, P, V>
+        requires { IsAscending self.now.shape }
+        ensures order { IsAscending result.node.now.shape }
+        ensures children { children_before result
+            ≡ children_below byte (children_of self.now.shape) }
+    {
+        VersionedNodeRevIter {
+            node: self,
+            end: self.content.cursor_below(usize::from(byte)),
+        }
+    }
+
     /// The pointer of the greatest byte that is below the number: below 256, of all. rart has no
     /// such call.
     pub fn last_child_below(&self, end: usize) -> Option<&NodeRef<P, V>>
@@ -292,6 +319,18 @@ impl<P: Partial, V: Drop> VersionedNode<P, V> {
             (left_at (width_of self.now.shape) from.new (children_of self.now.shape)) }
     {
         self.content.next_entry(from)
+    }
+
+    /// Takes the last child of a walk back.
+    #[inline(always)]
+    pub(crate) fn prev_child(&self, end: &mut usize) -> Option<&NodeRef<P, V>>
+        requires { IsAscending self.now.shape }
+        ensures { TakesLast
+            (before_at (width_of self.now.shape) end.old (children_of self.now.shape))
+            (option_map (λ child. child.now.shape) result)
+            (before_at (width_of self.now.shape) end.new (children_of self.now.shape)) }
+    {
+        self.content.prev_child(end)
     }
 
     /// The pointer under the byte, for writing. The node then has that child as it was left.

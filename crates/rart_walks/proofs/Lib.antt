@@ -1,4 +1,6 @@
 pub mod AheadLemmas
+pub mod BackEnterLemmas
+pub mod BackLemmas
 pub mod BranchLemmas
 pub mod ChildLemmas
 pub mod CommonLemmas

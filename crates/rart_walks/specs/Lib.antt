@@ -1,3 +1,5 @@
+pub mod BackFields
+pub mod BackFrames
 pub mod Branches
 pub mod ChangeFields
 pub mod ChildFields
@@ -22,4 +24,5 @@ pub mod TwoWalks
 pub mod Visited
 pub mod WalkFields
 pub mod Walked
+pub mod WalkedBack
 pub mod Walks

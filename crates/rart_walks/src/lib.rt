@@ -12,6 +12,7 @@ mod key_path;
 mod lockstep;
 mod visits;
 mod walk;
+mod walk_back;
 
 pub use diff::{
     are_equal, count_changes, visit_changed_keys, visit_changed_views, visit_changed_views_until,
@@ -22,3 +23,4 @@ pub use lockstep::{
 };
 pub use visits::{visit_values, visit_values_until, visit_views, visit_views_up_to};
 pub use walk::Walk;
+pub use walk_back::WalkBack;

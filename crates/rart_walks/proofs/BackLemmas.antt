@@ -1,19 +1,16 @@
 -- What a walk back has left where a node is entered, where something is taken of the innermost one,
 -- and where that is left.
-use Rattle.std.proofs.Common.{◌≡◌, ◌+◌, ◌≤◌, ℕ, suc, Bool, true, false, cond, List, [], ◌∷◌, ◌++◌, Option, Some, None, IsSome, length, reverse, is_some, map, refl, arith, sym, ap, subst, ◌∙◌, ⊎_elim, inl, inr}
-use Rattle.std.specs.Prelude.{count_by}
+use Rattle.std.proofs.Common.{◌≡◌, ◌+◌, ℕ, cond, List, [], ◌∷◌, ◌++◌, Option, Some, None, is_some, refl, arith, sym, ap, subst, ◌∙◌}
 use Rattle.std.specs.List.{concat}
-use Rattle.std.proofs.lemmas.List.{append_assoc, append-nil, length-append, length-map, length-reverse, map-append, reverse-append}
+use Rattle.std.proofs.lemmas.List.{append_assoc, append-nil}
 use Rattle.std.proofs.lemmas.List.Sums.{sum_by-append}
-use Rattle.rart_below.specs.Bytes.{IsAdmitted}
 use Rattle.rart_below.specs.Children.{TakesLast}
-use Rattle.rart_node.specs.Shape.{Shape, Forest, node, bare, grown, prefix_of, value_of, children_of, entries_of}
+use Rattle.rart_node.specs.Shape.{Shape}
 use Rattle.rart_node.specs.Trees.{IsTree, own_pair, pairs_of}
-use Rattle.rart_walks.specs.BackFrames.{KeepsBack, IsSpent, OpenBack, SplitsOwn, TakesChildBack, TakesOwn, TakesBack, TakesNextBack, TreesBehind, back_paths_below, back_paths_of, back_paths_of_all, back_segments, owns_behind, pairs_behind, paths_behind, with_back_leaf}
+use Rattle.rart_walks.specs.BackFrames.{KeepsBack, IsSpent, OpenBack, TakesChildBack, TakesOwn, TreesBehind, back_paths_of, back_paths_of_all, back_segments, owns_behind, pairs_behind, paths_behind}
 use Rattle.rart_walks.specs.Frames.{AreTrees, behind_path, pairs_of_all, under_path}
-use Rattle.rart_walks.specs.Walks.{AreShort, GoesOnFirst, nodes_of, nodes_below, pending_pair}
 use Rattle.rart_walks.proofs.LastLemmas.{map-push}
-use Rattle.rart_walks.proofs.WalkLemmas.{HasPair, tree-has-pair, behind-append, behind-behind, behind-none, pairs-entered, path-fits, short-append, short-front, short-back, trees-entered, under-append, under-none, under-under}
+use Rattle.rart_walks.proofs.WalkLemmas.{behind-append, behind-behind, under-append, under-under}
 
 -- ---- one prefix more
 pub path-push : (segments : List (List ℕ)) (segment : List ℕ)

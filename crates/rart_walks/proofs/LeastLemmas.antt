@@ -1,6 +1,6 @@
 -- How many nodes a way down two trees enters at least: two for each key in common, but for the two
 -- nodes at which it starts.
-use Rattle.std.proofs.Common.{◌≡◌, ◌⊎◌, ◌+◌, ◌*◌, ◌≤◌, ℕ, false, List, [], ◌∷◌, ◌++◌, Option, Some, None, Result, Ok, Err, length, take, drop, refl, sym, ap, subst, ◌∙◌, arith}
+use Rattle.std.proofs.Common.{◌≡◌, ◌+◌, ◌*◌, ◌≤◌, ℕ, false, List, [], ◌∷◌, ◌++◌, Option, Some, None, Result, Ok, Err, length, take, drop, refl, ap, ◌∙◌, arith}
 use Rattle.std.specs.Prelude.{IsTrue, OnOk, OnErr}
 use Rattle.std.specs.List.{filter_map, cons_option}
 use Rattle.std.specs.Option.{option_map}
@@ -9,10 +9,10 @@ use Rattle.std.proofs.lemmas.Bool.{false≢true}
 use Rattle.std.proofs.lemmas.List.{length-append}
 use Rattle.rart_below.specs.Children.{child_at}
 use Rattle.rart_node.specs.Counts.{Counts}
-use Rattle.rart_node.specs.Shape.{Shape, Forest, node, bare, grown, prefix_of, children_of, entries_of}
-use Rattle.rart_node.specs.Trees.{IsTree, own_pair, found, pairs_of, pairs_below}
+use Rattle.rart_node.specs.Shape.{Shape, node, bare, grown, prefix_of, children_of, entries_of}
+use Rattle.rart_node.specs.Trees.{IsTree, own_pair, found, pairs_of}
 use Rattle.rart_walks.specs.Frames.{behind_path}
-use Rattle.rart_walks.specs.Children.{TakesPair, common_children}
+use Rattle.rart_walks.specs.Children.{common_children}
 use Rattle.rart_walks.specs.CommonPairs.{common_pairs}
 use Rattle.rart_walks.specs.Entries.{own_entry, behind_key}
 use Rattle.rart_walks.specs.PairCursors.{CommonBytes}

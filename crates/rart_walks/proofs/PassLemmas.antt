@@ -1,5 +1,5 @@
 -- The nodes that a walk enters on the way to its next value are on the way to the key.
-use Rattle.std.proofs.Common.{◌≡◌, ⊎_elim, ℕ, true, List, [], ◌∷◌, ◌++◌, Option, Some, IsSome, refl, ap, sym, subst, ◌∙◌, append_assoc, append-nil}
+use Rattle.std.proofs.Common.{◌≡◌, ⊎_elim, ℕ, true, List, [], ◌∷◌, ◌++◌, Option, refl, ap, sym, subst, ◌∙◌, append_assoc, append-nil}
 use Rattle.std.specs.Prelude.{All}
 use Rattle.std.specs.List.{concat}
 use Rattle.std.specs.Borrow.{Bor}
@@ -8,7 +8,7 @@ use Rattle.rart_below.specs.Bytes.{begins}
 use Rattle.rart_walks.specs.Walks.{Cursor, ComesTo, GoesOnFirst, PassesTo}
 use Rattle.rart_walks.proofs.PartLemmas.{begins-along}
 
-begins-longer : (u more : List ℕ) → begins u (u ++ more) ≡ true
+pub begins-longer : (u more : List ℕ) → begins u (u ++ more) ≡ true
 begins-longer u more =
     subst (λ v. begins v (u ++ more) ≡ true) (append-nil u) (begins-along u [] more)
 

@@ -1,6 +1,6 @@
--- A visit up to an upper bound, node by node: it ends at the first node past that, and has entered
--- no more nodes than meet the bound, and one.
-use Rattle.std.proofs.Common.{◌≡◌, ◌+◌, ◌≤◌, ⊎_elim, inr, ℕ, true, false, cond, List, [], ◌∷◌, ◌++◌, Option, length, arith, refl, ap, subst, ◌∙◌}
+-- A visit up to a bound, node by node: it ends at the first node past that, and has entered no more
+-- nodes than meet the bound, and one.
+use Rattle.std.proofs.Common.{◌≡◌, ◌+◌, ◌≤◌, ⊎_elim, inr, ℕ, Bool, true, false, cond, List, [], ◌∷◌, ◌++◌, Option, length, arith, refl, ap, subst, ◌∙◌}
 use Rattle.std.specs.Prelude.{count_by}
 use Rattle.std.specs.List.{concat}
 use Rattle.std.specs.Borrow.{Bor}
@@ -36,19 +36,20 @@ module _ (high : Bound (List ℕ)) where
       ∙ up_to-past high (path ++ first.0, first.1) first.2
       (subst (KeysAscend (λ pair. pair.0)) first.3 ascend) (past-further high path first.0 past)
 
-  -- ---- counts
-  -- Of the paths at the start no more that meet the bound were entered than are no longer left.
+-- ---- counts, of the paths that pass a test
+module _ (test : List ℕ → Bool) where
+  -- Of the paths at the start no more that pass were entered than are no longer left.
   pub record IsFew (paths : List (List ℕ)) (start : Counts) (left : List (List ℕ))
       (now : Counts) : Type 0 where
-    pub within : now.entered + count_by (is_below high) left
-        ≤ start.entered + count_by (is_below high) paths
+    pub within : now.entered + count_by test left
+        ≤ start.entered + count_by test paths
     pub grows : start.entered ≤ now.entered
     pub made : now.made ≡ start.made
 
-  -- The walk goes on to a node that meets the bound.
+  -- The walk goes on to a node that passes.
   pub few-next : {V : Type 0} {before after : Cursor V} {value : Option (Bor V)}
       {paths : List (List ℕ)} {start now later : Counts}
-      → ComesTo before value after → is_below high (concat after.segments) ≡ true
+      → ComesTo before value after → test (concat after.segments) ≡ true
       → IsFew paths start before.paths now
       → later.entered + length after.paths ≡ now.entered + length before.paths
       → CountsUpTo 1 0 now later → IsFew paths start after.paths later
@@ -60,14 +61,14 @@ module _ (high : Bound (List ℕ)) where
         within =
             ⊎_elim
             (λ next.
-            let one = ap (count_by (is_below high)) next
-            ∙ sum_by-cons (λ path. cond (is_below high path) 1 0) (concat after.segments)
+            let one = ap (count_by test) next
+            ∙ sum_by-cons (λ path. cond (test path) 1 0) (concat after.segments)
             after.paths
-            ∙ ap (λ t. cond t 1 0 + count_by (is_below high) after.paths) meets in
+            ∙ ap (λ t. cond t 1 0 + count_by test after.paths) meets in
             let long = ap length next in
             omega (arith, within, entered, one, long))
             (λ stays.
-            let same = ap (count_by (is_below high)) stays.0 in
+            let same = ap (count_by test) stays.0 in
             let long = ap length stays.0 in
             omega (arith, within, entered, same, long))
             comes.place;
@@ -75,10 +76,10 @@ module _ (high : Bound (List ℕ)) where
         made = made-none counted ∙ few.made;
       }
 
-  -- The last step may have been refused, or have come to a node past the bound.
+  -- The last step may have been refused, or have come to one that does not.
   pub few-end : {paths left : List (List ℕ)} {start now after : Counts}
       → IsFew paths start left now → CountsUpTo 1 0 now after
-      → CountsUpTo (count_by (is_below high) paths + 1) 0 start after
+      → CountsUpTo (count_by test paths + 1) 0 start after
   few-end few counted =
       let within = few.within in
       let grows = few.grows in

@@ -1,7 +1,7 @@
 -- What the fields of a walk back mean.
-use Rattle.std.specs.Prelude.{◌≡◌, ◌+◌, ◌≤◌, ℕ, List, [], ◌∷◌, ◌++◌, Option, Some, None, Result, IfOk, OnOk, OnErr, length, map}
+use Rattle.std.specs.Prelude.{◌≡◌, ◌+◌, ◌≤◌, ℕ, List, [], ◌∷◌, ◌++◌, Option, None, Result, IfOk, OnOk, OnErr, length, map}
 use Rattle.std.specs.List.{concat}
-use Rattle.std.specs.Option.{option_copied, option_map}
+use Rattle.std.specs.Option.{option_copied}
 use Rattle.std.specs.Borrow.{Bor}
 use Rattle.rart_node.specs.Counts.{Counts}
 use Rattle.rart_node.specs.Seen.{Seen}

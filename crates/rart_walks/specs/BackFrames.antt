@@ -2,7 +2,7 @@
 -- that is still to give, and the children that are left.
 use Rattle.std.specs.Prelude.{◌≡◌, ◌+◌, ◌⊎◌, ℕ, List, [], ◌∷◌, ◌++◌, Option, Some, None, count_by, is_some, map, reverse, ⊤}
 use Rattle.std.specs.List.{concat}
-use Rattle.rart_node.specs.Shape.{Shape, Forest, node, bare, grown, prefix_of, value_of, children_of}
+use Rattle.rart_node.specs.Shape.{Shape, Forest, node, bare, grown, value_of, children_of}
 use Rattle.rart_node.specs.Trees.{IsTree, own_pair, pairs_of}
 use Rattle.rart_walks.specs.Frames.{AreTrees, behind_path, pairs_of_all, under_path}
 use Rattle.rart_walks.specs.Walks.{Cursor}

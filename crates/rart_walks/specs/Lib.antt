@@ -12,6 +12,7 @@ pub mod Entries
 pub mod Frames
 pub mod Intersections
 pub mod KeyPaths
+pub mod OnWay
 pub mod Openings
 pub mod PairCursors
 pub mod Parts

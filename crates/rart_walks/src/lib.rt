@@ -2,7 +2,8 @@
 //! The walks over trees of nodes, in the order of their keys.
 //!
 //! A walk (`walk`) goes from node to node with a stack on the heap, gives the values in order, and
-//! keeps the way to where it stands on a key path. Over it stand the visits of one tree (`visits`),
+//! keeps the way to where it stands on a key path. A walk back (`walk_back`) gives them from the
+//! last to the first. Over these stand the visits of one tree (`visits`), over the first those
 //! of the keys that two trees have in common (`lockstep`), and of what two trees differ in
 //! (`diff`). They know prefixes and pointers, and no key type but for the keys that they make.
 #![tactic(auto)]
@@ -21,6 +22,9 @@ pub use key_path::{BytesPath, KeyPath, NoPath, SegmentsPath};
 pub use lockstep::{
     IntersectionPath, ViewsPath, count_common, visit_common, visit_common_keys, visit_common_values,
 };
-pub use visits::{visit_values, visit_values_until, visit_views, visit_views_up_to};
+pub use visits::{
+    visit_values, visit_values_back, visit_values_until, visit_views, visit_views_back,
+    visit_views_back_until, visit_views_up_to,
+};
 pub use walk::Walk;
 pub use walk_back::WalkBack;

@@ -80,8 +80,8 @@ pub fn visit_views_up_to<'a, P: Partial, V: Drop, F: FnMut(LendingKeyView<'_, '_
     Ok(())
 }
 
-/// The path of the node at which a walk stands: where that has a value, its key.
-fn view_of<'a, 'view>(key_path: &'view SegmentsPath<'a>) -> LendingKeyView<'a, 'view>
+/// The path of the node at which a walk stands: where that gives a value, its key.
+pub(super) fn view_of<'a, 'view>(key_path: &'view SegmentsPath<'a>) -> LendingKeyView<'a, 'view>
     ensures { result ≡ concat key_path.now }
 {
     LendingKeyView::new(key_path.segments(), key_path.len())

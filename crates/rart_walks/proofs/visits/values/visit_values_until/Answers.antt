@@ -3,8 +3,9 @@ use Rattle.std.proofs.lemmas.Fn.{called}
 use Rattle.rart_below.specs.declared.visit.VisitControl.TheVariants.{Continue, Stop}
 use Rattle.rart_maps.specs.Visits.{ByValue}
 use Rattle.rart_maps.proofs.VisitLemmas.{callable-next, up_to-next, up_to-part, visit_up_to-next}
+use Rattle.rart_walks.specs.Ends.{ByPairValue}
 use Rattle.rart_walks.proofs.CountedLemmas.{counted-next, counted-end}
-use Rattle.rart_walks.proofs.VisitEndLemmas.{goes-past, goes-next, goes-end, goes-over}
+use Rattle.rart_walks.proofs.VisitEndLemmas.{ends-up_to, goes-past, goes-next, goes-end, goes-over}
 use Rattle.rart_walks.proofs.visits.values.visit_values_until.Goals as goal
 
 pub visiting-preserved-in-Ok-Some-None : goal.visiting-preserved-in-Ok-Some-None
@@ -18,7 +19,7 @@ visiting-preserved-in-Ok-Some-None g c =
       walk = walked.walk;
       calls = up_to-part g.F.FnMut ByValue (Ok Continue) [] _ same before.calls refl;
       counted = counted-next _ before.counted walked.entered walked.counted;
-      goes = goes-past g.F.FnMut _ _ _ _ _ before.goes comes walked.entered walked.one _
+      goes = goes-past g.F.FnMut ByPairValue _ _ _ _ _ before.goes comes walked.entered walked.one _
           walked.each none;
     }
 
@@ -45,7 +46,7 @@ visiting-preserved g c =
       walk = walked.walk;
       calls = up_to-next g.F.FnMut ByValue (Ok Continue) _ _ same before.calls (_, call, refl);
       counted = counted-next _ before.counted walked.entered walked.counted;
-      goes = goes-next g.F.FnMut _ _ _ _ _ before.goes comes walked.entered walked.one
+      goes = goes-next g.F.FnMut ByPairValue _ _ _ _ _ before.goes comes walked.entered walked.one
           c.in-Ok-Some-Some.value some _ walked.each (_, call, refl);
     }
 
@@ -62,8 +63,9 @@ returns-in-Ok-Stop g c =
       visits =
           (Stop, visit_up_to-next g.F.FnMut ByValue _ _ same before.calls (_, call, refl));
       counted = counted-end before.counted walked.counted;
-      ends = inr (goes-end g.F.FnMut _ _ _ _ _ before.goes comes walked.entered walked.one
-          c.in-Ok-Some-Some.value some _ walked.each (_, call, refl));
+      ends = inr (ends-up_to g.F.FnMut ByPairValue (goes-end g.F.FnMut ByPairValue _ _ _ _ _
+          before.goes comes walked.entered walked.one c.in-Ok-Some-Some.value some _ walked.each
+          (_, call, refl)));
     }
 
 pub returns-in-Err-f : goal.returns-in-Err-f
@@ -77,14 +79,15 @@ returns-in-Err-f g c =
     record {
       visits = visit_up_to-next g.F.FnMut ByValue _ _ same before.calls (_, call, refl);
       counted = counted-end before.counted walked.counted;
-      ends = goes-end g.F.FnMut _ _ _ _ _ before.goes comes walked.entered walked.one
-          c.in-Ok-Some-Some.value some _ walked.each (_, call, refl);
+      ends = ends-up_to g.F.FnMut ByPairValue (goes-end g.F.FnMut ByPairValue _ _ _ _ _
+          before.goes comes walked.entered walked.one c.in-Ok-Some-Some.value some _ walked.each
+          (_, call, refl));
     }
 
 pub returns-in-Ok-None-clause-ends : goal.returns-in-Ok-None-clause-ends
 returns-in-Ok-None-clause-ends g c =
     let over = rw c.in-Ok-None.field-0-is at c.in-Ok-None.ensures.steps in
     let one = c.in-Ok-None.ensures.one.entered_grows in
-    let through = goes-over g.F.FnMut _ _ _ _ _ c.visiting.invariant.goes over.0 in
+    let through = goes-over g.F.FnMut ByPairValue _ _ _ _ _ c.visiting.invariant.goes over.0 in
     let each = through.1 in
     inl (through.0, omega (arith, each, one))

@@ -2,7 +2,7 @@ use Rattle.std.proofs.Common.{◌+◌, ◌≤◌, ◌^◌, ◌-◌, length, Some
 use Rattle.std.specs.Range.Bound.{bound_map}
 use Rattle.rart_maps.specs.FoundLaws.{KeysAscend}
 use Rattle.rart_maps.specs.Visits.{ByView, AnswersUpTo}
-use Rattle.rart_maps.proofs.RangeLemmas.{up_to}
+use Rattle.rart_maps.proofs.RangeLemmas.{up_to, is_below}
 use Rattle.rart_walks.specs.WalkFields.{cursor, at_hand, IsWalk}
 use Rattle.rart_walks.specs.KeyPaths.{HoldsSegments}
 use Rattle.rart_walks.proofs.CountedLemmas.{IsCounted}
@@ -20,7 +20,7 @@ invariant-visiting g l =
       calls : AnswersUpTo g.F.FnMut ByView tt l.fn.f (up_to high start.pairs)
           (up_to high left.pairs) l.f;
       counted : IsCounted (length start.paths) l.fn.work (length left.paths) l.work;
-      few : IsFew high start.paths l.fn.work left.paths l.work;
+      few : IsFew (is_below high) start.paths l.fn.work left.paths l.work;
       each : l.fn.work.entered + length (up_to high start.pairs) + at_hand l.walk
           ≤ l.work.entered + length (up_to high left.pairs) + at_hand l.fn.walk;
     }

@@ -1,9 +1,9 @@
-use Rattle.std.proofs.Common.{rules, ◌≡◌, ◌++◌, ◌∷◌, [], Some, None, length, reverse, inl, inr, refl, arith, sym, ap, subst, ◌∙◌}
+use Rattle.std.proofs.Common.{◌≡◌, ◌++◌, ◌∷◌, [], None, length, reverse, inl, inr, refl, arith, ap, ◌∙◌}
 use Rattle.std.specs.Option.{option_copied}
 use Rattle.rart_node.specs.Shape.{prefix_of, children_of, value_of}
 use Rattle.rart_node.proofs.FindLemmas.{ascending, ordered}
 use Rattle.rart_walks.specs.BackFields.{open_back, nodes_back}
-use Rattle.rart_walks.specs.BackFrames.{SplitsOwn, paths_behind}
+use Rattle.rart_walks.specs.BackFrames.{SplitsOwn}
 use Rattle.rart_walks.proofs.BackLemmas.{keeps-on}
 use Rattle.rart_walks.proofs.BackEnterLemmas.{leaf-left, own-given, own-first, own-short, child-tree, child-fits, inner-pairs, inner-paths, inner-first, inner-trees, inner-short, inner-each}
 use Rattle.rart_walks.proofs.CountedLemmas.{counts-none_made}

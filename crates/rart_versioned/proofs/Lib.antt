@@ -26,3 +26,4 @@ pub mod UnversionedLemmas
 pub mod UpdateCountLemmas
 pub mod UpdateLookupLemmas
 pub mod VersionVisitLemmas
+pub mod BackWalkLemmas

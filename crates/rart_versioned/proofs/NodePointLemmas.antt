@@ -3,7 +3,7 @@ use Rattle.std.proofs.Common.{◌≡◌, ◌≢◌, ◌⊎◌, ◌+◌, ◌≤�
 use Rattle.std.specs.Prelude.{◌==◌, ◌↔◌, ◌*◌, IsTrue, Contains, count_by, filter}
 use Rattle.std.specs.Option.{option_and_then, option_map}
 use Rattle.std.specs.declared.ops.Bound.{Bound}
-use Rattle.std.specs.declared.ops.Bound.TheVariants.{Included}
+use Rattle.std.specs.declared.ops.Bound.TheVariants.{Included, Unbounded}
 use Rattle.std.proofs.lemmas.Bool.{and_parts, and_from, eq-eqb, ne_eqb, false≢true, cases_eq}
 use Rattle.std.proofs.lemmas.Option.{same_Some}
 use Rattle.rart_node.specs.Shape.{Shape, Forest, node, bare, grown, prefix_of, entries_of}
@@ -35,6 +35,8 @@ use Rattle.std.proofs.lemmas.List.Kept.{AllPairs-filter}
 use Rattle.std.proofs.lemmas.List.Sums.{length-filter}
 use Rattle.rart_below.specs.Bytes.{byte_order, begins}
 use Rattle.rart_walks.specs.Walks.{paths_of, paths_below}
+use Rattle.rart_versioned.specs.BackWalks.{leads_from}
+use Rattle.rart_versioned.proofs.BackWalkLemmas.{begun-counted, either-counted}
 use Rattle.rart_versioned.proofs.PrefixEndLemmas.{behind-prefix}
 use Rattle.rart_maps.specs.Points.{parting, points}
 use Rattle.rart_maps.proofs.PointLemmas.{head_of, tail_of, parting-cons, parting-same, parting-other, IsPointOf, points-is, points-counted, under-point, key-pair, in-list, len-ascending, map-contains}
@@ -547,3 +549,17 @@ module _ {V : Type 0} where
         let right = ap (count_by behind) (marked-pairs s)
         ∙ sum_by-map (λ (at : List ℕ × Unit {0}). cond (behind at) 1 0) place (paths_of s) in
         omega (arith, few, fewer, left, right)
+
+    -- Those that lead to keys from a string on are at most one more than that has bytes, and twice
+    -- as many as the pairs from there on.
+    pub nodes-leading : (key : List ℕ) → count_by (leads_from key) (paths_of s)
+        ≤ length key + 1 + 2 * length (within m (Included key) Unbounded)
+    nodes-leading key =
+        let begun = λ (at : List ℕ × Unit {0}). begins at.0 key in
+        let few = begun-counted key (nodes_at s) (nodes-ascend s tree) in
+        let same = ap (count_by begun) (marked-pairs s)
+        ∙ sum_by-map (λ (at : List ℕ × Unit {0}). cond (begun at) 1 0) place (paths_of s) in
+        let behind = nodes-within (Included key) Unbounded in
+        let either = either-counted (λ path. begins path key)
+        (λ path. is_lt (byte_order key path)) (paths_of s) in
+        omega (arith, few, same, behind, either)

@@ -1,4 +1,6 @@
 pub mod Asks
+pub mod BackIterators
+pub mod BackWalks
 pub mod ChangeCounts
 pub mod Cursors
 pub mod ExtendLaws

@@ -19,7 +19,9 @@ mod tree;
 mod try_update;
 mod update;
 pub(crate) mod visitors;
+mod visitors_back;
 pub(crate) mod walks;
+pub(crate) mod walks_back;
 mod within;
 
 pub use missing::Missing;

@@ -12,7 +12,7 @@ mod plain;
 pub use counted::{Missing, SortedError, VersionedAdaptiveRadixTree};
 pub use plain::{
     InsertError, VersionedCursor, VersionedIter, VersionedPrefixMatchIter, VersionedRange,
-    VersionedSliceRange, VersionedValuesIter,
+    VersionedRevIter, VersionedSliceRange, VersionedValuesIter, VersionedValuesRevIter,
 };
 pub use rart_below::{
     AdaptiveRadixTree, ArrPartial, ArrayKey, DirectMapping, IndexedMapping, KeyTrait,

@@ -21,10 +21,11 @@ mod try_insert;
 mod unversioned;
 mod update;
 mod visitors;
+mod visitors_back;
 mod within;
 
 pub use iterators::{
-    VersionedCursor, VersionedIter, VersionedPrefixMatchIter, VersionedRange, VersionedSliceRange,
-    VersionedValuesIter,
+    VersionedCursor, VersionedIter, VersionedPrefixMatchIter, VersionedRange, VersionedRevIter,
+    VersionedSliceRange, VersionedValuesIter, VersionedValuesRevIter,
 };
 pub use try_insert::InsertError;

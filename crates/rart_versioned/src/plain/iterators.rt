@@ -5,6 +5,8 @@ mod cursor;
 mod iter;
 mod prefix_match;
 mod range;
+mod rev_iter;
+mod rev_values;
 mod slice_range;
 mod values;
 
@@ -12,5 +14,7 @@ pub use cursor::VersionedCursor;
 pub use iter::VersionedIter;
 pub use prefix_match::VersionedPrefixMatchIter;
 pub use range::VersionedRange;
+pub use rev_iter::VersionedRevIter;
+pub use rev_values::VersionedValuesRevIter;
 pub use slice_range::VersionedSliceRange;
 pub use values::VersionedValuesIter;

@@ -1,12 +1,16 @@
 pub mod AheadLemmas
+pub mod BackCountLemmas
 pub mod BackEnterLemmas
 pub mod BackLemmas
+pub mod BackPartLemmas
+pub mod BackWayLemmas
 pub mod BranchLemmas
 pub mod ChildLemmas
 pub mod CommonLemmas
 pub mod CommonVisitLemmas
 pub mod CountedLemmas
 pub mod CursorLemmas
+pub mod DescendLemmas
 pub mod DiffEndLemmas
 pub mod DiffLemmas
 pub mod DiffPassLemmas

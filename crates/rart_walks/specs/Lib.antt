@@ -5,11 +5,13 @@ pub mod ChangeFields
 pub mod ChildFields
 pub mod Children
 pub mod CommonPairs
+pub mod Descending
 pub mod DiffEnds
 pub mod Diffs
 pub mod Ends
 pub mod Entries
 pub mod Frames
+pub mod Fronts
 pub mod Intersections
 pub mod KeyPaths
 pub mod OnWay

@@ -12,6 +12,8 @@ ghost use Rattle.rart_walks.specs.BackFrames.{KeepsBack, OpenBack, TakesBack, Ta
 ghost use Rattle.rart_walks.specs.WalkedBack.{GivesNext, HasNothing, StartsWhole, StepsOn};
 ghost use Rattle.rart_walks.specs.Walks.{AreShort};
 
+mod path;
+
 use crate::key_path::KeyPath;
 use rart_below::Partial;
 use rart_node::{NodeRef, VersionedNode, VersionedNodeRevIter, Work};

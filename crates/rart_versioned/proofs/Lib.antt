@@ -21,6 +21,8 @@ pub mod SoundLemmas
 pub mod SortedLemmas
 pub mod VersionRemovalLemmas
 pub mod RestoringLemmas
+pub mod RetainLawLemmas
+pub mod RetainLemmas
 pub mod SlotChangeLemmas
 pub mod UnversionedLemmas
 pub mod UpdateCountLemmas

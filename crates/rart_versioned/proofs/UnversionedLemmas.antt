@@ -19,7 +19,8 @@ module _ {V : Type 0} where
   or_else (Some x) other = Some x
   or_else None other = other
 
-  found-above : (key : List ℕ) (list : List (List ℕ × V)) → below_all byte_order key list ≡ true →
+  -- A key that is below all is not found.
+  pub found-above : (key : List ℕ) (list : List (List ℕ × V)) → below_all byte_order key list ≡ true →
       find byte_order key list ≡ None
   found-above key [] above = refl
   found-above key (pair ∷ list) above =

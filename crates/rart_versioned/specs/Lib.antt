@@ -11,6 +11,9 @@ pub mod Lent
 pub mod Longest
 pub mod Meets
 pub mod Missing
+pub mod Replies
+pub mod RetainLaws
+pub mod Retained
 pub mod Roots
 pub mod SlotChanges
 pub mod Sorted

@@ -1,7 +1,9 @@
 // Ported from rart 0.11.0 (Apache-2.0), and rewritten.
 //! What the words on many changes at once mean: laws, each the contract of a function that does
 //! nothing.
+ghost use Rattle.rart_maps.specs.Visits.{BySlice};
 ghost use Rattle.rart_versioned.specs.ExtendLaws.{LastPairStays, ListedPairsArePutIn, OtherKeysStay, PairsAreInsertions, PairsGoPartByPart, WorkedExtension};
+ghost use Rattle.rart_versioned.specs.RetainLaws.{AnswerableStepByStep, AsksInOrder, PairsAreFiltered, WorkedReplies};
 
 use rart_below::KeyTrait;
 
@@ -22,4 +24,22 @@ pub fn listed_pairs_are_put_in<K: KeyTrait, V, I: IntoIterator<Item = (K, V)>>()
 /// A worked value: three pairs, two of them of a key.
 pub fn worked_extension()
     ensures { WorkedExtension }
+{}
+
+/// Where the closure of `retain` answers as a function of the pair does, what is left are the pairs
+/// filtered by that function, and the number is one greater for each of the others.
+pub fn retained_pairs_are_filtered<V, F: FnMut(&[u8], &V) -> bool>()
+    ensures { PairsAreFiltered F.FnMut BySlice }
+{}
+
+/// The closure is asked about each pair once, in order; refused, about the first ones. It must take
+/// the first pair, and then, whatever it leaves, the others.
+pub fn retain_asks_in_order<V, F: FnMut(&[u8], &V) -> bool>()
+    ensures asked { AsksInOrder F.FnMut BySlice }
+    ensures answerable { AnswerableStepByStep F.FnMut BySlice }
+{}
+
+/// A worked value: three replies, one of them `false`.
+pub fn worked_replies()
+    ensures { WorkedReplies }
 {}

@@ -16,6 +16,7 @@ mod longest;
 mod lookup;
 mod prefixes;
 mod remove;
+mod retain;
 mod sorted;
 mod try_insert;
 mod unversioned;

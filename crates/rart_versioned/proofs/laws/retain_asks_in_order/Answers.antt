@@ -1,0 +1,8 @@
+use Rattle.rart_versioned.proofs.RetainLawLemmas.{answerable_step_by_step, asks_in_order}
+use Rattle.rart_versioned.proofs.laws.retain_asks_in_order.Goals as goal
+
+pub returns-clause-asked : goal.returns-clause-asked
+returns-clause-asked g c = asks_in_order _ _
+
+pub returns-clause-answerable : goal.returns-clause-answerable
+returns-clause-answerable g c = answerable_step_by_step _ _

@@ -15,6 +15,8 @@ pub enum Kind {
     Random,
     /// Twelve bytes that all keys share, and four at random.
     Shared,
+    /// A tenant's byte, and fifteen at random.
+    Tenant(u8),
 }
 
 impl Kind {
@@ -22,6 +24,7 @@ impl Kind {
         match self {
             Kind::Random => "random",
             Kind::Shared => "shared",
+            Kind::Tenant(_) => "a tenant's",
         }
     }
 }
@@ -38,12 +41,15 @@ pub fn keys_of(alloc: Global, kind: Kind, count: usize) -> Result<Vec<Key>, Allo
 
 fn bytes_of(words: &mut Pcg32, kind: Kind) -> [u8; 16] {
     let mut bytes = [7; 16];
-    if let Kind::Random = kind {
+    if !matches!(kind, Kind::Shared) {
         bytes[0..4].copy_from_slice(&words.next_word().to_be_bytes());
         bytes[4..8].copy_from_slice(&words.next_word().to_be_bytes());
         bytes[8..12].copy_from_slice(&words.next_word().to_be_bytes());
     }
     bytes[12..16].copy_from_slice(&words.next_word().to_be_bytes());
+    if let Kind::Tenant(tenant) = kind {
+        bytes[0] = tenant;
+    }
     bytes
 }
 

@@ -1,5 +1,7 @@
 //! The loop that times, and the line that tells a time.
 use crate::changes::{Tracked, Versions};
+use crate::orders::Ordered;
+use crate::prefixes::Tenants;
 use crate::routes::Routes;
 use std::alloc::AllocError;
 use std::time::Instant;
@@ -7,7 +9,7 @@ use std::time::Instant;
 /// How often each thing is timed. The least time is told.
 const PASSES: usize = 5;
 
-/// What is timed. The first two are two ways to the same, and so are the next two.
+/// What is timed. Ways to the same stand beside one another.
 #[derive(Clone, Copy)]
 pub enum Way<'a> {
     Matches(&'a Routes),
@@ -15,6 +17,13 @@ pub enum Way<'a> {
     Diff(&'a Versions),
     Iterators(&'a Versions),
     Changes(&'a Tracked),
+    Ascending(&'a Ordered),
+    Descending(&'a Ordered),
+    Firsts(&'a Ordered),
+    Lasts(&'a Ordered),
+    Removed(&'a Tenants),
+    RemovedByKey(&'a Tenants),
+    Restored(&'a Tenants),
 }
 
 impl Way<'_> {
@@ -25,6 +34,13 @@ impl Way<'_> {
             Way::Diff(_) => "diff_with, a key",
             Way::Iterators(_) => "two iterators, a key",
             Way::Changes(_) => "changes_with of a tracked version, in all",
+            Way::Ascending(_) => "iter, a key",
+            Way::Descending(_) => "iter_rev, a key",
+            Way::Firsts(_) => "first_slice",
+            Way::Lasts(_) => "last_slice",
+            Way::Removed(_) => "remove_prefix from a clone, in all",
+            Way::RemovedByKey(_) => "prefix_iter and remove_k, in all",
+            Way::Restored(_) => "restore_prefix into a clone, in all",
         }
     }
 
@@ -36,6 +52,13 @@ impl Way<'_> {
             Way::Diff(versions) => versions.diff(),
             Way::Iterators(versions) => versions.merge(),
             Way::Changes(tracked) => tracked.changes(),
+            Way::Ascending(ordered) => ordered.ascending(),
+            Way::Descending(ordered) => ordered.descending(),
+            Way::Firsts(ordered) => Ok(ordered.firsts()),
+            Way::Lasts(ordered) => Ok(ordered.lasts()),
+            Way::Removed(tenants) => tenants.removed(),
+            Way::RemovedByKey(tenants) => tenants.removed_by_key(),
+            Way::Restored(tenants) => tenants.restored(),
         }
     }
 }

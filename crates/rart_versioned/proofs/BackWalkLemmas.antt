@@ -1,41 +1,32 @@
 -- What a walk back over a tree goes over and enters, in the words of the version that is shown.
 use Rattle.std.proofs.Common.{◌≡◌, ◌+◌, ◌*◌, ◌≤◌, ◌&&◌, ⊎_elim, inl, inr, ℕ, Bool, true, false, cond, List, [], ◌∷◌, ◌++◌, length, filter, reverse, arith, refl, sym, ap, subst, ◌∙◌}
-use Rattle.std.specs.Prelude.{All, Contains, count_by, ◌||◌, ◌==◌}
-use Rattle.std.specs.Ordering.{as_partial_cmp, is_lt}
+use Rattle.std.specs.Prelude.{All, Contains, count_by, ◌||◌}
+use Rattle.std.specs.Ordering.{as_partial_cmp}
 use Rattle.std.specs.Range.Bound.{bounds_contain}
+use Rattle.std.specs.declared.ops.Bound.{Bound}
 use Rattle.std.specs.declared.ops.Bound.TheVariants.{Included, Unbounded}
-use Rattle.std.proofs.lemmas.Bool.{and_parts, and_from, eq-eqb, eqb-true, false≢true}
 use Rattle.std.proofs.lemmas.List.{append-nil, append_assoc, length-append, length-reverse, reverse-append, reverse-reverse}
-use Rattle.std.proofs.lemmas.List.Elements.{All-nil, All-push, All-head, All-tail, filter-append}
+use Rattle.std.proofs.lemmas.List.Elements.{All-push, filter-append}
 use Rattle.std.proofs.lemmas.List.Sums.{count_by-le-length, length-filter, sum_by-append, sum_by-cons}
 use Rattle.rart_below.specs.Bytes.{begins, byte_order}
 use Rattle.rart_maps.specs.FoundLaws.{KeysAscend}
-use Rattle.rart_maps.specs.Order.{IsAtMost, IsBefore}
+use Rattle.rart_maps.specs.Order.{IsBefore}
 use Rattle.rart_maps.specs.Pairs.{pairs, within}
 use Rattle.rart_maps.specs.Versions.{Map}
 use Rattle.rart_maps.proofs.ElementLemmas.{All-from_contains, AllPairs-first, AllPairs-rest, Contains-here, Contains-later}
-use Rattle.rart_maps.proofs.FoundLemmas.{pairs_ascend_by_key}
-use Rattle.rart_maps.proofs.OrderLemmas.{IsBefore-back, IsBefore-itself, before-longer, before-lt, begins-rest, bounds_contain-is, lt-before}
+use Rattle.rart_maps.proofs.FoundLemmas.{KeysAscend-filter_pairs, pairs_ascend_by_key}
+use Rattle.rart_maps.proofs.RangeLemmas.{is_above, is_below, up_to, within-from}
+use Rattle.rart_maps.proofs.OrderLemmas.{IsBefore-back, IsBefore-itself, before-longer, begins-rest, bounds_contain-is}
 use Rattle.rart_node.specs.Counts.{Counts, CountsUpTo}
-use Rattle.rart_node.specs.Shape.{Shape, Forest, node, bare, grown}
-use Rattle.rart_walks.specs.BackFrames.{back_paths_of, back_paths_below}
-use Rattle.rart_walks.specs.Frames.{under_path}
 use Rattle.rart_walks.specs.OnWay.{EntersOnWay, PassesStarts}
-use Rattle.rart_walks.specs.Walks.{paths_of, paths_below}
-use Rattle.rart_versioned.specs.BackWalks.{leads_from}
+use Rattle.rart_walks.specs.Descending.{KeysDescend, leads_from, pairs_down_to}
+use Rattle.rart_walks.proofs.DescendLemmas.{All-reverse, ascending-descends, leads-to}
 use Rattle.rart_versioned.specs.VisitCounts.{EndsSoon}
-use Rattle.rart_versioned.proofs.PrefixEndLemmas.{at_most-parts}
 
 module _ {X : Type 0} where
   -- ---- a list the other way round
   reverse-first : (x : X) (xs : List X) → reverse (x ∷ xs) ≡ reverse xs ++ x ∷ []
   reverse-first x xs = reverse-append (x ∷ []) xs
-
-  pub All-reverse : (P : X → Type 0) (xs : List X) → All P xs → All P (reverse xs)
-  All-reverse P [] all = All-nil P
-  All-reverse P (x ∷ xs) all =
-      subst (All P) (sym (reverse-first x xs))
-      (All-push P (reverse xs) x (All-reverse P xs (All-tail P x xs all)) (All-head P x xs all))
 
   pub filter-reverse : (test : X → Bool) (xs : List X)
       → filter test (reverse xs) ≡ reverse (filter test xs)
@@ -50,41 +41,6 @@ module _ {X : Type 0} where
           ≡ reverse (cond t (x ∷ filter test xs) (filter test xs))
       last true = sym (reverse-first x (filter test xs))
       last false = append-nil (reverse (filter test xs))
-
--- ---- as many paths pass a test, whichever the order
-pub count-behind : (test : List ℕ → Bool) (prefix : List ℕ) (paths : List (List ℕ))
-    → count_by test (under_path prefix paths) ≡ count_by (λ path. test (prefix ++ path)) paths
-count-behind test prefix [] = refl
-count-behind test prefix (path ∷ paths) =
-    let rest = count-behind test prefix paths in
-    let left = sum_by-cons (λ p. cond (test p) 1 0) (prefix ++ path) (under_path prefix paths) in
-    let right = sum_by-cons (λ p. cond (test (prefix ++ p)) 1 0) path paths in
-    omega (arith, rest, left, right)
-
-module _ {V : Type 0} where
-  mutual
-    pub back-counts : (test : List ℕ → Bool) (s : Shape V)
-        → count_by test (back_paths_of s) ≡ count_by test (paths_of s)
-    back-counts test (node prefix value width forest) =
-        let inner = λ (path : List ℕ). test (prefix ++ path) in
-        let one = λ (path : List ℕ). cond (inner path) 1 0 in
-        let back = count-behind test prefix ([] ∷ back_paths_below forest) in
-        let on = count-behind test prefix ([] ∷ paths_below forest) in
-        let back_own = sum_by-cons one [] (back_paths_below forest) in
-        let own = sum_by-cons one [] (paths_below forest) in
-        let below = back-counts_below inner forest in
-        omega (arith, back, on, back_own, own, below)
-
-    back-counts_below : (test : List ℕ → Bool) (forest : Forest V)
-        → count_by test (back_paths_below forest) ≡ count_by test (paths_below forest)
-    back-counts_below test bare = refl
-    back-counts_below test (grown byte child forest) =
-        let one = λ (path : List ℕ). cond (test path) 1 0 in
-        let first = back-counts test child in
-        let rest = back-counts_below test forest in
-        let back = sum_by-append one (back_paths_below forest) (back_paths_of child) in
-        let on = sum_by-append one (paths_of child) (paths_below forest) in
-        omega (arith, first, rest, back, on)
 
 -- ---- the nodes that lead to keys from a string on
 
@@ -144,38 +100,6 @@ either-counted test other (path ∷ paths) =
     let left = sum_by-cons (λ path. cond (test path) 1 0) path paths in
     let right = sum_by-cons (λ path. cond (other path && true) 1 0) path paths in
     omega (arith, later, here, both, left, right)
-
--- What begins a key from a string on leads there.
-pub leads-to : (key u w : List ℕ) → IsAtMost key w → begins u w ≡ true → leads_from key u ≡ true
-leads-to key [] w most is = refl
-leads-to key (b ∷ u) [] most is = absurd (false≢true is)
-leads-to [] (b ∷ u) (c ∷ w) most is = refl
-leads-to (d ∷ key) (b ∷ u) (c ∷ w) most is =
-    let parts = and_parts (b == c) (begins u w) is in
-    let same = eqb-true b c parts.0 in
-    ⊎_elim
-    (λ less. or_right (begins (b ∷ u) (d ∷ key)) (before-lt (d ∷ key) (b ∷ u)
-    (inl (omega (arith, less, same)))))
-    (λ here.
-    let equal : b ≡ d = same ∙ sym here.0 in
-    let inner = leads-to key u w here.1 parts.1 in
-    elim (begins u key) as (λ t. begins u key ≡ t → (t || is_lt (byte_order key u)) ≡ true
-    → leads_from (d ∷ key) (b ∷ u) ≡ true) [
-      | true ↦ λ begun _.
-          or_left (and_from (b == d) (begins u key) (eq-eqb b d equal) begun)
-          (is_lt (byte_order (d ∷ key) (b ∷ u)))
-      | false ↦ λ _ less.
-          or_right (begins (b ∷ u) (d ∷ key)) (before-lt (d ∷ key) (b ∷ u)
-          (inr (sym equal, lt-before key u less)))
-    ] refl inner)
-    (at_most-parts d c key w most)
-  where
-    or_left : {s : Bool} → s ≡ true → (t : Bool) → (s || t) ≡ true
-    or_left is t = ap (λ s. s || t) is
-
-    or_right : (s : Bool) {t : Bool} → t ≡ true → (s || t) ≡ true
-    or_right true is = refl
-    or_right false is = is
 
 -- ---- a visit back that its closure ends at a key
 
@@ -288,3 +212,35 @@ module _ {V : Type 0} where
           };
           at_least = omega (arith, least, at_hand);
         }
+
+-- ---- the pairs within two bounds, from the last to the first
+filter-swap : {A : Type 0} (p q : A → Bool) (xs : List A)
+    → filter p (filter q xs) ≡ filter q (filter p xs)
+filter-swap p q [] = refl
+filter-swap p q (x ∷ xs) =
+    elim (p x) as (λ s. p x ≡ s → filter p (cond (q x) (x ∷ filter q xs) (filter q xs))
+    ≡ filter q (cond s (x ∷ filter p xs) (filter p xs))) [
+      | true ↦ λ is. elim (q x) as (λ t. filter p (cond t (x ∷ filter q xs) (filter q xs))
+          ≡ cond t (x ∷ filter q (filter p xs)) (filter q (filter p xs))) [
+            | true ↦ ap (λ t. cond t (x ∷ filter p (filter q xs)) (filter p (filter q xs))) is
+                ∙ ap (λ rest. x ∷ rest) (filter-swap p q xs)
+            | false ↦ filter-swap p q xs
+          ]
+      | false ↦ λ is. elim (q x) as (λ t. filter p (cond t (x ∷ filter q xs) (filter q xs))
+          ≡ filter q (filter p xs)) [
+            | true ↦ ap (λ t. cond t (x ∷ filter p (filter q xs)) (filter p (filter q xs))) is
+                ∙ filter-swap p q xs
+            | false ↦ filter-swap p q xs
+          ]
+    ] refl
+
+module _ {V : Type 0} (m : Map V) (low high : Bound (List ℕ)) where
+  pub within-back : pairs_down_to low (reverse (up_to high (pairs m))) ≡ reverse (within m low high)
+  within-back =
+      filter-reverse (λ pair. is_above low pair.0) (up_to high (pairs m))
+      ∙ ap reverse (filter-swap (λ pair. is_above low pair.0) (λ pair. is_below high pair.0)
+      (pairs m) ∙ sym (within-from m low high))
+
+  pub to-descends : KeysDescend (reverse (up_to high (pairs m)))
+  to-descends =
+      ascending-descends (up_to high (pairs m)) (KeysAscend-filter_pairs (is_below high) m)

@@ -35,7 +35,7 @@ use Rattle.std.proofs.lemmas.List.Kept.{AllPairs-filter}
 use Rattle.std.proofs.lemmas.List.Sums.{length-filter}
 use Rattle.rart_below.specs.Bytes.{byte_order, begins}
 use Rattle.rart_walks.specs.Walks.{paths_of, paths_below}
-use Rattle.rart_versioned.specs.BackWalks.{leads_from}
+use Rattle.rart_walks.specs.Descending.{leads_from}
 use Rattle.rart_versioned.proofs.BackWalkLemmas.{begun-counted, either-counted}
 use Rattle.rart_versioned.proofs.PrefixEndLemmas.{behind-prefix}
 use Rattle.rart_maps.specs.Points.{parting, points}

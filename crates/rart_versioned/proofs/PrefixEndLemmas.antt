@@ -101,7 +101,7 @@ behind-prefix {A} p test (x ∷ xs) ascend =
 
 -- ---- keys up to the one at which it ends
 
-pub at_most-parts : (b c : ℕ) (u w : List ℕ) → IsAtMost (b ∷ u) (c ∷ w)
+at_most-parts : (b c : ℕ) (u w : List ℕ) → IsAtMost (b ∷ u) (c ∷ w)
     → (b < c) ⊎ ((b ≡ c) × IsAtMost u w)
 at_most-parts b c u w most =
     ⊎_elim

@@ -97,7 +97,7 @@ start-is (Excluded low) = refl
 start-is Unbounded = refl
 
 -- What passes a test at the end of a list is no more than what does in the list.
-pub end-counts : {A : Type 0} (test : A → Bool) {end whole : List A} → IsEndOf end whole →
+end-counts : {A : Type 0} (test : A → Bool) {end whole : List A} → IsEndOf end whole →
     count_by test end ≤ count_by test whole
 end-counts test {end} either =
     ⊎_elim

@@ -1,21 +1,19 @@
 -- What a call that makes a walk back over a tree tells: what the walk has left, and the nodes
 -- entered.
-use Rattle.std.specs.Prelude.{◌≡◌, ◌+◌, ◌*◌, ◌<◌, ◌≤◌, ◌||◌, ℕ, Bool, false, List, Option, Result, IfOk, count_by, length, reverse}
-use Rattle.std.specs.Ordering.{is_lt}
+use Rattle.std.specs.Prelude.{◌≡◌, ◌+◌, ◌*◌, ◌<◌, ◌≤◌, ℕ, false, List, Option, Result, IfOk, count_by, filter, length, reverse}
+use Rattle.std.specs.Ordering.{as_partial_cmp}
+use Rattle.std.specs.Range.Bound.{is_up_to_end}
+use Rattle.std.specs.declared.ops.Bound.{Bound}
 use Rattle.std.specs.declared.ops.Bound.TheVariants.{Included, Unbounded}
-use Rattle.rart_below.specs.Bytes.{begins, byte_order}
-use Rattle.rart_maps.specs.Bounds.{node_count}
-use Rattle.rart_maps.specs.Pairs.{pairs, within}
+use Rattle.rart_below.specs.Bytes.{byte_order}
+use Rattle.rart_maps.specs.Bounds.{bound_length, node_count}
+use Rattle.rart_maps.specs.Pairs.{pairs, under, within}
 use Rattle.rart_maps.specs.Versions.{Version, has_no_key}
 use Rattle.rart_node.specs.Counts.{Counts, CountsUpTo}
 use Rattle.rart_walks.specs.BackFields.{IsWalkBack, at_hand, back_cursor}
+use Rattle.rart_walks.specs.Descending.{leads_from}
 use Rattle.rart_walks.specs.declared.walk_back.WalkBack.{WalkBack}
 use Rattle.rart_versioned.specs.TreeWalks.{AreAdmitted}
-
--- whether keys from a string on may stand below a node, by its path: it begins the string, or
--- stands behind it
-abbrev pub leads_from : List ℕ → List ℕ → Bool
-leads_from key path = begins path key || is_lt (byte_order key path)
 
 -- `most` is how long a key may be, and `partial` what is known of prefixes, which the type takes
 -- for a ghost field. One node at least is entered where the version has a key, and none is made.
@@ -37,3 +35,21 @@ module _ {P V T E : Type 0} {partial : _} (holds : T → List (List ℕ) → Typ
     pub one : CountsUpTo 1 0 start now
     pub entered : has_no_key v ≡ false → start.entered < now.entered
     pub at_hand : IfOk result (λ walk. start.entered + at_hand walk ≤ now.entered)
+
+  -- A walk back over the pairs whose key a prefix begins: the nodes down to the prefix are entered.
+  pub record WalksUnderBack (prefix : List ℕ) : Type 0 where
+    pub walk : IfOk result (IsWalkBack holds greatest)
+    pub pairs : IfOk result (λ walk. (back_cursor walk).pairs ≡ reverse (under v.content prefix))
+    pub admitted : IfOk result (λ walk. AreAdmitted most (back_cursor walk).pairs)
+    pub counted : CountsUpTo (length prefix + 1) 0 start now
+    pub entered : has_no_key v ≡ false → start.entered < now.entered
+
+  -- A walk back over the pairs whose key meets an upper bound: the nodes down to the bound are
+  -- entered.
+  pub record WalksTo (high : Bound (List ℕ)) : Type 0 where
+    pub walk : IfOk result (IsWalkBack holds greatest)
+    pub pairs : IfOk result (λ walk. (back_cursor walk).pairs ≡ reverse
+        (filter (λ pair. is_up_to_end (as_partial_cmp byte_order) high pair.0) (pairs v.content)))
+    pub admitted : IfOk result (λ walk. AreAdmitted most (back_cursor walk).pairs)
+    pub counted : CountsUpTo (bound_length high + 1) 0 start now
+    pub entered : has_no_key v ≡ false → start.entered < now.entered

@@ -12,7 +12,8 @@ mod plain;
 pub use counted::{Missing, SortedError, VersionedAdaptiveRadixTree};
 pub use plain::{
     InsertError, VersionedCursor, VersionedIter, VersionedPrefixMatchIter, VersionedRange,
-    VersionedRevIter, VersionedSliceRange, VersionedValuesIter, VersionedValuesRevIter,
+    VersionedRangeRev, VersionedRevIter, VersionedSliceRange, VersionedSliceRangeRev,
+    VersionedValuesIter, VersionedValuesRevIter,
 };
 pub use rart_below::{
     AdaptiveRadixTree, ArrPartial, ArrayKey, DirectMapping, IndexedMapping, KeyTrait,

@@ -26,7 +26,8 @@ mod visitors_back;
 mod within;
 
 pub use iterators::{
-    VersionedCursor, VersionedIter, VersionedPrefixMatchIter, VersionedRange, VersionedRevIter,
-    VersionedSliceRange, VersionedValuesIter, VersionedValuesRevIter,
+    VersionedCursor, VersionedIter, VersionedPrefixMatchIter, VersionedRange, VersionedRangeRev,
+    VersionedRevIter, VersionedSliceRange, VersionedSliceRangeRev, VersionedValuesIter,
+    VersionedValuesRevIter,
 };
 pub use try_insert::InsertError;

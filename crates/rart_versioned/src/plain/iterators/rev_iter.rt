@@ -2,7 +2,7 @@
 //! The pairs of a tree, from the last key to the first. rart has none.
 ghost use Rattle.std.specs.Prelude.{◌≡◌, ◌∷◌, Some, None, Err, IfOk, IfSome, length, reverse};
 ghost use Rattle.rart_below.specs.Bytes.{IsAdmitted};
-ghost use Rattle.rart_maps.specs.Pairs.{pairs};
+ghost use Rattle.rart_maps.specs.Pairs.{pairs, under};
 ghost use Rattle.rart_walks.specs.BackFields.{IsWalkBack, path_to};
 ghost use Rattle.rart_walks.specs.KeyPaths.{HoldsBytes};
 
@@ -56,6 +56,48 @@ impl<K: KeyTrait, V: Clone + Drop> VersionedAdaptiveRadixTree<K, V> {
             walk: Some(walk),
             key: PhantomData,
         })
+    }
+
+    /// The pairs whose key the prefix begins, from the last key to the first. The empty prefix
+    /// begins every key.
+    ///
+    /// ```
+    /// for item in readings.prefix_iter_rev_k(&sensor)? {
+    ///     let (time, reading) = item?;
+    ///     newest_first.push((time, *reading))?;
+    /// }
+    /// ```
+    ///
+    /// It goes down to the prefix, which may end inside what its keys have in common. Refusals are
+    /// as `iter_rev` tells them.
+    pub fn prefix_iter_rev_k(
+        &self,
+        prefix: &K,
+    ) -> Result<VersionedRevIter<'_, K, K::PartialType, V>, AllocError>
+        ensures { IfOk result (λ iter. iter
+            ≡ Some (reverse (under self.now.content (K.bytes prefix.now)))) }
+    {
+        let walk = self.walk_back_under(prefix.as_ref(), &mut Work::new())?;
+        Ok(VersionedRevIter {
+            alloc: self.alloc,
+            walk: Some(walk),
+            key: PhantomData,
+        })
+    }
+
+    /// As `prefix_iter_rev_k`, the prefix by value.
+    ///
+    /// ```
+    /// let names = list.prefix_iter_rev(VectorKey::new_from_slice(alloc, b"tea")?)?;
+    /// ```
+    pub fn prefix_iter_rev(
+        &self,
+        prefix: K,
+    ) -> Result<VersionedRevIter<'_, K, K::PartialType, V>, AllocError>
+        ensures { IfOk result (λ iter. iter
+            ≡ Some (reverse (under self.now.content (K.bytes prefix)))) }
+    {
+        self.prefix_iter_rev_k(&prefix)
     }
 }
 

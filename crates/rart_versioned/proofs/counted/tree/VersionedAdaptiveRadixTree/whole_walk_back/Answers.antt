@@ -3,12 +3,13 @@ use Rattle.std.specs.Prelude.{count_by}
 use Rattle.std.proofs.lemmas.Result.{IfOk-weaker}
 use Rattle.rart_below.specs.Bytes.{IsAdmitted}
 use Rattle.rart_node.specs.Seen.{shape_of}
-use Rattle.rart_versioned.specs.BackWalks.{leads_from}
+use Rattle.rart_walks.specs.Descending.{leads_from}
 use Rattle.rart_versioned.specs.TreeWalks.{AreAdmitted}
-use Rattle.rart_versioned.proofs.BackWalkLemmas.{All-reverse, back-counts}
+use Rattle.rart_walks.proofs.BackCountLemmas.{back-counts, end-counts}
+use Rattle.rart_walks.proofs.DescendLemmas.{All-reverse}
 use Rattle.rart_versioned.proofs.NodePointLemmas.{nodes-leading}
 use Rattle.rart_versioned.proofs.VersionIterationLemmas.{content-admitted, no-pairs, root-sound, root-pairs, root-short}
-use Rattle.rart_versioned.proofs.VersionVisitLemmas.{content-found, end-counts, none-keyed, none-walk, root-walk, some-node}
+use Rattle.rart_versioned.proofs.VersionVisitLemmas.{content-found, none-keyed, none-walk, root-walk, some-node}
 use Rattle.rart_versioned.proofs.counted.tree.VersionedAdaptiveRadixTree.whole_walk_back.Goals as goal
 
 pub whole-requires : goal.whole-requires

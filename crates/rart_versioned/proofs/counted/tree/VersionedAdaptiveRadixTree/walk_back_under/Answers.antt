@@ -1,0 +1,63 @@
+use Rattle.std.proofs.Common.{rules, ℕ, List, filter, length, reverse, refl, sym, ap, subst, ◌∙◌}
+use Rattle.std.proofs.lemmas.List.Elements.{All-filter}
+use Rattle.std.proofs.lemmas.Result.{IfOk-weaker}
+use Rattle.rart_below.specs.Bytes.{IsAdmitted, begins}
+use Rattle.rart_node.specs.Seen.{shape_of}
+use Rattle.rart_maps.specs.Pairs.{pairs}
+use Rattle.rart_walks.proofs.DescendLemmas.{All-reverse}
+use Rattle.rart_versioned.specs.TreeWalks.{AreAdmitted}
+use Rattle.rart_versioned.proofs.VersionIterationLemmas.{content-admitted, no-pairs, root-sound, root-pairs, root-short}
+use Rattle.rart_versioned.proofs.VersionVisitLemmas.{none-keyed}
+use Rattle.rart_versioned.proofs.counted.tree.VersionedAdaptiveRadixTree.walk_back_under.Goals as goal
+
+pub under-requires : goal.under-requires
+under-requires g c κs =
+    let most = g.K.KeyTrait.MAXIMUM_SIZE in
+    let sound = root-sound shape_of most c.self.inside.version c.self.inside.root c.args.self.now
+    c.self.invariant c.self.view_is c.in-Some.root c.in-Some.is in
+    let short = root-short shape_of most c.self.inside.version c.self.inside.root c.args.self.now
+    c.self.invariant c.self.view_is c.in-Some.root c.in-Some.is in
+    ((refl, tt), (sound.0, short g.T.KeyPath.greatest c.requires))
+
+pub returns-in-None : goal.returns-in-None
+returns-in-None g c =
+    record {
+      walk = c.new.ensures.walk;
+      pairs =
+          let most = g.K.KeyTrait.MAXIMUM_SIZE in
+          let test = λ (pair : List ℕ × g.row.V.Denot). begins c.args.prefix.now pair.0 in
+          let none = no-pairs shape_of most c.self.inside.version c.self.inside.root c.args.self.now
+          c.self.invariant c.self.view_is c.in-None.is in
+          ap (λ stand. stand.pairs) c.new.ensures.ended
+          ∙ sym (ap (λ list. reverse (filter test list)) none);
+      admitted = subst (AreAdmitted g.K.KeyTrait.MAXIMUM_SIZE)
+          (sym (ap (λ stand. stand.pairs) c.new.ensures.ended)) (search rules);
+      counted = search rules;
+      entered = λ keyed.
+          absurd (none-keyed shape_of g.K.KeyTrait.MAXIMUM_SIZE
+          c.self.inside.version c.self.inside.root c.args.self.now c.self.invariant c.self.view_is
+          c.in-None.is keyed);
+    }
+
+pub returns-in-Some : goal.returns-in-Some
+returns-in-Some g c =
+    let most = g.K.KeyTrait.MAXIMUM_SIZE in
+    let test = λ (pair : List ℕ × g.row.V.Denot). begins c.args.prefix.now pair.0 in
+    let all = root-pairs shape_of most c.self.inside.version c.self.inside.root
+    c.args.self.now c.self.invariant c.self.view_is c.in-Some.root c.in-Some.is in
+    let same = sym (ap (λ list. reverse (filter test list)) all) in
+    let starts = c.under.ensures in
+    record {
+      walk = starts.walk;
+      pairs = IfOk-weaker c.under.result _ _ (λ walk is. is ∙ same) starts.pairs;
+      admitted =
+          let admits = λ (pair : List ℕ × g.row.V.Denot). IsAdmitted most (length pair.0) in
+          let whole = content-admitted shape_of most c.self.inside.version c.self.inside.root
+          c.args.self.now c.self.invariant c.self.view_is in
+          let kept = All-reverse admits _
+          (All-filter test admits (pairs c.args.self.now.content) whole) in
+          IfOk-weaker c.under.result _ _
+          (λ walk is. subst (AreAdmitted most) (sym (is ∙ same)) kept) starts.pairs;
+      counted = starts.counted;
+      entered = λ keyed. starts.entered;
+    }

@@ -5,6 +5,7 @@ mod changes;
 mod clones;
 mod indexes;
 mod lists;
+mod many;
 mod merging;
 mod pairs;
 mod prefixes;

@@ -1,0 +1,62 @@
+//! Many changes at once.
+use crate::tests::trees::{Tree, chain, dense, four, key, mix, mixed};
+use std::alloc::{AllocError, Global};
+use std::process::Abort;
+use std::test::Fail;
+
+// Puts these pairs in.
+fn extend(
+    rt: &impl Abort,
+    alloc: Global,
+    tree: &mut Tree,
+    pairs: &[(&[u8], u64)],
+) -> Result<(), AllocError> {
+    let mut given = Vec::new(alloc);
+    for (bytes, value) in pairs {
+        given.push((key(alloc, bytes)?, *value))?;
+    }
+    assert!(rt; given.len() as u64 <= u64::MAX - tree.version());
+    tree.extend(given)
+}
+
+// Keeps the even values, and tells which values were asked about.
+fn keep_evens(rt: &impl Abort, tree: &mut Tree) -> Result<u64, AllocError> {
+    let mut trace = 0;
+    assert!(rt; tree.version() <= u64::MAX / 2);
+    tree.retain(&mut |_key: &[u8], value: &u64| {
+        trace = mix(trace, *value);
+        *value % 2 == 0
+    })?;
+    Ok(trace)
+}
+
+#[test]
+fn last_pair_of_a_key_is_put_in(rt: HostRuntime) -> Result<(), Fail> {
+    let mut tree = four(&rt, rt.alloc())?;
+    extend(
+        &rt,
+        rt.alloc(),
+        &mut tree,
+        &[(b"abd", 7), (b"c", 5), (b"abd", 8)],
+    )?;
+    assert_eq!(rt; tree.version(), 7);
+    assert_eq!(rt; tree.count()?, 5);
+    assert_eq!(rt; tree.get_slice(b"a"), Some(&1));
+    assert_eq!(rt; tree.get_slice(b"abd"), Some(&8));
+    assert_eq!(rt; tree.get_slice(b"c"), Some(&5));
+    Ok(())
+}
+
+fn assert_halves(rt: &impl Abort, mut tree: Tree, count: u64) -> Result<(), AllocError> {
+    assert_eq!(rt; keep_evens(rt, &mut tree)?, mixed(count));
+    assert_eq!(rt; tree.count()?, count / 2);
+    assert_eq!(rt; tree.version(), count.wrapping_add(count / 2));
+    Ok(())
+}
+
+#[test]
+fn odd_values_are_taken_out(rt: HostRuntime) -> Result<(), Fail> {
+    assert_halves(&rt, chain(&rt, rt.alloc())?, 300)?;
+    assert_halves(&rt, dense(&rt, rt.alloc())?, 4096)?;
+    Ok(())
+}

@@ -1,5 +1,6 @@
-// A versioned ordered map from byte strings to 64-bit numbers, or to byte strings. A snapshot is a
-// map of its own.
+// A versioned ordered map from byte strings to 64-bit numbers, or to byte strings. Keys are in the
+// order of their bytes, as memcmp has it, a key before those that it begins. A snapshot or a clone is
+// a map of its own, which shares its nodes with the first one: it takes no time for each key.
 //
 // Proved of each function is what it answers and leaves, as its comment says, and that it returns
 // and never panics. Of one that takes no memory it is proved that it can't be refused; that it
@@ -90,7 +91,8 @@ enum {
     RART_DIFFERENT = 8,
 };
 
-// Whether a change was done: of a key that was there, or of one that wasn't.
+// Whether a change was not refused. What was to be taken out may have been absent, and what was to be
+// new may have been there: by RART_DONE and RART_ABSENT the answer says which.
 #define RART_OK(answer) ((answer) <= RART_ABSENT)
 
 // What an answer says, in a few words.
@@ -151,8 +153,10 @@ static inline size_t rart_prefix_end(uint8_t *prefix, size_t len) {
 //   old place all zeros;
 // - no pointer is null, but of bytes or entries that are none; rart_clear takes a null tree, and
 //   what sets or takes out a key takes null for a value before that isn't wanted;
-// - no two pointers of one call overlap: two trees of it are two, and no key that is handed in lies
-//   in the room that the call writes to;
+// - no pointer that a call writes to overlaps another: two trees of it are two, and no key that is
+//   handed in lies in the room that the call writes to;
+// - a buffer for keys is as long as rart_longest_key, which rart_clear and rart_new_at set back, or
+//   RART_TOO_SMALL is looked for: pages have told all where one answers RART_ABSENT;
 // - trees that come from one tree, also through others, stay on one thread, as their nodes count
 //   who shares them; trees that have nothing to do with each other may be on two;
 // - no call is made in a signal handler, nor in a forked child;
@@ -772,7 +776,7 @@ rart_answer rart_bytes_restore_prefix(
 
 // The calls that take null: of these names the library's own functions, which don't, are written in
 // brackets, as (rart_clear)(tree). For bytes or entries that are none they are given this place.
-static const uint64_t rart_nowhere = 0;
+static uint64_t rart_nowhere;
 
 RART_NONNULL_AT(1, 4) RART_MUST_USE RART_CHANGES(1) RART_READS(2, 3) RART_WRITES(4)
 static inline rart_answer rart_get_any(rart_tree *RART_ALONE tree, const uint8_t *RART_ALONE key,

@@ -3,7 +3,7 @@
 #include <stdio.h>
 #include <string.h>
 
-enum { MOST_STEPS = 100 };
+enum { MOST_STEPS = 100, MOST_BYTES = 63 };
 
 // The list as it is, and as it was before each step.
 struct prices {
@@ -38,12 +38,16 @@ static void undo(struct prices *prices) {
     }
 }
 
-// Shows the prices of names that a prefix begins, by pages. (No name is longer than 63 bytes.)
+// Shows the prices of names that a prefix begins, by pages. Each has room for a name, as main set how
+// long one may be.
 static void show_under(struct prices *prices, const char *prefix) {
-    uint8_t low[64] = {0}, high[64] = {0}, names[256];
+    uint8_t low[MOST_BYTES], high[MOST_BYTES], names[256];
     rart_entry entries[16];
     size_t low_len = strlen(prefix), count, needed;
     uint8_t low_kind = RART_INCLUDED;
+    if (low_len > MOST_BYTES) {
+        return;
+    }
     memcpy(low, prefix, low_len);
     memcpy(high, prefix, low_len);
     size_t high_len = rart_prefix_end(high, low_len);
@@ -62,7 +66,8 @@ static void show_under(struct prices *prices, const char *prefix) {
 
 int main(void) {
     struct prices prices = {0};
-    if (!set_price(&prices, "tea", 300) || !set_price(&prices, "milk", 100)) {
+    if (rart_set_longest_key(&prices.now, MOST_BYTES) != RART_DONE ||
+        !set_price(&prices, "tea", 300) || !set_price(&prices, "milk", 100)) {
         return 1;
     }
     show_under(&prices, "");

@@ -29,3 +29,4 @@ pub mod UpdateCountLemmas
 pub mod UpdateLookupLemmas
 pub mod VersionVisitLemmas
 pub mod BackWalkLemmas
+pub mod WithoutLemmas

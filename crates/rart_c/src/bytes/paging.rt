@@ -73,8 +73,8 @@ pub extern "C" fn rart_bytes_page_back(
         (key_len.old, len.old) (key_len.new, len.new) }
     ensures same { tree.new.shows ≡ tree.old.shows }
 {
-    let (low, high) = (bound_of(low_kind, low), bound_of(high_kind, high));
-    let (written, next) = write_page(tree.table(), Order::Descending, high, low, bytes, entries);
+    let (from, to) = (bound_of(high_kind, high), bound_of(low_kind, low));
+    let (written, next) = write_page(tree.table(), Order::Descending, from, to, bytes, entries);
     *count = written;
     tell_page(written, entries.len(), next, key_len, len)
 }

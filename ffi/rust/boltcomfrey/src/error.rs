@@ -41,6 +41,7 @@ impl From<Refusal> for io::Error {
 }
 
 /// What was not refused. A refusal panics, as where std's maps lack memory.
+#[track_caller]
 pub(crate) fn unrefused<T>(result: Result<T, Refusal>) -> T {
     match result {
         Ok(it) => it,

@@ -121,7 +121,8 @@ impl<V: Value> Map<V> {
     }
 
     /// The number, at first 0 or that of `with_number`. An insertion raises it by one, and so does
-    /// the removal of a key that is there. A snapshot's is one greater, and this one stays then.
+    /// the removal of a key that is there. A snapshot's is one greater, and this one stays then. So
+    /// two maps with one number may differ.
     ///
     /// ```
     /// # use boltcomfrey::VersionedMap;
@@ -389,7 +390,7 @@ impl<V: Value> Map<V> {
     }
 
     /// What differs from this map to a later one: each key at which they do, in order, with what
-    /// either has there. It walks over both.
+    /// either has there. It walks over both whole, whatever they share.
     ///
     /// ```
     /// # use boltcomfrey::VersionedMap;
@@ -572,8 +573,12 @@ impl<V: Value> Map<V> {
     }
 
     /// Puts in place of all pairs whose keys a prefix begins those that another map has there; the
-    /// others stay. The number is then the sum of both. Refused, nothing has changed. It counts the
-    /// pairs that go and come, and takes no other time by their number.
+    /// others stay. Refused, nothing has changed. It counts the pairs that go and come, and takes no
+    /// other time by their number.
+    ///
+    /// The number is then the sum of both. So of a map that is restored from its own snapshots it
+    /// doubles each time, and can't be raised any more after some sixty: to undo all, put the snapshot
+    /// in the map's place.
     ///
     /// A map whose keys may be longer is refused.
     ///
@@ -743,7 +748,8 @@ impl<V: Value> Map<V> {
         Ok(())
     }
 
-    /// Takes all keys out. The map is then as `new` makes it, its number 0 and its longest key too.
+    /// Takes all keys out. The map is then as `new` makes it, its number 0 and its longest key too:
+    /// `remove_prefix("")` keeps how long a key may be.
     ///
     /// ```
     /// # use boltcomfrey::VersionedMap;

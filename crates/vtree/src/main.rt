@@ -5,24 +5,9 @@
 //! failed, or memory was refused for the buffer that it reads into.
 #![tactic(auto)]
 
-mod laws;
-mod line;
-mod output;
-mod reply;
-mod served;
-mod server;
-mod session;
-mod slice;
-mod status;
-#[cfg(test)]
-mod tests;
-mod words;
-
-use served::ServeError;
-use server::serve;
-use status::status_of;
 use std::io::{self, BufReader};
 use std::process::ExitCode;
+use vtree_lines::{ServeError, serve, status_of};
 
 fn main(rt: HostRuntime) -> ExitCode {
     let answer = match BufReader::new(rt.alloc(), rt.reader()) {

@@ -1,5 +1,0 @@
-use Rattle.vtree.proofs.WordLemmas.{words_are_read}
-use Rattle.vtree.proofs.laws.words_are_read.Goals as goal
-
-pub returns : goal.returns
-returns c = words_are_read

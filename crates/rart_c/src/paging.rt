@@ -194,8 +194,8 @@ pub(crate) fn cursor_for<'a, V: Clone + Drop>(
 
 /// The first of the pairs from one bound to another, in an order, behind the last key that was
 /// written, which begins and ends here; or of all of them, where none was. Its key is written from
-/// `end` on, if it fits. A cursor, where there is one, has left what is behind that key. Where it is
-/// refused memory it is let go, and the pair is found by searching: so none is refused.
+/// `end` on, if it fits. A cursor, where there is one, has left what is behind that key. Where it
+/// lacks memory it is let go, and the pair is found by searching: so none is refused.
 pub(crate) fn next_pair<'a, V: Clone + Drop>(
     cursor: &mut Option<VersionedCursor<'a, VectorPartial, V>>,
     table: Option<&'a Table<V>>,

@@ -131,8 +131,8 @@ pub(crate) fn next_item<'a, K: KeyTrait, V: Drop>(
     }
 }
 
-/// The next pair of a walk back that meets a lower bound, with a key of its own. There is none where
-/// the next key is before the bound, since every later one is then.
+/// The next pair of a walk back that meets a lower bound, with a key of its own. There is none
+/// where the next key is before the bound, since every later one is then.
 fn next_within<'a, K: KeyTrait, V: Drop>(
     alloc: Global,
     walk: &mut WalkBack<'a, K::PartialType, V, BytesPath>,

@@ -1,0 +1,7 @@
+pub mod LogLemmas
+pub mod FeedLemmas
+pub mod KeptLemmas
+pub mod AnswerLemmas
+pub mod ReplayLemmas
+pub mod InputLemmas
+pub mod ServingLemmas

@@ -16,9 +16,9 @@ impl<K: KeyTrait, V: Clone + Drop> VersionedAdaptiveRadixTree<K, V> {
     /// Refused for memory, it has called the closure on the pairs from the last one to some other.
     ///
     /// ```
-    /// let mut newest_first = 0;
+    /// let mut oldest = 0;
     /// log.for_each_view_rev(&mut |_day: LendingKeyView<'_, '_>, entry: &u64| {
-    ///     newest_first = newest_first * 10 + *entry;
+    ///     oldest = *entry;
     /// })?;
     /// ```
     pub fn for_each_view_rev<F: FnMut(LendingKeyView<'_, '_>, &V)>(
@@ -39,11 +39,13 @@ impl<K: KeyTrait, V: Clone + Drop> VersionedAdaptiveRadixTree<K, V> {
     /// from the last one to some other, and each time the closure answered `Continue`.
     ///
     /// ```
-    /// let mut newest = None;
-    /// log.try_for_each_view_rev(&mut |_day: LendingKeyView<'_, '_>, entry: &u64| {
-    ///     newest = Some(*entry);
-    ///     Ok(VisitControl::Stop)
-    /// })?;
+    /// let mut newest = 0;
+    /// log.try_for_each_view_rev(
+    ///     &mut |_day: LendingKeyView<'_, '_>, entry: &u64| -> Result<VisitControl, Overflow> {
+    ///         newest = *entry;
+    ///         Ok(VisitControl::Stop)
+    ///     },
+    /// )?;
     /// ```
     pub fn try_for_each_view_rev<
         E: Drop,

@@ -62,9 +62,9 @@ impl<K: KeyTrait, V: Clone + Drop> VersionedAdaptiveRadixTree<K, V> {
     /// begins every key.
     ///
     /// ```
-    /// for item in readings.prefix_iter_rev_k(&sensor)? {
-    ///     let (time, reading) = item?;
-    ///     newest_first.push((time, *reading))?;
+    /// for item in list.prefix_iter_rev_k(prefix)? {
+    ///     let (name, price) = item?;
+    ///     lines.push((name, *price))?;
     /// }
     /// ```
     ///

@@ -41,7 +41,7 @@ impl<K: KeyTrait, V: Clone + Drop> VersionedAdaptiveRadixTree<K, V> {
     /// bytes: no key is made for them.
     ///
     /// ```
-    /// let newest = list.range_slice_rev(Bound::Unbounded, Bound::Included(now.as_ref()))?;
+    /// let found = list.range_slice_rev(Bound::Unbounded, Bound::Included(first.as_ref()))?;
     /// ```
     pub fn range_slice_rev<'a>(
         &'a self,

@@ -65,9 +65,12 @@ pub fn start(rt: &HostRuntime, folder: &str) -> Result<Store<LogFile>, StartErro
     Ok(Store::new(rt.alloc(), replayed, LogFile { file }))
 }
 
-/// Opens the log of a folder. That it is there stays once the folder is synced.
+/// Opens the log of a folder. A name that is new stays once the folder that has it is synced.
 fn open(rt: &HostRuntime, folder: &str) -> io::Result<File> {
-    fs::create_dir_all(rt, folder)?;
+    if fs::create_dir(rt, folder).is_ok() {
+        let above = format!(in rt.alloc(); "{folder}/..")?;
+        File::open(rt, above.as_str())?.sync_all()?;
+    }
     let path = format!(in rt.alloc(); "{folder}/log")?;
     let file = File::options()
         .read(true)

@@ -3,8 +3,9 @@
 //!
 //! `example_store FOLDER` speaks the lines of `vtree`. Each line that may change the family, and was
 //! not refused, is in `FOLDER/log`, for good, before its reply is written. At its start it plays the
-//! log, drops a torn tail, and says on standard error what it found. Its status is 0, or 1 if some
-//! line was a bad one, or 2 where it could not start, or reading or writing failed.
+//! whole log, as there are no checkpoints, drops a torn tail, and says on standard error what it
+//! found. Its status is 0, or 1 if some line was a bad one, or 2 where it could not start, or reading
+//! or writing failed.
 #![tactic(auto)]
 
 mod answer;

@@ -146,9 +146,9 @@ impl<'a, P: Partial, V: Drop, T: KeyPath<'a>> WalkBack<'a, P, V, T> {
         Ok(None)
     }
 
-    /// Goes on to the next node that it enters, or to an open one behind all of whose children it
-    /// is, and gives the value: `Some(None)` where a node has children, whose value comes behind
-    /// them, or none. `None` where nothing is left.
+    /// Goes on: enters the last child that is left, or gives the value of a node whose children are
+    /// all given. `Some(None)`: a node was entered whose value, if it has one, comes later. `None`
+    /// where nothing is left.
     ///
     /// Refused for memory, the walk has ended.
     #[inline(always)]

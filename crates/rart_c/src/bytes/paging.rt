@@ -51,7 +51,7 @@ pub extern "C" fn rart_bytes_page(
     tell_page(written, entries.len(), next, key_len, len)
 }
 
-/// As `rart_bytes_page`, from the last pair on: the last pairs within two bounds, descending, as
+/// As `rart_bytes_page`, from the last pair back: the last pairs within two bounds, descending, as
 /// `rart_page_back` has them.
 #[unsafe(no_mangle)]
 pub extern "C" fn rart_bytes_page_back(

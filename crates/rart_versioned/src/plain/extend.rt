@@ -23,7 +23,7 @@ impl<K: KeyTrait, V: Clone + Drop> VersionedAdaptiveRadixTree<K, V> {
     ///
     /// It asks for room for as many pairs as the iterator gives at most. All are put in or none:
     /// refused for memory, map and number are as before, and the pairs are dropped. So it changes
-    /// a clone, which copies each node on the ways to the keys once. The Rust has no such call.
+    /// a clone, which copies each node on the ways to the keys once. rart has no such call.
     pub fn extend<I: IntoIterator<Item = (K, V)> + Drop>(
         &mut self,
         pairs: I,

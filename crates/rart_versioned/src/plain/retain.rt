@@ -24,9 +24,9 @@ impl<K: KeyTrait, V: Clone + Drop> VersionedAdaptiveRadixTree<K, V> {
     /// ```
     ///
     /// It asks for room for as many removals as there are keys. All are made or none: refused for
-    /// memory, map and number are as before, and the closure was asked about a prefix of the
-    /// pairs. So it changes a clone, which copies each node on the ways to the keys once. The Rust
-    /// has no such call.
+    /// memory, map and number are as before, and the closure was asked about the first pairs, or
+    /// none. So it changes a clone, which copies each node on the ways to the keys once. rart has
+    /// no such call.
     pub fn retain<F: FnMut(&[u8], &V) -> bool>(&mut self, keep: &mut F) -> Result<(), AllocError>
         requires clones { ClonesEqual V.is_clone }
         requires room { HasRoom self.old (finite.len self.old.content) }

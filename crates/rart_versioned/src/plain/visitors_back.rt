@@ -13,7 +13,7 @@ impl<K: KeyTrait, V: Clone + Drop> VersionedAdaptiveRadixTree<K, V> {
     /// Calls the closure on each pair, from the last key to the first: with a view of the key,
     /// which ends with the call, and a reference to the value.
     ///
-    /// Refused for memory, it has called the closure on the pairs from the last one to some other.
+    /// Refused for memory, it has called the closure on the first of these pairs, or on none.
     ///
     /// ```
     /// let mut oldest = 0;

@@ -21,8 +21,8 @@ use rart_node::{NodeRef, VersionedNode, VersionedNodeRevIter, Work, rest_of};
 use std::alloc::{AllocError, Global};
 use std::ops::Bound;
 
-/// The front part of a tree that a string picks: the keys that it begins, those up to it, or those
-/// before it.
+/// The part of a tree that a string picks: the keys that it begins, those up to it, or those before
+/// it.
 #[derive(Clone, Copy, PartialEq, Eq)]
 enum Front {
     Under,
@@ -131,7 +131,7 @@ fn along_path<'a, P: Partial, V: Drop, T: KeyPath<'a>>(
     }
 }
 
-/// What is in the part of a node, of whose prefix the string has not the whole, or has no more.
+/// What of a node is in the part, where the string ends in its prefix or parts from it.
 fn reached_of<P: Partial, V: Drop>(
     node: &VersionedNode<P, V>,
     part: Front,
@@ -157,7 +157,7 @@ fn reached_of<P: Partial, V: Drop>(
     Reached::Nothing
 }
 
-/// The same of a node inside whose prefix the string ends, or with it.
+/// The same where the string ends inside the prefix, or with it.
 fn reached_at_end(part: Front, is_whole: bool) -> Reached
     ensures { result ≡ at_end_of part is_whole }
 {

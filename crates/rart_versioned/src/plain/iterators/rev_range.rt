@@ -54,8 +54,8 @@ impl<K: KeyTrait, V: Clone + Drop> VersionedAdaptiveRadixTree<K, V> {
     /// }
     /// ```
     ///
-    /// It goes down to the upper bound, and ends with the first key before the lower one. Refused
-    /// for memory, there is no iterator. A later refusal is an item, which is the last: so without
+    /// It goes down to the upper bound, and ends at the first key before the lower one, which it
+    /// doesn't give. Refused for memory, there is no iterator. A later refusal is an item, which is the last: so without
     /// one the pairs are all.
     pub fn range_rev(
         &self,

@@ -140,7 +140,7 @@ leads-to (d ∷ key) (b ∷ u) (c ∷ w) most is =
         (λ before. ⊎_elim inl (λ here. inr (here.0, inr here.1)) before)
         most
 
-pub starts-low : (low : Bound (List ℕ)) (key : List ℕ) → is_above low key ≡ true
+starts-low : (low : Bound (List ℕ)) (key : List ℕ) → is_above low key ≡ true
     → IsAtMost (start_of low) key
 starts-low (Included a) key is = above-meets (Included a) key is
 starts-low (Excluded a) key is = inr (above-meets (Excluded a) key is)

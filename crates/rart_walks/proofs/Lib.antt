@@ -4,7 +4,6 @@ pub mod BackEnterLemmas
 pub mod BackLemmas
 pub mod BackPartLemmas
 pub mod BackWayLemmas
-pub mod BoundPathLemmas
 pub mod BranchLemmas
 pub mod ChildLemmas
 pub mod CommonLemmas

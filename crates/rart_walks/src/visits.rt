@@ -6,11 +6,9 @@
 //! no key type.
 
 mod values;
-mod values_back;
 mod views;
 mod views_back;
 
 pub use values::{visit_values, visit_values_until};
-pub use values_back::visit_values_back;
 pub use views::{visit_views, visit_views_up_to};
-pub use views_back::{visit_views_back, visit_views_back_to, visit_views_back_until};
+pub use views_back::{visit_views_back, visit_views_back_until};

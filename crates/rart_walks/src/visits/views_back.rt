@@ -1,17 +1,12 @@
 // Ported from rart 0.11.0 (Apache-2.0), and rewritten.
 //! Visits of pairs from the last to the first, their keys lent as views. rart has none.
-ghost use Rattle.std.specs.Prelude.{◌≡◌, ◌+◌, ◌^◌, ◌-◌, ◌≤◌, Some, OnOk, count_by, length};
-ghost use Rattle.std.specs.Ordering.{as_partial_cmp};
-ghost use Rattle.std.specs.Range.Bound.{bound_map, is_from_start};
-ghost use Rattle.rart_below.specs.Bytes.{byte_order};
+ghost use Rattle.std.specs.Prelude.{◌≡◌, ◌+◌, ◌^◌, ◌-◌, ◌≤◌, Some, OnOk, length};
 ghost use Rattle.rart_maps.specs.Visits.{ByView, Visitable, VisitableUntil, Visits, VisitsUntil};
 ghost use Rattle.rart_node.specs.Counts.{CountsUpTo};
 ghost use Rattle.rart_walks.specs.BackFields.{IsWalkBack, at_hand, back_cursor};
-ghost use Rattle.rart_walks.specs.Descending.{KeysDescend, leads_from, pairs_down_to};
 ghost use Rattle.rart_walks.specs.Ends.{Ends};
 ghost use Rattle.rart_walks.specs.KeyPaths.{HoldsSegments};
 ghost use Rattle.rart_walks.specs.OnWay.{EntersOnWay};
-ghost use Rattle.rart_walks.specs.Parts.{start_of};
 
 use super::views::view_of;
 use crate::key_path::SegmentsPath;
@@ -19,7 +14,6 @@ use crate::walk_back::WalkBack;
 use rart_below::{LendingKeyView, Partial, Refusal, VisitControl};
 use rart_node::Work;
 use std::alloc::AllocError;
-use std::ops::Bound;
 
 /// Calls the closure on each pair that a walk back has left: with a view of the key, which ends
 /// with the call, and a reference to the value.
@@ -44,77 +38,6 @@ pub fn visit_views_back<'a, P: Partial, V: Drop, F: FnMut(LendingKeyView<'_, '_>
         f(view_of(walk.key_path()), value);
     }
     Ok(())
-}
-
-/// As `visit_views_back`, for the pairs from a lower bound on. It ends at the first node below which
-/// there is none of them, with a value or without: so, of the nodes that the walk has left, it
-/// enters no more than those that lead to keys from the bound on, and one; and one at least for each
-/// pair, but for those at hand.
-pub fn visit_views_back_to<'a, P: Partial, V: Drop, F: FnMut(LendingKeyView<'_, '_>, &V)>(
-    mut walk: WalkBack<'a, P, V, SegmentsPath<'a>>,
-    low: Bound<&[u8]>,
-    f: &mut F,
-    work: &mut Work,
-) -> Result<(), AllocError>
-    requires walk { IsWalkBack HoldsSegments (Some (2 ^ 64 - 1)) walk }
-    requires descend { KeysDescend (back_cursor walk).pairs }
-    requires visitable { Visitable F.FnMut ByView f.old
-        (pairs_down_to (bound_map (λ low. low.now) low) (back_cursor walk).pairs) }
-    ensures visits { Visits F.FnMut ByView result f.old
-        (pairs_down_to (bound_map (λ low. low.now) low.entry) (back_cursor walk.entry).pairs)
-        f.new }
-    ensures counted { CountsUpTo (length (back_cursor walk.entry).paths) 0 work.old work.new }
-    ensures few { let leads = leads_from (start_of (bound_map (λ low. low.now) low.entry)) in
-        CountsUpTo (count_by leads (back_cursor walk.entry).paths + 1) 0 work.old work.new }
-    ensures each { let pairs = pairs_down_to (bound_map (λ low. low.now) low.entry)
-        (back_cursor walk.entry).pairs in
-        OnOk result (work.old.entered + length pairs ≤ work.new.entered + at_hand walk.entry) }
-{
-    'visiting: while let Some(value) = walk.next_node(work)? {
-        let path = view_of(walk.key_path());
-        let Some(value) = value else {
-            if !leads_to(&path, low) {
-                return Ok(());
-            }
-            continue 'visiting;
-        };
-        if !is_from(&path, low) {
-            return Ok(());
-        }
-        f(path, value);
-    }
-    Ok(())
-}
-
-/// Whether a path meets a lower bound.
-fn is_from(path: &LendingKeyView<'_, '_>, low: Bound<&[u8]>) -> bool
-    ensures { result ≡ is_from_start (as_partial_cmp byte_order)
-        (bound_map (λ low. low.now) low.entry) path.now }
-{
-    match low {
-        Bound::Included(low) => !path.cmp_slice(low).is_lt(),
-        Bound::Excluded(low) => path.cmp_slice(low).is_gt(),
-        Bound::Unbounded => true,
-    }
-}
-
-/// Whether keys from a lower bound on may stand below a node, by its path.
-fn leads_to(path: &LendingKeyView<'_, '_>, low: Bound<&[u8]>) -> bool
-    ensures { result ≡ leads_from (start_of (bound_map (λ low. low.now) low.entry)) path.now }
-{
-    match low {
-        Bound::Included(low) => leads_to_slice(path, low),
-        Bound::Excluded(low) => leads_to_slice(path, low),
-        Bound::Unbounded => leads_to_slice(path, &[]),
-    }
-}
-
-/// The same of the keys from a string on: where the path is shorter, of its front alone.
-fn leads_to_slice(path: &LendingKeyView<'_, '_>, low: &[u8]) -> bool
-    ensures { result ≡ leads_from low.now path.now }
-{
-    let front = &low[..path.len().min(low.len())];
-    !path.cmp_slice(front).is_lt()
 }
 
 /// As `visit_views_back`, up to the first pair on which the closure answers `Stop` or an error. Its

@@ -374,9 +374,9 @@ rart_answer rart_page(
     size_t *RART_ALONE needed
 );
 
-// As rart_page, from the last pair on: the last pairs within two bounds, descending, as many as
-// there is room for. The next page ends RART_EXCLUDED at a copy of the last key. It searches from
-// key to key, and takes no memory.
+// As rart_page, from the last pair back: the last pairs within two bounds, descending, as many as
+// there is room for. The next page has a copy of the key that was written last for its high, which
+// is RART_EXCLUDED then. It searches from key to key, and takes no memory.
 RART_NONNULL RART_MUST_USE RART_CHANGES(1) RART_READS(2, 3) RART_READS(5, 6) RART_WRITES(8, 9)
 RART_WRITES(10, 11) RART_WRITES(12) RART_WRITES(13)
 rart_answer rart_page_back(
@@ -677,7 +677,7 @@ rart_answer rart_bytes_page(
     size_t *RART_ALONE len
 );
 
-// As rart_bytes_page, from the last pair on: the last pairs within two bounds, descending, as
+// As rart_bytes_page, from the last pair back: the last pairs within two bounds, descending, as
 // rart_page_back has them.
 RART_NONNULL RART_MUST_USE RART_CHANGES(1) RART_READS(2, 3) RART_READS(5, 6) RART_WRITES(8, 9)
 RART_WRITES(10, 11) RART_WRITES(12) RART_WRITES(13) RART_WRITES(14)

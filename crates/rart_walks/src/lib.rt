@@ -23,8 +23,8 @@ pub use lockstep::{
     IntersectionPath, ViewsPath, count_common, visit_common, visit_common_keys, visit_common_values,
 };
 pub use visits::{
-    visit_values, visit_values_until, visit_views, visit_views_back,
-    visit_views_back_until, visit_views_up_to,
+    visit_values, visit_values_until, visit_views, visit_views_back, visit_views_back_until,
+    visit_views_up_to,
 };
 pub use walk::Walk;
 pub use walk_back::WalkBack;

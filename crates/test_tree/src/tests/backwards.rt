@@ -88,7 +88,11 @@ fn assert_goes_back(
 ) -> Result<(), AllocError> {
     let all = mixed_back(count);
     for form in 0..5 {
-        assert_eq!(rt; listed(tree, form, key(alloc, prefix)?)?, all, "form {form}");
+        assert_eq!(rt;
+            listed(tree, form, key(alloc, prefix)?)?,
+            all,
+            "form {form}"
+        );
     }
     assert_eq!(rt; values_listed(tree)?, all);
     for form in 0..2 {
@@ -130,10 +134,25 @@ fn digits_between(tree: &Tree, low: Bound<&[u8]>, high: Bound<&[u8]>) -> Result<
 fn some_pairs_come_from_the_last(rt: HostRuntime) -> Result<(), Fail> {
     let tree = four(&rt, rt.alloc())?;
     assert_eq!(rt; digits_of(tree.iter_rev()?)?, 4321);
-    assert_eq!(rt; digits_of(tree.prefix_iter_rev(key(rt.alloc(), b"ab")?)?)?, 32);
-    assert_eq!(rt; digits_of(tree.prefix_iter_rev(key(rt.alloc(), b"c")?)?)?, 0);
-    assert_eq!(rt; digits_between(&tree, Bound::Excluded(b"a"), Bound::Included(b"abd"))?, 32);
-    assert_eq!(rt; digits_between(&tree, Bound::Included(b"a"), Bound::Excluded(b"abd"))?, 21);
-    assert_eq!(rt; digits_between(&tree, Bound::Included(b"abd"), Bound::Excluded(b"abb"))?, 0);
+    assert_eq!(rt;
+        digits_of(tree.prefix_iter_rev(key(rt.alloc(), b"ab")?)?)?,
+        32
+    );
+    assert_eq!(rt;
+        digits_of(tree.prefix_iter_rev(key(rt.alloc(), b"c")?)?)?,
+        0
+    );
+    assert_eq!(rt;
+        digits_between(&tree, Bound::Excluded(b"a"), Bound::Included(b"abd"))?,
+        32
+    );
+    assert_eq!(rt;
+        digits_between(&tree, Bound::Included(b"a"), Bound::Excluded(b"abd"))?,
+        21
+    );
+    assert_eq!(rt;
+        digits_between(&tree, Bound::Included(b"abd"), Bound::Excluded(b"abb"))?,
+        0
+    );
     Ok(())
 }

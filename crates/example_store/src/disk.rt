@@ -42,7 +42,8 @@ impl Write for LogFile {
     }
 }
 
-/// The store of a folder, which is made where it isn't there. Says on standard error what was found.
+/// The store of a folder, which is made where it isn't there. Says on standard error what was
+/// found.
 pub fn start(rt: &HostRuntime, folder: &str) -> Result<Store<LogFile>, StartError> {
     let mut file = open(rt, folder)?;
     match file.try_lock() {

@@ -1,11 +1,11 @@
 //! A store that loses nothing: a family of versions whose changes are in a log before they are
 //! answered, and are played again at the next start.
 //!
-//! `example_store FOLDER` speaks the lines of `vtree`. Each line that may change the family, and was
-//! not refused, is in `FOLDER/log`, for good, before its reply is written. At its start it plays the
-//! whole log, as there are no checkpoints, drops a torn tail, and says on standard error what it
-//! found. Its status is 0, or 1 if some line was a bad one, or 2 where it could not start, or reading
-//! or writing failed.
+//! `example_store FOLDER` speaks the lines of `vtree`. Each line that may change the family, and
+//! was not refused, is in `FOLDER/log`, for good, before its reply is written. At its start it
+//! plays the whole log, as there are no checkpoints, drops a torn tail, and says on standard error
+//! what it found. Its status is 0, or 1 if some line was a bad one, or 2 where it could not start,
+//! or reading or writing failed.
 #![tactic(auto)]
 
 mod answer;

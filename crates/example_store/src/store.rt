@@ -61,8 +61,8 @@ impl<L: Write + Drop> Store<L> {
     /// Does what a line says, given without its line feed. A change is in the log, for good, before
     /// this returns.
     ///
-    /// `Err` comes where writing the log failed: a part of the line's entry may stand in it, and the
-    /// store is not to be used any more, since its family may be ahead of its log.
+    /// `Err` comes where writing the log failed: a part of the line's entry may stand in it, and
+    /// the store is not to be used any more, since its family may be ahead of its log.
     pub fn answer(&mut self, line: &[u8]) -> Result<Answer, WriteFailed>
         requires { HasNoFeed line.now }
         ensures ok { IfOk result (λ answer. Answers line.now self.old.family self.new.family

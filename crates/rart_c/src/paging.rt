@@ -81,9 +81,9 @@ pub extern "C" fn rart_page(
     tell_page(written, entries.len(), next, needed)
 }
 
-/// As `rart_page`, from the last pair back: the last pairs within two bounds, descending, as many as
-/// there is room for. The next page has a copy of the key that was written last for its `high`, which
-/// is `EXCLUDED` then. It searches from key to key, and takes no memory.
+/// As `rart_page`, from the last pair back: the last pairs within two bounds, descending, as many
+/// as there is room for. The next page has a copy of the key that was written last for its `high`,
+/// which is `EXCLUDED` then. It searches from key to key, and takes no memory.
 #[unsafe(no_mangle)]
 pub extern "C" fn rart_page_back(
     tree: &mut RartTree,

@@ -38,8 +38,8 @@ impl<K: KeyTrait, V: Clone + Drop> VersionedAdaptiveRadixTree<K, V> {
     /// As `try_for_each_view_rev`, with the nodes entered counted into `work`: at most as many as
     /// in `for_each_view_counted`. Where the closure ends it, each node that was entered begins the
     /// key that it was called on last, or stands behind it: at most one for each byte of that key,
-    /// two for each pair that it was called on, and two. One at least where there is a key in the map, and, where it isn't
-    /// refused, one for each pair that it was called on.
+    /// two for each pair that it was called on, and two. One at least where there is a key in the
+    /// map, and, where it isn't refused, one for each pair that it was called on.
     pub fn try_for_each_view_rev_counted<
         E: Drop,
         F: FnMut(LendingKeyView<'_, '_>, &V) -> Result<VisitControl, E>,

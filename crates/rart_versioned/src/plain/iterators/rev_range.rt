@@ -55,8 +55,8 @@ impl<K: KeyTrait, V: Clone + Drop> VersionedAdaptiveRadixTree<K, V> {
     /// ```
     ///
     /// It goes down to the upper bound, and ends at the first key before the lower one, which it
-    /// doesn't give. Refused for memory, there is no iterator. A later refusal is an item, which is the last: so without
-    /// one the pairs are all.
+    /// doesn't give. Refused for memory, there is no iterator. A later refusal is an item, which is
+    /// the last: so without one the pairs are all.
     pub fn range_rev(
         &self,
         range: (Bound<K>, Bound<K>),

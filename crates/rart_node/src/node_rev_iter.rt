@@ -23,8 +23,8 @@ impl<'a, P: Partial, V: Drop> VersionedNodeRevIter<'a, P, V> {
     /// gives `None` from then on.
     #[inline(always)]
     pub fn prev_child(&mut self) -> Option<&'a NodeRef<P, V>>
-        ensures { TakesLast (children_before self.old) (option_map (λ child. child.now.shape) result)
-            (children_before self.new) }
+        ensures { TakesLast (children_before self.old)
+            (option_map (λ child. child.now.shape) result) (children_before self.new) }
     {
         self.node.prev_child(&mut self.end)
     }

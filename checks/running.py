@@ -122,7 +122,7 @@ class Scripts:
     """Scripts and commands, each of which tells what it shows, or fails."""
 
     def __init__(self):
-        self.said = []
+        self.said, self.failed = [], []
 
     def run(self, *words, folder="."):
         said = run([*words], folder)
@@ -130,6 +130,7 @@ class Scripts:
         said.status = said.status or int(not said.lines[-1].strip())
         self.said.append(said)
         how = f"FAILED: {words[0]}: " if said.status else ""
+        self.failed += [f"FAILED: {words[0]}"] if said.status else []
         say(how + ("\n" + 7 * " ").join(said.lines[0 if said.status else -1 :]))
         return not said.status
 

@@ -4,14 +4,15 @@ import functools
 import os
 import pathlib
 import re
+import resource
 import shutil
 import subprocess
 import tempfile
-import threading
 
 from .repository import PARTS, library
 
-# The longest that a check may take, in seconds, before it counts for nothing.
+# The most that a check may take, in seconds of a processor, before it counts for nothing. (Not of a
+# clock: while the proofs run an edit is given little of the processors.)
 LONGEST = 1800
 # What stands in for proofs.
 ASSUMED = "pub assumed : {A : Type 2} → A\nassumed = ?\n"
@@ -68,14 +69,13 @@ def words_for(repository, built, crate):
 
 def run(words, folder, longest=LONGEST):
     """What a command says in a folder: its status, its lines, and the seconds of a processor that
-    it took. It is ended where it takes too long."""
+    it took. It is ended where one of its processes takes more of a processor than `longest`."""
     with tempfile.TemporaryFile() as out:
         how = {"stdin": subprocess.DEVNULL, "stdout": out, "stderr": subprocess.STDOUT}
         ran = subprocess.Popen(words, cwd=folder, **how)
-        ends = threading.Timer(longest, ran.kill)
-        ends.start()
+        if longest:
+            resource.prlimit(ran.pid, resource.RLIMIT_CPU, (longest, longest))
         _, status, used = os.wait4(ran.pid, 0)
-        ends.cancel()
         ran.returncode = os.waitstatus_to_exitcode(status)
         out.seek(0)
         lines = out.read().decode(errors="replace").splitlines()

@@ -108,12 +108,20 @@ class Edits:
 
     def _end(self, result):
         self.results.append(result)
-        say(f"{result.label}: {result.outcome.value}: {result.why[:160]}")
+        say(_told(result))
+
+    def unrefused(self):
+        """Of each edit that was not refused what came of it."""
+        return [_told(it) for it in self.results if it.outcome is not Outcome.REFUSED]
 
     def counts(self):
         """How many edits were refused, and how many not: one of which nothing came is one of them."""
         refused = sum(it.outcome is Outcome.REFUSED for it in self.results)
         return refused, len(self.known) - refused
+
+
+def _told(result):
+    return f"{result.label}: {result.outcome.value}: {result.why[:160]}"
 
 
 def batches_of(edits):
@@ -160,21 +168,24 @@ class CrateTrial:
             shutil.rmtree(self.kept, ignore_errors=True)
         self.kept = None
 
-    def results(self, batch, controls=None):
+    def results(self, batch, controls=None, is_first=True):
         """The results of a batch. What a check of several shows nothing of goes alone; where it
-        shows nothing of any, the others once more without those at which it tells of an error."""
+        shows nothing of any, the others once more without those at which it tells of an error. A
+        check of one that went amiss is made once more."""
         texts, is_alone = texts_of(batch), not batch[0].bodies
-        controls = self._controls(batch) if controls is None else controls
+        controls = self._controls(batch, is_first) if controls is None else controls
         said = self._check(batch, texts, controls)
         verdicts = said.verdicts(self.crate)
         well = {it for it in controls if self._stands(verdicts.get(it), batch)}
         if is_alone and well < controls:
             # (they rest on the definition, and may be to blame. Without any one begins with nothing)
             self.forget() if not well else None
-            return self.results(batch, well)
+            return self.results(batch, well, is_first)
         is_sound = said.is_sound and bool(well or is_alone)
         if not is_sound:
             self.forget()
+        if len(batch) == 1 and not is_sound and is_first:
+            return self.results(batch, is_first=False)
         whys = [is_sound and self._refusal(it, batch, said, verdicts, texts) for it in batch]
         found = [Result(it.label, Outcome.REFUSED, why) for it, why in zip(batch, whys) if why]
         left = [it for it, why in zip(batch, whys) if not why]
@@ -187,12 +198,13 @@ class CrateTrial:
             found += self.results(part)
         return found
 
-    def _controls(self, batch):
-        """Functions that no edit of the batch names: the first that was checked, which calls
-        nothing, and the last, which nothing calls."""
+    def _controls(self, batch, is_first):
+        """A function that no edit of the batch names: the first that was checked, which calls
+        nothing and is soon proved; and where a check went amiss, the last too, which nothing
+        calls."""
         named = {it.function for it in batch}
         found = [it for it in self.functions if it not in named and self._may_be_control(it)]
-        return {*found[:1], *found[-1:]}
+        return {*found[:1]} if is_first else {*found[:1], *found[-1:]}
 
     def _check(self, batch, texts, controls):
         """Checks a batch's functions, and controls, in the crate with these texts."""

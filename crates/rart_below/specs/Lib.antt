@@ -13,3 +13,4 @@ pub mod Plain
 pub mod RankedKeys
 pub mod SlotArray
 pub mod SortedKeyedMapping
+pub mod VectorPartial

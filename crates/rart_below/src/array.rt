@@ -23,7 +23,7 @@ pub struct ArrPartial<const N: usize> {
 }
 
 // Bytes of the full length are copied whole, by a copy whose length the compiler knows.
-fn inline_bytes<const N: usize>(bytes: &[u8]) -> ArrayVec<u8, N>
+pub(crate) fn inline_bytes<const N: usize>(bytes: &[u8]) -> ArrayVec<u8, N>
     requires { length bytes.now ≤ N }
     ensures { result.items ≡ bytes.now }
 {

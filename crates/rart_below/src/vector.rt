@@ -1,25 +1,63 @@
 // Ported from rart 0.11.0 (Apache-2.0), and rewritten.
-//! Keys and prefixes on the heap, of any length.
-ghost use Rattle.std.specs.Prelude.{◌≡◌, None, IfOk, refl};
+//! Keys and prefixes of any length.
+ghost use Rattle.std.specs.Prelude.{◌≡◌, ◌++◌, None, IfOk, refl};
 ghost use Rattle.std.proofs.lemmas.Slice.Eq.{bytes_eq-Decides};
+ghost use Rattle.rart_below.specs.VectorPartial.{bytes_of};
 
+use crate::array::inline_bytes;
 use crate::key::KeyTrait;
 use crate::partial::Partial;
 use crate::prefix_length::prefix_length;
+use arrayvec::ArrayVec;
 use std::alloc::{AllocError, Global};
 
-/// Bytes on the heap, of any number.
+/// So many bytes fit in place. With more, a leaf would take a greater block of memory.
+const FEW: usize = 16;
+
+/// Where the bytes of a prefix are. Few are in place, so a node that has them needs no second block
+/// of memory, and a lookup reads none.
 #[derive(Drop)]
-pub struct VectorPartial {
-    bytes: Vec<u8>,
+enum Held {
+    InPlace(ArrayVec<u8, 16>),
+    OnHeap(Vec<u8>),
 }
 
-fn copy_of(alloc: Global, bytes: &[u8]) -> Result<VectorPartial, AllocError>
-    ensures { IfOk result (λ copy. copy.bytes.items ≡ bytes.now) }
-{
-    Ok(VectorPartial {
-        bytes: bytes.to_vec(alloc)?,
-    })
+/// Bytes of any number: at most 16 are held inline, more on the heap.
+#[derive(Drop)]
+pub struct VectorPartial {
+    held: Held,
+}
+
+impl VectorPartial {
+    /// These bytes.
+    fn of(alloc: Global, bytes: &[u8]) -> Result<VectorPartial, AllocError>
+        ensures { IfOk result (λ partial. bytes_of partial.held ≡ bytes.now) }
+    {
+        let held = if bytes.len() <= FEW {
+            Held::InPlace(inline_bytes(bytes))
+        } else {
+            Held::OnHeap(bytes.to_vec(alloc)?)
+        };
+        Ok(VectorPartial { held })
+    }
+
+    /// These bytes, and others behind them.
+    fn joined(alloc: Global, front: &[u8], back: &[u8]) -> Result<VectorPartial, AllocError>
+        ensures { IfOk result (λ partial. bytes_of partial.held ≡ front.now ++ back.now) }
+    {
+        if front.len() <= FEW && back.len() <= FEW - front.len() {
+            let mut bytes = inline_bytes(front);
+            let _ = bytes.try_extend_from_slice(back);
+            return Ok(VectorPartial {
+                held: Held::InPlace(bytes),
+            });
+        }
+        let mut bytes = front.to_vec(alloc)?;
+        bytes.extend_from_slice(back)?;
+        Ok(VectorPartial {
+            held: Held::OnHeap(bytes),
+        })
+    }
 }
 
 impl Partial for VectorPartial {
@@ -27,34 +65,38 @@ impl Partial for VectorPartial {
 
     ghost MAXIMUM_SIZE = { None };
 
-    ghost bytes = { λ partial. partial.bytes.items };
+    ghost bytes = { λ partial. bytes_of partial.held };
 
     fn new_from_slice(alloc: Global, slice: &[u8]) -> Result<VectorPartial, AllocError> {
-        copy_of(alloc, slice)
+        VectorPartial::of(alloc, slice)
     }
 
     fn len(&self) -> usize {
-        self.bytes.len()
+        self.as_ref().len()
     }
 
     fn is_empty(&self) -> bool {
-        self.bytes.is_empty()
+        self.as_ref().is_empty()
     }
 
     fn at(&self, index: usize) -> u8 {
-        self.bytes[index]
+        self.as_ref()[index]
     }
 
+    #[inline]
     fn as_ref(&self) -> &[u8] {
-        self.bytes.as_slice()
+        match &self.held {
+            Held::InPlace(bytes) => bytes.as_slice(),
+            Held::OnHeap(bytes) => bytes.as_slice(),
+        }
     }
 
     fn partial_before(&self, alloc: Global, count: usize) -> Result<VectorPartial, AllocError> {
-        copy_of(alloc, &self.bytes[..count])
+        VectorPartial::of(alloc, &self.as_ref()[..count])
     }
 
     fn partial_after(&self, alloc: Global, count: usize) -> Result<VectorPartial, AllocError> {
-        copy_of(alloc, &self.bytes[count..])
+        VectorPartial::of(alloc, &self.as_ref()[count..])
     }
 
     fn partial_extended_with(
@@ -62,17 +104,15 @@ impl Partial for VectorPartial {
         alloc: Global,
         other: &VectorPartial,
     ) -> Result<VectorPartial, AllocError> {
-        let mut bytes = self.bytes.as_slice().to_vec(alloc)?;
-        bytes.extend_from_slice(other.bytes.as_slice())?;
-        Ok(VectorPartial { bytes })
+        VectorPartial::joined(alloc, self.as_ref(), other.as_ref())
     }
 
     fn copy(&self, alloc: Global) -> Result<VectorPartial, AllocError> {
-        copy_of(alloc, self.bytes.as_slice())
+        VectorPartial::of(alloc, self.as_ref())
     }
 
     fn prefix_length_slice(&self, other: &[u8]) -> usize {
-        prefix_length(self.bytes.as_slice(), other)
+        prefix_length(self.as_ref(), other)
     }
 
     ghost admitted = { λ partial. tt };
@@ -104,7 +144,7 @@ impl KeyTrait for VectorKey {
     }
 
     fn to_partial(&self, alloc: Global, depth: usize) -> Result<VectorPartial, AllocError> {
-        copy_of(alloc, &self.bytes[depth..])
+        VectorPartial::of(alloc, &self.bytes[depth..])
     }
 
     fn as_ref(&self) -> &[u8] {

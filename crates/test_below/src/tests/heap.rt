@@ -1,12 +1,28 @@
 //! Keys and prefixes on the heap, and the plain tree.
 use crate::tests::keys::{assert_keys, assert_prefixes};
-use rart_below::{AdaptiveRadixTree, KeyTrait, VectorKey, VectorPartial};
+use rart_below::{AdaptiveRadixTree, KeyTrait, Partial, VectorKey, VectorPartial};
 use std::test::Fail;
 
 #[test]
 fn heap_keys_and_prefixes_are_made(rt: HostRuntime) -> Result<(), Fail> {
     assert_keys::<VectorKey>(&rt, rt.alloc())?;
     assert_prefixes::<VectorPartial>(&rt, rt.alloc())?;
+    Ok(())
+}
+
+// A prefix of 16 bytes is in place, one of 17 on the heap.
+#[test]
+fn prefixes_are_in_place_and_on_the_heap(rt: HostRuntime) -> Result<(), Fail> {
+    let alloc = rt.alloc();
+    let front = VectorPartial::new_from_slice(alloc, b"a room with a vi")?;
+    let back = VectorPartial::new_from_slice(alloc, b"ew")?;
+    let joined = front.partial_extended_with(alloc, &back)?;
+    assert_eq!(rt; joined.as_ref(), b"a room with a view".as_slice());
+    assert_eq!(rt; joined.copy(alloc)?.len(), 18);
+    let rest = joined.partial_after(alloc, 2)?;
+    assert_eq!(rt; rest.as_ref(), b"room with a view".as_slice());
+    let most = joined.partial_before(alloc, 17)?;
+    assert_eq!(rt; most.as_ref(), b"a room with a vie".as_slice());
     Ok(())
 }
 

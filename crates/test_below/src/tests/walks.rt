@@ -29,7 +29,7 @@ fn leaf(alloc: Global, bytes: &[u8], value: u64) -> Result<Root, AllocError>
 fn next_of<'a, P: Partial, T: KeyPath<'a>>(
     mut walk: Walk<'a, P, u64, T>,
 ) -> Result<Option<u64>, AllocError>
-    requires { IsWalk T.holds T.greatest walk }
+    requires { IsWalk T.holds T.extent T.greatest walk }
 {
     Ok(walk.next_value(&mut Work::new())?.copied())
 }

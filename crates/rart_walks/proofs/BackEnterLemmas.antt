@@ -6,7 +6,7 @@ use Rattle.rart_below.specs.Bytes.{IsAdmitted}
 use Rattle.rart_node.specs.Shape.{Shape, Forest, node, bare, grown, prefix_of, value_of, children_of, entries_of}
 use Rattle.rart_node.specs.Trees.{IsTree, own_pair, pairs_of, pairs_below}
 use Rattle.rart_walks.specs.BackFrames.{KeepsBack, OpenBack, SplitsOwn, TakesChildBack, TakesOwn, TreesBehind, back_paths_below, back_paths_of, back_paths_of_all, back_segments, owns_behind, pairs_behind, paths_behind, with_back_leaf}
-use Rattle.rart_walks.specs.Frames.{OpenNode, behind_path, pairs_of_all, segments_of, under_path}
+use Rattle.rart_walks.specs.Frames.{behind_path, pairs_of_all, under_path}
 use Rattle.rart_walks.specs.Walks.{AreShort, GoesOnFirst, nodes_of, nodes_below, pending_pair}
 use Rattle.rart_walks.proofs.BackLemmas.{keeps-all, owns-push, pairs-push, path-at, paths-push, spent-left, trees-push}
 use Rattle.rart_walks.proofs.WalkLemmas.{tree-has-pair, behind-append, behind-none, pairs-entered, path-fits, short-back, short-front, trees-entered, under-none, under-under}
@@ -17,14 +17,6 @@ pub has-last : {A : Type 0} (x : A) (xs : List A)
 has-last x [] = ([], x, refl)
 has-last x (y ∷ xs) =
     let rest = has-last y xs in (x ∷ rest.0, rest.1, ap (λ z. x ∷ z) rest.2)
-
--- nodes with these prefixes, and no children left
-abbrev as_open : (V : Type 0) → List (List ℕ) → List (OpenNode V)
-as_open V segments = map (λ segment. (segment, [])) segments
-
-as_open-is : (V : Type 0) (segments : List (List ℕ)) → segments_of (as_open V segments) ≡ segments
-as_open-is V [] = refl
-as_open-is V (segment ∷ segments) = ap (λ rest. segment ∷ rest) (as_open-is V segments)
 
 module _ {V : Type 0} where
   -- ---- a tree from its end
@@ -189,17 +181,6 @@ module _ {V : Type 0} where
               ∙ ap (λ p. p ++ has.behind) (sym path-entered)),
         )
 
-  -- the key path has room for the prefix
-  pub back-fits : (segments : List (List ℕ)) (s : Shape V) (greatest : Option ℕ) → IsTree s
-      → AreShort greatest (behind_path (concat segments) (pairs_of s))
-      → IsAdmitted greatest (length (concat (segments ++ prefix_of s ∷ [])))
-  back-fits segments s greatest tree short =
-      subst (λ z. IsAdmitted greatest (length (concat (z ++ prefix_of s ∷ []))))
-      (as_open-is V segments)
-      (path-fits (as_open V segments) s greatest tree
-      (subst (λ z. AreShort greatest (behind_path (concat z) (pairs_of s)))
-      (sym (as_open-is V segments)) short))
-
   -- ---- the step of a walk back, from these nodes
   module _ (nodes frames after : List (OpenBack V)) (keeps : KeepsBack nodes frames) where
     -- a node's own value is given
@@ -238,7 +219,7 @@ module _ {V : Type 0} where
           → AreShort greatest (pairs_behind nodes)
           → IsAdmitted greatest (length (concat (back_segments after ++ prefix_of s ∷ [])))
       child-fits greatest trees short =
-          back-fits (back_segments after) s greatest (child-tree trees)
+          path-fits (back_segments after) s greatest (child-tree trees)
           (short-back greatest (pairs_behind after) _
           (subst (AreShort greatest) child-pairs short))
 

@@ -3,6 +3,7 @@ use Rattle.std.proofs.Common.{◌≡◌, ◌+◌, ◌-◌, ◌≤◌, ℕ, Bool,
 use Rattle.std.specs.List.{concat}
 use Rattle.std.specs.Borrow.{Bor}
 use Rattle.std.proofs.Math.Seq.{take-append_seam}
+use Rattle.std.proofs.lemmas.List.Folds.{concat-append}
 use Rattle.std.proofs.lemmas.List.{append_assoc, append-nil, length-append, take-map}
 
 pub concat-push : (segments : List (List ℕ)) (segment : List ℕ)
@@ -33,6 +34,13 @@ bytes-pop old segment segments kept is same =
     ap (λ z. take kept z) whole ∙ ap (λ n. take n (concat segments ++ segment)) long
     ∙ take-append_seam (concat segments) segment
 
+pub bytes-cut : (old : List ℕ) (kept gone : List (List ℕ)) (mark : ℕ)
+    → old ≡ concat (kept ++ gone) → mark ≡ length (concat kept) → take mark old ≡ concat kept
+bytes-cut old kept gone mark same is =
+    ap (take mark) (same ∙ concat-append kept gone)
+    ∙ ap (λ n. take n (concat kept ++ concat gone)) is
+    ∙ take-append_seam (concat kept) (concat gone)
+
 pub bytes-fit : (old segment : List ℕ) (segments : List (List ℕ))
     → old ≡ concat (segments ++ segment ∷ []) → length segment ≤ length old
 bytes-fit old segment segments same = let l = ap length same ∙ length-push segments segment in
@@ -44,7 +52,7 @@ pub shown-push : (items : List (Bor (List ℕ))) (segment : Bor (List ℕ))
 shown-push [] segment = refl
 shown-push (item ∷ items) segment = ap (λ rest. item.now ∷ rest) (shown-push items segment)
 
-shown-length : (items : List (Bor (List ℕ)))
+pub shown-length : (items : List (Bor (List ℕ)))
     → length (map (λ segment. segment.now) items) ≡ length items
 shown-length [] = refl
 shown-length (item ∷ items) = let rest = shown-length items in omega (arith, rest)
@@ -62,3 +70,10 @@ shown-pop old new count segments segment is long same =
     ∙ sym (take-map (λ (segment : Bor (List ℕ)). segment.now) (count - 1) old)
     ∙ ap (take (count - 1)) same
     ∙ ap (λ n. take n (segments ++ segment ∷ [])) few ∙ take-append_seam segments (segment ∷ [])
+
+-- the segments that stay, where so many do
+pub cut-segments : (old kept gone now more : List (List ℕ)) → old ≡ kept ++ gone
+    → old ≡ now ++ more → length now ≡ length kept → now ≡ kept
+cut-segments old kept gone now more one other same =
+    sym (take-append_seam now more) ∙ ap (take (length now)) (sym other ∙ one)
+    ∙ ap (λ n. take n (kept ++ gone)) same ∙ take-append_seam kept gone

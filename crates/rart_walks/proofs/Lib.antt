@@ -16,6 +16,7 @@ pub mod DiffLemmas
 pub mod DiffPassLemmas
 pub mod EndLemmas
 pub mod EnterLemmas
+pub mod FrameLemmas
 pub mod GatherLemmas
 pub mod IntersectionLemmas
 pub mod KeyPathLemmas

@@ -8,14 +8,14 @@ use Rattle.rart_node.specs.Shape.{Shape, prefix_of, value_of, children_of}
 use Rattle.rart_node.specs.Trees.{IsTree, own_pair, pairs_of}
 use Rattle.rart_node.proofs.SearchLemmas.{IsSearchAt, search-start}
 use Rattle.rart_walks.specs.declared.walk.path.Part.{Part}
-use Rattle.rart_walks.specs.Frames.{OpenNode, behind_path, under_path, pairs_of_all, segments_of, pairs_ahead, paths_ahead, TreesAhead, pending_pair}
+use Rattle.rart_walks.specs.Frames.{OpenNode, Pushes, behind_path, under_path, pairs_of_all, segments_of, pairs_ahead, paths_ahead, TreesAhead, pending_pair}
 use Rattle.rart_walks.specs.Parts.{keeps, reaches, goes_on}
 use Rattle.rart_walks.specs.Walks.{AreShort, paths_of}
-use Rattle.rart_walks.proofs.AheadLemmas.{gathered_ahead, gathered-push, pairs-ahead, paths-ahead}
+use Rattle.rart_walks.proofs.AheadLemmas.{gathered_ahead, pushed-gathered, pairs-ahead, paths-ahead}
 use Rattle.rart_walks.proofs.GatherLemmas.{keeping, gathered, gathered_all, kept_at, pairs-gathered}
 use Rattle.rart_walks.proofs.PartLemmas.{StandsAtEnd, GoesAlong, own_pair-ends, keeps-goes, reaches-goes, parted-below}
 use Rattle.rart_walks.proofs.CursorLemmas.{own_place, own_place-ends, keys_of, keys-behind, keys-append, paths-kept}
-use Rattle.rart_walks.proofs.WalkLemmas.{behind-none, behind-behind, behind-append, pairs-entered, trees-entered, path-push, ahead-push, trees-push, short-none, short-append, short-pending}
+use Rattle.rart_walks.proofs.WalkLemmas.{behind-none, behind-behind, behind-append, pairs-entered, trees-entered, pushed-path, pushed-pairs, pushed-trees, short-none, short-append, short-pending}
 use Rattle.rart_walks.proofs.SublistLemmas.{later-trees, later-short, child-short}
 
 module _ {V : Type 0} where
@@ -62,15 +62,14 @@ module _ {V : Type 0} where
   module _ (part : Part) (greatest : Option ℕ) (probe : List ℕ) (root : Shape V) (start : Counts)
       (s : Shape V) (rest : List ℕ) (frames : List (OpenNode V)) (now : Counts)
       (way : IsOnWay part greatest probe root start s rest frames now) where
-    module _ (byte : ℕ) (left : List ℕ) (is : rest ≡ prefix_of s ++ (byte ∷ left)) where
+    module _ (byte : ℕ) (left : List ℕ) (is : rest ≡ prefix_of s ++ (byte ∷ left))
+        (passed : List (OpenNode V)) (pushes : Pushes frames (prefix_of s)
+        (cond (goes_on part) (children_from (suc byte) (children_of s)) []) passed) where
       abbrev later : List (ℕ × Shape V)
       later = cond (goes_on part) (children_from (suc byte) (children_of s)) []
 
-      abbrev passed : List (OpenNode V)
-      passed = frames ++ (prefix_of s, later) ∷ []
-
       path-passed : concat (segments_of passed) ≡ concat (segments_of frames) ++ prefix_of s
-      path-passed = path-push frames (prefix_of s, later)
+      path-passed = pushed-path _ _ _ _ pushes
 
       -- What is kept: of the child under the byte, then of the children behind it, then what is
       -- left above.
@@ -101,7 +100,7 @@ module _ {V : Type 0} where
           ∙ ap (λ z. behind_path (path ++ prefix_of s) below
           ++ (behind_path (path ++ prefix_of s) z ++ gathered_ahead own frames)) gathers
           ∙ ap (λ z. behind_path (path ++ prefix_of s) below ++ z)
-          (sym (gathered-push own frames (prefix_of s, later)))
+          (sym (pushed-gathered own _ _ _ _ pushes))
           ∙ ap (λ p. behind_path p below ++ gathered_ahead own passed) (sym path-passed)
 
       pub passed-pairs : keeping (keeps part probe) (gathered own_pair root)
@@ -120,7 +119,7 @@ module _ {V : Type 0} where
 
       pub passed-trees : TreesAhead passed
       passed-trees =
-          trees-push frames (prefix_of s, later) way.trees
+          pushed-trees _ _ _ _ pushes way.trees
           (later-trees (goes_on part) (suc byte) (children_of s) (trees-entered s way.at.tree))
 
       children-short : AreShort greatest
@@ -135,7 +134,7 @@ module _ {V : Type 0} where
 
       pub passed-short : AreShort greatest (pairs_ahead passed)
       passed-short =
-          subst (AreShort greatest) (sym (ahead-push frames (prefix_of s, later)))
+          subst (AreShort greatest) (sym (pushed-pairs _ _ _ _ pushes))
           (short-append greatest _ (pairs_ahead frames)
           (subst (λ p. AreShort greatest (behind_path p (pairs_of_all later))) path-passed
           (later-short greatest (concat (segments_of passed)) (goes_on part) (suc byte)

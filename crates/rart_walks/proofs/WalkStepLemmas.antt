@@ -11,7 +11,7 @@ use Rattle.rart_node.specs.Trees.{strip_prefix, pairs_of, path_bound}
 use Rattle.rart_node.proofs.PrefixLemmas.{strip_prefix-whole, split-whole, common_fits}
 use Rattle.rart_node.proofs.SearchLemmas.{IsSearchAt, search-counted, search-entered, search-lower, search-child}
 use Rattle.rart_walks.specs.declared.walk.path.Part.{Part}
-use Rattle.rart_walks.specs.Frames.{OpenNode, segments_of, pairs_ahead, paths_ahead, TreesAhead}
+use Rattle.rart_walks.specs.Frames.{OpenNode, Pushes, segments_of, pairs_ahead, paths_ahead, TreesAhead}
 use Rattle.rart_walks.specs.Parts.{keeps, reaches, goes_on}
 use Rattle.rart_walks.specs.Walks.{AreShort, paths_of}
 use Rattle.rart_walks.proofs.GatherLemmas.{keeping}
@@ -67,7 +67,7 @@ module _ {V : Type 0} (part : Part) (greatest : Option ℕ) (probe : List ℕ) (
         → IsAdmitted greatest (length (concat (segments_of frames ++ segment ∷ [])))
     step-fits segment is =
         subst (λ z. IsAdmitted greatest (length (concat (segments_of frames ++ z ∷ []))))
-        (sym (is ∙ ap prefix_of same)) (path-fits frames s greatest way.at.tree way.short)
+        (sym (is ∙ ap prefix_of same)) (path-fits (segments_of frames) s greatest way.at.tree way.short)
 
     module _ (byte : ℕ) (left : List ℕ) (goes : GoesOn (prefix_of o) rest byte left) where
       whole : rest ≡ prefix_of s ++ (byte ∷ goes.more)
@@ -79,19 +79,15 @@ module _ {V : Type 0} (part : Part) (greatest : Option ℕ) (probe : List ℕ) (
           search-lower root probe start s o rest now after way.at opens same
           (prefix_of o) refl left goes.strips byte goes.next child here
 
-      module _ (inner : List (OpenNode V)) (segment : List ℕ) (later : List (ℕ × Shape V))
-          (enters : inner ≡ frames ++ (segment, later) ∷ []) (is : segment ≡ prefix_of o)
-          (leaves : later ≡ cond (goes_on part) (children_from (byte + 1) (children_of o)) []) where
-        passed-is : inner ≡ frames ++ (
-          prefix_of s,
-          cond (goes_on part) (children_from (suc byte) (children_of s)) [],
-        ) ∷ []
+      module _ (inner : List (OpenNode V)) (pushes : Pushes frames (prefix_of o)
+          (cond (goes_on part) (children_from (byte + 1) (children_of o)) []) inner) where
+        passed-is : Pushes frames (prefix_of s)
+            (cond (goes_on part) (children_from (suc byte) (children_of s)) []) inner
         passed-is =
-            enters ∙ ap (λ z. frames ++ (z, later) ∷ []) (is ∙ ap prefix_of same)
-            ∙ ap (λ z. frames ++ (prefix_of s, z) ∷ [])
-            (leaves ∙ ap (λ z. cond (goes_on part) (children_from (byte + 1) (children_of z)) [])
-            same ∙ ap (λ n. cond (goes_on part) (children_from n (children_of s)) [])
-            (add-one byte))
+            subst (λ n. Pushes frames (prefix_of s)
+            (cond (goes_on part) (children_from n (children_of s)) []) inner) (add-one byte)
+            (subst (λ z. Pushes frames (prefix_of z)
+            (cond (goes_on part) (children_from (byte + 1) (children_of z)) []) inner) same pushes)
 
         pub step-child : (child : Shape V) → Some child ≡ child_at byte (children_of o)
             → IsOnWay part greatest probe root start child left inner after
@@ -104,30 +100,23 @@ module _ {V : Type 0} (part : Part) (greatest : Option ℕ) (probe : List ℕ) (
             sym (here ∙ ap (λ z. child_at byte (children_of z)) same) in
             let there =
             way-child part greatest probe root start s rest frames now way byte goes.more whole
-            child after at below in
-            subst (λ f. IsOnWay part greatest probe root start child left f after) (sym passed-is)
-            (subst (λ z. IsOnWay part greatest probe root start child z
-            (frames ++ (
-              prefix_of s,
-              cond (goes_on part)
-                  (children_from (suc byte) (children_of s)) [],
-            ) ∷ []) after) (sym goes.is) there)
+            inner passed-is child after at below in
+            subst (λ z. IsOnWay part greatest probe root start child z inner after) (sym goes.is)
+            there
 
         pub step-missing : None ≡ child_at byte (children_of o)
             → (keeping (keeps part probe) (pairs_of root) ≡ pairs_ahead inner)
             × (filter (reaches part probe) (paths_of root) ≡ paths_ahead inner)
         step-missing missing =
-            subst (λ f. (keeping (keeps part probe) (pairs_of root) ≡ pairs_ahead f)
-            × (filter (reaches part probe) (paths_of root) ≡ paths_ahead f)) (sym passed-is)
-            (way-missing part greatest probe root start s rest frames now way byte goes.more whole
-            (sym (missing ∙ ap (λ z. child_at byte (children_of z)) same)))
+            way-missing part greatest probe root start s rest frames now way byte goes.more whole
+            inner passed-is (sym (missing ∙ ap (λ z. child_at byte (children_of z)) same))
 
         pub step-trees : TreesAhead inner
         step-trees =
-            subst TreesAhead (sym passed-is)
-            (passed-trees part greatest probe root start s rest frames now way byte goes.more whole)
+            passed-trees part greatest probe root start s rest frames now way byte goes.more whole
+            inner passed-is
 
         pub step-short : AreShort greatest (pairs_ahead inner)
         step-short =
-            subst (λ f. AreShort greatest (pairs_ahead f)) (sym passed-is)
-            (passed-short part greatest probe root start s rest frames now way byte goes.more whole)
+            passed-short part greatest probe root start s rest frames now way byte goes.more whole
+            inner passed-is

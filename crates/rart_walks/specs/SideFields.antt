@@ -4,7 +4,7 @@ use Rattle.std.specs.Option.{is_some, option_copied}
 use Rattle.std.specs.declared.cmp.Ordering.{Ordering}
 use Rattle.std.specs.declared.cmp.Ordering.TheVariants.{Less, Equal, Greater}
 use Rattle.rart_maps.specs.FoundLaws.{KeysAscend}
-use Rattle.rart_walks.specs.KeyPaths.{HoldsBytes}
+use Rattle.rart_walks.specs.KeyPaths.{HoldsBytes, extent_in_bytes}
 use Rattle.rart_walks.specs.Walks.{pending_pair}
 use Rattle.rart_walks.specs.WalkFields.{IsWalk, path_to, cursor, at_hand}
 use Rattle.rart_walks.specs.declared.walk.Walk.{Walk}
@@ -36,7 +36,7 @@ module _ {P V : Type 0} {partial : _} where
 
   -- Its walk keeps the bytes of its key, and the keys that are left ascend.
   pub record IsSide (side : Side P V partial) : Type 0 where
-    pub walk : IsWalk HoldsBytes None side.walk
+    pub walk : IsWalk HoldsBytes extent_in_bytes None side.walk
     pub ascends : KeysAscend (λ pair. pair.0) (pairs_to_give side)
 
   -- It stands at the first of the pairs that are left, if there is one, and else has entered all

@@ -2,7 +2,7 @@
 use Rattle.std.specs.Prelude.{ℕ, ◌+◌, Bool, List, None, length}
 use Rattle.rart_maps.specs.ChangeLists.{Change}
 use Rattle.rart_maps.specs.FoundLaws.{KeysAscend}
-use Rattle.rart_walks.specs.KeyPaths.{HoldsBytes}
+use Rattle.rart_walks.specs.KeyPaths.{HoldsBytes, extent_in_bytes}
 use Rattle.rart_walks.specs.WalkFields.{IsWalk, cursor}
 use Rattle.rart_walks.specs.declared.walk.Walk.{Walk}
 use Rattle.rart_walks.specs.Diffs.{changes_between}
@@ -11,7 +11,7 @@ use Rattle.rart_walks.specs.Diffs.{changes_between}
 module _ {P V : Type 0} {partial : _} where
   -- The walk keeps the bytes of its key, and the keys that it has left ascend.
   pub record Ascends (given : Walk P V (List ℕ) partial) : Type 0 where
-    pub walk : IsWalk HoldsBytes None given
+    pub walk : IsWalk HoldsBytes extent_in_bytes None given
     pub ascends : KeysAscend (λ pair. pair.0) (cursor given).pairs
 
   -- Two walks can go on together, since the keys of either ascend.

@@ -3,7 +3,7 @@
 ghost use Rattle.std.specs.Prelude.{◌≡◌, ◌-◌, ℕ, ◌^◌, Bool, true, false, List, [], ◌∷◌, ◌++◌, Option, Some, None, IsTrue, OnErr, length, map, is_ok, if◌then◌else◌};
 ghost use Rattle.std.specs.List.{concat};
 ghost use Rattle.rart_below.specs.Bytes.{IsAdmitted};
-ghost use Rattle.rart_walks.specs.KeyPaths.{HoldsBytes, HoldsSegments, HoldsNothing};
+ghost use Rattle.rart_walks.specs.KeyPaths.{HoldsBytes, HoldsSegments, HoldsNothing, extent_in_bytes, extent_in_segments, no_extent};
 
 use std::alloc::{AllocError, Global};
 use std::marker::Model;
@@ -11,11 +11,13 @@ use std::marker::Model;
 /// Where a walk keeps the prefixes of the nodes from the root to the one that it stands at: its
 /// segments.
 ///
-/// Contracts see by `holds` which segments a key path keeps, the root's first, by `greatest` how
-/// long they may be, joined, or `None` where each length will do, and by `can_refuse` whether a
-/// segment may be refused for memory.
+/// Contracts see by `holds` which segments a key path keeps, the root's first, by `extent` how far
+/// such segments reach, by `greatest` how long they may be, joined, or `None` where each length
+/// will do, and by `can_refuse` whether a segment may be refused for memory.
 pub trait KeyPath<'a>: Drop {
     ghost holds: { Self → List (List ℕ) → Type 0 };
+
+    ghost extent: { List (List ℕ) → ℕ };
 
     ghost greatest: { Option ℕ };
 
@@ -32,6 +34,22 @@ pub trait KeyPath<'a>: Drop {
         ensures keeps { (segments : List (List ℕ)) → holds self.old segments
             → holds self.new (if is_ok result then segments ++ segment.now ∷ [] else segments) }
         ensures refused { OnErr result (IsTrue can_refuse) };
+
+    /// How far its segments reach.
+    fn mark(&self) -> usize
+        ensures { (segments : List (List ℕ)) → holds self.now segments
+            → result ≡ extent segments };
+
+    /// Takes all segments off.
+    fn clear(&mut self)
+        ensures { holds self.new [] };
+
+    /// Takes the last segments off, so that those stay which reach so far.
+    fn cut(&mut self, mark: usize)
+        requires { (kept gone : List (List ℕ)) × holds self.old (kept ++ gone)
+            × (mark ≡ extent kept) }
+        ensures { (kept gone : List (List ℕ)) → holds self.old (kept ++ gone) → mark ≡ extent kept
+            → holds self.new kept };
 
     /// Takes the last segment off, which is this one.
     fn pop(&mut self, segment: &'a [u8])
@@ -79,6 +97,8 @@ impl BytesPath {
 impl<'a> KeyPath<'a> for BytesPath {
     ghost holds = { HoldsBytes };
 
+    ghost extent = { extent_in_bytes };
+
     ghost greatest = { None };
 
     ghost can_refuse = { true };
@@ -92,6 +112,20 @@ impl<'a> KeyPath<'a> for BytesPath {
     #[inline]
     fn push(&mut self, segment: &'a [u8]) -> Result<(), AllocError> {
         self.bytes.extend_from_slice(segment)
+    }
+
+    #[inline]
+    fn mark(&self) -> usize {
+        self.bytes.len()
+    }
+
+    fn clear(&mut self) {
+        self.bytes.clear();
+    }
+
+    #[inline]
+    fn cut(&mut self, mark: usize) {
+        self.bytes.truncate(mark);
     }
 
     #[inline]
@@ -138,6 +172,8 @@ impl<'a> SegmentsPath<'a> {
 impl<'a> KeyPath<'a> for SegmentsPath<'a> {
     ghost holds = { HoldsSegments };
 
+    ghost extent = { extent_in_segments };
+
     ghost greatest = { Some (2 ^ 64 - 1) };
 
     ghost can_refuse = { true };
@@ -157,6 +193,25 @@ impl<'a> KeyPath<'a> for SegmentsPath<'a> {
     }
 
     #[inline]
+    fn mark(&self) -> usize {
+        self.segments.len()
+    }
+
+    fn clear(&mut self) {
+        self.segments.clear();
+        self.len = 0;
+    }
+
+    #[inline]
+    fn cut(&mut self, mark: usize) {
+        'cutting: while self.segments.len() > mark {
+            if let Some(gone) = self.segments.pop() {
+                self.len -= gone.len();
+            }
+        }
+    }
+
+    #[inline]
     fn pop(&mut self, segment: &'a [u8]) {
         self.segments.pop();
         self.len -= segment.len();
@@ -170,6 +225,8 @@ pub struct NoPath;
 impl<'a> KeyPath<'a> for NoPath {
     ghost holds = { HoldsNothing };
 
+    ghost extent = { no_extent };
+
     ghost greatest = { None };
 
     ghost can_refuse = { false };
@@ -182,6 +239,16 @@ impl<'a> KeyPath<'a> for NoPath {
     fn push(&mut self, _segment: &'a [u8]) -> Result<(), AllocError> {
         Ok(())
     }
+
+    #[inline]
+    fn mark(&self) -> usize {
+        0
+    }
+
+    fn clear(&mut self) {}
+
+    #[inline]
+    fn cut(&mut self, _mark: usize) {}
 
     #[inline]
     fn pop(&mut self, _segment: &'a [u8]) {}

@@ -11,6 +11,7 @@
 mod diff;
 mod key_path;
 mod lockstep;
+mod trail;
 mod visits;
 mod walk;
 mod walk_back;

@@ -58,9 +58,11 @@ struct KeyMaker<'a, K, V> {
 }
 
 impl<'a, K: KeyTrait, V> KeyPath<'a> for KeyMaker<'a, K, V> {
-    ghost use Rattle.rart_walks.specs.KeyPaths.{HoldsBytes};
+    ghost use Rattle.rart_walks.specs.KeyPaths.{HoldsBytes, extent_in_bytes};
 
     ghost holds = { λ maker. HoldsBytes maker.key_path };
+
+    ghost extent = { extent_in_bytes };
 
     ghost greatest = { K.MAXIMUM_SIZE };
 
@@ -78,6 +80,20 @@ impl<'a, K: KeyTrait, V> KeyPath<'a> for KeyMaker<'a, K, V> {
     #[inline]
     fn push(&mut self, segment: &'a [u8]) -> Result<(), AllocError> {
         self.key_path.push_short(segment)
+    }
+
+    #[inline]
+    fn mark(&self) -> usize {
+        self.key_path.mark()
+    }
+
+    fn clear(&mut self) {
+        self.key_path.clear();
+    }
+
+    #[inline]
+    fn cut(&mut self, mark: usize) {
+        self.key_path.cut(mark);
     }
 
     #[inline]

@@ -50,9 +50,11 @@ struct ValuesPath<'a, V> {
 }
 
 impl<'a, V> KeyPath<'a> for ValuesPath<'a, V> {
-    ghost use Rattle.rart_walks.specs.KeyPaths.{HoldsNothing};
+    ghost use Rattle.rart_walks.specs.KeyPaths.{HoldsNothing, no_extent};
 
     ghost holds = { HoldsNothing };
+
+    ghost extent = { no_extent };
 
     ghost greatest = { None };
 
@@ -66,6 +68,16 @@ impl<'a, V> KeyPath<'a> for ValuesPath<'a, V> {
     fn push(&mut self, _segment: &'a [u8]) -> Result<(), AllocError> {
         Ok(())
     }
+
+    #[inline]
+    fn mark(&self) -> usize {
+        0
+    }
+
+    fn clear(&mut self) {}
+
+    #[inline]
+    fn cut(&mut self, _mark: usize) {}
 
     #[inline]
     fn pop(&mut self, _segment: &'a [u8]) {}

@@ -18,9 +18,11 @@ pub struct ViewsPath<'a, V> {
 }
 
 impl<'a, V> KeyPath<'a> for ViewsPath<'a, V> {
-    ghost use Rattle.rart_walks.specs.KeyPaths.{HoldsSegments};
+    ghost use Rattle.rart_walks.specs.KeyPaths.{HoldsSegments, extent_in_segments};
 
     ghost holds = { λ key_path. HoldsSegments key_path.key_path };
+
+    ghost extent = { extent_in_segments };
 
     ghost greatest = { Some (2 ^ 64 - 1) };
 
@@ -36,6 +38,20 @@ impl<'a, V> KeyPath<'a> for ViewsPath<'a, V> {
     #[inline]
     fn push(&mut self, segment: &'a [u8]) -> Result<(), AllocError> {
         self.key_path.push(segment)
+    }
+
+    #[inline]
+    fn mark(&self) -> usize {
+        self.key_path.mark()
+    }
+
+    fn clear(&mut self) {
+        self.key_path.clear();
+    }
+
+    #[inline]
+    fn cut(&mut self, mark: usize) {
+        self.key_path.cut(mark);
     }
 
     #[inline]

@@ -21,7 +21,7 @@ pub fn visit_values<'a, P: Partial, V: Drop, T: KeyPath<'a>, F: FnMut(&V)>(
     f: &mut F,
     work: &mut Work,
 ) -> Result<(), AllocError>
-    requires walk { IsWalk T.holds T.greatest walk }
+    requires walk { IsWalk T.holds T.extent T.greatest walk }
     requires visitable { Visitable F.FnMut ByValue f.old
         (map (λ pair. pair.1) (cursor walk).pairs) }
     ensures visits { Visits F.FnMut ByValue result f.old
@@ -50,7 +50,7 @@ pub fn visit_values_until<
     E: Drop,
     F: FnMut(&V) -> Result<VisitControl, E>,
 >(mut walk: Walk<'a, P, V, T>, f: &mut F, work: &mut Work) -> Result<(), Refusal<E>>
-    requires walk { IsWalk T.holds T.greatest walk }
+    requires walk { IsWalk T.holds T.extent T.greatest walk }
     requires visitable { VisitableUntil F.FnMut ByValue f.old
         (map (λ pair. pair.1) (cursor walk).pairs) }
     ensures visits { VisitsUntil F.FnMut ByValue result f.old

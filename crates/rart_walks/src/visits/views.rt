@@ -10,7 +10,7 @@ ghost use Rattle.rart_maps.specs.Visits.{ByView, Visitable, Visits};
 ghost use Rattle.rart_node.specs.Counts.{CountsUpTo};
 ghost use Rattle.rart_walks.specs.Visited.{pairs_up_to};
 ghost use Rattle.rart_walks.specs.WalkFields.{at_hand, cursor, IsWalk};
-ghost use Rattle.rart_walks.specs.KeyPaths.{HoldsSegments};
+ghost use Rattle.rart_walks.specs.KeyPaths.{HoldsSegments, extent_in_segments};
 
 use crate::key_path::SegmentsPath;
 use crate::walk::Walk;
@@ -30,7 +30,7 @@ pub fn visit_views<'a, P: Partial, V: Drop, F: FnMut(LendingKeyView<'_, '_>, &V)
     f: &mut F,
     work: &mut Work,
 ) -> Result<(), AllocError>
-    requires walk { IsWalk HoldsSegments (Some (2 ^ 64 - 1)) walk }
+    requires walk { IsWalk HoldsSegments extent_in_segments (Some (2 ^ 64 - 1)) walk }
     requires visitable { Visitable F.FnMut ByView f.old (cursor walk).pairs }
     ensures visits { Visits F.FnMut ByView result f.old (cursor walk.entry).pairs f.new }
     ensures counted { CountsUpTo (length (cursor walk.entry).paths) 0 work.old work.new }
@@ -54,7 +54,7 @@ pub fn visit_views_up_to<'a, P: Partial, V: Drop, F: FnMut(LendingKeyView<'_, '_
     f: &mut F,
     work: &mut Work,
 ) -> Result<(), AllocError>
-    requires walk { IsWalk HoldsSegments (Some (2 ^ 64 - 1)) walk }
+    requires walk { IsWalk HoldsSegments extent_in_segments (Some (2 ^ 64 - 1)) walk }
     requires ascend { KeysAscend (λ pair. pair.0) (cursor walk).pairs }
     requires visitable { Visitable F.FnMut ByView f.old
         (pairs_up_to (bound_map (λ high. high.now) high) (cursor walk).pairs) }

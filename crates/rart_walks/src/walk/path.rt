@@ -5,13 +5,14 @@ ghost use Rattle.std.specs.Ordering.{as_partial_cmp, is_lt};
 ghost use Rattle.std.specs.Range.Bound.{is_from_start, bound_map};
 ghost use Rattle.rart_below.specs.Bytes.{begins, byte_order};
 ghost use Rattle.rart_below.specs.Children.{children_from};
-ghost use Rattle.rart_node.specs.Shape.{IsAscending, children_of};
+ghost use Rattle.rart_node.specs.Shape.{IsAscending, children_of, prefix_of};
 ghost use Rattle.rart_node.specs.VersionedNodeIter.{children_left};
 ghost use Rattle.rart_node.specs.Trees.{IsTree, pairs_of, path_bound};
 ghost use Rattle.rart_walks.specs.Frames.{pairs_inside};
-ghost use Rattle.rart_walks.specs.Openings.{EndsIn, EntersEnd, Finishes, StandsAbove};
+ghost use Rattle.rart_walks.specs.Openings.{CanPass, EndsIn, EntersEnd, Finishes, OpensPart, StandsAbove};
 ghost use Rattle.rart_walks.specs.Parts.{keeps, reaches, goes_on, is_strict, start_of};
 ghost use Rattle.rart_walks.specs.Walked.{StartsWithin};
+ghost use Rattle.rart_walks.specs.WalkFields.{IsFramed};
 ghost use Rattle.rart_walks.specs.Walks.{AreShort};
 
 use super::Walk;
@@ -67,7 +68,7 @@ impl<'a, P: Partial, V: Drop, T: KeyPath<'a>> Walk<'a, P, V, T> {
     ) -> Result<Walk<'a, P, V, T>, AllocError>
         requires tree { IsTree root.now.shape }
         requires short { AreShort T.greatest (pairs_of root.now.shape) }
-        ensures { StartsWithin T.holds T.greatest result (begins prefix.now)
+        ensures { StartsWithin T.holds T.extent T.greatest result (begins prefix.now)
             (begins prefix.now) (length prefix.now + 1) root.now.shape work.old work.new }
     {
         along_path(alloc, root, Part::Under, prefix, work)
@@ -85,7 +86,7 @@ impl<'a, P: Partial, V: Drop, T: KeyPath<'a>> Walk<'a, P, V, T> {
     ) -> Result<Walk<'a, P, V, T>, AllocError>
         requires tree { IsTree root.now.shape }
         requires short { AreShort T.greatest (pairs_of root.now.shape) }
-        ensures { StartsWithin T.holds T.greatest result
+        ensures { StartsWithin T.holds T.extent T.greatest result
             (is_from_start (as_partial_cmp byte_order) (bound_map (λ low. low.now) low.entry))
             (λ path. is_lt (byte_order (start_of (bound_map (λ low. low.now) low.entry)) path))
             (length (start_of (bound_map (λ low. low.now) low.entry)) + 1)
@@ -109,7 +110,7 @@ fn along_path<'a, P: Partial, V: Drop, T: KeyPath<'a>>(
 ) -> Result<Walk<'a, P, V, T>, AllocError>
     requires tree { IsTree root.now.shape }
     requires short { AreShort T.greatest (pairs_of root.now.shape) }
-    ensures { StartsWithin T.holds T.greatest result (keeps part probe.now)
+    ensures { StartsWithin T.holds T.extent T.greatest result (keeps part probe.now)
         (reaches part probe.now) (path_bound root.now.shape probe.now)
         root.now.shape work.old work.new }
 {
@@ -125,12 +126,32 @@ fn along_path<'a, P: Partial, V: Drop, T: KeyPath<'a>>(
         }
         rest = rest_of(rest, common);
         let byte = rest[0];
-        let later = later_children(node, byte, part.goes_on());
-        walk.enter_part(node.prefix().as_ref(), later)?;
+        pass_node(&mut walk, node, part, byte)?;
         at = match node.seek_child(byte) {
             Some(child) => child,
             None => return Ok(walk),
         };
+    }
+}
+
+/// Passes a node on the way, whose children behind a byte are left if the part goes on there.
+fn pass_node<'a, P: Partial, V: Drop, T: KeyPath<'a>>(
+    walk: &mut Walk<'a, P, V, T>,
+    node: &'a VersionedNode<P, V>,
+    part: Part,
+    byte: u8,
+) -> Result<(), AllocError>
+    requires order { IsAscending node.now.shape }
+    requires may { CanPass T.holds T.greatest (prefix_of node.now.shape) walk.old }
+    requires framed { IsFramed T.extent walk.old }
+    ensures { OpensPart T.holds T.extent walk.old result (prefix_of node.now.shape)
+        (if goes_on part then children_from (byte + 1) (children_of node.now.shape) else [])
+        walk.new }
+{
+    if part.goes_on() {
+        walk.enter_part(node.prefix().as_ref(), later_children(node, byte))
+    } else {
+        walk.pass(node.prefix().as_ref())
     }
 }
 
@@ -143,9 +164,10 @@ fn finish<'a, P: Partial, V: Drop, T: KeyPath<'a>>(
     rest: &[u8],
     common: usize,
 ) -> Result<(), AllocError>
-    requires above { StandsAbove T.holds T.greatest node.now.shape walk.old }
+    requires above { StandsAbove T.holds T.extent T.greatest node.now.shape walk.old }
     requires here { EndsIn common rest.now node.now.shape }
-    ensures { Finishes T.holds T.greatest walk.old result part rest.now node.now.shape walk.new }
+    ensures { Finishes T.holds T.extent T.greatest walk.old result part rest.now
+        node.now.shape walk.new }
 {
     if common == rest.len() {
         let is_passed = passes_own(part, common == node.prefix().len());
@@ -174,8 +196,8 @@ fn enter_end<'a, P: Partial, V: Drop, T: KeyPath<'a>>(
     node: &'a VersionedNode<P, V>,
     is_passed: bool,
 ) -> Result<(), AllocError>
-    requires { StandsAbove T.holds T.greatest node.now.shape walk.old }
-    ensures { EntersEnd T.holds T.greatest walk.old result node.now.shape
+    requires { StandsAbove T.holds T.extent T.greatest node.now.shape walk.old }
+    ensures { EntersEnd T.holds T.extent T.greatest walk.old result node.now.shape
         (if is_passed then pairs_inside node.now.shape else pairs_of node.now.shape) walk.new }
 {
     walk.enter_whole(node)?;
@@ -185,32 +207,17 @@ fn enter_end<'a, P: Partial, V: Drop, T: KeyPath<'a>>(
     Ok(())
 }
 
-/// The children of a node behind a byte, or none.
+/// The children of a node behind a byte.
 fn later_children<'a, P: Partial, V: Drop>(
     node: &'a VersionedNode<P, V>,
     byte: u8,
-    goes_on: bool,
 ) -> VersionedNodeIter<'a, P, V>
     requires { IsAscending node.now.shape }
-    ensures { children_left result
-        ≡ (if goes_on then children_from (byte + 1) (children_of node.now.shape) else []) }
+    ensures { children_left result ≡ children_from (byte + 1) (children_of node.now.shape) }
 {
-    if !goes_on {
-        return no_more(node.iter_from(u8::MAX));
-    }
     let mut children = node.iter_from(byte);
     if let Some(_child) = node.seek_child(byte) {
         children.next();
     }
-    children
-}
-
-/// The children behind the last one: none.
-fn no_more<'a, P: Partial, V: Drop>(
-    mut children: VersionedNodeIter<'a, P, V>,
-) -> VersionedNodeIter<'a, P, V>
-    ensures { children_left result ≡ [] }
-{
-    'passing: while children.next().is_some() {}
     children
 }

@@ -1,10 +1,18 @@
-use Rattle.std.proofs.Common.{sym, subst}
+use Rattle.std.proofs.Common.{rules, [], refl, sym, subst}
 use Rattle.std.specs.Option.{option_copied}
 use Rattle.rart_maps.specs.ChangeVisits.{ByViewChange}
 use Rattle.rart_maps.specs.Visits.{CallableOn, CalledOn}
 use Rattle.rart_maps.proofs.VisitLemmas.{callable-next, up_to-next}
 use Rattle.rart_walks.proofs.CountedLemmas.{counted-next}
 use Rattle.rart_walks.proofs.diff.views.visit_changed_views.Goals as goal
+
+pub visiting-init : goal.visiting-init
+visiting-init g c =
+    record {
+      walk = c.new-changes.ensures.walk;
+      calls = ([], sym c.new-changes.ensures.changes, refl);
+      counted = search rules;
+    }
 
 pub show-requires : goal.show-requires
 show-requires g c =

@@ -9,7 +9,7 @@ invariant-visiting g l =
     let left = cursor l.walk in
     let start = cursor l.fn.walk in
     record {
-      walk : IsWalk g.T.KeyPath.holds g.T.KeyPath.greatest l.walk;
+      walk : IsWalk g.T.KeyPath.holds g.T.KeyPath.extent g.T.KeyPath.greatest l.walk;
       calls : AnswersUpTo g.F.FnMut ByValue tt l.fn.f (map (λ pair. pair.1) start.pairs)
           (map (λ pair. pair.1) left.pairs) l.f;
       counted : IsCounted (length start.paths) l.fn.work (length left.paths) l.work;

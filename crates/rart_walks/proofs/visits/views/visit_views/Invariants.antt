@@ -1,7 +1,7 @@
 use Rattle.std.proofs.Common.{◌^◌, ◌-◌, length, Some}
 use Rattle.rart_maps.specs.Visits.{ByView, AnswersUpTo}
 use Rattle.rart_walks.specs.WalkFields.{cursor, IsWalk, EntersForEach}
-use Rattle.rart_walks.specs.KeyPaths.{HoldsSegments}
+use Rattle.rart_walks.specs.KeyPaths.{HoldsSegments, extent_in_segments}
 use Rattle.rart_walks.proofs.CountedLemmas.{IsCounted}
 use Rattle.rart_walks.proofs.visits.views.visit_views.Given as goal
 
@@ -10,7 +10,7 @@ invariant-visiting g l =
     let left = cursor l.walk in
     let start = cursor l.fn.walk in
     record {
-      walk : IsWalk HoldsSegments (Some (2 ^ 64 - 1)) l.walk;
+      walk : IsWalk HoldsSegments extent_in_segments (Some (2 ^ 64 - 1)) l.walk;
       calls : AnswersUpTo g.F.FnMut ByView tt l.fn.f start.pairs left.pairs l.f;
       counted : IsCounted (length start.paths) l.fn.work (length left.paths) l.work;
       each : EntersForEach l.fn.walk l.fn.work l.walk l.work;

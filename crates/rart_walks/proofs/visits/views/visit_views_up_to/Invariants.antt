@@ -4,7 +4,7 @@ use Rattle.rart_maps.specs.FoundLaws.{KeysAscend}
 use Rattle.rart_maps.specs.Visits.{ByView, AnswersUpTo}
 use Rattle.rart_maps.proofs.RangeLemmas.{up_to, is_below}
 use Rattle.rart_walks.specs.WalkFields.{cursor, at_hand, IsWalk}
-use Rattle.rart_walks.specs.KeyPaths.{HoldsSegments}
+use Rattle.rart_walks.specs.KeyPaths.{HoldsSegments, extent_in_segments}
 use Rattle.rart_walks.proofs.CountedLemmas.{IsCounted}
 use Rattle.rart_walks.proofs.UpToLemmas.{IsFew}
 use Rattle.rart_walks.proofs.visits.views.visit_views_up_to.Given as goal
@@ -15,7 +15,7 @@ invariant-visiting g l =
     let start = cursor l.fn.walk in
     let high = bound_map (λ high. high.now) l.high in
     record {
-      walk : IsWalk HoldsSegments (Some (2 ^ 64 - 1)) l.walk;
+      walk : IsWalk HoldsSegments extent_in_segments (Some (2 ^ 64 - 1)) l.walk;
       ascend : KeysAscend (λ pair. pair.0) left.pairs;
       calls : AnswersUpTo g.F.FnMut ByView tt l.fn.f (up_to high start.pairs)
           (up_to high left.pairs) l.f;

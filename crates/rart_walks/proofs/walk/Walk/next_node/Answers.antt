@@ -1,15 +1,14 @@
-use Rattle.std.proofs.Common.{rules, ◌≡◌, ◌+◌, ◌≤◌, ℕ, ◌++◌, ◌∷◌, [], List, Option, Some, None, cond, is_some, length, inl, inr, refl, arith, sym, ap, subst, ◌∙◌}
+use Rattle.std.proofs.Common.{◌≡◌, ◌+◌, ◌≤◌, ℕ, ◌++◌, ◌∷◌, [], List, Option, Some, None, cond, is_some, length, inl, inr, refl, arith, sym, ap, subst, ◌∙◌}
 use Rattle.std.specs.List.{concat}
 use Rattle.std.specs.Option.{option_map, option_copied}
 use Rattle.std.proofs.lemmas.List.{append-nil, length-append}
 use Rattle.rart_node.specs.Counts.{Counts, CountsUpTo}
 use Rattle.rart_node.specs.Shape.{prefix_of, children_of, value_of}
 use Rattle.rart_node.proofs.FindLemmas.{ascending, ordered}
-use Rattle.rart_walks.specs.Frames.{segments_of, pairs_ahead, paths_ahead}
+use Rattle.rart_walks.specs.Frames.{Pushes, segments_of, pairs_ahead}
 use Rattle.rart_walks.specs.Walks.{GoesOnFirst, pending_pair}
-use Rattle.rart_walks.specs.WalkFields.{open_nodes, nodes_open}
-use Rattle.rart_walks.proofs.LeafLemmas.{takes-above}
-use Rattle.rart_walks.proofs.WalkLemmas.{took-none, taken-tree, taken-fits, inner-pairs, inner-paths, inner-first, inner-trees, inner-short, short-none}
+use Rattle.rart_walks.specs.WalkFields.{nodes_open}
+use Rattle.rart_walks.proofs.WalkLemmas.{took-none, taken-tree, taken-fits, taken-some, inner-pairs, inner-paths, inner-first, inner-trees, inner-short}
 use Rattle.rart_walks.proofs.walk.Walk.next_node.Goals as goal
 
 -- one node is entered, of those that are left
@@ -52,6 +51,10 @@ returns-in-Some g c =
     record {
       walk = record {
         holds_way = c.requires.walk.holds_way;
+        framed = record {
+          marked = c.requires.walk.framed.marked;
+          innermost = c.requires.walk.framed.innermost;
+        };
         trees = c.requires.walk.trees;
         short = c.requires.walk.short;
       };
@@ -75,76 +78,58 @@ returns-in-Some g c =
 
 pub returns-in_default-next_ahead : goal.returns-in_default-next_ahead
 returns-in_default-next_ahead g c =
-    let takes =
-    takes-above (open_nodes c.args.self.now.frames.items)
-    (option_copied c.args.self.now.leaf) None
-    (open_nodes c.next_ahead.new.frames.items)
-    (rw c.leave_leaf.ensures.frames at c.in_default-next_ahead.ensures.takes) in
-    let none = took-none _ _ takes in
+    let none = took-none _ _ c.in_default-next_ahead.ensures.spent in
+    let has = c.in_default-next_ahead.ensures.none in
     record {
-      walk = record {
-        holds_way = rw c.leave_leaf.ensures.leaf c.next_ahead.ensures.holds;
-        trees = rw (c.leave_leaf.ensures.leaf, takes.1) tt;
-        short = rw (c.leave_leaf.ensures.leaf, takes.1) (short-none _ g.T.KeyPath.greatest);
-      };
-      steps = rw (
-        c.leave_leaf.ensures.leaf,
-        c.leave_leaf.ensures.pending,
-        c.in_default.is,
-        takes.1,
-      ) (none.0, none.1, refl);
+      walk = has.walk;
+      steps = (rw c.in_default.is none.0, none.1, has.ended);
       refused = tt;
       entered =
           let left = ap length none.1 in
-          let ended = ap (λ frames. length (paths_ahead frames)) takes.1 in
-          rw c.leave_leaf.ensures.leaf (omega (arith, left, ended));
+          let ended = ap (λ z. length z.paths) has.ended in
+          omega (arith, left, ended);
       counted = none-entered _ c.args.work.now;
       one = none-entered _ c.args.work.now;
       each =
           let left = ap length none.0 in
-          rw (c.leave_leaf.ensures.leaf, c.leave_leaf.ensures.pending, c.in_default.is, takes.1)
-          (omega (arith, left));
+          rw (has.pending, c.in_default.is) (omega (arith, left));
     }
 
 pub enter_next-requires : goal.enter_next-requires
 enter_next-requires g c =
     let s = c.in-Some-next_ahead.child.now.shape in
     let same : c.open-node.result.now.shape ≡ s = c.open-node.ensures.shown in
-    let takes =
-    takes-above (open_nodes c.args.self.now.frames.items)
-    (option_copied c.args.self.now.leaf) (Some s)
-    (open_nodes c.next_ahead.new.frames.items)
-    (rw c.leave_leaf.ensures.frames at c.in-Some-next_ahead.ensures.takes) in
+    let next = c.in-Some-next_ahead.ensures.some in
     let walk = c.requires.walk in
-    let tree = taken-tree _ _ s _ takes walk.trees walk.short in
+    let tree = taken-tree _ _ s _ next.takes walk.trees walk.short in
     λ _. (
       (refl, tt),
       (
-        c.leave_leaf.ensures.leaf,
-        record {
-          order = rw same (ascending s (ordered s tree));
-          holds = c.next_ahead.ensures.holds;
-          short = rw same (taken-fits _ _ s _ takes walk.trees walk.short);
-        },
+        rw same (ascending s (ordered s tree)),
+        (
+          next.below,
+          (
+            record {
+              holds = next.holds;
+              short = rw same (taken-fits _ _ s _ next.takes walk.trees walk.short);
+            },
+            next.framed,
+          ),
+        ),
       ),
     )
 
 pub returns-in-Err : goal.returns-in-Err
 returns-in-Err g c =
     let s = c.in-Some-next_ahead.child.now.shape in
-    let takes =
-    takes-above (open_nodes c.args.self.now.frames.items)
-    (option_copied c.args.self.now.leaf) (Some s)
-    (open_nodes c.next_ahead.new.frames.items)
-    (rw c.leave_leaf.ensures.frames at c.in-Some-next_ahead.ensures.takes) in
-    let walk = c.requires.walk in
-    let paths = ap length (inner-paths _ _ s _ takes walk.trees walk.short _ refl) in
+    let next = c.in-Some-next_ahead.ensures.some in
+    let some = taken-some g.T.KeyPath.greatest _ s _ next.takes in
     record {
-      walk = search rules;
+      walk = c.leave_all.ensures.walk;
       steps = tt;
-      refused = search rules;
+      refused = c.leave_all.ensures.ended;
       entered = tt;
-      counted = one-entered _ c.args.work.now c.open-node.new.work (omega (arith, paths))
+      counted = one-entered _ c.args.work.now c.open-node.new.work some
           c.open-node.ensures.work;
       one = one-entered _ c.args.work.now c.open-node.new.work (omega arith)
           c.open-node.ensures.work;
@@ -158,16 +143,11 @@ returns g c =
     let path = concat (segments_of inner) in
     let s = c.in-Some-next_ahead.child.now.shape in
     let same : c.open-node.result.now.shape ≡ s = c.open-node.ensures.shown in
-    let takes =
-    takes-above (open_nodes c.args.self.now.frames.items)
-    (option_copied c.args.self.now.leaf) (Some s)
-    (open_nodes c.next_ahead.new.frames.items)
-    (rw c.leave_leaf.ensures.frames at c.in-Some-next_ahead.ensures.takes) in
+    let next = c.in-Some-next_ahead.ensures.some in
     let walk = c.requires.walk in
-    let opened = c.in_default-enter_next.ensures.opened
-    ∙ ap (λ z. open_nodes c.next_ahead.new.frames.items ++ (prefix_of z, children_of z) ∷ [])
-    same in
-    let still = c.enter_next.ensures.pending ∙ c.leave_leaf.ensures.pending in
+    let pushes : Pushes (nodes_open c.next_ahead.new.self) (prefix_of s) (children_of s) inner =
+    rw same at c.in_default-enter_next.ensures.opened in
+    let still = c.enter_next.ensures.pending ∙ next.pending in
     let none : pending_pair (concat (segments_of frames))
     (option_map (λ value. value.now) c.args.self.now.pending) ++ pairs_ahead frames
     ≡ pairs_ahead frames =
@@ -179,21 +159,22 @@ returns g c =
     ++ pairs_ahead inner) (still ∙ c.in_default.is) in
     let own : value_of s ≡ option_map (λ value. value.now) c.value.result =
     sym (c.value.ensures ∙ ap value_of same) in
-    let given = none ∙ inner-pairs _ _ s _ takes walk.trees walk.short _ opened
+    let given = none ∙ inner-pairs _ _ s _ next.takes walk.trees walk.short _ pushes
     ∙ (λ i. pending_pair path (own i) ++ sym after i) in
-    let places = inner-paths _ _ s _ takes walk.trees walk.short _ opened in
+    let places = inner-paths _ _ s _ next.takes walk.trees walk.short _ pushes in
     let fall = ap length places in
     let one = ap (λ z. z.entered) c.open-node.ensures.work in
     record {
       walk = record {
         holds_way = c.in_default-enter_next.ensures.holds;
-        trees = inner-trees _ _ s _ takes walk.trees walk.short _ opened;
-        short = inner-short _ _ s _ takes walk.trees walk.short _ opened;
+        framed = c.in_default-enter_next.ensures.framed;
+        trees = inner-trees _ _ s _ next.takes walk.trees walk.short _ pushes;
+        short = inner-short _ _ s _ next.takes walk.trees walk.short _ pushes;
       };
       steps = record {
         pairs = given;
         first = subst (GoesOnFirst path) (sym none)
-            (inner-first _ _ s _ takes walk.trees walk.short _ opened);
+            (inner-first _ _ s _ next.takes walk.trees walk.short _ pushes);
         place = inl places;
       };
       refused = tt;

@@ -6,7 +6,7 @@ use Rattle.rart_walks.proofs.walk.Walk.next_value.Given as goal
 abbrev pub invariant-node : goal.invariant-node
 invariant-node g l =
     record {
-      walk : IsWalk g.T.KeyPath.holds g.T.KeyPath.greatest l.self;
+      walk : IsWalk g.T.KeyPath.holds g.T.KeyPath.extent g.T.KeyPath.greatest l.self;
       pairs : (cursor l.self).pairs ≡ (cursor l.initial.self).pairs;
       counted : l.work.entered + length (cursor l.self).paths
           ≡ l.initial.work.entered + length (cursor l.initial.self).paths;

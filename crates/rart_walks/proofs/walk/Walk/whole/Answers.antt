@@ -1,9 +1,9 @@
-use Rattle.std.proofs.Common.{◌++◌, [], inr, length, arith, refl, sym, ap, ◌∙◌}
+use Rattle.std.proofs.Common.{◌++◌, [], inr, length, arith, refl, sym, ap, subst, ◌∙◌}
 use Rattle.std.proofs.lemmas.List.{append-nil, length-map}
 use Rattle.std.specs.List.{concat}
 use Rattle.rart_node.specs.Trees.{pairs_of}
 use Rattle.rart_walks.specs.Frames.{behind_path, under_path}
-use Rattle.rart_walks.specs.Walks.{Cursor, paths_of}
+use Rattle.rart_walks.specs.Walks.{AreShort, Cursor, paths_of}
 use Rattle.rart_walks.proofs.CursorLemmas.{nodes-paths}
 use Rattle.rart_walks.proofs.WalkLemmas.{behind-none, under-none}
 use Rattle.rart_walks.proofs.walk.Walk.whole.Goals as goal
@@ -15,15 +15,13 @@ enter_whole-requires g c =
       (refl, tt),
       record {
         walk = c.new-walk.ensures.walk;
-        leaf = c.new-walk.ensures.leaf;
         pending = c.new-walk.ensures.pending;
         tree = rw c.open.ensures.shown c.requires.tree;
-        short = rw (
-          c.open.ensures.shown,
-          c.new-walk.ensures.leaf,
-          c.new-walk.ensures.frames,
-          behind-none (pairs_of s),
-        ) c.requires.short;
+        short =
+            subst (λ (at : Cursor g.row.V.Denot). AreShort g.T.KeyPath.greatest
+            (behind_path (concat at.segments) (pairs_of c.open.result.now.shape)))
+            (sym c.new-walk.ensures.ended)
+            (rw (c.open.ensures.shown, behind-none (pairs_of s)) c.requires.short);
       },
     )
 

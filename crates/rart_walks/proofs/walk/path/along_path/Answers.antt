@@ -1,14 +1,14 @@
 use Rattle.std.proofs.Common.{inl, ◌≡◌, ◌+◌, ◌<◌, ◌≤◌, ℕ, Bool, List, Option, Some, None, filter, is_some, cond, [], length, refl, arith, sym, ap, subst, ◌∙◌}
-use Rattle.std.specs.Prelude.{slice_index_or, count_by}
+use Rattle.std.specs.Prelude.{count_by}
 use Rattle.std.proofs.lemmas.List.Sums.{length-filter}
 use Rattle.std.proofs.lemmas.Result.{IfOk-from_err}
 use Rattle.rart_below.specs.Bytes.{common_length}
-use Rattle.rart_below.specs.Children.{children_from}
-use Rattle.rart_node.specs.Shape.{Shape, prefix_of, children_of}
-use Rattle.rart_node.specs.VersionedNodeIter.{children_left}
+use Rattle.rart_node.specs.Shape.{Shape, prefix_of}
+use Rattle.rart_node.proofs.FindLemmas.{ascending, ordered}
 use Rattle.rart_node.proofs.PrefixLemmas.{common_fits}
-use Rattle.rart_walks.specs.WalkFields.{open_nodes}
-use Rattle.rart_walks.specs.Parts.{reaches, goes_on}
+use Rattle.rart_walks.specs.Frames.{with_rest}
+use Rattle.rart_walks.specs.WalkFields.{nodes_open, open_nodes}
+use Rattle.rart_walks.specs.Parts.{reaches}
 use Rattle.rart_walks.specs.Walks.{IsEndOf, paths_of}
 use Rattle.rart_walks.proofs.EndLemmas.{end-fewer}
 use Rattle.rart_walks.proofs.WalkStepLemmas.{goes-on, goes-some, step-counted, step-entered, step-fits, step-lower, step-child, step-missing, step-trees, step-short}
@@ -32,15 +32,18 @@ hand-fits (Some value) start now less = omega (arith, less)
 pub down-init : goal.down-init
 down-init g c =
     let root = c.args.root.now.shape in
+    let new = c.new-walk.ensures in
+    let none : nodes_open c.new-walk.result ≡ [] =
+    λ i. with_rest (open_nodes (new.frames i)) (new.below i) in
     record {
-      holds_way = rw c.new-walk.ensures.leaf at c.new-walk.ensures.walk.holds_way;
+      holds_way = new.walk.holds_way;
       way =
           subst (λ f. IsOnWay c.args.part g.T.KeyPath.greatest c.args.probe.now root c.args.work.now
-          root c.args.probe.now f c.args.work.now) (sym c.new-walk.ensures.frames)
+          root c.args.probe.now f c.args.work.now) (sym none)
           (way-start c.args.part g.T.KeyPath.greatest c.args.probe.now root c.args.work.now
           c.requires.tree c.requires.short);
-      leaf = c.new-walk.ensures.leaf;
-      none = c.new-walk.ensures.pending;
+      framed = new.walk.framed;
+      none = new.pending;
     }
 
 pub returns-in_err-finish : goal.returns-in_err-finish
@@ -70,15 +73,14 @@ returns-then-common-rest g c =
     let kept = way-kept _ _ _ _ _ _ _ _ _ c.down.invariant.way in
     let whole = way-placed _ _ _ _ _ _ _ _ _ c.down.invariant.way in
     let paths = subst (IsEndOf _) (sym whole)
-    (rw (c.down.invariant.leaf, same) at c.in_ok-finish.ensures.paths) in
+    (rw same at c.in_ok-finish.ensures.paths) in
     let entered =
     step-entered _ _ _ _ _ _ _ _ _ c.down.invariant.way o c.open-node.new.work
     c.open-node.ensures.work same in
     record {
       walk = c.in_ok-finish.ensures.walk;
       pairs =
-          (rw (c.down.invariant.leaf, c.down.invariant.none, same)
-          at c.in_ok-finish.ensures.pairs) ∙ sym kept;
+          (rw (c.down.invariant.none, same) at c.in_ok-finish.ensures.pairs) ∙ sym kept;
       nodes = few-left (reaches c.args.part c.args.probe.now) root paths;
       paths = paths;
       counted = step-counted _ _ _ _ _ _ _ _ _ c.down.invariant.way o c.open-node.new.work
@@ -109,26 +111,34 @@ bounds-rest-0 g c =
     (let most = c.if-common-len.false in omega (arith, long, most)) in
     goes-some _ _ _ _ goes
 
-pub enter_part-requires : goal.enter_part-requires
-enter_part-requires g c =
+pub pass_node-requires : goal.pass_node-requires
+pass_node-requires g c =
     let s = c.down.at.now.shape in
     let o = c.open-node.result.now.shape in
     let same : o ≡ s = c.open-node.ensures.shown in
+    let way = c.down.invariant.way in
     λ _. (
       (refl, tt),
-      record {
-        holds = c.down.invariant.holds_way;
-        short = step-fits _ _ _ _ _ _ _ _ _ c.down.invariant.way o c.open-node.new.work
-            c.open-node.ensures.work same _ (c.as_ref.ensures ∙ c.prefix-in-down.ensures);
-      },
+      (
+        rw same (ascending s (ordered s way.at.tree)),
+        (
+          record {
+            holds = c.down.invariant.holds_way;
+            short =
+                step-fits _ _ _ _ _ _ _ _ _ way o c.open-node.new.work c.open-node.ensures.work
+                same _ refl;
+          },
+          c.down.invariant.framed,
+        ),
+      ),
     )
 
-pub returns-in_err-enter_part : goal.returns-in_err-enter_part
-returns-in_err-enter_part g c =
+pub returns-in_err-pass_node : goal.returns-in_err-pass_node
+returns-in_err-pass_node g c =
     let s = c.down.at.now.shape in
     let o = c.open-node.result.now.shape in
     let same : o ≡ s = c.open-node.ensures.shown in
-    let refused = c.from_residual-in_err-enter_part.ensures.0 in
+    let refused = c.from_residual-in_err-pass_node.ensures.0 in
     record {
       walk = IfOk-from_err _ _ refused;
       pairs = IfOk-from_err _ _ refused;
@@ -155,42 +165,35 @@ returns-in-None g c =
     goes-on (prefix_of o) c.down.rest.now c.rest_of-rest.result.now
     c.prefix_length_slice-common.result c.rest_of-rest.ensures matched c.if-common-rest.false
     (let most = c.if-common-len.false in omega (arith, long, most)) in
-    let leaves : children_left c.later_children-later.result
-    ≡ cond (goes_on c.args.part) (children_from
-    (slice_index_or c.rest_of-rest.result.now 0 0 + 1) (children_of o)) [] =
-    c.later_children-later.ensures
-    ∙ ap (λ t. cond t (children_from (slice_index_or c.rest_of-rest.result.now 0 0 + 1)
-    (children_of o)) []) c.goes_on.ensures in
-    let inner = open_nodes c.enter_part.new.self.frames.items in
-    let segment = c.as_ref.ensures ∙ c.prefix-in-down.ensures in
+    let inner = nodes_open c.pass_node.new.walk in
     let missing =
     step-missing _ _ _ _ _ _ _ _ _ c.down.invariant.way o c.open-node.new.work
-    c.open-node.ensures.work same _ _ goes inner _ _ c.in_ok-enter_part.ensures.frames segment
-    leaves c.in-None.ensures in
-    let part = c.in_ok-enter_part.ensures in
-    let none = part.leaf ∙ c.down.invariant.leaf in
+    c.open-node.ensures.work same _ _ goes inner c.in_ok-pass_node.ensures.opened
+    c.in-None.ensures in
+    let part = c.in_ok-pass_node.ensures in
     let paths = inl missing.1 in
     let entered =
     step-entered _ _ _ _ _ _ _ _ _ c.down.invariant.way o c.open-node.new.work
     c.open-node.ensures.work same in
     record {
       walk = record {
-        holds_way = rw none part.holds;
+        holds_way = part.holds;
+        framed = part.framed;
         trees =
-            rw none (step-trees _ _ _ _ _ _ _ _ _ c.down.invariant.way o c.open-node.new.work
-            c.open-node.ensures.work same _ _ goes inner _ _ part.frames segment leaves);
+            step-trees _ _ _ _ _ _ _ _ _ c.down.invariant.way o c.open-node.new.work
+            c.open-node.ensures.work same _ _ goes inner part.opened;
         short =
-            rw none (step-short _ _ _ _ _ _ _ _ _ c.down.invariant.way o c.open-node.new.work
-            c.open-node.ensures.work same _ _ goes inner _ _ part.frames segment leaves);
+            step-short _ _ _ _ _ _ _ _ _ c.down.invariant.way o c.open-node.new.work
+            c.open-node.ensures.work same _ _ goes inner part.opened;
       };
-      pairs = rw (none, part.pending, c.down.invariant.none) (sym missing.0);
+      pairs = rw (part.pending, c.down.invariant.none) (sym missing.0);
       nodes = few-left (reaches c.args.part c.args.probe.now)
-          c.args.root.now.shape (rw none paths);
-      paths = rw none paths;
+          c.args.root.now.shape paths;
+      paths = paths;
       counted = step-counted _ _ _ _ _ _ _ _ _ c.down.invariant.way o c.open-node.new.work
           c.open-node.ensures.work same;
       entered = entered;
-      at_hand = hand-fits c.enter_part.new.self.pending _ _ entered;
+      at_hand = hand-fits c.pass_node.new.walk.pending _ _ entered;
     }
 
 pub down-smaller : goal.down-smaller
@@ -225,20 +228,13 @@ down-preserved g c =
     goes-on (prefix_of o) c.down.rest.now c.rest_of-rest.result.now
     c.prefix_length_slice-common.result c.rest_of-rest.ensures matched c.if-common-rest.false
     (let most = c.if-common-len.false in omega (arith, long, most)) in
-    let leaves : children_left c.later_children-later.result
-    ≡ cond (goes_on c.args.part) (children_from
-    (slice_index_or c.rest_of-rest.result.now 0 0 + 1) (children_of o)) [] =
-    c.later_children-later.ensures
-    ∙ ap (λ t. cond t (children_from (slice_index_or c.rest_of-rest.result.now 0 0 + 1)
-    (children_of o)) []) c.goes_on.ensures in
-    let inner = open_nodes c.enter_part.new.self.frames.items in
-    let segment = c.as_ref.ensures ∙ c.prefix-in-down.ensures in
+    let inner = nodes_open c.pass_node.new.walk in
     record {
-      holds_way = c.in_ok-enter_part.ensures.holds;
+      holds_way = c.in_ok-pass_node.ensures.holds;
       way =
           step-child _ _ _ _ _ _ _ _ _ c.down.invariant.way o c.open-node.new.work
-          c.open-node.ensures.work same _ _ goes inner _ _ c.in_ok-enter_part.ensures.frames segment
-          leaves c.in-Some.child.now.shape c.in-Some.ensures;
-      leaf = c.in_ok-enter_part.ensures.leaf ∙ c.down.invariant.leaf;
-      none = c.in_ok-enter_part.ensures.pending ∙ c.down.invariant.none;
+          c.open-node.ensures.work same _ _ goes inner c.in_ok-pass_node.ensures.opened
+          c.in-Some.child.now.shape c.in-Some.ensures;
+      framed = c.in_ok-pass_node.ensures.framed;
+      none = c.in_ok-pass_node.ensures.pending ∙ c.down.invariant.none;
     }

@@ -3,8 +3,8 @@ use Rattle.rart_node.specs.Shape.{prefix_of, value_of, children_of}
 use Rattle.rart_node.specs.Trees.{pairs_of}
 use Rattle.rart_walks.specs.BackFields.{open_back}
 use Rattle.rart_walks.specs.Walks.{AreShort}
-use Rattle.rart_walks.proofs.BackEnterLemmas.{back-fits, nodes-back_paths, root-owns, root-pairs, root-paths, root-trees}
-use Rattle.rart_walks.proofs.WalkLemmas.{behind-none}
+use Rattle.rart_walks.proofs.BackEnterLemmas.{nodes-back_paths, root-owns, root-pairs, root-paths, root-trees}
+use Rattle.rart_walks.proofs.WalkLemmas.{behind-none, path-fits}
 use Rattle.rart_walks.proofs.walk_back.WalkBack.whole.Goals as goal
 
 pub enter_part-requires : goal.enter_part-requires
@@ -20,7 +20,7 @@ enter_part-requires g c =
           c.prefix.ensures,
           c.open-node.ensures.shown,
         )
-            (back-fits [] s g.T.KeyPath.greatest c.requires.tree
+            (path-fits [] s g.T.KeyPath.greatest c.requires.tree
             (subst (AreShort g.T.KeyPath.greatest) (sym (behind-none (pairs_of s))) c.requires.short)),
       ),
     )

@@ -11,9 +11,9 @@ use Rattle.rart_walks.specs.BackFields.{open_back}
 use Rattle.rart_walks.specs.BackFrames.{back_segments}
 use Rattle.rart_walks.specs.Fronts.{has_lower, keeps, passed_frame, reached_frames}
 use Rattle.rart_walks.specs.Walks.{AreShort}
-use Rattle.rart_walks.proofs.BackEnterLemmas.{back-fits}
 use Rattle.rart_walks.proofs.BackWayLemmas.{IsOnWayBack, back-child, back-ended, back-missing, back-start, short-kept}
 use Rattle.rart_walks.proofs.WalkStepLemmas.{goes-on, goes-some}
+use Rattle.rart_walks.proofs.WalkLemmas.{path-fits}
 use Rattle.rart_walks.proofs.walk_back.path.along_path.Goals as goal
 
 pub down-init : goal.down-init
@@ -115,7 +115,7 @@ enter_part-requires g c =
       (
         c.down.invariant.holds_way,
         rw (c.as_ref.ensures, c.prefix-in-down.ensures, same)
-            (back-fits (back_segments (open_back c.down.walk.frames.items)) s g.T.KeyPath.greatest
+            (path-fits (back_segments (open_back c.down.walk.frames.items)) s g.T.KeyPath.greatest
             way.at.tree way.short),
       ),
     )

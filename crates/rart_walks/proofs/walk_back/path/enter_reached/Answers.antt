@@ -3,8 +3,8 @@ use Rattle.std.proofs.lemmas.Result.{on_ok_weaker}
 use Rattle.rart_node.specs.Shape.{children_of}
 use Rattle.rart_walks.specs.BackFields.{open_back}
 use Rattle.rart_walks.specs.BackFrames.{back_segments}
-use Rattle.rart_walks.proofs.BackEnterLemmas.{back-fits}
 use Rattle.rart_walks.proofs.BackPartLemmas.{below-zero}
+use Rattle.rart_walks.proofs.WalkLemmas.{path-fits}
 use Rattle.rart_walks.proofs.walk_back.path.enter_reached.Goals as goal
 
 pub enter_part-requires : goal.enter_part-requires
@@ -17,7 +17,7 @@ enter_part-requires g c =
       (
         above.holds,
         rw (c.as_ref-segment.ensures, c.prefix.ensures)
-            (back-fits segments s g.T.KeyPath.greatest above.tree above.short),
+            (path-fits segments s g.T.KeyPath.greatest above.tree above.short),
       ),
     )
 
@@ -44,7 +44,7 @@ enter_part-requires-in-Own g c =
       (
         above.holds,
         rw (c.as_ref-segment.ensures, c.prefix.ensures)
-            (back-fits segments s g.T.KeyPath.greatest above.tree above.short),
+            (path-fits segments s g.T.KeyPath.greatest above.tree above.short),
       ),
     )
 

@@ -1,21 +1,18 @@
 -- The way down to where the last of the pairs up to a bound stands.
-use Rattle.std.proofs.Common.{◌≡◌, ◌+◌, ◌<◌, ℕ, suc, List, [], ◌∷◌, ◌++◌, Option, Some, None, length, take, refl, arith, sym, ap, subst, ◌∙◌}
+use Rattle.std.proofs.Common.{◌≡◌, ℕ, List, [], ◌∷◌, ◌++◌, Option, Some, None, length, take, refl, sym, ap, subst, ◌∙◌}
 use Rattle.std.specs.Prelude.{◌-◌}
 use Rattle.std.proofs.lemmas.List.{append-nil, append_assoc}
 use Rattle.rart_below.specs.Children.{child_at, children_below}
-use Rattle.rart_node.specs.Counts.{Counts, CountsUpTo}
 use Rattle.rart_node.specs.Shape.{Shape, prefix_of, value_of, children_of}
 use Rattle.rart_node.specs.Trees.{IsTree, own_pair, pairs_of}
-use Rattle.rart_node.proofs.CountingLemmas.{counts-then}
 use Rattle.rart_walks.specs.Frames.{behind_path, pairs_of_all, pending_pair}
 use Rattle.rart_walks.proofs.GatherLemmas.{keeping, kept_at, pairs-gathered}
 use Rattle.rart_walks.proofs.WalkLemmas.{behind-append, behind-behind, behind-none}
-use Rattle.rart_walks.proofs.WalkStepLemmas.{GoesOn}
 use Rattle.rart_ways.specs.Besides.{is_to}
-use Rattle.rart_ways.specs.Lasts.{EndAt, IsDeepEnd, IsEnd, end_length}
+use Rattle.rart_ways.specs.Lasts.{EndAt, IsEnd}
 use Rattle.rart_ways.specs.declared.seeking.Edge.{Edge}
 use Rattle.rart_ways.specs.declared.seeking.end.Last.{Last}
-use Rattle.rart_ways.proofs.SeekStartLemmas.{IsSeekAt, front-of}
+use Rattle.rart_ways.proofs.SeekStartLemmas.{front-of}
 use Rattle.rart_ways.proofs.ToLemmas.{reached-below}
 
 module _ {V : Type 0} where

@@ -1,22 +1,18 @@
 -- A node that gets its children from the last to the first, and the pairs that are left meanwhile.
-use Rattle.std.proofs.Common.{◌≡◌, ◌<◌, ◌≤◌, ◌⊎◌, inl, inr, ℕ, zero, suc, ◌+◌, ◌-◌, Bool, true, false, cond, List, [], ◌∷◌, ◌++◌, length, map, take, drop, refl, sym, ap, subst, ◌∙◌, ⊎_elim, arith, Option, Some, None}
-use Rattle.std.specs.Prelude.{IsTrue, slice_get, ⊤}
+use Rattle.std.proofs.Common.{◌≡◌, ◌<◌, ◌≤◌, ℕ, zero, suc, ◌+◌, true, false, cond, List, [], ◌∷◌, ◌++◌, length, take, drop, refl, sym, ap, subst, ◌∙◌, arith, Option, None}
 use Rattle.std.specs.FinMap.Entries.{is_sorted}
-use Rattle.std.proofs.lemmas.Bool.{false≢true}
-use Rattle.std.proofs.lemmas.List.{append_assoc, drop-drop, drop_all, length-take-le, take-take}
-use Rattle.std.proofs.lemmas.Option.{same_Some}
+use Rattle.std.proofs.lemmas.List.{append_assoc, length-take-le, take-take}
 use Rattle.rart_below.specs.Bytes.{byte_order}
 use Rattle.rart_below.specs.Children as children
 use Rattle.rart_below.specs.Children.{child_at, with_child}
 use Rattle.rart_below.specs.Laws.{IsBelow, ascending_from}
-use Rattle.rart_below.proofs.AscendingLemmas.{child_at-below, with_child-below}
+use Rattle.rart_below.proofs.AscendingLemmas.{with_child-below}
 use Rattle.rart_node.specs.Nodes.{nodes_of, nodes_below}
-use Rattle.rart_node.specs.Shape.{Shape, Forest, node, bare, grown, children_of, entries_of, forest_of, is_full_at, prefix_of, widenings, with_added, width_for}
-use Rattle.rart_node.specs.Trees.{BeginsWith, AreBranches, IsTree, is_key_or_fork, pairs_of, pairs_below}
+use Rattle.rart_node.specs.Shape.{Shape, Forest, node, grown, entries_of, is_full_at, prefix_of, widenings, with_added, width_for}
+use Rattle.rart_node.specs.Trees.{BeginsWith, AreBranches, IsTree, pairs_of, pairs_below}
 use Rattle.rart_node.proofs.InsertionLemmas.{forest_of-entries_of}
-use Rattle.rart_node.proofs.PairOrderLemmas.{sorted-behind}
-use Rattle.rart_ways.specs.Runs.{AllBegin, AllLong, EndsBesides, run_from, runs, shared}
-use Rattle.rart_ways.proofs.RunLemmas.{AllSome, AllUnder, all-some, behind-shared, cut, front-under, not_full, put_behind, run-below, run-split, runs-one, runs-some, runs-split, shared-begins, shared-stops, some-later, sorted-back, sorted-front, under-front, under-none}
+use Rattle.rart_ways.specs.Runs.{AllBegin, EndsBesides, run_from, runs}
+use Rattle.rart_ways.proofs.RunLemmas.{AllUnder, all-some, front-under, not_full, run-below, run-split, runs-split, sorted-back, sorted-front, under-front}
 
 -- the children where one more is put below those that are there
 added-below : {V : Type 0} (prefix : List ℕ) (value : Option V) (width byte : ℕ) (child : Shape V)

@@ -3,7 +3,7 @@
 use Rattle.std.proofs.Common.{◌≡◌, ◌+◌, ◌<◌, ◌≤◌, ℕ, true, false, cond, List, [], ◌∷◌, ◌++◌, Option, Some, None, IsSome, length, take, drop, reverse, refl, arith, sym, ap, subst, ◌∙◌}
 use Rattle.std.specs.Prelude.{nat_lt, ◌-◌, ◌^◌}
 use Rattle.std.proofs.lemmas.List.Elements.{All-filter}
-use Rattle.std.proofs.lemmas.List.{append-nil, append_assoc, length-append, reverse-append}
+use Rattle.std.proofs.lemmas.List.{append-nil, append_assoc, reverse-append}
 use Rattle.rart_below.specs.Children.{child_at, children_below, IsAscending, IsLastOf}
 use Rattle.rart_node.specs.Shape.{Shape, height, prefix_of, value_of, children_of}
 use Rattle.rart_node.specs.Trees.{IsTree, pairs_of}
@@ -19,7 +19,6 @@ use Rattle.rart_ways.specs.Besides.{is_to}
 use Rattle.rart_ways.specs.declared.seeking.Edge.{Edge}
 use Rattle.rart_ways.specs.Starts.{AreTurns}
 use Rattle.rart_ways.specs.declared.seeking.end.Last.{Last}
-use Rattle.rart_ways.specs.declared.seeking.end.Last.TheVariants.{Value, Below}
 use Rattle.rart_ways.proofs.LeastLemmas.{start-fits, start-whole}
 use Rattle.rart_ways.proofs.TurnLemmas.{tree-turns}
 

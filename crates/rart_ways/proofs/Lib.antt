@@ -6,6 +6,7 @@ pub mod EditLemmas
 pub mod FromLemmas
 pub mod GraftLemmas
 pub mod InsertionStepLemmas
+pub mod KeyEndLemmas
 pub mod LastLemmas
 pub mod LeastLemmas
 pub mod LentPathLemmas

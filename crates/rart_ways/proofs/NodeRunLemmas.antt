@@ -1,12 +1,12 @@
 -- The node that a run of pairs makes: where its children begin, and what it has once all are made.
-use Rattle.std.proofs.Common.{◌≡◌, ◌<◌, ◌≤◌, ◌≢◌, ◌⊎◌, inl, inr, true, ℕ, zero, suc, ◌+◌, ◌-◌, List, [], ◌∷◌, ◌++◌, get_or, length, map, take, drop, min, refl, sym, ap, subst, ◌∙◌, ⊎_elim, arith, Option, Some, None}
-use Rattle.std.specs.Prelude.{IsTrue, slice_get, ⊤}
+use Rattle.std.proofs.Common.{◌≡◌, ◌<◌, ◌≤◌, ◌≢◌, ◌⊎◌, inl, inr, true, ℕ, zero, suc, ◌+◌, ◌-◌, List, [], ◌∷◌, ◌++◌, get_or, length, map, take, drop, refl, sym, ap, subst, ◌∙◌, ⊎_elim, arith, Some, None}
+use Rattle.std.specs.Prelude.{IsTrue, slice_get}
 use Rattle.std.specs.FinMap.Entries.{is_sorted}
 use Rattle.std.proofs.lemmas.Bool.{cases_lt, cases_eq}
 use Rattle.std.proofs.Math.Seq.{take-length}
 use Rattle.std.proofs.lemmas.List.{append-nil, drop-drop, drop_all, length-drop, length-take}
 use Rattle.rart_below.specs.Bytes.{byte_order, common_length}
-use Rattle.rart_node.specs.Nodes.{nodes_of, nodes_below}
+use Rattle.rart_node.specs.Nodes.{nodes_of}
 use Rattle.rart_node.specs.Shape.{Shape, Forest, node, bare, grown, entries_of, prefix_of, with_value, width_for}
 use Rattle.rart_node.specs.Trees.{BeginsWith, IsTree, is_key_or_fork, pairs_of, pairs_below}
 use Rattle.rart_node.proofs.PairOrderLemmas.{sorted-behind}

@@ -1,25 +1,22 @@
 -- What is planned at a node, in the words of its code.
-use Rattle.std.proofs.Common.{◌≡◌, ℕ, ◌+◌, ◌<◌, ◌≤◌, List, [], ◌∷◌, ◌++◌, Option, Some, None, Result, Ok, Err, IsSome, is_some, Bool, true, false, slice_get, length, refl, arith, sym, ap, subst, ◌∙◌}
+use Rattle.std.proofs.Common.{◌≡◌, ℕ, ◌+◌, ◌<◌, ◌≤◌, List, [], ◌∷◌, Option, Some, None, IsSome, is_some, Bool, true, false, length, refl, arith, sym, ap, subst, ◌∙◌}
 use Rattle.std.specs.Borrow.{Bor}
 use Rattle.std.specs.Option.{option_and_then, option_copied}
-use Rattle.std.specs.Result.{IsErr}
 use Rattle.std.proofs.lemmas.Bool.{false≢true}
 use Rattle.std.proofs.lemmas.List.{append-nil}
 use Rattle.std.proofs.lemmas.Option.{none-some}
 use Rattle.rart_below.specs.Bytes.{IsAdmitted}
-use Rattle.rart_below.specs.Children.{child_at}
 use Rattle.rart_node.specs.Seen.{Seen}
 use Rattle.rart_node.specs.Shape.{Shape, node, bare, grown, HasOnly, merged, prefix_of, value_of, children_of, with_value, with_deleted}
-use Rattle.rart_ways.specs.Plans.{GoesOn, IsLeafAt, LeadsToLeaf, Removes, IsPlan, value_under, cost_of}
+use Rattle.rart_ways.specs.Plans.{IsLeafAt, LeadsToLeaf, Removes, value_under}
 use Rattle.rart_ways.specs.Removals.{AreAdmitted, IsTakenOr, CountsLeaving}
 use Rattle.rart_node.specs.Counts.{Counts, CountsUpTo}
 use Rattle.rart_ways.specs.declared.removal.edit.Edit.TheVariants.{Take, Prune, Replace}
-use Rattle.rart_ways.specs.declared.removal.plan.Plan.{Plan}
-use Rattle.rart_node.specs.Trees.{strip_prefix, found, IsTree, IsTaken, path_bound}
-use Rattle.rart_node.proofs.PrefixLemmas.{no-first, strip_prefix-own, strip_prefix-is}
-use Rattle.rart_node.proofs.MatchLemmas.{found-here, found-deeper, path-deeper}
+use Rattle.rart_node.specs.Trees.{strip_prefix, found, IsTree, IsTaken}
+use Rattle.rart_node.proofs.PrefixLemmas.{strip_prefix-own, strip_prefix-is}
+use Rattle.rart_node.proofs.MatchLemmas.{found-here}
 use Rattle.rart_node.proofs.FindLemmas.{ascending, ordered}
-use Rattle.rart_ways.proofs.EditLemmas.{branch-is, child-is, found-below-is}
+use Rattle.rart_ways.proofs.EditLemmas.{found-below-is}
 use Rattle.rart_ways.proofs.RemovalLemmas.{IsLeft, found-own, taken-end, empty-leaf, taken-leaf, left-kept, left-merged, admitted-left, admitted-merged, one-less}
 
 -- ---- lists and options
@@ -119,11 +116,6 @@ module _ {V : Type 0} where
     less : 1 + length (children_of (with_deleted byte s)) ≡ length (children_of s)
     less = one-less s leads.0 byte (ascending s (ordered s tree)) leads.2.here
 
-    pub found-leaf : IsSome (found s key)
-    found-leaf =
-        subst IsSome (sym (found-below-is tree leads.2
-        ∙ found-here leads.0 leads.1 [] leads.3.2 refl)) leads.3.1
-
     module _ (after : Shape V) (is : after ≡ with_deleted byte s) where
       pub one-left : value_of s ≡ None → length (children_of s) ≤ 2
           → length (children_of after) ≡ 1
@@ -197,107 +189,10 @@ module _ {P V : Type 0} where
         value = leaf-value s byte tree key leads;
       }
 
-module _ {V : Type 0} where
-  -- the key ends at the node that was opened
-  module _ (s opened : Shape V) (key prefix rest : List ℕ) (same : opened ≡ s)
-      (is : prefix ≡ prefix_of opened) (strips : Some rest ≡ strip_prefix prefix key)
-      (end : None ≡ slice_get rest 0) where
-    whole-key : key ≡ prefix_of opened
-    whole-key =
-        strip_prefix-is prefix key rest (sym strips)
-        ∙ ap (λ z. prefix ++ z) (no-first rest (sym end)) ∙ append-nil prefix ∙ is
-
-    pub ends-here : {P : Type 0} (plan : Plan P V) → IsPlan plan (prefix_of opened) opened
-        → IsPlan plan key s
-    ends-here plan planned =
-        subst (λ z. IsPlan plan z s) (sym whole-key)
-        (subst (λ z. IsPlan plan (prefix_of opened) z) same planned)
-
-    pub ends-found : found s key ≡ value_of opened
-    ends-found =
-        ap (found s) whole-key ∙ ap (λ z. found z (prefix_of opened)) (sym same) ∙ here-found opened
-
--- ---- one node down
-module _ {V : Type 0} (s opened : Shape V) (key prefix rest : List ℕ) (same : opened ≡ s)
-    (is : prefix ≡ prefix_of opened) (strips : Some rest ≡ strip_prefix prefix key) where
-  strips-is : strip_prefix (prefix_of s) key ≡ Some rest
-  strips-is = sym (strips ∙ ap (λ p. strip_prefix p key) (is ∙ ap prefix_of same))
-
-  module _ (byte : ℕ) (next : Some byte ≡ slice_get rest 0) where
-    pub absent-here : None ≡ child_at byte (children_of opened) → found s key ≡ None
-    absent-here none =
-        found-deeper s key rest byte strips-is (sym next)
-        ∙ ap (option_and_then (λ child. found child rest))
-        (sym (none ∙ ap (λ z. child_at byte (children_of z)) same))
-
-    pub goes-on : (child : Shape V) → Some child ≡ child_at byte (children_of opened)
-        → GoesOn key s byte child rest
-    goes-on child here =
-        record {
-          strips = strips-is;
-          next = sym next;
-          here = child-is s opened child byte same here;
-        }
-
-module _ {V : Type 0} {key : List ℕ} {s : Shape V} {byte : ℕ} {child : Shape V} {rest : List ℕ}
-    (tree : IsTree s) (goes : GoesOn key s byte child rest) where
-  pub deeper-path : 1 + path_bound child rest ≤ path_bound s key
-  deeper-path = path-deeper s child key rest byte goes.strips goes.next (branch-is tree goes)
-
-  pub there-deeper : IsSome (found child rest) → IsSome (found s key)
-  there-deeper there = subst IsSome (sym (found-below-is tree goes)) there
-
-  pub none-deeper : found s key ≡ None → found child rest ≡ None
-  none-deeper none = sym (found-below-is tree goes) ∙ none
-
 pub not-none : {V : Type 0} (o : Option V) → IsSome o → o ≡ None → ⊥
 not-none o there none = false≢true (sym (ap is_some none) ∙ there)
 
 -- ---- counts
-pub leaving-open : (before mid : Counts) → mid ≡ record before { entered = before.entered + 1 }
-    → CountsLeaving 0 1 0 before mid
-leaving-open before mid is =
-    rw is record {
-      entered_grows = omega arith;
-      entered_at_most = omega arith;
-      made_grows = omega arith;
-      made_at_most = omega arith;
-    }
-
-pub leaving-none : (counts : Counts) → CountsLeaving 0 0 0 counts counts
-leaving-none counts =
-    record {
-      entered_grows = omega arith;
-      entered_at_most = omega arith;
-      made_grows = omega arith;
-      made_at_most = omega arith;
-    }
-
-pub leaving-both : {l e m l' e' m' most entered made : ℕ} {before mid after : Counts}
-    → CountsLeaving l e m before mid → CountsLeaving l' e' m' mid after
-    → most + e + e' ≤ entered + l + l' → most + m + m' ≤ made + l + l'
-    → CountsLeaving most entered made before after
-leaving-both first later entered made =
-    let a = first.entered_grows in
-    let b = first.entered_at_most in
-    let c = first.made_grows in
-    let d = first.made_at_most in
-    let e = later.entered_grows in
-    let f = later.entered_at_most in
-    let g = later.made_grows in
-    let h = later.made_at_most in
-    record {
-      entered_grows = omega (arith, a, e);
-      entered_at_most = omega (arith, b, f, entered);
-      made_grows = omega (arith, c, g);
-      made_at_most = omega (arith, d, h, made);
-    }
-
-pub refused-cost : {P V E : Type 0} (result : Result (Plan P V) E) → IsErr result
-    → cost_of result ≡ 0
-refused-cost (Ok plan) err = absurd (false≢true err)
-refused-cost (Err e) err = refl
-
 pub leaving-same : (later most : ℕ) (counts : Counts) → later ≤ most
     → CountsLeaving later most most counts counts
 leaving-same later most counts few =
@@ -351,12 +246,3 @@ counts-made before after is =
       made_grows = omega arith;
       made_at_most = omega arith;
     }
-
--- one was entered, and maybe more behind it
-pub opened-more : {before between : Counts}
-    → between ≡ record before { entered = before.entered + 1 } → before.entered < between.entered
-opened-more is = let up = ap (λ z. z.entered) is in omega (arith, up)
-
-pub entered-more : {l e m start : ℕ} {between after : Counts} → start < between.entered
-    → CountsLeaving l e m between after → start < after.entered
-entered-more some later = let grows = later.entered_grows in omega (arith, some, grows)

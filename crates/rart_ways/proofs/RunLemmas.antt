@@ -1,21 +1,18 @@
 -- Runs of pairs that ascend, and the children that they make.
-use Rattle.std.proofs.Common.{◌≡◌, ◌<◌, ◌≤◌, ◌⊎◌, inl, inr, ℕ, zero, suc, ◌+◌, Bool, true, false, cond, List, [], ◌∷◌, ◌++◌, length, map, take, drop, refl, sym, ap, subst, ◌∙◌, ⊎_elim, arith, Option, Some, None}
+use Rattle.std.proofs.Common.{◌≡◌, ◌<◌, ◌≤◌, ℕ, zero, suc, ◌+◌, true, false, cond, List, [], ◌∷◌, ◌++◌, length, map, take, drop, refl, sym, ap, subst, ◌∙◌, ⊎_elim, arith}
 use Rattle.std.specs.Prelude.{◌==◌, ⊤}
 use Rattle.std.specs.Ordering.{is_lt, nat_cmp}
 use Rattle.std.specs.FinMap.Entries.{is_sorted, below_all}
-use Rattle.std.proofs.Math.Seq.{drop-nil}
-use Rattle.std.proofs.lemmas.Bool.{and_parts, and_from, eqb-true, eq-eqb, ne_eqb, false≢true, cases_eq}
+use Rattle.std.proofs.lemmas.Bool.{and_parts, and_from, eqb-true, eq-eqb, ne_eqb, false≢true}
 use Rattle.std.proofs.lemmas.Bool.Decides.{nat_tests}
 use Rattle.std.proofs.lemmas.List.{take-append-drop, length-drop, map-append}
 use Rattle.rart_below.specs.Bytes.{begins, byte_order, common_length}
-use Rattle.rart_below.specs.Children as children
-use Rattle.rart_below.specs.Laws.{IsBelow, below_from, ascending_from}
-use Rattle.rart_below.proofs.AscendingLemmas.{below_lower, child_at-below, with_child-below}
+use Rattle.rart_below.specs.Laws.{IsBelow, below_from}
+use Rattle.rart_below.proofs.AscendingLemmas.{below_lower}
 use Rattle.rart_maps.specs.Order.{IsBefore}
 use Rattle.rart_maps.proofs.OrderLemmas.{lt-before}
-use Rattle.rart_node.specs.Nodes.{nodes_of, nodes_below}
-use Rattle.rart_node.specs.Shape.{Shape, Forest, node, bare, grown, entries_of, is_full_at, width_for}
-use Rattle.rart_node.specs.Trees.{BeginsWith, AreBranches, IsTree, is_key_or_fork, pairs_of, pairs_below}
+use Rattle.rart_node.specs.Shape.{Shape, Forest, bare, grown, entries_of, is_full_at, width_for}
+use Rattle.rart_node.specs.Trees.{BeginsWith}
 use Rattle.rart_ways.specs.Paths.{first_byte}
 use Rattle.rart_ways.specs.Runs.{AllBegin, AllLong, EndsBesides, last_key, run_from, runs, shared}
 

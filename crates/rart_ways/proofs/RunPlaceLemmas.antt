@@ -1,12 +1,12 @@
 -- Pairs of a list by their places, and the runs that they stand in.
-use Rattle.std.proofs.Common.{◌≡◌, ◌<◌, ◌≤◌, ℕ, zero, suc, ◌+◌, ◌-◌, List, [], ◌∷◌, ◌++◌, get_or, length, map, take, drop, min, refl, sym, ap, subst, ◌∙◌, arith}
-use Rattle.std.specs.Prelude.{slice_index_or, ⊤}
-use Rattle.std.proofs.lemmas.List.{append_assoc, drop-drop, drop_all, drop_more, get_or-take, length-drop, length-map, length-take, length-take-le, take-take}
+use Rattle.std.proofs.Common.{◌≡◌, ◌<◌, ◌≤◌, ℕ, zero, suc, ◌+◌, List, [], ◌∷◌, ◌++◌, get_or, length, map, take, drop, refl, sym, ap, subst, ◌∙◌, arith}
+use Rattle.std.specs.Prelude.{slice_index_or}
+use Rattle.std.proofs.lemmas.List.{drop_all, drop_more, get_or-take, length-drop, length-map, length-take, length-take-le}
 use Rattle.rart_below.specs.Bytes.{common_length}
 use Rattle.rart_node.specs.Trees.{BeginsWith}
 use Rattle.rart_node.proofs.PrefixLemmas.{begins-drop}
 use Rattle.rart_ways.specs.Runs.{AllBegin, AllLong, EndsBesides, last_key, run_from, runs, shared}
-use Rattle.rart_ways.proofs.RunLemmas.{AllSome, run-split, runs-some, runs-split}
+use Rattle.rart_ways.proofs.RunLemmas.{AllSome, run-split, runs-split}
 
 two-first : (b c : ℕ) (w : List ℕ) → BeginsWith b w → BeginsWith c w → b ≡ c
 two-first b c [] first second = absurd first

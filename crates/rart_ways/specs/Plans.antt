@@ -8,6 +8,7 @@ use Rattle.rart_ways.specs.declared.removal.edit.Edit.TheVariants.{Take, Prune, 
 use Rattle.rart_ways.specs.declared.removal.plan.Plan.{Plan}
 use Rattle.rart_ways.specs.declared.removal.plan.Plan.TheVariants.{Absent, Leaf, At}
 use Rattle.rart_node.specs.Trees.{strip_prefix, found, IsTaken}
+use Rattle.rart_ways.specs.Paths.{path_end}
 
 module _ {V : Type 0} where
   -- the value of the child under the byte
@@ -25,6 +26,16 @@ module _ {V : Type 0} where
     pub strips : strip_prefix (prefix_of s) key ≡ Some rest
     pub next : slice_get rest 0 ≡ Some byte
     pub here : child_at byte (children_of s) ≡ Some child
+
+  -- One node above the one that is so many nodes down the way of a key, at which this is left of
+  -- it, stands this node, and the way goes on under the byte.
+  pub record IsAbove (key : List ℕ) (root : Shape V) (steps : ℕ) (s : Shape V) (byte : ℕ)
+      (child : Shape V) (rest : List ℕ) : Type 0 where
+    pub before : ℕ
+    pub one_more : steps ≡ before + 1
+    pub left : List ℕ
+    pub reached : path_end before key root ≡ Some (s, left)
+    pub goes : GoesOn left s byte child rest
 
   -- Under the byte the key goes on to a leaf that it ends at.
   abbrev pub LeadsToLeaf : ℕ → List ℕ → Shape V → Type 0

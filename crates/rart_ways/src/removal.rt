@@ -63,8 +63,8 @@ pub fn remove_below<P: Partial, V: Clone + Drop>(
             value: take(root, work)?,
             left_empty: true,
         }),
-        Plan::At(depth, edit) => Ok(Removed {
-            value: edit_below(root, key, depth, edit, work)?,
+        Plan::At(depth, mut edit) => Ok(Removed {
+            value: edit_below(root, key, depth, &mut edit, work)?,
             left_empty: false,
         }),
     }

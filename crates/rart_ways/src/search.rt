@@ -3,6 +3,7 @@
 //! stands, and to the keys that begin it.
 
 mod depth;
+pub(crate) mod end;
 mod longest;
 mod lookup;
 mod prefix_matches;

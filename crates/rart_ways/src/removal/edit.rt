@@ -11,6 +11,7 @@ ghost use Rattle.rart_ways.specs.Plans.{Fits, RemovesBelow, edited, edit_cost, g
 use rart_below::Partial;
 use rart_node::{NodeRef, Work, rest_of};
 use std::alloc::AllocError;
+use std::mem;
 
 /// What is done at a node.
 #[derive(Drop)]
@@ -24,25 +25,28 @@ pub(crate) enum Edit<P: Partial, V> {
 }
 
 /// Does an edit `depth` nodes down the way of a key, and gives the value that goes. Refused for
-/// memory, all is as before.
+/// memory, all is as before. The edit is used up.
+///
+/// It calls itself once for each node of the way, and hands the edit on where it stands, so that a
+/// level takes little of the machine's stack.
 pub(crate) fn edit_below<P: Partial, V: Clone + Drop>(
     at: &mut NodeRef<P, V>,
     key: &[u8],
     depth: usize,
-    edit: Edit<P, V>,
+    edit: &mut Edit<P, V>,
     work: &mut Work,
 ) -> Result<Option<V>, AllocError>
     requires clones { ClonesEqual V.is_clone }
     requires tree { IsTree at.old.shape }
-    requires planned { RemovesBelow depth edit key.now at.old.shape }
+    requires planned { RemovesBelow depth edit.old key.now at.old.shape }
     ensures taken { OnOk result (IsTaken key.now at.old.shape at.new.shape) }
     ensures value { IfOk result (λ value. value ≡ found at.old.shape key.now) }
     ensures refused { OnErr result (at.new.shape ≡ at.old.shape) }
-    ensures counted { let most = depth + edit_cost edit in
+    ensures counted { let most = depth + edit_cost edit.old in
         CountsUpTo most most work.old work.new }
 {
     if depth == 0 {
-        return edit_here(at, edit, work);
+        return edit_here(at, mem::replace(edit, Edit::Take), work);
     }
     let node = at.open_mut(work)?;
     let rest = rest_of(key, node.prefix().len());

@@ -10,8 +10,9 @@ ghost use Rattle.rart_ways.specs.Plans.{IsPlan, LeadsToLeaf, Removes, cost_of, e
 ghost use Rattle.rart_ways.specs.Removals.{AreAdmitted, CountsLeaving};
 
 use crate::removal::edit::Edit;
+use crate::search::end::key_end;
 use rart_below::Partial;
-use rart_node::{NodeRef, VersionedNode, Work, strip_prefix};
+use rart_node::{NodeRef, VersionedNode, Work};
 use std::alloc::{AllocError, Global};
 
 /// What is to be done to remove a key.
@@ -27,71 +28,62 @@ pub(crate) enum Plan<P: Partial, V> {
 
 /// What is to be done to remove a key below a pointer. Where the key is absent, nothing is refused
 /// and no node made.
-///
-/// It calls itself once for each node of the way.
 pub(crate) fn plan_below<P: Partial, V: Clone + Drop>(
     alloc: Global,
-    at: &NodeRef<P, V>,
+    root: &NodeRef<P, V>,
     key: &[u8],
     version: u64,
     work: &mut Work,
 ) -> Result<Plan<P, V>, AllocError>
     requires clones { ClonesEqual V.is_clone }
-    requires tree { IsTree at.now.shape }
-    requires lengths { AreAdmitted P.MAXIMUM_SIZE at.now.shape }
-    ensures plan { IfOk result (λ plan. IsPlan plan key.now at.now.shape) }
-    ensures present { OnErr result (IsSome (found at.now.shape key.now)) }
-    ensures counted { CountsLeaving (cost_of result) (2 * path_bound at.now.shape key.now)
-        (path_bound at.now.shape key.now) work.old work.new }
+    requires tree { IsTree root.now.shape }
+    requires lengths { AreAdmitted P.MAXIMUM_SIZE root.now.shape }
+    ensures plan { IfOk result (λ plan. IsPlan plan key.now root.now.shape) }
+    ensures present { OnErr result (IsSome (found root.now.shape key.now)) }
+    ensures counted { CountsLeaving (cost_of result) (2 * path_bound root.now.shape key.now)
+        (path_bound root.now.shape key.now) work.old work.new }
     ensures entered { work.old.entered < work.new.entered }
-    ensures absent_makes_none { found at.now.shape key.now ≡ None → work.new.made ≡ work.old.made }
+    ensures absent_makes_none { found root.now.shape key.now ≡ None
+        → work.new.made ≡ work.old.made }
 {
-    let node = at.open(work);
-    let Some(rest) = strip_prefix(key, node.prefix()) else {
+    let Some(end) = key_end(root, key, work) else {
         return Ok(Plan::Absent);
     };
-    let Some(byte) = rest.first() else {
-        return plan_here(alloc, node, version, work);
-    };
-    let Some(child) = node.seek_child(*byte) else {
+    if end.node.value().is_none() {
         return Ok(Plan::Absent);
-    };
-    match plan_below(alloc, child, rest, version, work)? {
-        Plan::Absent => Ok(Plan::Absent),
-        Plan::Leaf => Ok(Plan::At(0, plan_without(alloc, node, *byte, version, work)?)),
-        Plan::At(depth, edit) => Ok(Plan::At(depth + 1, edit)),
     }
+    if end.node.num_children() > 0 {
+        let edit = plan_here(alloc, end.node, version, work)?;
+        return Ok(Plan::At(end.steps, edit));
+    }
+    let Some(above) = end.above else {
+        return Ok(Plan::Leaf);
+    };
+    let edit = plan_without(alloc, above.node, above.byte, version, work)?;
+    Ok(Plan::At(end.steps - 1, edit))
 }
 
-/// What is to be done where the key is the prefix of this node. Where that has no value, nothing is
-/// refused and no node made.
+/// What is done at a node with a child to take out its value.
 fn plan_here<P: Partial, V: Clone + Drop>(
     alloc: Global,
     node: &VersionedNode<P, V>,
     version: u64,
     work: &mut Work,
-) -> Result<Plan<P, V>, AllocError>
+) -> Result<Edit<P, V>, AllocError>
     requires clones { ClonesEqual V.is_clone }
     requires tree { IsTree node.now.shape }
     requires lengths { AreAdmitted P.MAXIMUM_SIZE node.now.shape }
-    ensures plan { IfOk result (λ plan. IsPlan plan (prefix_of node.now.shape) node.now.shape) }
-    ensures present { OnErr result (IsSome (value_of node.now.shape)) }
-    ensures counted { CountsLeaving (cost_of result) 1 1 work.old work.new }
-    ensures absent_makes_none { value_of node.now.shape ≡ None → work.new.made ≡ work.old.made }
+    requires child { 0 < length (children_of node.now.shape) }
+    ensures removes { IfOk result (λ edit. Removes edit (prefix_of node.now.shape)
+        node.now.shape) }
+    ensures counted { CountsLeaving (edit_cost_of result) 1 1 work.old work.new }
 {
-    if node.value().is_none() {
-        return Ok(Plan::Absent);
+    if node.num_children() > 1 {
+        return Ok(Edit::Take);
     }
-    match node.num_children() {
-        0 => Ok(Plan::Leaf),
-        1 => {
-            let mut copy = node.cow_clone_inner(alloc, version)?;
-            let value = copy.take_value();
-            let merged = merge(alloc, &copy, version, work)?;
-            Ok(Plan::At(0, Edit::Replace(merged, value)))
-        }
-        _ => Ok(Plan::At(0, Edit::Take)),
-    }
+    let mut copy = node.cow_clone_inner(alloc, version)?;
+    let value = copy.take_value();
+    Ok(Edit::Replace(merge(alloc, &copy, version, work)?, value))
 }
 
 /// What is done at a node to take out the leaf under a byte.

@@ -1,4 +1,4 @@
-use Rattle.std.proofs.Common.{◌≡◌, ◌+◌, length, arith, refl, ap, ◌∙◌}
+use Rattle.std.proofs.Common.{◌+◌, length, arith, refl, ap, ◌∙◌}
 use Rattle.std.proofs.lemmas.List.{length-take-le}
 use Rattle.rart_node.specs.Shape.{prefix_of}
 use Rattle.rart_ways.proofs.EditLemmas.{on-any}

@@ -1,4 +1,4 @@
-use Rattle.std.proofs.Common.{◌≡◌, length, sym, ap, subst, ◌∙◌}
+use Rattle.std.proofs.Common.{length, sym, ap, subst, ◌∙◌}
 use Rattle.rart_node.specs.Shape.{HasOnly, prefix_of, children_of, with_deleted, merged}
 use Rattle.rart_node.specs.Trees.{IsOrdered}
 use Rattle.rart_node.proofs.FindLemmas.{ordered}

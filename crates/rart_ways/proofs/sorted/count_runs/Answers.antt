@@ -1,6 +1,6 @@
-use Rattle.std.proofs.Common.{rules, ◌≡◌, ◌+◌, ◌<◌, ◌≤◌, length, take, arith, sym, ap, subst, ◌∙◌}
+use Rattle.std.proofs.Common.{rules, ◌+◌, ◌<◌, ◌≤◌, length, take, arith, ap, ◌∙◌}
 use Rattle.std.proofs.lemmas.List.{length-take-le, take-take}
-use Rattle.rart_ways.specs.Runs.{EndsBesides, run_from, runs}
+use Rattle.rart_ways.specs.Runs.{run_from, runs}
 use Rattle.rart_ways.proofs.RunPlaceLemmas.{long-before, run-counted, run-places}
 use Rattle.rart_ways.proofs.sorted.count_runs.Goals as goal
 

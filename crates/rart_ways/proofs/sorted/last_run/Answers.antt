@@ -1,5 +1,5 @@
-use Rattle.std.proofs.Common.{rules, ◌≡◌, ◌≢◌, ◌+◌, ◌-◌, ◌<◌, ◌≤◌, length, slice_index_or, arith, sym, ap, subst, ◌∙◌}
-use Rattle.rart_ways.proofs.RunPlaceLemmas.{alike-last, alike-more, apart-before, apart-none, long-at}
+use Rattle.std.proofs.Common.{◌+◌, ◌-◌, ◌<◌, length, slice_index_or, arith, sym, ap, subst, ◌∙◌}
+use Rattle.rart_ways.proofs.RunPlaceLemmas.{alike-last, alike-more, apart-before, long-at}
 use Rattle.rart_ways.proofs.sorted.last_run.Goals as goal
 
 pub at-byte-requires : goal.at-byte-requires

@@ -1,4 +1,4 @@
-use Rattle.std.proofs.Common.{◌-◌, ◌≡◌, ◌+◌, ◌≤◌, length}
+use Rattle.std.proofs.Common.{◌-◌, ◌+◌, ◌≤◌, length}
 use Rattle.rart_ways.specs.Runs.{AllBegin, run_from}
 use Rattle.rart_ways.proofs.sorted.last_run.Given as goal
 

@@ -1,6 +1,5 @@
-use Rattle.std.proofs.Common.{◌≡◌, ◌+◌, ◌-◌, ◌≤◌, ◌<◌, length, drop, take, arith, sym, ap, subst, ◌∙◌}
+use Rattle.std.proofs.Common.{◌+◌, ◌-◌, ◌≤◌, length, drop, arith, sym, ap, subst, ◌∙◌}
 use Rattle.std.proofs.lemmas.List.{length-drop, length-take-le}
-use Rattle.rart_below.specs.Bytes.{common_length}
 use Rattle.rart_ways.proofs.RunPlaceLemmas.{common-right, common-short, long-at, prefix-is, take-whole}
 use Rattle.rart_ways.proofs.sorted.prefix_for.Goals as goal
 

@@ -1,4 +1,4 @@
-use Rattle.std.proofs.Common.{◌≡◌, ◌≤◌, Some, length, refl, arith, sym, ap, ◌∙◌}
+use Rattle.std.proofs.Common.{Some, length, refl, arith, sym, ap, ◌∙◌}
 use Rattle.rart_below.specs.Bytes.{common_length}
 use Rattle.rart_node.specs.Shape.{prefix_of}
 use Rattle.rart_node.proofs.PrefixLemmas.{common-within}

@@ -1,9 +1,9 @@
-use Rattle.std.proofs.Common.{◌≡◌, ◌+◌, ◌++◌, ◌<◌, ◌≤◌, None, Some, length, drop, arith, rules, sym, ap, subst, ◌∙◌}
+use Rattle.std.proofs.Common.{◌+◌, ◌++◌, length, drop, arith, rules, sym, ap, subst, ◌∙◌}
 use Rattle.std.specs.Prelude.{slice_index_or}
 use Rattle.rart_below.specs.Bytes.{common_length}
 use Rattle.rart_below.specs.Children.{child_at}
 use Rattle.rart_node.specs.Shape.{children_of, prefix_of, with_added, with_replaced}
-use Rattle.rart_node.specs.Trees.{IsTree, cut_at, found}
+use Rattle.rart_node.specs.Trees.{cut_at, found}
 use Rattle.rart_node.proofs.FindLemmas.{branch, ordered}
 use Rattle.rart_node.proofs.InsertionLemmas.{replaced-same}
 use Rattle.rart_ways.specs.Prefixes.{IsGrafted, tail_of}

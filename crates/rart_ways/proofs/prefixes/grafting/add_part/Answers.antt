@@ -1,5 +1,4 @@
-use Rattle.std.proofs.Common.{◌≤◌, length, arith}
-use Rattle.rart_node.specs.Shape.{prefix_of}
+use Rattle.std.proofs.Common.{arith}
 use Rattle.rart_ways.proofs.PartLemmas.{begun-long}
 use Rattle.rart_ways.proofs.prefixes.grafting.add_part.Goals as goal
 

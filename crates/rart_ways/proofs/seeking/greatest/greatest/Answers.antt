@@ -1,4 +1,4 @@
-use Rattle.std.proofs.Common.{◌++◌, ◌∙◌, length, arith, ap, refl, rules, subst, sym}
+use Rattle.std.proofs.Common.{◌++◌, ◌∙◌, length, arith, ap, refl, subst, sym}
 use Rattle.std.proofs.Math.Nat.{le_refl}
 use Rattle.std.proofs.lemmas.List.{length-append}
 use Rattle.rart_node.specs.Shape.{prefix_of}

@@ -12,7 +12,7 @@ use Rattle.rart_maps.specs.Pairs.{pairs}
 use Rattle.rart_maps.specs.Versions.{Map, Version}
 use Rattle.rart_maps.proofs.FoundLemmas.{pairs_ascend_by_key}
 use Rattle.rart_maps.proofs.OrderLemmas.{byte_order-IsAntisymmetric}
-use Rattle.rart_walks.specs.KeyPaths.{HoldsBytes}
+use Rattle.rart_walks.specs.KeyPaths.{HoldsBytes, extent_in_bytes}
 use Rattle.rart_walks.specs.WalkFields.{IsWalk, cursor}
 use Rattle.rart_walks.specs.declared.walk.Walk.{Walk}
 use Rattle.rart_versioned.specs.TreeWalks.{AreWalks}
@@ -73,7 +73,7 @@ module _ {V : Type 0} where
 
 module _ {P V : Type 0} {partial : _} (same : V → V → Bool)
     (most : Option ℕ) (v w : Version V) (old new : Walk P V (List ℕ) partial) where
-  pub walks-are : IsWalk HoldsBytes None old → IsWalk HoldsBytes None new
+  pub walks-are : IsWalk HoldsBytes extent_in_bytes None old → IsWalk HoldsBytes extent_in_bytes None new
       → (cursor old).pairs ≡ pairs v.content
       → (cursor new).pairs ≡ pairs w.content
       → AreAdmitted most (cursor old).pairs → AreAdmitted most (cursor new).pairs

@@ -13,7 +13,7 @@ use Rattle.rart_node.specs.Trees.{pairs_of}
 use Rattle.rart_walks.specs.Frames.{behind_path}
 use Rattle.rart_walks.specs.declared.walk.Walk.{Walk as PairWalk}
 use Rattle.rart_walks.specs.WalkFields.{IsWalk, cursor}
-use Rattle.rart_walks.specs.KeyPaths.{HoldsBytes}
+use Rattle.rart_walks.specs.KeyPaths.{HoldsBytes, extent_in_bytes}
 use Rattle.rart_versioned.specs.declared.plain.iterators.iter.Entries.{Entries}
 use Rattle.rart_versioned.specs.declared.plain.iterators.iter.Entries.TheVariants.{Empty, Entry, Walk}
 use Rattle.rart_versioned.specs.declared.plain.iterators.prefix_match.Way.{Way}
@@ -43,7 +43,7 @@ module _ {P V : Type 0} {partial : _} where
 
   -- A walk that keeps the bytes of its keys, of each of which a key can be made.
   pub record IsKeyWalk (most : Option ℕ) (walk : PairWalk P V (List ℕ) partial) : Type 0 where
-    pub walks : IsWalk HoldsBytes None walk
+    pub walks : IsWalk HoldsBytes extent_in_bytes None walk
     pub admitted : AreAdmitted most (cursor walk).pairs
 
   -- Its keys ascend too.

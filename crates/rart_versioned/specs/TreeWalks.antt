@@ -14,7 +14,7 @@ use Rattle.rart_maps.specs.Pairs.{pairs, under, within}
 use Rattle.rart_maps.specs.Versions.{Version, has_no_key}
 use Rattle.rart_node.specs.Counts.{Counts, CountsUpTo}
 use Rattle.rart_versioned.specs.VisitCounts.{node_count_to}
-use Rattle.rart_walks.specs.KeyPaths.{HoldsBytes}
+use Rattle.rart_walks.specs.KeyPaths.{HoldsBytes, extent_in_bytes}
 use Rattle.rart_walks.specs.WalkFields.{IsWalk, cursor, at_hand}
 use Rattle.rart_walks.specs.declared.walk.Walk.{Walk}
 
@@ -29,11 +29,11 @@ AreAdmitted most pairs = All (λ pair. IsAdmitted most (length pair.0)) pairs
 -- `most` is how long a key may be, and `partial` what is known of prefixes, which the type takes
 -- for a ghost field. One node at least is entered where the version has a key, and none is made.
 module _ {P V T E : Type 0} {partial : _} (holds : T → List (List ℕ) → Type 0)
-    (greatest most : Option ℕ) (v : Version V) (result : Result (Walk P V T partial) E)
-    (start now : Counts) where
+    (extent : List (List ℕ) → ℕ) (greatest most : Option ℕ) (v : Version V)
+    (result : Result (Walk P V T partial) E) (start now : Counts) where
   -- A walk over all pairs: one node is entered at most, and the walk has the others left.
   pub record WalksAll : Type 0 where
-    pub walk : IfOk result (IsWalk holds greatest)
+    pub walk : IfOk result (IsWalk holds extent greatest)
     pub pairs : IfOk result (λ walk. (cursor walk).pairs ≡ pairs v.content)
     pub admitted : IfOk result (λ walk. AreAdmitted most (cursor walk).pairs)
     pub nodes : IfOk result (λ walk. now.entered + length (cursor walk).paths
@@ -50,7 +50,7 @@ module _ {P V T E : Type 0} {partial : _} (holds : T → List (List ℕ) → Typ
   -- A walk over the pairs whose key a prefix begins: the nodes down to the prefix are entered, and
   -- the walk has left those below it, of which those up to a bound are few.
   pub record WalksUnder (prefix : List ℕ) : Type 0 where
-    pub walk : IfOk result (IsWalk holds greatest)
+    pub walk : IfOk result (IsWalk holds extent greatest)
     pub pairs : IfOk result (λ walk. (cursor walk).pairs ≡ under v.content prefix)
     pub admitted : IfOk result (λ walk. AreAdmitted most (cursor walk).pairs)
     pub nodes : IfOk result (λ walk. length prefix + 1 + length (cursor walk).paths
@@ -67,7 +67,7 @@ module _ {P V T E : Type 0} {partial : _} (holds : T → List (List ℕ) → Typ
   -- A walk over the pairs whose key meets a lower bound: the nodes down to the bound are entered,
   -- and of those that the walk has left the ones up to an upper bound are few.
   pub record WalksFrom (low : Bound (List ℕ)) : Type 0 where
-    pub walk : IfOk result (IsWalk holds greatest)
+    pub walk : IfOk result (IsWalk holds extent greatest)
     pub pairs : IfOk result (λ walk. (cursor walk).pairs
         ≡ filter (λ pair. is_from_start (as_partial_cmp byte_order) low pair.0) (pairs v.content))
     pub admitted : IfOk result (λ walk. AreAdmitted most (cursor walk).pairs)
@@ -82,8 +82,8 @@ module _ {P V T E : Type 0} {partial : _} (holds : T → List (List ℕ) → Typ
 -- known of prefixes, which the type takes for a ghost field.
 pub record AreWalks {P V : Type 0} {partial : _} (same : V → V → Bool)
     (most : Option ℕ) (v w : Version V) (old new : Walk P V (List ℕ) partial) : Type 0 where
-  pub old_walk : IsWalk HoldsBytes None old
-  pub new_walk : IsWalk HoldsBytes None new
+  pub old_walk : IsWalk HoldsBytes extent_in_bytes None old
+  pub new_walk : IsWalk HoldsBytes extent_in_bytes None new
   pub old_ascends : KeysAscend (λ pair. pair.0) (cursor old).pairs
   pub new_ascends : KeysAscend (λ pair. pair.0) (cursor new).pairs
   pub old_admitted : AreAdmitted most (cursor old).pairs

@@ -11,6 +11,7 @@ mod last;
 mod longest;
 mod lookup;
 pub(crate) mod missing;
+mod numbering;
 mod prefixes;
 mod remove;
 mod restoring;

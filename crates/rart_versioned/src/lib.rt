@@ -11,9 +11,9 @@ mod plain;
 
 pub use counted::{Missing, SortedError, VersionedAdaptiveRadixTree};
 pub use plain::{
-    InsertError, VersionedCursor, VersionedIter, VersionedPrefixMatchIter, VersionedRange,
-    VersionedRangeRev, VersionedRevIter, VersionedSliceRange, VersionedSliceRangeRev,
-    VersionedValuesIter, VersionedValuesRevIter,
+    InsertError, VersionedCursor, VersionedCursorRev, VersionedIter, VersionedPrefixMatchIter,
+    VersionedRange, VersionedRangeRev, VersionedRevIter, VersionedSliceRange,
+    VersionedSliceRangeRev, VersionedValuesIter, VersionedValuesRevIter,
 };
 pub use rart_below::{
     AdaptiveRadixTree, ArrPartial, ArrayKey, DirectMapping, IndexedMapping, KeyTrait,

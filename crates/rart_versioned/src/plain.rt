@@ -26,8 +26,8 @@ mod visitors_back;
 mod within;
 
 pub use iterators::{
-    VersionedCursor, VersionedIter, VersionedPrefixMatchIter, VersionedRange, VersionedRangeRev,
-    VersionedRevIter, VersionedSliceRange, VersionedSliceRangeRev, VersionedValuesIter,
-    VersionedValuesRevIter,
+    VersionedCursor, VersionedCursorRev, VersionedIter, VersionedPrefixMatchIter, VersionedRange,
+    VersionedRangeRev, VersionedRevIter, VersionedSliceRange, VersionedSliceRangeRev,
+    VersionedValuesIter, VersionedValuesRevIter,
 };
 pub use try_insert::InsertError;

@@ -19,7 +19,8 @@ impl<K: KeyTrait, V: Clone + Drop> VersionedAdaptiveRadixTree<K, V> {
         work: &mut Work,
     ) -> Result<Walk<'a, K::PartialType, V, T>, AllocError>
         requires { KeepsKeys T.greatest }
-        ensures { WalksAll T.holds T.greatest K.MAXIMUM_SIZE self.now result work.old work.new }
+        ensures { WalksAll T.holds T.extent T.greatest K.MAXIMUM_SIZE self.now result
+            work.old work.new }
     {
         match &self.root {
             None => Ok(Walk::new(self.alloc)),
@@ -39,7 +40,7 @@ impl<K: KeyTrait, V: Clone + Drop> VersionedAdaptiveRadixTree<K, V> {
         work: &mut Work,
     ) -> Result<Walk<'a, K::PartialType, V, T>, AllocError>
         requires { KeepsKeys T.greatest }
-        ensures { WalksUnder T.holds T.greatest K.MAXIMUM_SIZE self.now result
+        ensures { WalksUnder T.holds T.extent T.greatest K.MAXIMUM_SIZE self.now result
             work.old work.new prefix.now }
     {
         match &self.root {
@@ -59,7 +60,7 @@ impl<K: KeyTrait, V: Clone + Drop> VersionedAdaptiveRadixTree<K, V> {
         work: &mut Work,
     ) -> Result<Walk<'a, K::PartialType, V, T>, AllocError>
         requires { KeepsKeys T.greatest }
-        ensures { WalksFrom T.holds T.greatest K.MAXIMUM_SIZE self.now result
+        ensures { WalksFrom T.holds T.extent T.greatest K.MAXIMUM_SIZE self.now result
             work.old work.new (bound_map (λ low. low.now) low.entry) }
     {
         match &self.root {

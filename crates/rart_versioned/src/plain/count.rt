@@ -2,7 +2,7 @@
 //! How many keys there are, which no tree keeps: a walk over them.
 ghost use Rattle.std.specs.Prelude.{◌≡◌, ◌^◌, ◌<◌, None, IfOk, length};
 ghost use Rattle.rart_maps.specs.Pairs.{pairs, under};
-ghost use Rattle.rart_walks.specs.KeyPaths.{HoldsNothing};
+ghost use Rattle.rart_walks.specs.KeyPaths.{HoldsNothing, no_extent};
 ghost use Rattle.rart_walks.specs.WalkFields.{IsWalk, cursor};
 
 use crate::counted::VersionedAdaptiveRadixTree;
@@ -56,7 +56,7 @@ impl<K: KeyTrait, V: Clone + Drop> VersionedAdaptiveRadixTree<K, V> {
 
 /// How many pairs a walk has left, which it walks to its end.
 fn count_left<'a, P: Partial, V: Drop>(mut walk: Walk<'a, P, V, NoPath>) -> Result<u64, AllocError>
-    requires walk { IsWalk HoldsNothing None walk }
+    requires walk { IsWalk HoldsNothing no_extent None walk }
     requires few { length (cursor walk).pairs < 2 ^ 64 }
     ensures { IfOk result (λ count. count ≡ length (cursor walk.entry).pairs) }
 {

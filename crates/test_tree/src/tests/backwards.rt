@@ -156,3 +156,18 @@ fn some_pairs_come_from_the_last(rt: HostRuntime) -> Result<(), Fail> {
     );
     Ok(())
 }
+
+// Of the same, "abc" is the first behind "a", and the last before "abd".
+#[test]
+fn cursors_lend_keys(rt: HostRuntime) -> Result<(), Fail> {
+    let tree = four(&rt, rt.alloc())?;
+    let mut on = tree.cursor_from(Bound::Excluded(b"a"))?;
+    assert_eq!(rt; on.next_value()?.copied(), Some(2));
+    assert_eq!(rt; on.key(), b"abc".as_slice());
+    let mut back = tree.cursor_to(Bound::Excluded(b"abd"))?;
+    assert_eq!(rt; back.next_value()?.copied(), Some(2));
+    assert_eq!(rt; back.key(), b"abc".as_slice());
+    assert_eq!(rt; back.next_value()?.copied(), Some(1));
+    assert_eq!(rt; back.next_value()?.copied(), None);
+    Ok(())
+}

@@ -25,7 +25,7 @@ pub struct VersionedCursor<'a, P: Partial, V> {
 
 impl<'a, P: Partial, V> Model for VersionedCursor<'a, P, V> {
     ghost use Rattle.std.specs.Prelude.{None};
-    ghost use Rattle.rart_walks.specs.KeyPaths.{HoldsBytes};
+    ghost use Rattle.rart_walks.specs.KeyPaths.{HoldsBytes, extent_in_bytes};
     ghost use Rattle.rart_walks.specs.WalkFields.{IsWalk, cursor, path_to};
     ghost use Rattle.rart_versioned.specs.Cursors.{Cursor};
 
@@ -33,7 +33,7 @@ impl<'a, P: Partial, V> Model for VersionedCursor<'a, P, V> {
 
     ghost view = { λ way. record { key = path_to way.walk; left = (cursor way.walk).pairs } };
 
-    ghost invariant = { λ way. IsWalk HoldsBytes None way.walk };
+    ghost invariant = { λ way. IsWalk HoldsBytes extent_in_bytes None way.walk };
 }
 
 impl<K: KeyTrait, V: Clone + Drop> VersionedAdaptiveRadixTree<K, V> {

@@ -5,7 +5,7 @@ ghost use Rattle.rart_below.specs.Bytes.{IsAdmitted};
 ghost use Rattle.rart_maps.specs.Pairs.{pairs, under};
 ghost use Rattle.rart_node.specs.Trees.{pairs_of};
 ghost use Rattle.rart_versioned.specs.Iterators.{HasKeys, pairs_to_come};
-ghost use Rattle.rart_walks.specs.KeyPaths.{HoldsBytes};
+ghost use Rattle.rart_walks.specs.KeyPaths.{HoldsBytes, extent_in_bytes};
 ghost use Rattle.rart_walks.specs.WalkFields.{path_to, IsWalk};
 
 use crate::counted::VersionedAdaptiveRadixTree;
@@ -222,7 +222,7 @@ fn key_at<'a, K: KeyTrait, P: Partial, V: Drop>(
     alloc: Global,
     walk: &Walk<'a, P, V, BytesPath>,
 ) -> Result<K, AllocError>
-    requires walk { IsWalk HoldsBytes None walk.now }
+    requires walk { IsWalk HoldsBytes extent_in_bytes None walk.now }
     requires admitted { IsAdmitted K.MAXIMUM_SIZE (length (path_to walk.now)) }
     ensures { IfOk result (λ key. K.bytes key ≡ path_to walk.now) }
 {

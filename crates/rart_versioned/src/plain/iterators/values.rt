@@ -21,14 +21,14 @@ pub struct VersionedValuesIter<'a, P: Partial, V> {
 impl<'a, P: Partial, V> Model for VersionedValuesIter<'a, P, V> {
     ghost use Rattle.std.specs.Prelude.{List, Option, IfSome, None};
     ghost use Rattle.rart_walks.specs.WalkFields.{IsWalk};
-    ghost use Rattle.rart_walks.specs.KeyPaths.{HoldsNothing};
+    ghost use Rattle.rart_walks.specs.KeyPaths.{HoldsNothing, no_extent};
     ghost use Rattle.rart_versioned.specs.Iterators.{values_left};
 
     ghost Value = { Option (List V) };
 
     ghost view = { λ iter. values_left iter.walk };
 
-    ghost invariant = { λ iter. IfSome iter.walk (IsWalk HoldsNothing None) };
+    ghost invariant = { λ iter. IfSome iter.walk (IsWalk HoldsNothing no_extent None) };
 }
 
 impl<K: KeyTrait, V: Clone + Drop> VersionedAdaptiveRadixTree<K, V> {

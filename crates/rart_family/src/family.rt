@@ -65,6 +65,16 @@ impl<K: KeyTrait, V: Clone + Drop> Family<K, V> {
         }
     }
 
+    /// The family of these places, each a version or discarded.
+    pub fn from_versions(
+        alloc: Global,
+        versions: Vec<Option<VersionedAdaptiveRadixTree<K, V>>>,
+    ) -> Family<K, V>
+        ensures { result ≡ versions.items }
+    {
+        Family { alloc, versions }
+    }
+
     /// The number of places, discarded ones too.
     pub fn len(&self) -> usize
         ensures { result ≡ length self.now }

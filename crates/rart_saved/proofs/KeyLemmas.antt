@@ -1,13 +1,14 @@
 -- Keys by what they have in common with the one before.
-use Rattle.std.proofs.Common.{◌≡◌, ◌≢◌, ◌+◌, ◌-◌, ◌<◌, ◌≤◌, ◌^◌, ◌⊎◌, ℕ, zero, suc, Bool, true, false, List, [], ◌∷◌, ◌++◌, length, take, drop, get_or, refl, sym, ap, subst, ◌∙◌, ⊎_elim, inl, inr, append_assoc, arith}
+use Rattle.std.proofs.Common.{◌≡◌, ◌≢◌, ◌+◌, ◌-◌, ◌<◌, ◌≤◌, ◌^◌, ◌⊎◌, ℕ, zero, suc, Bool, true, false, List, [], ◌∷◌, ◌++◌, length, take, drop, get_or, Option, Some, None, refl, sym, ap, subst, ◌∙◌, ⊎_elim, inl, inr, append_assoc, arith}
 use Rattle.std.specs.Prelude.{◌==◌, if◌then◌else◌}
 use Rattle.std.proofs.lemmas.Bool.{eqb-true, eq-eqb, false≢true}
 use Rattle.std.proofs.lemmas.List.{length-append, length-drop, length-take-le}
+use Rattle.std.proofs.Math.Nat.{min-le_left, min-le_right}
 use Rattle.std.proofs.Math.Seq.{drop-append_seam}
-use Rattle.rart_below.specs.Bytes.{common_length}
+use Rattle.rart_below.specs.Bytes.{IsAdmitted, common_length}
 use Rattle.rart_maps.specs.Order.{IsBefore}
 use Rattle.rart_saved.specs.Forms.{key_form}
-use Rattle.rart_saved.specs.Keys.{Follows, IsNext, LacksKey}
+use Rattle.rart_saved.specs.Keys.{Follows, IsNext, LacksKey, narrowed}
 use Rattle.rart_saved.specs.Numbers.{leb, LacksNumber}
 use Rattle.rart_saved.specs.Parts.{HasPart}
 use Rattle.rart_saved.proofs.PartLemmas.{part-join}
@@ -298,3 +299,22 @@ key-written before key one two three four shared is first second third =
     (append_assoc one (leb shared) (leb (length key - shared)))
     ∙ append_assoc one (leb shared ++ leb (length key - shared)) (drop shared key)
     ∙ ap (λ n. one ++ (leb n ++ leb (length key - n) ++ drop n key)) is
+
+-- What is within the lesser of two limits is within both.
+pub narrowed-both : (longest most : Option ℕ) (n : ℕ) → IsAdmitted (narrowed longest most) n
+    → IsAdmitted longest n × IsAdmitted most n
+narrowed-both None None n is = (tt, tt)
+narrowed-both None (Some most) n is = (tt, is)
+narrowed-both (Some longest) None n is = (is, tt)
+narrowed-both (Some longest) (Some most) n is = (
+  omega (arith, is, min-le_left longest most),
+  omega (arith, is, min-le_right longest most),
+)
+
+-- What is within both is within the lesser.
+pub both-narrowed : (longest most : Option ℕ) (n : ℕ) → IsAdmitted longest n → IsAdmitted most n
+    → IsAdmitted (narrowed longest most) n
+both-narrowed None None n one other = tt
+both-narrowed None (Some most) n one other = other
+both-narrowed (Some longest) None n one other = one
+both-narrowed (Some longest) (Some most) n one other = omega (arith, one, other)

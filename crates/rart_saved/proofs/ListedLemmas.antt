@@ -1,10 +1,12 @@
 -- Pairs behind a start and their count, closed by the sum of all.
-use Rattle.std.proofs.Common.{◌≡◌, ◌+◌, ◌<◌, ◌≤◌, ℕ, Bool, true, List, [], ◌∷◌, ◌++◌, length, take, drop, Option, refl, sym, ap, subst, ◌∙◌, append_assoc, append-nil, arith}
+use Rattle.std.proofs.Common.{◌≡◌, ◌≢◌, ◌+◌, ◌<◌, ◌≤◌, ℕ, Bool, true, List, [], ◌∷◌, ◌++◌, length, take, drop, Option, refl, sym, ap, subst, ◌∙◌, append_assoc, append-nil, arith}
 use Rattle.std.specs.Prelude.{◌==◌, Contains}
 use Rattle.std.proofs.lemmas.Bool.{eqb-true, eq-eqb}
 use Rattle.std.proofs.lemmas.List.{append_cancel_left, length-append}
 use Rattle.sha2.specs.Sha256.{sha256}
+use Rattle.rart_maps.specs.FoundLaws.{KeysAscend}
 use Rattle.rart_maps.proofs.ElementLemmas.{Contains-here, Contains-later}
+use Rattle.rart_versioned.specs.Keys.{IsKeyLength}
 use Rattle.rart_saved.specs.ChangeLoads.{LacksEntries}
 use Rattle.rart_saved.specs.Forms.{entry, entries}
 use Rattle.rart_saved.specs.Keys.{IsNext}
@@ -99,7 +101,7 @@ module _ {V : Type 0} (written : V → List ℕ) where
   -- ---- no form begins another, and none is where a part of it was refused
 
   module _ (apart : (x y : V) (r s : List ℕ) → written x ++ r ≡ written y ++ s → x ≡ y) where
-    same-entries : (one other : List (List ℕ × V)) (r s : List ℕ) → length one ≡ length other
+    pub same-entries : (one other : List (List ℕ × V)) (r s : List ℕ) → length one ≡ length other
         → entries written [] one ++ r ≡ entries written [] other ++ s → (one ≡ other) × (r ≡ s)
     unfolding entries
     same-entries one other r s long same =
@@ -124,14 +126,19 @@ module _ {V : Type 0} (written : V → List ℕ) where
               (ap (λ l. closed start l ++ r) (sym is) ∙ same),
         )
 
-    -- Where no next pair has its form, no list of more has its form.
-    pub lacks-entries : (most : Option ℕ) (bytes : List ℕ) (at end i count : ℕ) (key : List ℕ)
-        (list : List (List ℕ × V)) (f : Bool) → IsRead bytes at end i key list → i < count
-        → (list ≡ [] → f ≡ true) → LacksPair written most f key (drop end bytes)
-        → LacksEntries written most count (drop at bytes)
+    -- Where no next pair that is admitted has its form, no list of more of these has its form.
+    pub lacks-admitted : (Admits : List ℕ × V → Type 0) (bytes : List ℕ) (at end i count : ℕ)
+        (key : List ℕ) (list : List (List ℕ × V)) (f : Bool) → IsRead bytes at end i key list
+        → i < count → (list ≡ [] → f ≡ true)
+        → ((pair : List ℕ × V) (rest : List ℕ) → IsNext f key pair.0 → Admits pair
+        → drop end bytes ≢ entry written key pair ++ rest)
+        → (all : List (List ℕ × V)) (rest : List ℕ) → length all ≡ count
+        → KeysAscend (λ pair. pair.0) all
+        → ((pair : List ℕ × V) → Contains all pair → Admits pair)
+        → drop at bytes ≢ entries written [] all ++ rest
     unfolding entries
-    lacks-entries most bytes at end i count key list f is less first lacks all rest long ascends
-        lengths stands =
+    lacks-admitted Admits bytes at end i count key list f is less first lacks all rest long
+        ascends admits stands =
         let front =
         entries-front written apart [] list all _ rest (sym is.part.stands ∙ stands)
         (omega (arith, less, is.count, long)) in
@@ -142,15 +149,24 @@ module _ {V : Type 0} (written : V → List ℕ) where
         goes_on [] whole ends =
             omega (arith, less, is.count, long, ap length whole, length-append list [])
         goes_on (pair ∷ later) whole ends =
-            lacks pair.0 pair.1 (entries written pair.0 later ++ rest)
+            lacks pair (entries written pair.0 later ++ rest)
             (subst (λ k. IsNext f k pair.0) (sym is.last)
             (chain-seam f list later pair
             (subst (λ ps. IsChain true [] ps) whole (chain-from all ascends)) first))
-            (lengths pair (subst (λ ps. Contains ps pair) (sym whole)
+            (admits pair (subst (λ ps. Contains ps pair) (sym whole)
             (contains-seam list later pair)))
             (ends ∙ append_assoc _ (entries written pair.0 later) rest
             ∙ ap (λ k. entry written k pair ++ (entries written pair.0 later ++ rest)) (sym
             is.last))
+
+    -- The same of keys of at most this length.
+    pub lacks-entries : (most : Option ℕ) (bytes : List ℕ) (at end i count : ℕ) (key : List ℕ)
+        (list : List (List ℕ × V)) (f : Bool) → IsRead bytes at end i key list → i < count
+        → (list ≡ [] → f ≡ true) → LacksPair written most f key (drop end bytes)
+        → LacksEntries written most count (drop at bytes)
+    lacks-entries most bytes at end i count key list f is less first lacks =
+        lacks-admitted (λ pair. IsKeyLength most (length pair.0)) bytes at end i count key list f is
+        less first (λ pair rest next long. lacks pair.0 pair.1 rest next long)
 
   module _ (start : List ℕ) (list : List (List ℕ × V)) (bytes : List ℕ)
       (stands : bytes ≡ closed start list) where

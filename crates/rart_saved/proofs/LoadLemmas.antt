@@ -1,24 +1,27 @@
 -- Pairs that are read one by one.
-use Rattle.std.proofs.Common.{◌≡◌, ◌≢◌, ◌+◌, ◌<◌, ◌≤◌, ℕ, Bool, true, false, List, [], ◌∷◌, ◌++◌, length, drop, Option, Result, Ok, Err, refl, sym, ap, subst, ◌∙◌, ⊎_elim, append_assoc, arith}
+use Rattle.std.proofs.Common.{◌≡◌, ◌≢◌, ◌+◌, ◌<◌, ◌≤◌, ℕ, Bool, true, false, List, [], ◌∷◌, ◌++◌, length, drop, cond, Option, Some, None, Result, Ok, Err, refl, sym, ap, subst, ◌∙◌, ⊎_elim, append_assoc, arith}
 use Rattle.std.specs.Prelude.{Contains, is_some}
 use Rattle.std.specs.Result.{IsErrAnd}
 use Rattle.std.specs.Cmp.Lexicographic.{nat_list_cmp_total}
 use Rattle.std.specs.FinMap as finite
+use Rattle.std.specs.Ordering.{eq_by_cmp}
 use Rattle.std.specs.FinMap.Entries.{put, by_order}
-use Rattle.std.proofs.lemmas.Bool.{eqb-true, eq-eqb}
+use Rattle.std.proofs.lemmas.Bool.{eqb-true, eq-eqb, false≢true}
 use Rattle.std.proofs.lemmas.List.{length-append}
-use Rattle.rart_below.specs.Bytes.{byte_order}
+use Rattle.rart_below.specs.Bytes.{IsAdmitted, byte_order}
+use Rattle.rart_maps.specs.Lookups.{with_value}
 use Rattle.rart_maps.specs.Order.{IsBefore}
 use Rattle.rart_maps.specs.Pairs.{pairs}
-use Rattle.rart_maps.specs.Versions.{Version, has_no_key, with_key}
+use Rattle.rart_maps.specs.Versions.{Map, Version, has_no_key, value_at, with_key}
 use Rattle.rart_maps.proofs.ElementLemmas.{Contains-here, Contains-later}
 use Rattle.rart_maps.proofs.FoundLemmas.{pairs_are_found, pairs_ascend_by_key}
 use Rattle.rart_maps.proofs.OrderLemmas.{order_is_of_first_difference}
+use Rattle.rart_maps.proofs.VersionLemmas.{same_key}
 use Rattle.rart_saved.specs.declared.error.LoadError.{LoadError}
 use Rattle.rart_saved.specs.declared.error.LoadError.TheVariants.{Memory}
 use Rattle.rart_saved.specs.Forms.{key_form, entry, entries}
 use Rattle.rart_saved.specs.Keys.{IsNext}
-use Rattle.rart_saved.specs.Loads.{LacksPair, LacksPairs}
+use Rattle.rart_saved.specs.Loads.{HasKeysWithin, LacksPair, LacksPairs}
 use Rattle.rart_saved.specs.Parts.{HasPart}
 use Rattle.rart_saved.specs.Refusals.{OnOtherErr}
 use Rattle.rart_saved.proofs.EntryLemmas.{last_key, IsChain, before-trans, behind, last_key-next, chain-from, chain-seam, entries-front, entries-next}
@@ -170,6 +173,37 @@ module _ {V : Type 0} where
             ∙ sym (ap (entries written []) grown))
             (part-join bytes at end end' _ _ is.part part);
       }
+
+  -- No key is longer than a limit.
+  pub within-none : (longest : Option ℕ) (v : Version V) → v.content ≡ finite.empty
+      → HasKeysWithin longest v
+  within-none longest v empty key there =
+      absurd (false≢true (sym (ap is_some (ap (λ m. finite.get m key) empty
+      ∙ finite.get-empty {X = V} byte_order key)) ∙ there))
+
+  pub within-same : (longest : Option ℕ) (v v' : Version V) → v.content ≡ v'.content
+      → HasKeysWithin longest v → HasKeysWithin longest v'
+  within-same longest v v' same within key there =
+      within key (ap (λ m. finite.contains_key m key) same ∙ there)
+
+  get-set : (m : Map V) (key : List ℕ) (x : Option V) (other : List ℕ)
+      → finite.get (with_value m key x) other
+      ≡ cond (eq_by_cmp byte_order other key) x (finite.get m other)
+  get-set m key None other = finite.get-remove nat_list_cmp_total m key other
+  get-set m key (Some x) other = finite.get-insert nat_list_cmp_total m key x other
+
+  pub within-set : (longest : Option ℕ) (v v' : Version V) (key : List ℕ) (x : Option V)
+      → HasKeysWithin longest v → v'.content ≡ with_value v.content key x
+      → IsAdmitted longest (length key) → HasKeysWithin longest v'
+  within-set longest v v' key x within set short other there =
+      elim (eq_by_cmp byte_order other key) as (λ t. eq_by_cmp byte_order other key ≡ t
+      → IsAdmitted longest (length other)) [
+        | true ↦ λ same.
+            subst (λ k. IsAdmitted longest (length k)) (sym (same_key other key same)) short
+        | false ↦ λ apart. within other
+            (sym (ap is_some (ap (λ m. finite.get m other) set ∙ get-set v.content key x other
+            ∙ ap (λ t. cond t x (value_at v other)) apart)) ∙ there)
+      ] refl
 
   contains-seam : (done later : List (List ℕ × V)) (pair : List ℕ × V)
       → Contains (done ++ pair ∷ later) pair

@@ -10,8 +10,8 @@ use Rattle.rart_maps.specs.Pairs.{pairs}
 use Rattle.rart_maps.specs.Versions.{Version}
 use Rattle.rart_saved.specs.Forms.{head, entries, body, saved}
 use Rattle.rart_saved.specs.declared.error.LoadError.{LoadError}
-use Rattle.rart_saved.specs.declared.error.LoadError.TheVariants.{Io, Memory, Truncated, Malformed, Checksum, Unsupported}
-use Rattle.rart_saved.specs.Loads.{LacksVersion, GivesBack, GivesBackUnlessIo}
+use Rattle.rart_saved.specs.declared.error.LoadError.TheVariants.{Io, Memory, Truncated, Malformed, TooLong, Checksum, Unsupported}
+use Rattle.rart_saved.specs.Loads.{GivesBack, GivesBackUnlessIo, LacksVersion}
 use Rattle.rart_saved.specs.Refusals.{OnOtherErr}
 use Rattle.rart_saved.specs.Laws.{leb-apart}
 use Rattle.rart_saved.specs.Numbers.{leb}
@@ -223,6 +223,7 @@ is_memory Memory = true
 is_memory Io = false
 is_memory Truncated = false
 is_memory (Malformed at) = false
+is_memory (TooLong at) = false
 is_memory Checksum = false
 is_memory (Unsupported format) = false
 
@@ -233,8 +234,13 @@ memory_alone Memory never = refl
 memory_alone Io never = absurd (never (λ is. false≢true (ap is_memory is)))
 memory_alone Truncated never = absurd (never (λ is. false≢true (ap is_memory is)))
 memory_alone (Malformed at) never = absurd (never (λ is. false≢true (ap is_memory is)))
+memory_alone (TooLong at) never = absurd (never (λ is. false≢true (ap is_memory is)))
 memory_alone Checksum never = absurd (never (λ is. false≢true (ap is_memory is)))
 memory_alone (Unsupported format) never = absurd (never (λ is. false≢true (ap is_memory is)))
+
+pub too_long-other : (at : ℕ) → TooLong at ≢ Memory
+unfolding is_memory
+too_long-other at is = false≢true (ap is_memory is)
 
 module _ {V : Type 0} (written : V → List ℕ)
     (apart : (x y : V) (r s : List ℕ) → written x ++ r ≡ written y ++ s → x ≡ y)

@@ -1,9 +1,15 @@
 -- Which keys may stand behind which.
-use Rattle.std.specs.Prelude.{◌≡◌, ◌≢◌, ◌≤◌, ◌⊎◌, ◌++◌, ℕ, Bool, true, List, Option, take, length}
+use Rattle.std.specs.Prelude.{◌≡◌, ◌≢◌, ◌≤◌, ◌⊎◌, ◌++◌, ℕ, Bool, true, List, Option, Some, None, min, take, length}
 use Rattle.rart_below.specs.Bytes.{common_length}
 use Rattle.rart_maps.specs.Order.{IsBefore}
 use Rattle.rart_versioned.specs.Keys.{IsKeyLength}
 use Rattle.rart_saved.specs.Forms.{key_form}
+
+-- the lesser of a limit on the length of keys, if there is one, and that of their type
+abbrev pub narrowed : Option ℕ → Option ℕ → Option ℕ
+narrowed None most = most
+narrowed (Some longest) None = Some longest
+narrowed (Some longest) (Some most) = Some (min longest most)
 
 -- The key is the first, or the one before it stands before it.
 abbrev pub IsNext : Bool → List ℕ → List ℕ → Type 0

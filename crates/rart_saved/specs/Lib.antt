@@ -1,6 +1,10 @@
 pub mod ChangeFormLaws
 pub mod ChangeForms
 pub mod ChangeLoads
+pub mod FamilyFormLaws
+pub mod FamilyForms
+pub mod FamilyLoads
+pub mod Fills
 pub mod Forms
 pub mod Keys
 pub mod Laws
@@ -10,4 +14,5 @@ pub mod Parts
 pub mod Refusals
 pub mod SavedLaws
 pub mod Values
+pub mod WorkedFamilies
 pub mod WorkedForms

@@ -8,7 +8,8 @@ pub enum LoadError {
     /// Reading failed.
     #[error("reading failed")]
     Io,
-    /// Memory was refused. Only with this error, or `Io`, may the bytes be what was to be read.
+    /// Memory was refused. Only with this error, `Io` or `TooLong` may the bytes be what was to be
+    /// read.
     #[error("out of memory")]
     Memory,
     /// The bytes end too early.
@@ -19,6 +20,10 @@ pub enum LoadError {
     /// behind the end.
     #[error("what begins at byte {at} stands in no form")]
     Malformed { at: usize },
+    /// The key whose form begins at that byte is longer than a key may be by the limit that was
+    /// given. Without one it never comes.
+    #[error("the key at byte {at} is too long")]
+    TooLong { at: usize },
     /// The sum at the end is not that of the bytes before it.
     #[error("the checksum is another one")]
     Checksum,

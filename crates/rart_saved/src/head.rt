@@ -1,8 +1,10 @@
 //! The head of each file.
 ghost use Rattle.std.specs.Prelude.{◌≡◌, ◌≢◌, ◌++◌, ℕ, List, IfErr, IfOk};
 ghost use Rattle.rart_saved.specs.ChangeForms.{changes_head};
+ghost use Rattle.rart_saved.specs.FamilyForms.{family_head};
 ghost use Rattle.rart_saved.specs.Forms.{head};
 ghost use Rattle.rart_saved.specs.Parts.{HasPart};
+ghost use Rattle.rart_saved.specs.Refusals.{PointsInto};
 
 use crate::error::LoadError;
 use crate::keys::shared_length;
@@ -24,10 +26,18 @@ pub(crate) fn changes_head_of(kind: u8) -> [u8; 9]
     [b'c', b'h', b'a', b'n', b'g', b'e', b's', FORMAT, kind]
 }
 
+/// Of a family, the same with a third name.
+pub(crate) fn family_head_of(kind: u8) -> [u8; 9]
+    ensures { result ≡ family_head kind }
+{
+    [b'l', b'i', b'n', b'e', b'a', b'g', b'e', FORMAT, kind]
+}
+
 /// The place behind a head, where the bytes begin with it.
 pub(crate) fn take_head(bytes: &[u8], head: &[u8; 9]) -> Result<usize, LoadError>
     ensures read { IfOk result (λ end. HasPart bytes.now 0 head.now end) }
     ensures refused { IfErr result (λ _. (rest : List ℕ) → bytes.now ≢ head.now ++ rest) }
+    ensures place { IfErr result (PointsInto bytes.now) }
 {
     let shared = shared_length(head, bytes);
     if shared == 9 {

@@ -1,10 +1,10 @@
 //! Keys as bytes: each by what it has in common with the one before.
-ghost use Rattle.std.specs.Prelude.{◌≡◌, ◌≢◌, ◌↔◌, ◌≤◌, ◌++◌, ℕ, List, [], true, false, drop, length, IfOk, IsTrue, OnOk};
+ghost use Rattle.std.specs.Prelude.{◌≡◌, ◌≢◌, ◌↔◌, ◌≤◌, ◌++◌, ◌<◌, ℕ, List, [], true, false, drop, length, IfErr, IfOk, IsTrue, OnOk};
 ghost use Rattle.rart_below.specs.Bytes.{IsAdmitted, common_length};
 ghost use Rattle.rart_saved.specs.Forms.{key_form};
 ghost use Rattle.rart_saved.specs.Keys.{Follows, IsNext, LacksAdmittedKey, LacksKey};
 ghost use Rattle.rart_saved.specs.Parts.{HasPart};
-ghost use Rattle.rart_saved.specs.Refusals.{OnOtherErr};
+ghost use Rattle.rart_saved.specs.Refusals.{OnErrWithin, OnOtherErr, PointsInto};
 
 use crate::error::LoadError;
 use crate::numbers::{number_at, put_number};
@@ -54,6 +54,8 @@ pub(crate) fn take_key(
         (key_form key.old.items key.new.items) end) }
     ensures next { OnOk result (IsNext is_first key.old.items key.new.items) }
     ensures refused { OnOtherErr result (LacksKey is_first key.old.items (drop at bytes.now)) }
+    ensures place { IfErr result (PointsInto bytes.now) }
+    ensures moves { IfOk result (λ end. at < end) }
 {
     let (shared, from) = number_at(bytes, at)?;
     let (count, from) = number_at(bytes, from)?;
@@ -84,21 +86,50 @@ pub(crate) fn take_admitted_key<K: KeyTrait>(
     ensures admitted { OnOk result (IsAdmitted K.MAXIMUM_SIZE (length key.new.items)) }
     ensures refused { OnOtherErr result
         (LacksAdmittedKey K.MAXIMUM_SIZE is_first key.old.items (drop at bytes.now)) }
+    ensures place { IfErr result (PointsInto bytes.now) }
+    ensures moves { IfOk result (λ end. at < end) }
 {
     let end = take_key(bytes, at, is_first, key)?;
-    if !is_admitted::<K>(key) {
+    if !is_within(K::MAXIMUM_SIZE, key) {
         return Err(LoadError::Malformed { at });
     }
     Ok(end)
 }
 
-/// Whether a key may be as long as this one.
-fn is_admitted<K: KeyTrait>(key: &[u8]) -> bool
-    ensures { IsTrue result ↔ IsAdmitted K.MAXIMUM_SIZE (length key.now) }
+/// As `take_admitted_key`, where there is a limit too.
+pub(crate) fn take_key_within<K: KeyTrait>(
+    bytes: &[u8],
+    at: usize,
+    longest: Option<usize>,
+    is_first: bool,
+    key: &mut Vec<u8>,
+) -> Result<usize, LoadError>
+    requires place { at ≤ length bytes.now }
+    requires first { is_first ≡ true → key.old.items ≡ [] }
+    ensures read { IfOk result (λ end. HasPart bytes.now at
+        (key_form key.old.items key.new.items) end) }
+    ensures next { OnOk result (IsNext is_first key.old.items key.new.items) }
+    ensures admitted { OnOk result (IsAdmitted K.MAXIMUM_SIZE (length key.new.items)) }
+    ensures short { OnOk result (IsAdmitted longest (length key.new.items)) }
+    ensures refused { OnErrWithin longest K.MAXIMUM_SIZE result
+        (λ most. LacksAdmittedKey most is_first key.old.items (drop at bytes.now)) }
+    ensures place { IfErr result (PointsInto bytes.now) }
+    ensures moves { IfOk result (λ end. at < end) }
 {
-    match K::MAXIMUM_SIZE {
+    let end = take_admitted_key::<K>(bytes, at, is_first, key)?;
+    if !is_within(longest, key) {
+        return Err(LoadError::TooLong { at });
+    }
+    Ok(end)
+}
+
+/// Whether a key is no longer than a limit, if there is one.
+fn is_within(longest: Option<usize>, key: &[u8]) -> bool
+    ensures { IsTrue result ↔ IsAdmitted longest (length key.now) }
+{
+    match longest {
         None => true,
-        Some(most) => key.len() <= most,
+        Some(longest) => key.len() <= longest,
     }
 }
 

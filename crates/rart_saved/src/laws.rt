@@ -10,6 +10,8 @@ ghost use Rattle.rart_saved.specs.SavedLaws.{FormsAreOfOne, FormsStandApart};
 ghost use Rattle.rart_saved.specs.declared.error.LoadError.TheVariants.{Io, Memory};
 ghost use Rattle.rart_saved.specs.WorkedForms.{NumberOfOneByte, NumberOfTwoBytes, GreatestNumber, NumberAsValue, EmptyVersion, GreatestVersion, EmptyKey, KeysInKeys, SumBehind};
 
+mod families;
+
 use crate::changes::loading::load_changes_slice;
 use crate::changes::saving::save_changes_slice;
 use crate::error::LoadError;
@@ -17,6 +19,10 @@ use crate::loading::load_slice;
 use crate::saving::save_slice;
 use crate::streams::{load, load_changes};
 use crate::value::SavedValue;
+pub use families::{
+    families_are_given_back, families_are_given_back_by_streams, families_are_of_trees,
+    family_forms_stand_apart, worked_family_forms,
+};
 use rart_changes::KeyChange;
 use rart_versioned::{KeyTrait, VersionedAdaptiveRadixTree};
 use std::alloc::Global;

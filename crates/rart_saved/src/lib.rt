@@ -1,11 +1,15 @@
-//! Versions and lists of changes as bytes: each has one form, and is what is read only where the
-//! bytes are its form.
+//! Versions, lists of changes and families of versions as bytes: each has one form, and is what is
+//! read only where the bytes are its form.
 #![tactic(auto)]
 
 #[cfg(test)]
 mod change_tests;
 mod changes;
 mod error;
+mod families;
+#[cfg(test)]
+mod family_tests;
+mod filling;
 mod head;
 mod keys;
 pub mod laws;
@@ -20,7 +24,10 @@ mod value;
 pub use changes::loading::load_changes_slice;
 pub use changes::saving::save_changes_slice;
 pub use error::{LoadError, SaveError};
-pub use loading::load_slice;
+pub use families::loading::{load_family_slice, load_family_slice_within};
+pub use families::saving::save_family_slice;
+pub use filling::{save_into, saved_len};
+pub use loading::{load_slice, load_slice_within};
 pub use saving::save_slice;
-pub use streams::{load, load_changes, save, save_changes};
-pub use value::{ByteString, SavedValue};
+pub use streams::{load, load_changes, load_family, save, save_changes, save_family};
+pub use value::{ByteString, SavedValue, put_sized, sized_at};

@@ -1,19 +1,20 @@
 //! Bytes are read as a version.
-ghost use Rattle.std.specs.Prelude.{◌≡◌, ◌≢◌, ◌↔◌, ◌+◌, ◌≤◌, [], ◌∷◌, ◌++◌, IfOk, IsTrue, OnErr, OnOk, drop, length, take, true};
+ghost use Rattle.std.specs.Prelude.{◌≡◌, ◌≢◌, ◌↔◌, ◌+◌, ◌≤◌, [], ◌∷◌, ◌++◌, Some, IfErr, IfOk, IsTrue, OnErr, OnOk, drop, length, take, true};
 ghost use Rattle.std.specs.FinMap as finite;
 ghost use Rattle.sha2.specs.Sha256.{sha256};
+ghost use Rattle.rart_below.specs.Bytes.{IsAdmitted};
 ghost use Rattle.rart_below.specs.Clones.{ClonesEqual};
 ghost use Rattle.rart_maps.specs.Pairs.{pairs};
 ghost use Rattle.rart_maps.specs.Versions.{HasRoom, has_no_key, with_key};
 ghost use Rattle.rart_saved.specs.Forms.{entries, entry, saved};
 ghost use Rattle.rart_saved.specs.Keys.{IsNext};
-ghost use Rattle.rart_saved.specs.Loads.{GivesBack, LacksPair, LacksPairs, LacksVersion};
+ghost use Rattle.rart_saved.specs.Loads.{GivesBack, GivesBackWithin, HasKeysWithin, LacksPair, LacksPairs, LacksVersion};
 ghost use Rattle.rart_saved.specs.Parts.{HasPart};
-ghost use Rattle.rart_saved.specs.Refusals.{OnOtherErr};
+ghost use Rattle.rart_saved.specs.Refusals.{OnErrWithin, PointsInto};
 
 use crate::error::LoadError;
 use crate::head::{head_of, take_head};
-use crate::keys::take_admitted_key;
+use crate::keys::take_key_within;
 use crate::numbers::number_at;
 use crate::value::SavedValue;
 use rart_versioned::{KeyTrait, VersionedAdaptiveRadixTree};
@@ -36,19 +37,52 @@ pub fn load_slice<K: KeyTrait, V: SavedValue>(
     requires clones { ClonesEqual V.is_clone }
     ensures read { IfOk result (λ tree. bytes.now ≡ saved V.written V.KIND tree) }
     ensures gives_back { GivesBack V.written V.KIND K.MAXIMUM_SIZE result bytes.now }
+    ensures place { IfErr result (PointsInto bytes.now) }
 {
-    read_version(alloc, bytes)
+    match read_version(alloc, bytes, None) {
+        Ok((tree, _count)) => Ok(tree),
+        Err(error) => Err(error),
+    }
 }
 
-/// The same. Refused for another reason than memory, the bytes are no version's.
+/// As `load_slice`, where no key is longer than a limit, and gives how many keys there are too.
+///
+/// ```
+/// let (prices, count) = load_slice_within::<VectorKey, u64>(alloc, bytes, 64)?;
+/// ```
+///
+/// `TooLong` comes at the first key that is longer: of a version's bytes no other error does but
+/// `Memory`. So what is read of a stranger's bytes takes stack by the limit alone.
+pub fn load_slice_within<K: KeyTrait, V: SavedValue>(
+    alloc: Global,
+    bytes: &[u8],
+    longest: usize,
+) -> Result<(VersionedAdaptiveRadixTree<K, V>, u64), LoadError>
+    requires clones { ClonesEqual V.is_clone }
+    ensures read { IfOk result (λ found. bytes.now ≡ saved V.written V.KIND found.0) }
+    ensures count { IfOk result (λ found. found.1 ≡ finite.len found.0.content) }
+    ensures short { IfOk result (λ found. HasKeysWithin (Some longest) found.0) }
+    ensures gives_back { GivesBackWithin V.written V.KIND (Some longest) K.MAXIMUM_SIZE result
+        bytes.now }
+    ensures place { IfErr result (PointsInto bytes.now) }
+{
+    read_version(alloc, bytes, Some(longest))
+}
+
+/// The same, where there is a limit. Refused for another reason than memory, the bytes are no such
+/// version's.
 fn read_version<K: KeyTrait, V: SavedValue>(
     alloc: Global,
     bytes: &[u8],
-) -> Result<VersionedAdaptiveRadixTree<K, V>, LoadError>
+    longest: Option<usize>,
+) -> Result<(VersionedAdaptiveRadixTree<K, V>, u64), LoadError>
     requires clones { ClonesEqual V.is_clone }
-    ensures read { IfOk result (λ tree. bytes.now ≡ saved V.written V.KIND tree) }
-    ensures refused { OnOtherErr result
-        (LacksVersion V.written V.KIND K.MAXIMUM_SIZE bytes.now) }
+    ensures read { IfOk result (λ found. bytes.now ≡ saved V.written V.KIND found.0) }
+    ensures count { IfOk result (λ found. found.1 ≡ finite.len found.0.content) }
+    ensures short { IfOk result (λ found. HasKeysWithin longest found.0) }
+    ensures refused { OnErrWithin longest K.MAXIMUM_SIZE result
+        (λ most. LacksVersion V.written V.KIND most bytes.now) }
+    ensures place { IfErr result (PointsInto bytes.now) }
 {
     let at = take_head(bytes, &head_of(V::KIND))?;
     let (number, at) = number_at(bytes, at)?;
@@ -57,9 +91,9 @@ fn read_version<K: KeyTrait, V: SavedValue>(
         return Err(LoadError::Malformed { at });
     }
     let mut tree = VersionedAdaptiveRadixTree::new_at(alloc, number - count);
-    let end = take_pairs(alloc, bytes, from, count, &mut tree)?;
+    let end = take_pairs(alloc, bytes, from, count, longest, &mut tree)?;
     check_sum(bytes, end)?;
-    Ok(tree)
+    Ok((tree, count))
 }
 
 /// Puts so many pairs, whose forms begin at a place, into an empty tree, and gives the place behind
@@ -69,6 +103,7 @@ fn take_pairs<K: KeyTrait, V: SavedValue>(
     bytes: &[u8],
     at: usize,
     count: u64,
+    longest: Option<usize>,
     tree: &mut VersionedAdaptiveRadixTree<K, V>,
 ) -> Result<usize, LoadError>
     requires clones { ClonesEqual V.is_clone }
@@ -79,13 +114,15 @@ fn take_pairs<K: KeyTrait, V: SavedValue>(
         (entries V.written [] (pairs tree.new.content)) end) }
     ensures count { OnOk result (finite.len tree.new.content ≡ count) }
     ensures number { OnOk result (tree.new.number ≡ tree.old.number + count) }
-    ensures refused { OnOtherErr result
-        (LacksPairs V.written K.MAXIMUM_SIZE count (drop at bytes.now)) }
+    ensures short { OnOk result (HasKeysWithin longest tree.new) }
+    ensures refused { OnErrWithin longest K.MAXIMUM_SIZE result
+        (λ most. LacksPairs V.written most count (drop at bytes.now)) }
+    ensures place { IfErr result (PointsInto bytes.now) }
 {
     let mut key = Vec::new(alloc);
     let mut end = at;
     'taking: for _done in 0..count {
-        end = take_pair(alloc, bytes, end, &mut key, tree)?;
+        end = take_pair(alloc, bytes, end, longest, &mut key, tree)?;
     }
     Ok(end)
 }
@@ -96,6 +133,7 @@ fn take_pair<K: KeyTrait, V: SavedValue>(
     alloc: Global,
     bytes: &[u8],
     at: usize,
+    longest: Option<usize>,
     key: &mut Vec<u8>,
     tree: &mut VersionedAdaptiveRadixTree<K, V>,
 ) -> Result<usize, LoadError>
@@ -107,10 +145,13 @@ fn take_pair<K: KeyTrait, V: SavedValue>(
         × HasPart bytes.now at (entry V.written key.old.items (key.new.items, x)) end
         × (tree.new ≡ with_key tree.old key.new.items x 1)) }
     ensures next { OnOk result (IsNext (has_no_key tree.old) key.old.items key.new.items) }
-    ensures refused { OnOtherErr result (LacksPair V.written K.MAXIMUM_SIZE (has_no_key tree.old)
-        key.old.items (drop at bytes.now)) }
+    ensures short { OnOk result (IsAdmitted longest (length key.new.items)) }
+    ensures refused { OnErrWithin longest K.MAXIMUM_SIZE result
+        (λ most. LacksPair V.written most (has_no_key tree.old) key.old.items
+        (drop at bytes.now)) }
+    ensures place { IfErr result (PointsInto bytes.now) }
 {
-    let from = take_admitted_key::<K>(bytes, at, tree.is_empty(), key)?;
+    let from = take_key_within::<K>(bytes, at, longest, tree.is_empty(), key)?;
     let (value, end) = V::read(alloc, bytes, from)?;
     tree.insert_slice(key.as_slice(), value)?;
     Ok(end)
@@ -129,6 +170,7 @@ pub(crate) fn check_sum(bytes: &[u8], at: usize) -> Result<(), LoadError>
     requires { at ≤ length bytes.now }
     ensures read { OnOk result (drop at bytes.now ≡ sha256 (take at bytes.now)) }
     ensures refused { OnErr result (drop at bytes.now ≢ sha256 (take at bytes.now)) }
+    ensures place { IfErr result (PointsInto bytes.now) }
 {
     let rest = &bytes[at..];
     if is_sum(rest, &bytes[..at]) {

@@ -1,7 +1,8 @@
 //! Numbers below 2^64 as bytes: LEB128, each in its shortest form and no other.
-ghost use Rattle.std.specs.Prelude.{◌≡◌, ◌++◌, ◌≤◌, drop, length, IfErr, IfOk, OnOk};
+ghost use Rattle.std.specs.Prelude.{◌≡◌, ◌++◌, ◌≤◌, ◌<◌, drop, length, IfErr, IfOk, OnOk};
 ghost use Rattle.rart_saved.specs.Numbers.{groups, leb, LacksGroups, LacksNumber};
 ghost use Rattle.rart_saved.specs.Parts.{HasPart};
+ghost use Rattle.rart_saved.specs.Refusals.{PointsInto};
 
 use crate::error::LoadError;
 use std::alloc::AllocError;
@@ -24,6 +25,8 @@ pub(crate) fn number_at(bytes: &[u8], at: usize) -> Result<(u64, usize), LoadErr
     requires { at ≤ length bytes.now }
     ensures read { IfOk result (λ found. HasPart bytes.now at (leb found.0) found.1) }
     ensures refused { IfErr result (λ _. LacksNumber (drop at bytes.now)) }
+    ensures place { IfErr result (PointsInto bytes.now) }
+    ensures moves { IfOk result (λ found. at < found.1) }
 {
     groups_at(bytes, at, 9)
 }
@@ -33,6 +36,8 @@ fn groups_at(bytes: &[u8], at: usize, more: u32) -> Result<(u64, usize), LoadErr
     requires { at ≤ length bytes.now }
     ensures read { IfOk result (λ found. HasPart bytes.now at (groups more found.0) found.1) }
     ensures refused { IfErr result (λ _. LacksGroups more (drop at bytes.now)) }
+    ensures place { IfErr result (PointsInto bytes.now) }
+    ensures moves { IfOk result (λ found. at < found.1) }
 {
     let Some(byte) = bytes.get(at) else {
         return Err(LoadError::Truncated);

@@ -1,11 +1,14 @@
-//! Versions and lists of changes over writers and readers.
+//! Versions, lists of changes and families over writers and readers.
 ghost use Rattle.std.specs.Prelude.{◌≡◌, ◌⊎◌, map, IfErr, IfOk, IfSome, OnOk};
 ghost use Rattle.std.specs.Io.KnownBytes.{Appends};
 ghost use Rattle.rart_below.specs.Clones.{ClonesEqual};
 ghost use Rattle.rart_changes.specs.Shown.{shown_change};
+ghost use Rattle.rart_maps.specs.ChangeLaws.{Decides};
 ghost use Rattle.rart_maps.specs.FoundLaws.{KeysAscend};
 ghost use Rattle.rart_saved.specs.ChangeForms.{saved_changes};
 ghost use Rattle.rart_saved.specs.ChangeLoads.{GivesBackChangesUnlessIo};
+ghost use Rattle.rart_saved.specs.FamilyForms.{saved_family};
+ghost use Rattle.rart_saved.specs.FamilyLoads.{GivesBackFamilyUnlessIo};
 ghost use Rattle.rart_saved.specs.Forms.{saved};
 ghost use Rattle.rart_saved.specs.Loads.{GivesBackUnlessIo};
 ghost use Rattle.rart_saved.specs.declared.error.LoadError.TheVariants as unread;
@@ -14,10 +17,13 @@ ghost use Rattle.rart_saved.specs.declared.error.SaveError.TheVariants as refuse
 use crate::changes::loading::load_changes_slice;
 use crate::changes::saving::save_changes_slice;
 use crate::error::{LoadError, SaveError};
+use crate::families::loading::load_family_slice;
+use crate::families::saving::save_family_slice;
 use crate::loading::load_slice;
 use crate::saving::save_slice;
 use crate::value::SavedValue;
 use rart_changes::KeyChange;
+use rart_family::Family;
 use rart_versioned::{KeyTrait, VersionedAdaptiveRadixTree};
 use std::alloc::Global;
 use std::io::{ErrorKind, Read, Write};
@@ -28,8 +34,8 @@ use std::io::{ErrorKind, Read, Write};
 /// save(alloc, &prices, &mut file)?;
 /// ```
 ///
-/// With `Io` some of them may be written. They are no version's then, since their end lacks. With
-/// `Memory` the writer is as before.
+/// With `Io` some of them may be written, and the end lacks, as far as the writer's `write_all`
+/// does so: no clause tells of one that failed. With `Memory` the writer is as before.
 pub fn save<K: KeyTrait, V: SavedValue, W: Write>(
     alloc: Global,
     tree: &VersionedAdaptiveRadixTree<K, V>,
@@ -58,6 +64,24 @@ pub fn save_changes<K: KeyTrait, V: SavedValue, W: Write>(
     ensures memory { IfErr result (λ error. error ≡ refused.Memory → writer.new ≡ writer.old) }
 {
     let bytes = save_changes_slice(alloc, list)?;
+    write_bytes(writer, bytes.as_slice())
+}
+
+/// Writes a family's bytes, as `save_family_slice` gives them, otherwise as `save`.
+///
+/// ```
+/// save_family(alloc, &versions, &mut file)?;
+/// ```
+pub fn save_family<K: KeyTrait, V: SavedValue + Eq, W: Write>(
+    alloc: Global,
+    family: &Family<K, V>,
+    writer: &mut W,
+) -> Result<(), SaveError>
+    ensures written { OnOk result (Appends (W.contents writer.old) (W.contents writer.new)
+        (saved_family V.written V.eq V.KIND family.now)) }
+    ensures memory { IfErr result (λ error. error ≡ refused.Memory → writer.new ≡ writer.old) }
+{
+    let bytes = save_family_slice(alloc, family)?;
     write_bytes(writer, bytes.as_slice())
 }
 
@@ -116,6 +140,28 @@ pub fn load_changes<K: KeyTrait, V: SavedValue, R: Read>(
 {
     let bytes = read_bytes(alloc, reader)?;
     load_changes_slice(alloc, bytes.as_slice())
+}
+
+/// Reads all that a reader gives, as `load_family_slice` reads it.
+///
+/// ```
+/// let versions: Family<VectorKey, u64> = load_family(alloc, &mut reader)?;
+/// ```
+///
+/// `Io` comes where reading failed.
+pub fn load_family<K: KeyTrait, V: SavedValue + Eq, R: Read>(
+    alloc: Global,
+    reader: &mut R,
+) -> Result<Family<K, V>, LoadError>
+    requires clones { ClonesEqual V.is_clone }
+    requires decides { Decides V.eq }
+    ensures read { IfOk result (λ family. IfSome (R.remaining reader.old)
+        (λ bytes. bytes ≡ saved_family V.written V.eq V.KIND family)) }
+    ensures gives_back { IfSome (R.remaining reader.old)
+        (GivesBackFamilyUnlessIo V.written V.eq K.MAXIMUM_SIZE V.KIND result) }
+{
+    let bytes = read_bytes(alloc, reader)?;
+    load_family_slice(alloc, bytes.as_slice())
 }
 
 /// All that a reader gives.

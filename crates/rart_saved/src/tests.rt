@@ -1,7 +1,8 @@
 //! What no clause says: that calls succeed where there is memory, which error comes, and that the
 //! bytes are those that another program makes.
 use crate::error::{LoadError, SaveError};
-use crate::loading::load_slice;
+use crate::filling::{save_into, saved_len};
+use crate::loading::{load_slice, load_slice_within};
 use crate::saving::save_slice;
 use crate::streams::{load, save};
 use crate::value::{ByteString, SavedValue};
@@ -214,18 +215,44 @@ fn each_refusal_tells_its_place(rt: HostRuntime) -> Result<(), Fail> {
 }
 
 #[test]
+fn versions_are_written_over_a_room(rt: HostRuntime) -> Result<(), Fail> {
+    let alloc = rt.alloc();
+    let (tree, count) = load_slice_within::<VectorKey, u64>(alloc, THREE.as_slice(), 6)?;
+    assert_eq!(rt; saved_len(alloc, &tree, count)?, 79);
+    let mut room = [7; 80];
+    assert_eq!(rt; save_into(alloc, &tree, count, &mut room)?, 79);
+    assert!(rt; room.starts_with(THREE.as_slice()));
+    assert!(rt; room.last() == Some(&7));
+    assert_eq!(rt; save_into(alloc, &tree, count, &mut [7; 78])?, 79);
+    Ok(())
+}
+
+#[test]
+fn keys_may_have_a_limit(rt: HostRuntime) -> Result<(), Fail> {
+    let alloc = rt.alloc();
+    let refused = load_slice_within::<VectorKey, u64>(alloc, THREE.as_slice(), 5);
+    assert!(rt; matches!(refused, Err(LoadError::TooLong { at: 34 })));
+    let (tree, count) = load_slice_within::<VectorKey, u64>(alloc, THREE.as_slice(), 6)?;
+    assert_eq!(rt; (tree.version(), count), (3, 3));
+    Ok(())
+}
+
+#[test]
 fn errors_say_what_happened(rt: HostRuntime) -> Result<(), Fail> {
     let [io, memory, truncated] = [LoadError::Io, LoadError::Memory, LoadError::Truncated];
     let (malformed, checksum) = (LoadError::Malformed { at: 9 }, LoadError::Checksum);
-    let unsupported = LoadError::Unsupported { format: 2 };
+    let (unsupported, long) = (
+        LoadError::Unsupported { format: 2 },
+        LoadError::TooLong { at: 11 },
+    );
     let loads = format!(in rt.alloc();
-        "{io}; {memory}; {truncated}; {malformed}; {checksum}; {unsupported}"
+        "{io}; {memory}; {truncated}; {malformed}; {checksum}; {unsupported}; {long}"
     )?;
     assert_eq!(rt;
         loads.as_str(),
         "reading failed; out of memory; the bytes end too early; \
          what begins at byte 9 stands in no form; the checksum is another one; \
-         format 2 is not supported"
+         format 2 is not supported; the key at byte 11 is too long"
     );
     let (io, memory) = (SaveError::Io, SaveError::Memory);
     let saves = format!(in rt.alloc(); "{io}; {memory}")?;

@@ -1,7 +1,7 @@
 //! Values that have a form as bytes.
-ghost use Rattle.std.specs.Prelude.{◌≡◌, ◌≤◌, ◌++◌, ℕ, List, drop, length, IfOk, OnOk};
+ghost use Rattle.std.specs.Prelude.{◌≡◌, ◌≤◌, ◌++◌, ℕ, List, drop, length, IfErr, IfOk, OnOk};
 ghost use Rattle.rart_saved.specs.Parts.{HasPart};
-ghost use Rattle.rart_saved.specs.Refusals.{OnOtherErr};
+ghost use Rattle.rart_saved.specs.Refusals.{OnOtherErr, PointsInto};
 ghost use Rattle.rart_saved.specs.Values.{eight_bytes, sized, LacksValue};
 
 use crate::error::LoadError;
@@ -29,7 +29,8 @@ pub trait SavedValue: Clone + Drop {
     fn read(alloc: Global, bytes: &[u8], at: usize) -> Result<(Self, usize), LoadError>
         requires { at ≤ length bytes.now }
         ensures read { IfOk result (λ found. HasPart bytes.now at (written found.0) found.1) }
-        ensures refused { OnOtherErr result (LacksValue written (drop at bytes.now)) };
+        ensures refused { OnOtherErr result (LacksValue written (drop at bytes.now)) }
+        ensures place { IfErr result (PointsInto bytes.now) };
 
     ghost apart: { (x y : Self) (r s : List ℕ) → written x ++ r ≡ written y ++ s → x ≡ y };
 }
@@ -83,6 +84,28 @@ impl Clone for ByteString {
     }
 }
 
+/// By their bytes, so that equal ones are the same to contracts.
+impl PartialEq for ByteString {
+    ghost use Rattle.std.proofs.Common.{rules};
+    ghost use Rattle.std.specs.Cmp.Rules.{comparing};
+    ghost use Rattle.std.specs.Str.{bytes_eq};
+
+    ghost eq = { bytes_eq };
+
+    ghost laws = { Prim.search (comparing, rules) };
+
+    fn eq(&self, other: &ByteString) -> bool {
+        self.as_slice() == other.as_slice()
+    }
+}
+
+impl Eq for ByteString {
+    ghost use Rattle.std.proofs.Common.{rules};
+    ghost use Rattle.std.specs.Cmp.Rules.{comparing};
+
+    ghost laws = { Prim.search (comparing, rules) };
+}
+
 impl ByteString {
     /// A copy of these bytes.
     pub fn new(alloc: Global, bytes: &[u8]) -> Result<ByteString, AllocError>
@@ -111,20 +134,39 @@ impl SavedValue for ByteString {
     ghost written = { sized };
 
     fn write(&self, out: &mut Vec<u8>) -> Result<(), AllocError> {
-        let bytes = self.as_slice();
-        put_number(out, bytes.len() as u64)?;
-        out.extend_from_slice(bytes)?;
-        Ok(())
+        put_sized(out, self.as_slice())
     }
 
     fn read(alloc: Global, bytes: &[u8], at: usize) -> Result<(ByteString, usize), LoadError> {
-        let (count, from) = number_at(bytes, at)?;
-        if count > (bytes.len() - from) as u64 {
-            return Err(LoadError::Truncated);
-        }
-        let end = from + count as usize;
-        Ok((ByteString::new(alloc, &bytes[from..end])?, end))
+        let (string, end) = sized_at(bytes, at)?;
+        Ok((ByteString::new(alloc, string)?, end))
     }
 
     ghost apart = { sized-apart };
+}
+
+/// Writes a byte string behind what is there: its length and its bytes. Refused for memory, some of
+/// them may be there. A type of yours that is a byte string has its form by it.
+pub fn put_sized(out: &mut Vec<u8>, string: &[u8]) -> Result<(), AllocError>
+    ensures { OnOk result (out.new.items ≡ out.old.items ++ sized string.now) }
+{
+    put_number(out, string.len() as u64)?;
+    out.extend_from_slice(string)?;
+    Ok(())
+}
+
+/// The bytes of the byte string whose form begins at a place, and the place behind them. Refused,
+/// none's does.
+pub fn sized_at(bytes: &[u8], at: usize) -> Result<(&[u8], usize), LoadError>
+    requires { at ≤ length bytes.now }
+    ensures read { IfOk result (λ found. HasPart bytes.now at (sized found.0.now) found.1) }
+    ensures refused { IfErr result (λ _. LacksValue sized (drop at bytes.now)) }
+    ensures place { IfErr result (PointsInto bytes.now) }
+{
+    let (count, from) = number_at(bytes, at)?;
+    if count > (bytes.len() - from) as u64 {
+        return Err(LoadError::Truncated);
+    }
+    let end = from + count as usize;
+    Ok((&bytes[from..end], end))
 }

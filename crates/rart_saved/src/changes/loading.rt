@@ -1,5 +1,5 @@
 //! Bytes are read as a list of changes.
-ghost use Rattle.std.specs.Prelude.{◌≡◌, ◌≤◌, [], drop, length, map, true, IfOk, OnOk};
+ghost use Rattle.std.specs.Prelude.{◌≡◌, ◌≤◌, [], drop, length, map, true, IfErr, IfOk, OnOk};
 ghost use Rattle.rart_changes.specs.Shown.{shown_change};
 ghost use Rattle.rart_maps.specs.FoundLaws.{KeysAscend};
 ghost use Rattle.rart_saved.specs.ChangeForms.{as_pair, both_written, saved_changes};
@@ -8,7 +8,7 @@ ghost use Rattle.rart_saved.specs.Forms.{entries, entry};
 ghost use Rattle.rart_saved.specs.Keys.{IsNext};
 ghost use Rattle.rart_saved.specs.Loads.{LacksPair};
 ghost use Rattle.rart_saved.specs.Parts.{HasPart};
-ghost use Rattle.rart_saved.specs.Refusals.{OnOtherErr};
+ghost use Rattle.rart_saved.specs.Refusals.{OnOtherErr, PointsInto};
 
 use crate::changes::values::read_values;
 use crate::error::LoadError;
@@ -39,6 +39,7 @@ pub fn load_changes_slice<K: KeyTrait, V: SavedValue>(
         (λ list. KeysAscend (λ change. change.0) (map (shown_change K.bytes) list.items)) }
     ensures gives_back { GivesBackChanges V.written V.KIND K.MAXIMUM_SIZE result
         (λ list. map (shown_change K.bytes) list.items) bytes.now }
+    ensures place { IfErr result (PointsInto bytes.now) }
 {
     read_changes(alloc, bytes)
 }
@@ -54,6 +55,7 @@ fn read_changes<K: KeyTrait, V: SavedValue>(
         (λ list. KeysAscend (λ change. change.0) (map (shown_change K.bytes) list.items)) }
     ensures refused { OnOtherErr result
         (LacksChanges V.written V.KIND K.MAXIMUM_SIZE bytes.now) }
+    ensures place { IfErr result (PointsInto bytes.now) }
 {
     let at = take_head(bytes, &changes_head_of(V::KIND))?;
     let (count, from) = number_at(bytes, at)?;
@@ -77,6 +79,7 @@ fn take_changes<K: KeyTrait, V: SavedValue>(
         (λ found. KeysAscend (λ change. change.0) (map (shown_change K.bytes) found.0.items)) }
     ensures refused { OnOtherErr result
         (LacksEntries (both_written V.written) K.MAXIMUM_SIZE count (drop at bytes.now)) }
+    ensures place { IfErr result (PointsInto bytes.now) }
 {
     let mut key = Vec::new(alloc);
     let mut list = Vec::new(alloc);
@@ -106,6 +109,7 @@ fn take_change<K: KeyTrait, V: SavedValue>(
     ensures next { OnOk result (IsNext is_first key.old.items key.new.items) }
     ensures refused { OnOtherErr result (LacksPair (both_written V.written) K.MAXIMUM_SIZE
         is_first key.old.items (drop at bytes.now)) }
+    ensures place { IfErr result (PointsInto bytes.now) }
 {
     let from = take_admitted_key::<K>(bytes, at, is_first, key)?;
     let (before, after, end) = read_values(alloc, bytes, from)?;

@@ -1,9 +1,9 @@
 //! The values of a change as bytes: which of the two there are, and these.
-ghost use Rattle.std.specs.Prelude.{◌≡◌, ◌≤◌, ◌++◌, drop, is_some, length, IfOk, OnOk};
+ghost use Rattle.std.specs.Prelude.{◌≡◌, ◌≤◌, ◌++◌, drop, is_some, length, IfErr, IfOk, OnOk};
 ghost use Rattle.rart_saved.specs.ChangeForms.{both_written, deed, if_there};
 ghost use Rattle.rart_saved.specs.ChangeLoads.{LacksOne};
 ghost use Rattle.rart_saved.specs.Parts.{HasPart};
-ghost use Rattle.rart_saved.specs.Refusals.{OnOtherErr};
+ghost use Rattle.rart_saved.specs.Refusals.{OnOtherErr, PointsInto};
 ghost use Rattle.rart_saved.specs.Values.{LacksValue};
 
 use crate::error::LoadError;
@@ -60,6 +60,7 @@ pub(crate) fn read_values<V: SavedValue>(
         (both_written V.written (found.0, found.1)) found.2) }
     ensures refused { OnOtherErr result
         (LacksValue (both_written V.written) (drop at bytes.now)) }
+    ensures place { IfErr result (PointsInto bytes.now) }
 {
     let Some(byte) = bytes.get(at) else {
         return Err(LoadError::Truncated);
@@ -85,6 +86,7 @@ fn read_value<V: SavedValue>(
         (if_there V.written found.0) found.1) }
     ensures there { IfOk result (λ found. is_some found.0 ≡ is_there) }
     ensures refused { OnOtherErr result (LacksOne V.written is_there (drop at bytes.now)) }
+    ensures place { IfErr result (PointsInto bytes.now) }
 {
     if !is_there {
         return Ok((None, at));

@@ -14,18 +14,20 @@ returns-in_err-end-clause-refused g c =
     c.from_residual.ensures.1
     (λ other key rest next long. c.in_err-end.ensures.refused other key rest next)
 
-pub returns-then-not-is_admitted-clause-refused : goal.returns-then-not-is_admitted-clause-refused
-returns-then-not-is_admitted-clause-refused g c _ key rest next long stands =
+pub returns-then-not-is_within-clause-refused : goal.returns-then-not-is_within-clause-refused
+returns-then-not-is_within-clause-refused g c _ key rest next long stands =
     let same =
     (key_form-apart c.args.key.now.items c.take_key.new.key.items key
     (drop c.in_ok-end.end c.args.bytes.now) rest
     (sym c.in_ok-end.ensures.read.stands ∙ stands)).0 in
-    let admitted : IsAdmitted g.K.KeyTrait.MAXIMUM_SIZE (length c.deref.result.now) =
-    subst (λ k. IsAdmitted g.K.KeyTrait.MAXIMUM_SIZE (length k))
-    (sym (c.deref.ensures.value ∙ same)) long.0 in
-    false≢true (sym c.if-not-is_admitted.true ∙ c.is_admitted.ensures.1 admitted)
+    let admitted : IsAdmitted c.MAXIMUM_SIZE.result (length c.deref.result.now) =
+    subst (λ m. IsAdmitted m (length c.deref.result.now)) (sym c.MAXIMUM_SIZE.ensures)
+    (subst (λ k. IsAdmitted g.K.KeyTrait.MAXIMUM_SIZE (length k))
+    (sym (c.deref.ensures.value ∙ same)) long.0) in
+    false≢true (sym c.if-not-is_within.true ∙ c.is_within.ensures.1 admitted)
 
 pub returns-clause-admitted : goal.returns-clause-admitted
 returns-clause-admitted g c =
     subst (λ k. IsAdmitted g.K.KeyTrait.MAXIMUM_SIZE (length k)) c.deref.ensures.value
-    (c.is_admitted.ensures.0 c.if-not-is_admitted.false)
+    (subst (λ m. IsAdmitted m (length c.deref.result.now)) c.MAXIMUM_SIZE.ensures
+    (c.is_within.ensures.0 c.if-not-is_within.false))

@@ -3,8 +3,7 @@ use Rattle.std.specs.FinMap as finite
 use Rattle.rart_saved.specs.Forms.{head}
 use Rattle.rart_saved.specs.Loads.{LacksVersion}
 use Rattle.rart_saved.specs.Parts.{HasPart}
-use Rattle.rart_saved.proofs.LoadLemmas.{other_passed}
-use Rattle.rart_saved.proofs.PartLemmas.{other_error}
+use Rattle.rart_saved.proofs.LimitLemmas.{within_each, within_passed}
 use Rattle.rart_saved.proofs.SavedLemmas.{saved-then, saved-read, opened-head, opened-number, opened-count, opened-all}
 use Rattle.rart_saved.proofs.loading.read_version.Goals as goal
 
@@ -12,8 +11,9 @@ pub returns-in_err-at-clause-refused : goal.returns-in_err-at-clause-refused
 returns-in_err-at-clause-refused g c =
     let written = g.V.SavedValue.written in
     let kind = g.V.SavedValue.KIND in
-    other_error _ (LacksVersion written kind g.K.KeyTrait.MAXIMUM_SIZE c.args.bytes.now)
-    (λ v is stands. subst (λ h. (rest : List ℕ) → c.args.bytes.now ≢ h ++ rest)
+    within_each c.args.longest g.K.KeyTrait.MAXIMUM_SIZE _
+    (λ most. LacksVersion written kind most c.args.bytes.now)
+    (λ most v is stands. subst (λ h. (rest : List ℕ) → c.args.bytes.now ≢ h ++ rest)
     (c.head_of.ensures ∙ ap head c.KIND.ensures) c.in_err-at.ensures.refused _
     (stands ∙ saved-then written kind v))
 
@@ -23,8 +23,9 @@ returns-in_err-number-clause-refused g c =
     let kind = g.V.SavedValue.KIND in
     let heads = subst (λ h. HasPart c.args.bytes.now 0 h c.in_ok-at.at)
     (c.head_of.ensures ∙ ap head c.KIND.ensures) c.in_ok-at.ensures.read in
-    other_error _ (LacksVersion written kind g.K.KeyTrait.MAXIMUM_SIZE c.args.bytes.now)
-    (λ v is stands. c.in_err-number.ensures.refused v.number _ is.fits
+    within_each c.args.longest g.K.KeyTrait.MAXIMUM_SIZE _
+    (λ most. LacksVersion written kind most c.args.bytes.now)
+    (λ most v is stands. c.in_err-number.ensures.refused v.number _ is.fits
     (opened-head written kind c.args.bytes.now v stands c.in_ok-at.at heads))
 
 pub returns-in_err-count-clause-refused : goal.returns-in_err-count-clause-refused
@@ -33,8 +34,9 @@ returns-in_err-count-clause-refused g c =
     let kind = g.V.SavedValue.KIND in
     let heads = subst (λ h. HasPart c.args.bytes.now 0 h c.in_ok-at.at)
     (c.head_of.ensures ∙ ap head c.KIND.ensures) c.in_ok-at.ensures.read in
-    other_error _ (LacksVersion written kind g.K.KeyTrait.MAXIMUM_SIZE c.args.bytes.now)
-    (λ v is stands. c.in_err-count.ensures.refused (finite.len v.content) _
+    within_each c.args.longest g.K.KeyTrait.MAXIMUM_SIZE _
+    (λ most. LacksVersion written kind most c.args.bytes.now)
+    (λ most v is stands. c.in_err-count.ensures.refused (finite.len v.content) _
     (omega (arith, is.few, is.fits))
     (opened-number written kind c.args.bytes.now v stands c.in_ok-at.at c.in_ok-number.at
     c.in_ok-number.number heads c.in_ok-number.ensures.read).1)
@@ -62,8 +64,8 @@ returns-in_err-end-clause-refused g c =
     let kind = g.V.SavedValue.KIND in
     let heads = subst (λ h. HasPart c.args.bytes.now 0 h c.in_ok-at.at)
     (c.head_of.ensures ∙ ap head c.KIND.ensures) c.in_ok-at.ensures.read in
-    other_passed _ c.in_err-end.field-0.0
-    (LacksVersion written kind g.K.KeyTrait.MAXIMUM_SIZE c.args.bytes.now)
+    within_passed c.args.longest g.K.KeyTrait.MAXIMUM_SIZE _ c.in_err-end.field-0.0
+    (λ most. LacksVersion written kind most c.args.bytes.now)
     c.from_residual-in_err-end.ensures.1
     (λ other v is stands.
     let opened =
@@ -78,8 +80,9 @@ returns-in_err-check_sum-clause-refused g c =
     let kind = g.V.SavedValue.KIND in
     let heads = subst (λ h. HasPart c.args.bytes.now 0 h c.in_ok-at.at)
     (c.head_of.ensures ∙ ap head c.KIND.ensures) c.in_ok-at.ensures.read in
-    other_error _ (LacksVersion written kind g.K.KeyTrait.MAXIMUM_SIZE c.args.bytes.now)
-    (λ v is stands. c.in_err-check_sum.ensures.refused
+    within_each c.args.longest g.K.KeyTrait.MAXIMUM_SIZE _
+    (λ most. LacksVersion written kind most c.args.bytes.now)
+    (λ most v is stands. c.in_err-check_sum.ensures.refused
     (opened-all written kind c.args.bytes.now v stands g.met.V.SavedValue.apart c.in_ok-at.at
     c.in_ok-number.at c.in_ok-count.from c.in_ok-end.end c.in_ok-number.number
     c.in_ok-count.count c.take_pairs.new.tree heads c.in_ok-number.ensures.read

@@ -1,0 +1,9 @@
+use Rattle.std.proofs.Common.{Some}
+use Rattle.rart_saved.proofs.PlaceLemmas.{family-given_within}
+use Rattle.rart_saved.proofs.families.loading.load_family_slice_within.Goals as goal
+
+pub returns-clause-gives_back : goal.returns-clause-gives_back
+returns-clause-gives_back g c =
+    family-given_within g.V.SavedValue.written g.V.PartialEq.eq g.V.SavedValue.KIND
+    g.met.V.SavedValue.apart c.requires.decides g.K.KeyTrait.MAXIMUM_SIZE (Some c.args.longest)
+    c.read_family.result c.args.bytes.now c.read_family.ensures.read c.read_family.ensures.refused

@@ -10,5 +10,6 @@ pub mod PageOrderLemmas
 pub mod Parts
 pub mod Pointers
 pub mod PrefixLemmas
+pub mod SaveLemmas
 pub mod Steps
 pub mod WorkedWordLemmas

@@ -22,7 +22,6 @@ use Rattle.rart_maps.specs.Pairs.{pairs, within}
 use Rattle.rart_maps.specs.Versions.{Map}
 use Rattle.rart_versioned.proofs.VersionIterationLemmas.{within-from_low}
 use Rattle.rart_c.specs.Pages.{entries_of, written_of}
-use Rattle.rart_ways.specs.Firsts.{IsFirst}
 
 -- what stands behind a string that meets a lower bound meets it too
 pub MeetsLow-behind : (low : Bound (List ℕ)) (u w : List ℕ) → MeetsLow low u → IsBefore u w
@@ -43,10 +42,6 @@ module _ {V : Type 0} (m : Map V) (low high : Bound (List ℕ)) where
   from-is : within m low Unbounded ≡ from low (pairs m)
   from-is = within-from_low m low
 
-  -- those within both are those from the lower bound on that meet the upper one
-  pub within-up_to : within m low high ≡ up_to high (within m low Unbounded)
-  within-up_to = within-from m low high ∙ ap (up_to high) (sym from-is)
-
   -- where there is no first pair from the lower bound on, there is none within both
   pub within-none : within m low Unbounded ≡ [] → within m low high ≡ []
   within-none none = within-from m low high ∙ ap (up_to high) (sym from-is ∙ none)
@@ -60,13 +55,13 @@ module _ {V : Type 0} (m : Map V) (low high : Bound (List ℕ)) where
     ascends : KeysAscend (λ pair. pair.0) (pair ∷ others)
     ascends = subst (KeysAscend (λ pair. pair.0)) first-is (from-ascends m low)
 
-    within-meets : is_up_to_end (as_partial_cmp byte_order) high pair.0 ≡ true
+    pub within-meets : is_up_to_end (as_partial_cmp byte_order) high pair.0 ≡ true
         → within m low high ≡ pair ∷ up_to high others
     within-meets meets =
         within-from m low high ∙ ap (up_to high) first-is
         ∙ up_to-first high pair others ascends meets
 
-    within-past : is_up_to_end (as_partial_cmp byte_order) high pair.0 ≡ false
+    pub within-past : is_up_to_end (as_partial_cmp byte_order) high pair.0 ≡ false
         → within m low high ≡ []
     within-past past =
         within-from m low high ∙ ap (up_to high) first-is
@@ -102,24 +97,6 @@ module _ {V : Type 0} (m : Map V) (low high : Bound (List ℕ)) where
               meets.2,
             ),
       ))
-
-  module _ (len : ℕ) (value : V) (before after : List ℕ)
-      (first : IsFirst (within m low Unbounded) len value before after) where
-    pub first-meets : is_up_to_end (as_partial_cmp byte_order) high first.key ≡ true
-        → IsFirst (within m low high) len value before after
-    first-meets meets =
-        record {
-          key = first.key;
-          others = up_to high first.others;
-          first = within-meets (first.key, value) first.others first.first meets;
-          long = first.long;
-          written = first.written;
-          behind = first.behind;
-        }
-
-    pub first-past : is_up_to_end (as_partial_cmp byte_order) high first.key ≡ false
-        → within m low high ≡ []
-    first-past past = within-past (first.key, value) first.others first.first past
 
 -- ---- one pair more
 module _ {V E : Type 0} (bytes_of : List ℕ × V → List ℕ) (entry_of : ℕ → List ℕ × V → E) where

@@ -8,10 +8,11 @@ use Rattle.std.specs.Prelude.{◌&&◌, ◌==◌, not, filter, Contains}
 use Rattle.std.specs.List.{AllPairs}
 use Rattle.std.specs.declared.ops.Bound.{Bound}
 use Rattle.std.specs.declared.ops.Bound.TheVariants.{Included, Excluded, Unbounded}
-use Rattle.rart_c.proofs.PageLemmas.{MeetsLow-behind, first-meets, first-past, some-not_none, within-behind, within-none, within-up_to}
-use Rattle.rart_c.specs.Pages.{IsCursorFor, is_before_end, range_in}
+use Rattle.rart_c.proofs.PageLemmas.{MeetsLow-behind, some-not_none, within-behind, within-meets, within-none, within-past}
+use Rattle.rart_c.specs.Pages.{IsCursorFor, cursor_in, is_before_end, range_in}
 use Rattle.rart_c.specs.declared.paging.Order.{Order}
 use Rattle.rart_c.specs.declared.paging.Order.TheVariants.{Ascending, Descending}
+use Rattle.rart_c.specs.declared.paging.cursor.PageCursor.{PageCursor}
 use Rattle.rart_maps.proofs.ElementLemmas.{Contains-cases, Contains-here, Contains-later, Contains-nil}
 use Rattle.rart_maps.proofs.FoundLemmas.{ascending_lists_are_fixed, within_ascends, within_is_found}
 use Rattle.rart_maps.proofs.OrderLemmas.{IsBefore-itself, bounds_contain-is}
@@ -20,8 +21,6 @@ use Rattle.rart_maps.specs.FoundLaws.{KeysAscend}
 use Rattle.rart_maps.specs.Order.{IsBefore, MeetsHigh}
 use Rattle.rart_maps.specs.Pairs.{pairs, within}
 use Rattle.rart_maps.specs.Versions.{Map}
-use Rattle.rart_versioned.specs.Cursors.{Cursor}
-use Rattle.rart_versioned.specs.Iterators.{up_to}
 use Rattle.rart_ways.specs.Firsts.{IsFirst}
 
 -- what stands before a string that meets an upper bound meets it too
@@ -220,36 +219,35 @@ module _ {V : Type 0} where
   range-none Descending m from to none =
       back-from m to from ∙ ap (filter (λ pair. is_above to pair.0)) none
 
+  -- Of the first pair from the one bound on.
+  module _ (m : Map V) (from to : Bound (List ℕ)) (pair : List ℕ × V)
+      (others : List (List ℕ × V)) where
+    -- where it meets the other bound, it is the first within both
+    pub range-first : (order : Order) → range_in order m from Unbounded ≡ pair ∷ others
+        → is_before_end order to pair.0 ≡ true
+        → range_in order m from to ≡ pair ∷ filter (λ pair. is_before_end order to pair.0) others
+    range-first Ascending is meets = within-meets m from to pair others is meets
+    range-first Descending is meets = back-meets m to from pair others is meets
+
+    -- where it is past that, there is none
+    pub range-past : (order : Order) → range_in order m from Unbounded ≡ pair ∷ others
+        → is_before_end order to pair.0 ≡ false → range_in order m from to ≡ []
+    range-past Ascending is past = within-past m from to pair others is past
+    range-past Descending is past = back-past m to from pair others is past
+
   module _ (order : Order) (m : Map V) (from to : Bound (List ℕ)) (len : ℕ) (value : V)
       (before after : List ℕ)
       (first : IsFirst (range_in order m from Unbounded) len value before after) where
-    -- where the first from the one bound on meets the other, it is the first
     pub range-meets : is_before_end order to first.key ≡ true
         → IsFirst (range_in order m from to) len value before after
-    range-meets = elim order as (λ order.
-        (first : IsFirst (range_in order m from Unbounded) len value before after)
-        → is_before_end order to first.key ≡ true
-        → IsFirst (range_in order m from to) len value before after) [
-          | Ascending ↦ λ first meets. first-meets m from to len value before after first meets
-          | Descending ↦ λ first meets. record {
-            key = first.key;
-            others = filter (λ pair. is_above to pair.0) first.others;
-            first = back-meets m to from (first.key, value) first.others first.first meets;
-            long = first.long;
-            written = first.written;
-            behind = first.behind;
-          }
-        ] first
-
-    -- where it is past that, there is none
-    pub range-past : is_before_end order to first.key ≡ false → range_in order m from to ≡ []
-    range-past = elim order as (λ order.
-        (first : IsFirst (range_in order m from Unbounded) len value before after)
-        → is_before_end order to first.key ≡ false → range_in order m from to ≡ []) [
-          | Ascending ↦ λ first past. first-past m from to len value before after first past
-          | Descending ↦ λ first past.
-              back-past m to from (first.key, value) first.others first.first past
-        ] first
+    range-meets meets = record {
+      key = first.key;
+      others = filter (λ pair. is_before_end order to pair.0) first.others;
+      first = range-first m from to (first.key, value) first.others order first.first meets;
+      long = first.long;
+      written = first.written;
+      behind = first.behind;
+    }
 
     -- whether there is a pair tells whether it is this one
     pub range-told : (told : Bool) → told ≡ not (length (range_in order m from to) == 0)
@@ -261,26 +259,23 @@ module _ {V : Type 0} where
               ∙ sym (is ∙ ap (λ (list : List (List ℕ × V)). not (length list == 0))
               (range-meets meets).first)
           | false ↦ λ past. sym (is ∙ ap (λ (list : List (List ℕ × V)). not (length list == 0))
-              (range-past past))
+              (range-past m from to (first.key, value) first.others order first.first past))
         ] refl
 
-  -- ---- what a cursor has left, which there is where pairs ascend
+  same-first : (given pair : List ℕ × V) (rest others : List (List ℕ × V))
+      → given ∷ rest ≡ pair ∷ others → given.0 ≡ pair.0
+  same-first given pair rest others is = cc
 
-  pub cursor-ascends : (order : Order) (m : Map V) (from : Bound (List ℕ)) (cursor : Cursor V)
-      → IsCursorFor order m from cursor → KeysAscend (λ pair. pair.0) cursor.left
-  cursor-ascends Ascending m from cursor has =
-      subst (KeysAscend (λ (pair : List ℕ × V). pair.0)) (sym has)
-      (within_ascends V m from Unbounded)
-  cursor-ascends Descending m from cursor has = absurd has
-
-  pub cursor-range : (order : Order) (m : Map V) (from to : Bound (List ℕ)) (cursor : Cursor V)
-      → IsCursorFor order m from cursor → range_in order m from to ≡ up_to to cursor.left
-  cursor-range Ascending m from to cursor has = within-up_to m from to ∙ ap (up_to to) (sym has)
-  cursor-range Descending m from to cursor has = absurd has
-
-  pub cursor-behind : (order : Order) (m : Map V) (from : Bound (List ℕ)) (cursor after : Cursor V)
-      (pair : List ℕ × V) → IsCursorFor order m from cursor → cursor.left ≡ pair ∷ after.left
+  -- behind the first pair from one bound to another, which a cursor gave, it has the others
+  pub cursor-behind : (order : Order) (m : Map V) (from to : Bound (List ℕ))
+      (cursor after : PageCursor V) (given pair : List ℕ × V) (others : List (List ℕ × V))
+      → IsCursorFor order m from cursor → (cursor_in cursor).left ≡ given ∷ (cursor_in after).left
+      → is_before_end order to given.0 ≡ true → range_in order m from to ≡ pair ∷ others
       → IsCursorFor order m (Excluded pair.0) after
-  cursor-behind Ascending m from cursor after pair has left =
-      sym (within-behind m from Unbounded pair after.left (sym has ∙ left))
-  cursor-behind Descending m from cursor after pair has left = absurd has
+  cursor-behind order m from to cursor after given pair others has gives meets is =
+      let left = (cursor_in after).left in
+      let first = range-first m from to given left order (sym has ∙ gives) meets in
+      subst (λ key. IsCursorFor order m (Excluded key) after)
+      (same-first given pair (filter (λ pair. is_before_end order to pair.0) left) others
+      (sym first ∙ is))
+      (sym (range-behind order m from Unbounded given left (sym has ∙ gives)))

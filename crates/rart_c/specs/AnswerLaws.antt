@@ -1,14 +1,17 @@
 -- Laws that show what the answers tell: by them and by what is written a caller knows what was
 -- there.
-use Rattle.std.specs.Prelude.{◌≡◌, ◌≢◌, ◌+◌, ◌<◌, ◌==◌, ◌↔◌, ◌⊎◌, ℕ, List, [], ◌∷◌, Option, Some, None, drop, if◌then◌else◌, length, take}
-use Rattle.rart_c.specs.Answers.{IsRefused, IsRefusedKey, Tells}
+use Rattle.std.specs.Prelude.{◌≡◌, ◌≢◌, ◌+◌, ◌<◌, ◌≤◌, ◌==◌, ◌↔◌, ◌⊎◌, ℕ, List, [], ◌∷◌, Option, Some, None, drop, if◌then◌else◌, length, take}
+use Rattle.rart_c.specs.Answers.{IsRefused, IsRefusedKey, Tells, TellsUnread}
 use Rattle.rart_c.specs.Equality.{TellsEqual}
 use Rattle.rart_c.specs.Firsts.{ReadsFirst, TellsFirst}
 use Rattle.rart_c.specs.Pages.{TellsPage, WritesPage, first_length, keys_of}
 use Rattle.rart_c.specs.Reads.{Reads}
-use Rattle.rart_c.specs.declared.answer.TheConstants.{DONE, ABSENT, DIFFERENT, LAST_NUMBER, NO_MEMORY, NO_ENTRIES, TOO_LONG, TOO_SMALL}
+use Rattle.rart_c.specs.Saves.{Saves, TellsLoad}
+use Rattle.rart_c.specs.declared.answer.TheConstants.{DONE, ABSENT, DIFFERENT, LAST_NUMBER, MALFORMED, NO_MEMORY, NO_ENTRIES, TOO_LONG, TOO_SMALL, WRONG_SUM}
 use Rattle.rart_c.specs.declared.paging.RartEntry.{RartEntry}
 use Rattle.rart_maps.specs.Versions.{Map}
+use Rattle.rart_saved.specs.declared.error.LoadError.{LoadError}
+use Rattle.rart_saved.specs.declared.error.LoadError.TheVariants.{Io, Memory}
 
 -- The value is what is written, and there is none where nothing is. No other answer is told.
 abbrev pub AnswersTell : Type 0 → Type 0
@@ -100,3 +103,28 @@ PageAnswersTell = (count room : ℕ) (left : List (List ℕ × ℕ)) (answer bef
     × (answer ≡ NO_ENTRIES → (count ≡ 0) × (room ≡ 0) × (left ≢ []) × (after ≡ before))
     × (answer ≡ TOO_SMALL → (count ≡ 0) × (0 < room) × (first_length left ≡ Some after))
     × ((answer ≡ NO_ENTRIES) ⊎ IsOfRead answer)
+
+-- A version's bytes are as many of the first ones as is told; the others are as before. Where the
+-- room is too small it is told how many they are.
+abbrev pub SavesTell : Type 0
+SavesTell = (bytes : List ℕ) (answer : ℕ) (before after : List ℕ × ℕ)
+    → Saves bytes answer before after
+    → (answer ≡ DONE
+    → (bytes ≡ take after.1 after.0) × (drop after.1 after.0 ≡ drop after.1 before.0))
+    × (answer ≡ TOO_SMALL → (length before.0 < after.1) × (after.1 ≡ length bytes))
+    × (answer ≡ NO_MEMORY → after.1 ≡ before.1)
+    × ((answer ≡ DONE) ⊎ ((answer ≡ TOO_SMALL) ⊎ (answer ≡ NO_MEMORY)))
+
+-- Bytes that were not read are told so, for memory only where it was refused; and a byte is told by
+-- two answers alone.
+abbrev pub UnreadTells : Type 0
+UnreadTells = (error : LoadError) (answer before after : ℕ) → TellsUnread error answer before after
+    → (answer ≢ DONE) × (answer ≡ NO_MEMORY → (error ≡ Memory) ⊎ (error ≡ Io))
+    × ((after ≡ before) ⊎ ((answer ≡ MALFORMED) ⊎ (answer ≡ TOO_LONG)))
+
+-- Two answers of a load tell a byte, which is one of those that were to be read. With the others
+-- its place is as before, and none is past the last one.
+abbrev pub LoadsTell : Type 0
+LoadsTell = (bytes : List ℕ) (answer before after : ℕ) → TellsLoad bytes answer before after
+    → (answer ≡ MALFORMED → after < length bytes) × (answer ≡ TOO_LONG → after < length bytes)
+    × (answer ≢ MALFORMED → answer ≢ TOO_LONG → after ≡ before) × (answer ≤ WRONG_SUM)

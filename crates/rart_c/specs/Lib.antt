@@ -9,6 +9,7 @@ pub mod Longest
 pub mod Owned
 pub mod Pages
 pub mod Reads
+pub mod Saves
 pub mod Shown
 pub mod Tables
 pub mod Trees

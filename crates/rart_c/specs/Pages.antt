@@ -10,6 +10,8 @@ use Rattle.rart_c.specs.declared.paging.RartEntry.{RartEntry}
 use Rattle.rart_c.specs.declared.paging.TheConstants.{INCLUDED, EXCLUDED}
 use Rattle.rart_c.specs.declared.paging.Order.{Order}
 use Rattle.rart_c.specs.declared.paging.Order.TheVariants.{Ascending, Descending}
+use Rattle.rart_c.specs.declared.paging.cursor.PageCursor.{PageCursor}
+use Rattle.rart_c.specs.declared.paging.cursor.PageCursor.TheVariants.{Onward, Back}
 use Rattle.std.specs.Ordering.{as_partial_cmp}
 use Rattle.std.specs.Range.Bound.{is_from_start, is_up_to_end}
 use Rattle.rart_below.specs.Bytes.{byte_order}
@@ -140,7 +142,11 @@ module _ {V : Type 0} where
   range_in Ascending m from to = within m from to
   range_in Descending m from to = reverse (within m to from)
 
-  -- A cursor has left the pairs from a bound on. Those that descend have none.
-  abbrev pub IsCursorFor : Order → Map V → Bound (List ℕ) → Cursor V → Type 0
-  IsCursorFor Ascending m from cursor = cursor.left ≡ within m from Unbounded
-  IsCursorFor Descending m from cursor = ⊥
+  -- a page's cursor, whichever way it goes
+  abbrev pub cursor_in : PageCursor V → Cursor V
+  cursor_in (Onward cursor) = cursor
+  cursor_in (Back cursor) = cursor
+
+  -- The cursor has left the pairs from a bound on, in an order.
+  abbrev pub IsCursorFor : Order → Map V → Bound (List ℕ) → PageCursor V → Type 0
+  IsCursorFor order m from cursor = (cursor_in cursor).left ≡ range_in order m from Unbounded

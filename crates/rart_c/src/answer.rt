@@ -1,21 +1,22 @@
 //! The small numbers that exports answer, and what is told by them.
 ghost use Rattle.std.specs.Prelude.{◌≡◌, ℕ, List, length};
-ghost use Rattle.rart_c.specs.Answers.{Tells, number_of, told_equal, told_there};
+ghost use Rattle.rart_c.specs.Answers.{Tells, TellsFound, TellsUnread, TellsWritten, number_of, told_equal, told_there};
 ghost use Rattle.rart_c.specs.Firsts.{TellsFirst};
 ghost use Rattle.rart_c.specs.Longest.{length_found};
 ghost use Rattle.rart_c.specs.Under.{some_of};
 ghost use Rattle.rart_ways.specs.Firsts.{Finds};
 
+use rart_saved::LoadError;
 use std::alloc::AllocError;
 
 /// The call was done. Where it answers a value, there was one, and it is written.
 pub const DONE: u8 = 0;
 
-/// There was no such key, and no value is written. An insertion has set it. Of a page: no pair is
-/// there.
+/// There was no such key, and no value is written. Of an insertion: the key was new, and is set. Of
+/// a page: no pair is there.
 pub const ABSENT: u8 = 1;
 
-/// The number is the last one, 2^64 - 1, and can't be raised. Nothing changed.
+/// The number would be 2^64 or more. Nothing changed.
 pub const LAST_NUMBER: u8 = 2;
 
 /// Memory was refused. Nothing changed.
@@ -27,7 +28,8 @@ pub const TOO_SMALL: u8 = 4;
 /// The page has no room for an entry, and a pair is there.
 pub const NO_ENTRIES: u8 = 5;
 
-/// The key is longer than a key may be. Nothing changed.
+/// The key is longer than a key may be, or keys may be longer in the tree that is put back. Nothing
+/// changed.
 pub const TOO_LONG: u8 = 6;
 
 /// The tree has a key, and how long one may be is set without any. Nothing changed.
@@ -35,6 +37,18 @@ pub const NOT_EMPTY: u8 = 7;
 
 /// The trees are not equal.
 pub const DIFFERENT: u8 = 8;
+
+/// The bytes end before the version's end.
+pub const TRUNCATED: u8 = 9;
+
+/// The bytes are of a format that this library doesn't read.
+pub const UNSUPPORTED: u8 = 10;
+
+/// What begins at a place of the bytes stands in no version's form.
+pub const MALFORMED: u8 = 11;
+
+/// The sum at the end is not that of the bytes before it.
+pub const WRONG_SUM: u8 = 12;
 
 /// Why a call isn't done.
 #[derive(Drop)]
@@ -129,4 +143,49 @@ pub(crate) fn tell_there(is_there: bool) -> u8
     ensures { result ≡ told_there is_there }
 {
     if is_there { DONE } else { ABSENT }
+}
+
+/// Tells how long something is, or that it wasn't found out.
+pub(crate) fn tell_length(found: Result<usize, AllocError>, len: &mut usize) -> u8
+    ensures { TellsFound found result len.old len.new }
+{
+    match found {
+        Ok(found) => {
+            *len = found;
+            DONE
+        }
+        Err(_) => NO_MEMORY,
+    }
+}
+
+/// Tells how long what was written is, where it is no longer than the room, or that it wasn't
+/// found out.
+pub(crate) fn tell_written(written: Result<usize, AllocError>, room: usize, len: &mut usize) -> u8
+    ensures { TellsWritten written room result len.old len.new }
+{
+    let Ok(written) = written else {
+        return NO_MEMORY;
+    };
+    *len = written;
+    if written > room { TOO_SMALL } else { DONE }
+}
+
+/// Tells why bytes were not read, and at which of them, where one is told.
+pub(crate) fn tell_unread(error: LoadError, at: &mut usize) -> u8
+    ensures { TellsUnread error result at.old at.new }
+{
+    match error {
+        LoadError::Memory | LoadError::Io => NO_MEMORY,
+        LoadError::Truncated => TRUNCATED,
+        LoadError::Unsupported { .. } => UNSUPPORTED,
+        LoadError::Checksum => WRONG_SUM,
+        LoadError::Malformed { at: place } => {
+            *at = place;
+            MALFORMED
+        }
+        LoadError::TooLong { at: place } => {
+            *at = place;
+            TOO_LONG
+        }
+    }
 }

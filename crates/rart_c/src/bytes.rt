@@ -7,6 +7,7 @@ pub(crate) mod limits;
 pub(crate) mod paging;
 pub(crate) mod prefixes;
 pub(crate) mod reading;
+pub(crate) mod saving;
 #[cfg(test)]
 mod tests;
 pub(crate) mod value;

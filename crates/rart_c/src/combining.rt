@@ -45,7 +45,11 @@ pub(crate) fn intersection<V: Clone + Drop>(
     Ok(Box::new(alloc, part)?)
 }
 
-fn or<'a, V: Clone + Drop>(table: Option<&'a Table<V>>, none: &'a Table<V>) -> &'a Table<V>
+/// The table, or where there is none this one, which has no key.
+pub(crate) fn or<'a, V: Clone + Drop>(
+    table: Option<&'a Table<V>>,
+    none: &'a Table<V>,
+) -> &'a Table<V>
     requires { none.now ≡ tree_at 0 }
     ensures { result.now ≡ shown table.entry }
 {

@@ -10,8 +10,8 @@ use crate::{combining, lent};
 use std::alloc::Global;
 
 /// Whether both trees have the same keys with the same values, whatever their numbers: answers
-/// `DONE` where they have, else `DIFFERENT`. `NO_MEMORY` says that memory was refused, and nothing
-/// of them.
+/// `DONE` where they have, else `DIFFERENT`. `NO_MEMORY` says that memory was refused, and tells
+/// nothing of the trees.
 #[unsafe(no_mangle)]
 pub extern "C" fn rart_equals(alloc: Global, tree: &mut RartTree, other: &mut RartTree) -> u8
     ensures answer { TellsEqual tree.old.shows.version.content other.old.shows.version.content

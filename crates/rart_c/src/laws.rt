@@ -1,9 +1,9 @@
 //! What the numbers that C reads are, and what they tell.
 ghost use Rattle.std.specs.Prelude.{◌≡◌, [], ◌∷◌};
-ghost use Rattle.rart_c.specs.AnswerLaws.{AnswersTell, ReadsTell, FirstsTell, FirstStringsTell, RefusalsTell, PagesTell, PageAnswersTell, EqualityTells};
+ghost use Rattle.rart_c.specs.AnswerLaws.{AnswersTell, ReadsTell, FirstsTell, FirstStringsTell, RefusalsTell, PagesTell, PageAnswersTell, EqualityTells, LoadsTell, SavesTell, UnreadTells};
 ghost use Rattle.rart_c.specs.Differences.{DifferenceIsOfPairs, IntersectionIsOfKeys};
 ghost use Rattle.rart_c.specs.WorkedWords.{WorkedAdditions, WorkedBounds, WorkedComparisons, WorkedStrings, CountIsTold, LongestIsTold};
-ghost use Rattle.rart_c.specs.declared.answer.TheConstants.{DONE, ABSENT, LAST_NUMBER, NO_MEMORY, TOO_SMALL, NO_ENTRIES, TOO_LONG, NOT_EMPTY, DIFFERENT};
+ghost use Rattle.rart_c.specs.declared.answer.TheConstants.{DONE, ABSENT, LAST_NUMBER, NO_MEMORY, TOO_SMALL, NO_ENTRIES, TOO_LONG, NOT_EMPTY, DIFFERENT, TRUNCATED, UNSUPPORTED, MALFORMED, WRONG_SUM};
 ghost use Rattle.rart_c.specs.declared.limits.TheConstants.{LONGEST_KEY};
 ghost use Rattle.rart_c.specs.declared.paging.TheConstants.{INCLUDED, EXCLUDED, UNBOUNDED};
 
@@ -11,13 +11,14 @@ ghost use Rattle.rart_c.specs.declared.paging.TheConstants.{INCLUDED, EXCLUDED, 
 /// at first.
 pub fn numbers_are_those_of_the_header()
     ensures answers { DONE ∷ ABSENT ∷ LAST_NUMBER ∷ NO_MEMORY ∷ TOO_SMALL ∷ NO_ENTRIES
-        ∷ TOO_LONG ∷ NOT_EMPTY ∷ DIFFERENT ∷ []
-        ≡ 0 ∷ 1 ∷ 2 ∷ 3 ∷ 4 ∷ 5 ∷ 6 ∷ 7 ∷ 8 ∷ [] }
+        ∷ TOO_LONG ∷ NOT_EMPTY ∷ DIFFERENT ∷ TRUNCATED ∷ UNSUPPORTED ∷ MALFORMED ∷ WRONG_SUM ∷ []
+        ≡ 0 ∷ 1 ∷ 2 ∷ 3 ∷ 4 ∷ 5 ∷ 6 ∷ 7 ∷ 8 ∷ 9 ∷ 10 ∷ 11 ∷ 12 ∷ [] }
     ensures kinds { INCLUDED ∷ EXCLUDED ∷ UNBOUNDED ∷ [] ≡ 0 ∷ 1 ∷ 2 ∷ [] }
     ensures longest { LONGEST_KEY ≡ 1024 }
 {}
 
-/// By an answer and what is written a caller knows what was found, and whether trees are equal.
+/// By an answer and what is written a caller knows what was found, whether trees are equal, what a
+/// version's bytes are, and why bytes were not read.
 pub fn answers_tell<X>()
     ensures values { AnswersTell X }
     ensures strings { ReadsTell }
@@ -27,6 +28,9 @@ pub fn answers_tell<X>()
     ensures page_answers { PageAnswersTell }
     ensures refusals { RefusalsTell }
     ensures equality { EqualityTells X }
+    ensures saved { SavesTell }
+    ensures unread { UnreadTells }
+    ensures loads { LoadsTell }
 {}
 
 /// The difference of two maps has the pairs that the one has and the other hasn't, where equal

@@ -18,7 +18,7 @@ ghost use Rattle.rart_ways.specs.Firsts.{Finds};
 use crate::answer::Refusal;
 use crate::limits::LONGEST_KEY;
 use crate::table::Table;
-use rart_versioned::{VectorPartial, VersionedCursor};
+use rart_versioned::{VectorPartial, VersionedCursor, VersionedCursorRev};
 use std::alloc::{AllocError, Global};
 use std::ops::Bound;
 
@@ -111,6 +111,18 @@ pub(crate) fn cursor<'a, V: Clone + Drop>(
         (bound_map (λ low. low.now) low.entry) Unbounded) }
 {
     table?.tree.cursor_from(low).ok()
+}
+
+/// A cursor behind the pairs up to a bound, which goes back, where there is a table, and memory.
+pub(crate) fn cursor_back<'a, V: Clone + Drop>(
+    table: Option<&'a Table<V>>,
+    high: Bound<&[u8]>,
+) -> Option<VersionedCursorRev<'a, VectorPartial, V>>
+    ensures { ForSome result (λ cursor. cursor.left ≡ reverse
+        (within (shown table.entry).version.content Unbounded
+        (bound_map (λ high. high.now) high.entry))) }
+{
+    table?.tree.cursor_to(high).ok()
 }
 
 /// The last of the pairs up to a bound, as `first` tells the first.

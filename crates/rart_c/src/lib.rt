@@ -11,6 +11,7 @@ mod changing;
 mod choosing;
 mod combining;
 mod comparing;
+mod forms;
 mod handle;
 mod laws;
 mod lent;
@@ -18,6 +19,7 @@ mod limits;
 mod paging;
 mod prefixes;
 mod reading;
+mod saving;
 mod table;
 #[cfg(test)]
 mod tests;

@@ -3,21 +3,23 @@ ghost use Rattle.std.specs.Prelude.{◌≡◌, ◌≤◌, ◌==◌, ◌∷◌, �
 ghost use Rattle.std.specs.Option.{ForSome};
 ghost use Rattle.std.specs.Ordering.{as_partial_cmp};
 ghost use Rattle.std.specs.Range.Bound.{bound_map, is_from_start, is_up_to_end};
+ghost use Rattle.std.specs.declared.ops.Bound.{Bound};
 ghost use Rattle.std.specs.declared.ops.Bound.TheVariants.{Excluded, Unbounded};
 ghost use Rattle.rart_below.specs.Bytes.{byte_order};
 ghost use Rattle.rart_c.specs.Pages.{FindsFirst, IsCursorFor, TellsPage, WritesPage, bound_behind, bound_of, first_length, is_before_end, range_in};
 ghost use Rattle.rart_c.specs.Shown.{shown};
-ghost use Rattle.rart_maps.specs.FoundLaws.{KeysAscend};
 ghost use Rattle.rart_maps.specs.Pairs.{within};
-ghost use Rattle.rart_versioned.specs.Iterators.{up_to};
+ghost use Rattle.rart_maps.specs.Versions.{Map};
 ghost use Rattle.rart_ways.specs.Firsts.{Finds};
+
+mod cursor;
 
 use crate::answer::{ABSENT, DONE, NO_ENTRIES, TOO_SMALL};
 use crate::handle::RartTree;
 use crate::lent;
+use crate::paging::cursor::PageCursor;
 use crate::table::Table;
 use rart_below::compare_bytes;
-use rart_versioned::{VectorPartial, VersionedCursor};
 use std::alloc::AllocError;
 use std::ops::Bound;
 
@@ -31,7 +33,7 @@ pub const EXCLUDED: u8 = 1;
 pub const UNBOUNDED: u8 = 2;
 
 /// A page of at most so many entries is found by searching.
-const FEW: usize = 4;
+const FEW: usize = 1;
 
 /// The order in which a page has its pairs.
 #[derive(Clone, Copy, PartialEq, Eq)]
@@ -51,12 +53,12 @@ pub struct RartEntry {
 /// Writes the first pairs within two bounds, as many as there is room for: their keys one behind
 /// the other to the front of `bytes`, an entry of each to the front of `entries`, and how many they
 /// are to `count`. What `bytes` has behind the keys is not told; `entries` is as before there.
-/// Answers `DONE` where it has a pair: the next page begins `EXCLUDED` at a copy of the last key,
-/// and pages are asked for until none is there, which answers `ABSENT`. `NO_ENTRIES` says that
-/// `entries` has no room, `TOO_SMALL` that the first key is longer than `bytes`, and writes its
-/// length to `needed`. A bound is of the kind `INCLUDED`, `EXCLUDED` or `UNBOUNDED`. Memory that it
-/// takes to walk it gives back, and where it lacks some it searches from key to key: it is never
-/// refused.
+/// Answers `DONE` where it has a pair, else `count` is 0: the next page begins `EXCLUDED` at a copy
+/// of the last key, and pages are asked for until none is there, which answers `ABSENT`.
+/// `NO_ENTRIES` says that `entries` has no room, `TOO_SMALL` that the first key is longer than
+/// `bytes`, and writes its length to `needed`. A bound is of the kind `INCLUDED`, `EXCLUDED` or
+/// `UNBOUNDED`. Memory that it takes to walk it gives back, and where it lacks some it searches from
+/// key to key: it is never refused.
 #[unsafe(no_mangle)]
 pub extern "C" fn rart_page(
     tree: &mut RartTree,
@@ -83,7 +85,7 @@ pub extern "C" fn rart_page(
 
 /// As `rart_page`, from the last pair back: the last pairs within two bounds, descending, as many
 /// as there is room for. The next page has a copy of the key that was written last for its `high`,
-/// which is `EXCLUDED` then. It searches from key to key, and takes no memory.
+/// which is `EXCLUDED` then.
 #[unsafe(no_mangle)]
 pub extern "C" fn rart_page_back(
     tree: &mut RartTree,
@@ -175,21 +177,24 @@ fn write_page(
     }
 }
 
-/// A cursor before the pairs from a bound on, for so many of them: none for a few, which are found
-/// sooner by searching, nor where they descend, nor where memory is refused.
+/// A cursor before the pairs from a bound on, in an order, for so many of them: none for a few,
+/// which are found sooner by searching, nor where memory is refused.
 pub(crate) fn cursor_for<'a, V: Clone + Drop>(
     table: Option<&'a Table<V>>,
     order: Order,
     from: Bound<&[u8]>,
     room: usize,
-) -> Option<VersionedCursor<'a, VectorPartial, V>>
+) -> Option<PageCursor<'a, V>>
     ensures { ForSome result (IsCursorFor order (shown table.entry).version.content
         (bound_map (λ from. from.now) from.entry)) }
 {
-    if room <= FEW || order == Order::Descending {
+    if room <= FEW {
         return None;
     }
-    lent::cursor(table, from)
+    match order {
+        Order::Ascending => Some(PageCursor::Onward(lent::cursor(table, from)?)),
+        Order::Descending => Some(PageCursor::Back(lent::cursor_back(table, from)?)),
+    }
 }
 
 /// The first of the pairs from one bound to another, in an order, behind the last key that was
@@ -197,7 +202,7 @@ pub(crate) fn cursor_for<'a, V: Clone + Drop>(
 /// `end` on, if it fits. A cursor, where there is one, has left what is behind that key. Where it
 /// lacks memory it is let go, and the pair is found by searching: so none is refused.
 pub(crate) fn next_pair<'a, V: Clone + Drop>(
-    cursor: &mut Option<VersionedCursor<'a, VectorPartial, V>>,
+    cursor: &mut Option<PageCursor<'a, V>>,
     table: Option<&'a Table<V>>,
     order: Order,
     from: Bound<&[u8]>,
@@ -224,7 +229,7 @@ pub(crate) fn next_pair<'a, V: Clone + Drop>(
 {
     let (written, room) = bytes.split_at_mut(end);
     if let Some(open) = cursor {
-        if let Ok(found) = next_of(open, to, room) {
+        if let Ok(found) = next_of(open, order, to, room) {
             return found;
         }
     }
@@ -232,26 +237,28 @@ pub(crate) fn next_pair<'a, V: Clone + Drop>(
     first_behind(table, order, from, to, written, last, room)
 }
 
-/// The next pair of a cursor, where its key meets an upper bound. The key is written to the front
-/// of the room, if it fits. Refused for memory, the room is as before.
+/// The next pair of a cursor, where its key meets the bound to which pairs go in an order. The key
+/// is written to the front of the room, if it fits. Refused for memory, the room is as before.
 fn next_of<'a, V: Drop>(
-    cursor: &mut VersionedCursor<'a, VectorPartial, V>,
-    high: Bound<&[u8]>,
+    cursor: &mut PageCursor<'a, V>,
+    order: Order,
+    to: Bound<&[u8]>,
     room: &mut [u8],
 ) -> Result<Option<(usize, &'a V)>, AllocError>
-    requires ascend { KeysAscend (λ pair. pair.0) cursor.old.left }
-    ensures first { IfOk result (λ found. FindsFirst
-        (up_to (bound_map (λ high. high.now) high.entry) cursor.old.left) found room.old room.new) }
-    ensures left { (key : List ℕ) (value : V) (others : List (List ℕ × V))
-        → up_to (bound_map (λ high. high.now) high.entry) cursor.old.left ≡ (key, value) ∷ others
-        → OnOk result (cursor.old.left ≡ (key, value) ∷ cursor.new.left) }
+    ensures first { (m : Map V) (from : Bound (List ℕ)) → IsCursorFor order m from cursor.old
+        → IfOk result (λ found. FindsFirst
+        (range_in order m from (bound_map (λ to. to.now) to.entry)) found room.old room.new) }
+    ensures left { (m : Map V) (from : Bound (List ℕ)) → IsCursorFor order m from cursor.old
+        → (key : List ℕ) (value : V) (others : List (List ℕ × V))
+        → range_in order m from (bound_map (λ to. to.now) to.entry) ≡ (key, value) ∷ others
+        → OnOk result (IsCursorFor order m (Excluded key) cursor.new) }
     ensures refused { OnErr result (room.new ≡ room.old) }
 {
     let Some(value) = cursor.next_value()? else {
         return Ok(None);
     };
     let key = cursor.key();
-    if !is_up_to(key, high) {
+    if !meets(key, order, to) {
         return Ok(None);
     }
     write_key(key, room);

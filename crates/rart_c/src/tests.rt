@@ -1,5 +1,8 @@
 //! Each export with ample memory, all that it writes beside its answer.
-use crate::answer::{ABSENT, DIFFERENT, DONE, NOT_EMPTY, TOO_LONG, TOO_SMALL};
+use crate::answer::{
+    ABSENT, DIFFERENT, DONE, MALFORMED, NOT_EMPTY, TOO_LONG, TOO_SMALL, TRUNCATED, UNSUPPORTED,
+    WRONG_SUM,
+};
 use crate::changing::{rart_clear, rart_insert, rart_remove};
 use crate::choosing::{rart_add, rart_replace};
 use crate::comparing::{rart_difference, rart_equals, rart_intersection};
@@ -8,6 +11,7 @@ use crate::limits::{rart_longest_key, rart_set_longest_key};
 use crate::paging::{EXCLUDED, INCLUDED, RartEntry, rart_page};
 use crate::prefixes::{rart_prefix_snapshot, rart_remove_prefix, rart_restore_prefix};
 use crate::reading::{rart_common, rart_get, rart_is_empty, rart_len, rart_longest, rart_version};
+use crate::saving::{rart_load, rart_save, rart_saved_len};
 use crate::versions::{rart_clone, rart_new_at, rart_snapshot};
 use crate::walking::{rart_last, rart_next, rart_prev, rart_seek, rart_seek_back};
 use std::alloc::Global;
@@ -210,4 +214,46 @@ fn versions_are_apart(rt: HostRuntime) {
     assert_eq!(rt; rart_new_at(alloc, &mut tree, u64::MAX - 1), DONE);
     assert_eq!(rt; rart_insert(alloc, &mut tree, b"a", 1, &mut value), ABSENT);
     assert_eq!(rt; rart_version(&mut tree), u64::MAX);
+}
+
+#[test]
+fn trees_are_saved_and_loaded(rt: HostRuntime) {
+    let alloc = rt.alloc();
+    let mut tree = tree_of(alloc, &[(b"tea", 300), (b"milk", 100)]);
+    let mut other = RartTree::empty(alloc);
+    let (mut room, mut len, mut at) = ([7; 71], 0, 0);
+    assert_eq!(rt; rart_saved_len(alloc, &mut tree, &mut len), DONE);
+    assert_eq!(rt; len, 70);
+    let small = rart_save(alloc, &mut tree, &mut room[..69], &mut len);
+    assert_eq!(rt; (small, len), (TOO_SMALL, 70));
+    assert_eq!(rt; rart_save(alloc, &mut tree, &mut room, &mut len), DONE);
+    assert_eq!(rt; (len, room[70]), (70, 7));
+    let mut exact = [0; 70];
+    assert_eq!(rt; rart_save(alloc, &mut tree, &mut exact, &mut len), DONE);
+    assert_eq!(rt; rart_load(alloc, &mut other, &exact, &mut at), DONE);
+    let mut value = 0;
+    assert_eq!(rt; rart_get(&mut other, b"tea", &mut value), DONE);
+    assert_eq!(rt; (value, rart_version(&mut other)), (300, 2));
+}
+
+#[test]
+fn bytes_that_are_no_tree_are_refused(rt: HostRuntime) {
+    let alloc = rt.alloc();
+    let mut tree = tree_of(alloc, &[(b"tea", 300), (b"milk", 100)]);
+    let (mut room, mut len, mut at) = ([0; 70], 0, 0);
+    assert_eq!(rt; rart_save(alloc, &mut tree, &mut room, &mut len), DONE);
+    let mut short = RartTree::empty(alloc);
+    assert_eq!(rt; rart_set_longest_key(alloc, &mut short, 3), DONE);
+    let long = rart_load(alloc, &mut short, &room, &mut at);
+    assert_eq!(rt; (long, at), (TOO_LONG, 11));
+    let front = room.split_last().expect(&rt, "there are 70 bytes").1;
+    assert_eq!(rt; rart_load(alloc, &mut tree, front, &mut at), TRUNCATED);
+    room[69] ^= 1;
+    assert_eq!(rt; rart_load(alloc, &mut tree, &room, &mut at), WRONG_SUM);
+    room[7] = 2;
+    assert_eq!(rt; rart_load(alloc, &mut tree, &room, &mut at), UNSUPPORTED);
+    room[0] = 7;
+    let other = rart_load(alloc, &mut tree, &room, &mut at);
+    assert_eq!(rt; (other, at), (MALFORMED, 0));
+    assert_eq!(rt; rart_len(&mut tree), 2);
 }

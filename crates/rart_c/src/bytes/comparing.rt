@@ -12,8 +12,8 @@ use crate::{combining, lent};
 use std::alloc::Global;
 
 /// Whether both trees have the same keys with the same values, whatever their numbers: answers
-/// `DONE` where they have, else `DIFFERENT`. `NO_MEMORY` says that memory was refused, and nothing
-/// of them.
+/// `DONE` where they have, else `DIFFERENT`. `NO_MEMORY` says that memory was refused, and tells
+/// nothing of the trees.
 #[unsafe(no_mangle)]
 pub extern "C" fn rart_bytes_equals(
     alloc: Global,

@@ -1,5 +1,8 @@
 //! Each export with ample memory, all that it writes beside its answer.
-use crate::answer::{ABSENT, DIFFERENT, DONE, NOT_EMPTY, TOO_LONG, TOO_SMALL};
+use crate::answer::{
+    ABSENT, DIFFERENT, DONE, MALFORMED, NOT_EMPTY, TOO_LONG, TOO_SMALL, TRUNCATED, UNSUPPORTED,
+    WRONG_SUM,
+};
 use crate::bytes::changing::{rart_bytes_clear, rart_bytes_insert, rart_bytes_remove};
 use crate::bytes::choosing::{rart_bytes_add, rart_bytes_replace};
 use crate::bytes::comparing::{rart_bytes_difference, rart_bytes_equals, rart_bytes_intersection};
@@ -13,6 +16,7 @@ use crate::bytes::reading::{
     rart_bytes_common, rart_bytes_get, rart_bytes_is_empty, rart_bytes_len, rart_bytes_longest,
     rart_bytes_version,
 };
+use crate::bytes::saving::{rart_bytes_load, rart_bytes_save, rart_bytes_saved_len};
 use crate::bytes::versions::{rart_bytes_clone, rart_bytes_new_at, rart_bytes_snapshot};
 use crate::bytes::walking::{rart_bytes_next, rart_bytes_seek};
 use crate::paging::{EXCLUDED, INCLUDED, UNBOUNDED};
@@ -228,4 +232,68 @@ fn versions_are_apart(rt: HostRuntime) {
     assert_eq!(rt; rart_bytes_len(&mut copy), 2);
     assert_eq!(rt; rart_bytes_new_at(alloc, &mut tree, u64::MAX - 1), DONE);
     assert_eq!(rt; rart_bytes_version(&mut tree), u64::MAX - 1);
+}
+
+#[test]
+fn trees_are_saved_and_loaded(rt: HostRuntime) {
+    let alloc = rt.alloc();
+    let mut tree = tree_of(alloc, &[(b"tea", b"green"), (b"milk", b"")]);
+    let mut other = RartBytes::empty(alloc);
+    let (mut room, mut len, mut at) = ([7; 62], 0, 0);
+    assert_eq!(rt; rart_bytes_saved_len(alloc, &mut tree, &mut len), DONE);
+    assert_eq!(rt; len, 61);
+    let small = rart_bytes_save(alloc, &mut tree, &mut room[..60], &mut len);
+    assert_eq!(rt; (small, len), (TOO_SMALL, 61));
+    assert_eq!(rt;
+        rart_bytes_save(alloc, &mut tree, &mut room, &mut len),
+        DONE
+    );
+    assert_eq!(rt; (len, room[61]), (61, 7));
+    let mut exact = [0; 61];
+    assert_eq!(rt;
+        rart_bytes_save(alloc, &mut tree, &mut exact, &mut len),
+        DONE
+    );
+    assert_eq!(rt; rart_bytes_load(alloc, &mut other, &exact, &mut at), DONE);
+    let mut value = [0; 5];
+    assert_eq!(rt;
+        rart_bytes_get(&mut other, b"tea", &mut value, &mut len),
+        DONE
+    );
+    assert!(rt; value == *b"green");
+    assert_eq!(rt; rart_bytes_version(&mut other), 2);
+}
+
+#[test]
+fn bytes_that_are_no_tree_are_refused(rt: HostRuntime) {
+    let alloc = rt.alloc();
+    let mut tree = tree_of(alloc, &[(b"tea", b"green"), (b"milk", b"")]);
+    let (mut room, mut len, mut at) = ([0; 61], 0, 0);
+    assert_eq!(rt;
+        rart_bytes_save(alloc, &mut tree, &mut room, &mut len),
+        DONE
+    );
+    let mut short = RartBytes::empty(alloc);
+    assert_eq!(rt; rart_bytes_set_longest_key(alloc, &mut short, 3), DONE);
+    let long = rart_bytes_load(alloc, &mut short, &room, &mut at);
+    assert_eq!(rt; (long, at), (TOO_LONG, 11));
+    let front = room.split_last().expect(&rt, "there are 61 bytes").1;
+    assert_eq!(rt;
+        rart_bytes_load(alloc, &mut tree, front, &mut at),
+        TRUNCATED
+    );
+    room[60] ^= 1;
+    assert_eq!(rt;
+        rart_bytes_load(alloc, &mut tree, &room, &mut at),
+        WRONG_SUM
+    );
+    room[7] = 2;
+    assert_eq!(rt;
+        rart_bytes_load(alloc, &mut tree, &room, &mut at),
+        UNSUPPORTED
+    );
+    room[0] = 7;
+    let other = rart_bytes_load(alloc, &mut tree, &room, &mut at);
+    assert_eq!(rt; (other, at), (MALFORMED, 0));
+    assert_eq!(rt; rart_bytes_len(&mut tree), 2);
 }

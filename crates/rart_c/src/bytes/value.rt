@@ -1,6 +1,7 @@
 //! A byte string as a value, shared by the versions that have it.
 ghost use Rattle.std.specs.Prelude.{◌≡◌, IfOk};
 
+use rart_saved::{LoadError, SavedValue, put_sized, sized_at};
 use std::alloc::{AllocError, Global};
 use std::marker::Model;
 use std::rc::RcSlice;
@@ -68,4 +69,26 @@ impl Bytes {
     {
         self.bytes.as_slice()
     }
+}
+
+impl SavedValue for Bytes {
+    ghost use Rattle.rart_saved.specs.Laws.{sized-apart};
+    ghost use Rattle.rart_saved.specs.Values.{sized};
+
+    const KIND: u8 = 2;
+
+    ghost KIND = { 2 };
+
+    ghost written = { sized };
+
+    fn write(&self, out: &mut Vec<u8>) -> Result<(), AllocError> {
+        put_sized(out, self.as_slice())
+    }
+
+    fn read(alloc: Global, bytes: &[u8], at: usize) -> Result<(Bytes, usize), LoadError> {
+        let (string, end) = sized_at(bytes, at)?;
+        Ok((Bytes::new(alloc, string)?, end))
+    }
+
+    ghost apart = { sized-apart };
 }

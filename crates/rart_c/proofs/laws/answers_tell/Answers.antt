@@ -1,4 +1,5 @@
 use Rattle.rart_c.proofs.AnswerLawLemmas.{answers_tell, reads_tell, firsts_tell, first_strings_tell, page_answers_tell, pages_tell, refusals_tell, equality_tells}
+use Rattle.rart_c.proofs.SaveLemmas.{loads_tell, saves_tell, unread_tells}
 use Rattle.rart_c.proofs.laws.answers_tell.Goals as goal
 
 pub returns-clause-values : goal.returns-clause-values
@@ -24,3 +25,12 @@ returns-clause-refusals g c = refusals_tell
 
 pub returns-clause-equality : goal.returns-clause-equality
 returns-clause-equality g c = equality_tells _
+
+pub returns-clause-saved : goal.returns-clause-saved
+returns-clause-saved g c = saves_tell
+
+pub returns-clause-unread : goal.returns-clause-unread
+returns-clause-unread g c = unread_tells
+
+pub returns-clause-loads : goal.returns-clause-loads
+returns-clause-loads g c = loads_tell

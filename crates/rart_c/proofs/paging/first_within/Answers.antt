@@ -50,4 +50,5 @@ returns-else-is_within g c =
           range-told order content from to _ _ _ _ first c.if-len-room.is_within
           (w.is_within-is ∙ w.has_any-is_within.ensures)
     ] in
-    range-past order content from to _ _ _ _ first (told ∙ c.if-is_within.false)
+    range-past content from to (first.key, _) first.others order first.first
+    (told ∙ c.if-is_within.false)

@@ -1,0 +1,13 @@
+use Rattle.std.proofs.Common.{◌≡◌, length, subst}
+use Rattle.std.specs.Prelude.{IfOk}
+use Rattle.rart_saved.specs.Forms.{saved}
+use Rattle.rart_saved.specs.Values.{sized}
+use Rattle.rart_c.proofs.SaveLemmas.{length-told}
+use Rattle.rart_c.proofs.bytes.saving.rart_bytes_saved_len.Goals as goal
+
+pub returns-clause-length : goal.returns-clause-length
+returns-clause-length c =
+    length-told c.len.result (saved sized 2 c.args.tree.now.shows.version)
+    c.tell_length.result c.args.len.now c.tell_length.new.len
+    (subst (λ tree. IfOk c.len.result (λ n. n ≡ length (saved sized 2 tree.version)))
+    c.table.ensures.table c.len.ensures) c.tell_length.ensures

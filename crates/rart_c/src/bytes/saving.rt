@@ -1,0 +1,75 @@
+//! What C calls to have a tree of byte strings as bytes, and such a tree of bytes.
+ghost use Rattle.std.specs.Prelude.{◌≡◌, Some};
+ghost use Rattle.rart_c.specs.Saves.{GivesBack, Saves, TellsLength, TellsLoad};
+ghost use Rattle.rart_c.specs.declared.answer.TheConstants.{DONE};
+ghost use Rattle.rart_saved.specs.Forms.{IsVersionOf, saved};
+ghost use Rattle.rart_saved.specs.Values.{sized};
+
+use crate::answer::{DONE, tell_length, tell_unread, tell_written};
+use crate::bytes::handle::RartBytes;
+use crate::{forms, lent};
+use std::alloc::Global;
+
+/// Writes to `len` how many bytes `rart_bytes_save` writes, and answers `DONE`. It goes through all
+/// pairs, and takes memory for the way and for one of them: `NO_MEMORY` says that it was refused,
+/// and `len` is as before then.
+#[unsafe(no_mangle)]
+pub extern "C" fn rart_bytes_saved_len(alloc: Global, tree: &mut RartBytes, len: &mut usize) -> u8
+    ensures length { TellsLength (saved sized 2 tree.old.shows.version) result len.old len.new }
+    ensures same { tree.new.shows ≡ tree.old.shows }
+{
+    tell_length(forms::len(alloc, tree.table()), len)
+}
+
+/// Writes the version as bytes to the front of `into`, and how many they are to `len`: its map and
+/// its number, and a sum of all, in the one form that they have. Answers `DONE`; the other bytes of
+/// `into` are as before. `TOO_SMALL` says that `into` has fewer, and `len` is written too;
+/// `NO_MEMORY` that memory was refused, of which it takes what `rart_bytes_saved_len` does. What
+/// `into` has after these two answers is not told.
+#[unsafe(no_mangle)]
+pub extern "C" fn rart_bytes_save(
+    alloc: Global,
+    tree: &mut RartBytes,
+    into: &mut [u8],
+    len: &mut usize,
+) -> u8
+    ensures saved { Saves (saved sized 2 tree.old.shows.version) result
+        (into.old, len.old) (into.new, len.new) }
+    ensures loadable { IsVersionOf (Some tree.old.shows.longest) tree.old.shows.version }
+    ensures same { tree.new.shows ≡ tree.old.shows }
+{
+    let written = forms::save(alloc, tree.table(), into);
+    tell_written(written, into.len(), len)
+}
+
+/// Makes the tree the version whose bytes these are, as `rart_bytes_save` writes them, and frees
+/// what it was. Keys may be as long as before. Answers `DONE`; with any other answer it is as
+/// before. `TRUNCATED` says that the bytes end early, `UNSUPPORTED` that their format is another,
+/// `MALFORMED` that what begins at the byte `at` stands in no form, `TOO_LONG` that the key there
+/// is longer than a key may be, `WRONG_SUM` that the sum at the end is another. `NO_MEMORY` says
+/// that memory was refused, which is asked for as bytes come: no length in them is believed. The
+/// byte `at` is one of `bytes`; where none is told, `at` is as before. What `rart_bytes_save` wrote
+/// has no answers but `DONE`, `TOO_LONG` and `NO_MEMORY`; which other one comes of other bytes, and
+/// that `at` is the byte to look at, is tested alone.
+#[unsafe(no_mangle)]
+pub extern "C" fn rart_bytes_load(
+    alloc: Global,
+    tree: &mut RartBytes,
+    bytes: &[u8],
+    at: &mut usize,
+) -> u8
+    ensures loaded { result ≡ DONE → (bytes.now ≡ saved sized 2 tree.new.shows.version)
+        × (tree.new.shows.longest ≡ tree.old.shows.longest) }
+    ensures refused { ¬ (result ≡ DONE) → tree.new.shows ≡ tree.old.shows }
+    ensures tells { TellsLoad bytes.now result at.old at.new }
+    ensures gives_back { GivesBack sized 2 tree.old.shows.longest bytes.now result
+        tree.new.shows.version }
+{
+    match forms::load(alloc, bytes, lent::longest_key(tree.table())) {
+        Ok(table) => {
+            *tree = RartBytes::of(table);
+            DONE
+        }
+        Err(error) => tell_unread(error, at),
+    }
+}

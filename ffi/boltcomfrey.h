@@ -2,9 +2,12 @@
 // order of their bytes, as memcmp has it, a key before those that it begins. A snapshot or a clone is
 // a map of its own, which shares its nodes with the first one: it takes no time for each key.
 //
-// Proved of each function is what it answers and leaves, as its comment says, and that it returns
-// and never panics. Of one that takes no memory it is proved that it can't be refused; that it
-// takes none, and that what is freed is given back, is tested. Written by ffi/generate.
+// Proved of each function is what it answers and leaves, as its comment says, but for what that
+// calls tested, and that it returns and never panics. Of one that takes no memory it is proved that it
+// can't be refused; that it takes none, and that what is freed is given back, is tested. So is that
+// what only reads stores nothing in its tree: for it the const of a tree may be cast away.
+//
+// This is C11, and C++. Written by ffi/generate.
 #ifndef BOLTCOMFREY_H
 #define BOLTCOMFREY_H
 
@@ -72,10 +75,10 @@ typedef uint8_t rart_answer;
 enum {
     // The call was done. Where it answers a value, there was one, and it is written.
     RART_DONE = 0,
-    // There was no such key, and no value is written. An insertion has set it. Of a page: no pair
-    // is there.
+    // There was no such key, and no value is written. Of an insertion: the key was new, and is set.
+    // Of a page: no pair is there.
     RART_ABSENT = 1,
-    // The number is the last one, 2^64 - 1, and can't be raised. Nothing changed.
+    // The number would be 2^64 or more. Nothing changed.
     RART_LAST_NUMBER = 2,
     // Memory was refused. Nothing changed.
     RART_NO_MEMORY = 3,
@@ -83,12 +86,21 @@ enum {
     RART_TOO_SMALL = 4,
     // The page has no room for an entry, and a pair is there.
     RART_NO_ENTRIES = 5,
-    // The key is longer than a key may be. Nothing changed.
+    // The key is longer than a key may be, or keys may be longer in the tree that is put back.
+    // Nothing changed.
     RART_TOO_LONG = 6,
     // The tree has a key, and how long one may be is set without any. Nothing changed.
     RART_NOT_EMPTY = 7,
     // The trees are not equal.
     RART_DIFFERENT = 8,
+    // The bytes end before the version's end.
+    RART_TRUNCATED = 9,
+    // The bytes are of a format that this library doesn't read.
+    RART_UNSUPPORTED = 10,
+    // What begins at a place of the bytes stands in no version's form.
+    RART_MALFORMED = 11,
+    // The sum at the end is not that of the bytes before it.
+    RART_WRONG_SUM = 12,
 };
 
 // Whether a change was not refused. What was to be taken out may have been absent, and what was to be
@@ -116,6 +128,14 @@ static inline const char *rart_answer_text(rart_answer answer) {
         return "the tree has a key";
     case RART_DIFFERENT:
         return "the trees differ";
+    case RART_TRUNCATED:
+        return "the bytes end early";
+    case RART_UNSUPPORTED:
+        return "the format is another";
+    case RART_MALFORMED:
+        return "the bytes are no tree's";
+    case RART_WRONG_SUM:
+        return "the checksum is another";
     default:
         return "no answer";
     }
@@ -162,7 +182,7 @@ static inline size_t rart_prefix_end(uint8_t *prefix, size_t len) {
 // - no call is made in a signal handler, nor in a forked child;
 // - rattle_alloc, rattle_realloc and rattle_dealloc are one allocator, safe on each thread that has
 //   trees, and a block is aligned as it is asked for, which is to 16 bytes at most;
-// - a thread has 400 bytes of stack for each byte that a key may have, and 16 KiB: at first 416 KiB
+// - a thread has 500 bytes of stack for each byte that a key may have, and 16 KiB: at first 516 KiB
 //   (measured, not proved).
 
 // Makes copy the same map, its number one greater, and frees what copy was. Keys may be as long in
@@ -351,11 +371,12 @@ rart_answer rart_replace(
 // Writes the first pairs within two bounds, as many as there is room for: their keys one behind the
 // other to the front of bytes, an entry of each to the front of entries, and how many they are to
 // count. What bytes has behind the keys is not told; entries is as before there. Answers RART_DONE
-// where it has a pair: the next page begins RART_EXCLUDED at a copy of the last key, and pages are
-// asked for until none is there, which answers RART_ABSENT. RART_NO_ENTRIES says that entries has
-// no room, RART_TOO_SMALL that the first key is longer than bytes, and writes its length to needed.
-// A bound is of the kind RART_INCLUDED, RART_EXCLUDED or RART_UNBOUNDED. Memory that it takes to
-// walk it gives back, and where it lacks some it searches from key to key: it is never refused.
+// where it has a pair, else count is 0: the next page begins RART_EXCLUDED at a copy of the last
+// key, and pages are asked for until none is there, which answers RART_ABSENT. RART_NO_ENTRIES says
+// that entries has no room, RART_TOO_SMALL that the first key is longer than bytes, and writes its
+// length to needed. A bound is of the kind RART_INCLUDED, RART_EXCLUDED or RART_UNBOUNDED. Memory
+// that it takes to walk it gives back, and where it lacks some it searches from key to key: it is
+// never refused.
 RART_NONNULL RART_MUST_USE RART_CHANGES(1) RART_READS(2, 3) RART_READS(5, 6) RART_WRITES(8, 9)
 RART_WRITES(10, 11) RART_WRITES(12) RART_WRITES(13)
 rart_answer rart_page(
@@ -376,7 +397,7 @@ rart_answer rart_page(
 
 // As rart_page, from the last pair back: the last pairs within two bounds, descending, as many as
 // there is room for. The next page has a copy of the key that was written last for its high, which
-// is RART_EXCLUDED then. It searches from key to key, and takes no memory.
+// is RART_EXCLUDED then.
 RART_NONNULL RART_MUST_USE RART_CHANGES(1) RART_READS(2, 3) RART_READS(5, 6) RART_WRITES(8, 9)
 RART_WRITES(10, 11) RART_WRITES(12) RART_WRITES(13)
 rart_answer rart_page_back(
@@ -571,14 +592,14 @@ rart_answer rart_bytes_remove(
 
 // Whether both trees have the same keys with the same values, whatever their numbers: answers
 // RART_DONE where they have, else RART_DIFFERENT. RART_NO_MEMORY says that memory was refused, and
-// nothing of them.
+// tells nothing of the trees.
 RART_NONNULL RART_MUST_USE RART_CHANGES(1) RART_CHANGES(2)
 rart_answer rart_equals(rart_tree *RART_ALONE tree, rart_tree *RART_ALONE other);
 
 // Makes part the map of the pairs of tree alone whose key other lacks, or has with another value,
 // its number that of tree, and frees what part was. Keys may be as long in it as in tree. With the
 // trees exchanged it is the other side of what differs. RART_NO_MEMORY says that memory was
-// refused: part is as before then.  It goes once through both, and takes memory for each pair of
+// refused: part is as before then. It goes once through both, and takes memory for each pair of
 // part.
 RART_NONNULL RART_MUST_USE RART_CHANGES(1) RART_CHANGES(2) RART_CHANGES(3)
 rart_answer rart_difference(
@@ -589,7 +610,7 @@ rart_answer rart_difference(
 
 // Makes part the map of the pairs of tree alone whose key other has too, its number that of tree,
 // and frees what part was. Keys may be as long in it as in tree. RART_NO_MEMORY says that memory
-// was refused: part is as before then.  It goes through both only where keys of both can lie, and
+// was refused: part is as before then. It goes through both only where keys of both can lie, and
 // takes memory for each pair of part.
 RART_NONNULL RART_MUST_USE RART_CHANGES(1) RART_CHANGES(2) RART_CHANGES(3)
 rart_answer rart_intersection(
@@ -626,14 +647,14 @@ rart_answer rart_bytes_replace(
 
 // Whether both trees have the same keys with the same values, whatever their numbers: answers
 // RART_DONE where they have, else RART_DIFFERENT. RART_NO_MEMORY says that memory was refused, and
-// nothing of them.
+// tells nothing of the trees.
 RART_NONNULL RART_MUST_USE RART_CHANGES(1) RART_CHANGES(2)
 rart_answer rart_bytes_equals(rart_bytes *RART_ALONE tree, rart_bytes *RART_ALONE other);
 
 // Makes part the map of the pairs of tree alone whose key other lacks, or has with another value,
 // its number that of tree, and frees what part was. Keys may be as long in it as in tree. With the
 // trees exchanged it is the other side of what differs. RART_NO_MEMORY says that memory was
-// refused: part is as before then.  It goes once through both, and takes memory for each pair of
+// refused: part is as before then. It goes once through both, and takes memory for each pair of
 // part.
 RART_NONNULL RART_MUST_USE RART_CHANGES(1) RART_CHANGES(2) RART_CHANGES(3)
 rart_answer rart_bytes_difference(
@@ -644,7 +665,7 @@ rart_answer rart_bytes_difference(
 
 // Makes part the map of the pairs of tree alone whose key other has too, its number that of tree,
 // and frees what part was. Keys may be as long in it as in tree. RART_NO_MEMORY says that memory
-// was refused: part is as before then.  It goes through both only where keys of both can lie, and
+// was refused: part is as before then. It goes through both only where keys of both can lie, and
 // takes memory for each pair of part.
 RART_NONNULL RART_MUST_USE RART_CHANGES(1) RART_CHANGES(2) RART_CHANGES(3)
 rart_answer rart_bytes_intersection(
@@ -701,7 +722,7 @@ rart_answer rart_bytes_page_back(
 // Takes out all pairs whose key the prefix begins, the number then one greater. Answers RART_DONE
 // and writes how many there were, or answers RART_ABSENT where there is none, and then nothing
 // changed. RART_LAST_NUMBER says that there is one and the number can't be raised, RART_NO_MEMORY
-// that there is one and memory was refused: nothing changed then.  It counts them, so it takes time
+// that there is one and memory was refused: nothing changed then. It counts them, so it takes time
 // by their number.
 RART_NONNULL RART_MUST_USE RART_CHANGES(1) RART_READS(2, 3) RART_WRITES(4)
 rart_answer rart_remove_prefix(
@@ -714,7 +735,7 @@ rart_answer rart_remove_prefix(
 // Makes part the map of the pairs alone whose key the prefix begins, its number one greater, and
 // frees what part was. Keys may be as long in it. What stands below the prefix both share.
 // RART_LAST_NUMBER says that the number can't be raised, RART_NO_MEMORY that memory was refused:
-// part is as before then.  It counts them, so it takes time by their number.
+// part is as before then. It counts them, so it takes time by their number.
 RART_NONNULL RART_MUST_USE RART_CHANGES(1) RART_READS(2, 3) RART_CHANGES(4)
 rart_answer rart_prefix_snapshot(
     rart_tree *RART_ALONE tree,
@@ -725,8 +746,9 @@ rart_answer rart_prefix_snapshot(
 
 // Puts in place of all pairs whose key the prefix begins those that another tree has there, the
 // number then the sum of both; the others stay, and so does the other tree. RART_TOO_LONG says that
-// keys may be longer there, RART_LAST_NUMBER that the sum can't be had, RART_NO_MEMORY that memory
-// was refused: nothing changed then.  It counts the pairs that go and come, so it takes time by
+// keys may be longer in the other tree, RART_LAST_NUMBER that the sum is 2^64 or more,
+// RART_NO_MEMORY that memory was refused: nothing changed then. Put back from its own snapshots, a
+// tree doubles its number each time. It counts the pairs that go and come, so it takes time by
 // their number.
 RART_NONNULL RART_MUST_USE RART_CHANGES(1) RART_READS(2, 3) RART_CHANGES(4)
 rart_answer rart_restore_prefix(
@@ -739,7 +761,7 @@ rart_answer rart_restore_prefix(
 // Takes out all pairs whose key the prefix begins, the number then one greater. Answers RART_DONE
 // and writes how many there were, or answers RART_ABSENT where there is none, and then nothing
 // changed. RART_LAST_NUMBER says that there is one and the number can't be raised, RART_NO_MEMORY
-// that there is one and memory was refused: nothing changed then.  It counts them, so it takes time
+// that there is one and memory was refused: nothing changed then. It counts them, so it takes time
 // by their number.
 RART_NONNULL RART_MUST_USE RART_CHANGES(1) RART_READS(2, 3) RART_WRITES(4)
 rart_answer rart_bytes_remove_prefix(
@@ -752,7 +774,7 @@ rart_answer rart_bytes_remove_prefix(
 // Makes part the map of the pairs alone whose key the prefix begins, its number one greater, and
 // frees what part was. Keys may be as long in it. What stands below the prefix both share.
 // RART_LAST_NUMBER says that the number can't be raised, RART_NO_MEMORY that memory was refused:
-// part is as before then.  It counts them, so it takes time by their number.
+// part is as before then. It counts them, so it takes time by their number.
 RART_NONNULL RART_MUST_USE RART_CHANGES(1) RART_READS(2, 3) RART_CHANGES(4)
 rart_answer rart_bytes_prefix_snapshot(
     rart_bytes *RART_ALONE tree,
@@ -763,8 +785,9 @@ rart_answer rart_bytes_prefix_snapshot(
 
 // Puts in place of all pairs whose key the prefix begins those that another tree has there, the
 // number then the sum of both; the others stay, and so does the other tree. RART_TOO_LONG says that
-// keys may be longer there, RART_LAST_NUMBER that the sum can't be had, RART_NO_MEMORY that memory
-// was refused: nothing changed then.  It counts the pairs that go and come, so it takes time by
+// keys may be longer in the other tree, RART_LAST_NUMBER that the sum is 2^64 or more,
+// RART_NO_MEMORY that memory was refused: nothing changed then. Put back from its own snapshots, a
+// tree doubles its number each time. It counts the pairs that go and come, so it takes time by
 // their number.
 RART_NONNULL RART_MUST_USE RART_CHANGES(1) RART_READS(2, 3) RART_CHANGES(4)
 rart_answer rart_bytes_restore_prefix(
@@ -772,6 +795,78 @@ rart_answer rart_bytes_restore_prefix(
     const uint8_t *RART_ALONE prefix,
     size_t prefix_len,
     rart_bytes *RART_ALONE from
+);
+
+// Writes to len how many bytes rart_save writes, and answers RART_DONE. It goes through all pairs,
+// and takes memory for the way and for one of them: RART_NO_MEMORY says that it was refused, and
+// len is as before then.
+RART_NONNULL RART_MUST_USE RART_CHANGES(1) RART_WRITES(2)
+rart_answer rart_saved_len(rart_tree *RART_ALONE tree, size_t *RART_ALONE len);
+
+// Writes the version as bytes to the front of into, and how many they are to len: its map and its
+// number, and a sum of all, in the one form that they have. Answers RART_DONE; the other bytes of
+// into are as before. RART_TOO_SMALL says that into has fewer, and len is written too;
+// RART_NO_MEMORY that memory was refused, of which it takes what rart_saved_len does. What into has
+// after these two answers is not told.
+RART_NONNULL RART_MUST_USE RART_CHANGES(1) RART_WRITES(2, 3) RART_WRITES(4)
+rart_answer rart_save(
+    rart_tree *RART_ALONE tree,
+    uint8_t *RART_ALONE into,
+    size_t into_len,
+    size_t *RART_ALONE len
+);
+
+// Makes the tree the version whose bytes these are, as rart_save writes them, and frees what it
+// was. Keys may be as long as before. Answers RART_DONE; with any other answer it is as before.
+// RART_TRUNCATED says that the bytes end early, RART_UNSUPPORTED that their format is another,
+// RART_MALFORMED that what begins at the byte at stands in no form, RART_TOO_LONG that the key
+// there is longer than a key may be, RART_WRONG_SUM that the sum at the end is another.
+// RART_NO_MEMORY says that memory was refused, which is asked for as bytes come: no length in them
+// is believed. The byte at is one of bytes; where none is told, at is as before. What rart_save
+// wrote has no answers but RART_DONE, RART_TOO_LONG and RART_NO_MEMORY; which other one comes of
+// other bytes, and that at is the byte to look at, is tested alone.
+RART_NONNULL RART_MUST_USE RART_CHANGES(1) RART_READS(2, 3) RART_WRITES(4)
+rart_answer rart_load(
+    rart_tree *RART_ALONE tree,
+    const uint8_t *RART_ALONE bytes,
+    size_t bytes_len,
+    size_t *RART_ALONE at
+);
+
+// Writes to len how many bytes rart_bytes_save writes, and answers RART_DONE. It goes through all
+// pairs, and takes memory for the way and for one of them: RART_NO_MEMORY says that it was refused,
+// and len is as before then.
+RART_NONNULL RART_MUST_USE RART_CHANGES(1) RART_WRITES(2)
+rart_answer rart_bytes_saved_len(rart_bytes *RART_ALONE tree, size_t *RART_ALONE len);
+
+// Writes the version as bytes to the front of into, and how many they are to len: its map and its
+// number, and a sum of all, in the one form that they have. Answers RART_DONE; the other bytes of
+// into are as before. RART_TOO_SMALL says that into has fewer, and len is written too;
+// RART_NO_MEMORY that memory was refused, of which it takes what rart_bytes_saved_len does. What
+// into has after these two answers is not told.
+RART_NONNULL RART_MUST_USE RART_CHANGES(1) RART_WRITES(2, 3) RART_WRITES(4)
+rart_answer rart_bytes_save(
+    rart_bytes *RART_ALONE tree,
+    uint8_t *RART_ALONE into,
+    size_t into_len,
+    size_t *RART_ALONE len
+);
+
+// Makes the tree the version whose bytes these are, as rart_bytes_save writes them, and frees what
+// it was. Keys may be as long as before. Answers RART_DONE; with any other answer it is as before.
+// RART_TRUNCATED says that the bytes end early, RART_UNSUPPORTED that their format is another,
+// RART_MALFORMED that what begins at the byte at stands in no form, RART_TOO_LONG that the key
+// there is longer than a key may be, RART_WRONG_SUM that the sum at the end is another.
+// RART_NO_MEMORY says that memory was refused, which is asked for as bytes come: no length in them
+// is believed. The byte at is one of bytes; where none is told, at is as before. What
+// rart_bytes_save wrote has no answers but RART_DONE, RART_TOO_LONG and RART_NO_MEMORY; which other
+// one comes of other bytes, and that at is the byte to look at, is tested alone.
+RART_NONNULL RART_MUST_USE RART_CHANGES(1) RART_READS(2, 3) RART_WRITES(4)
+rart_answer rart_bytes_load(
+    rart_bytes *RART_ALONE tree,
+    const uint8_t *RART_ALONE bytes,
+    size_t bytes_len,
+    size_t *RART_ALONE at
 );
 
 // The calls that take null: of these names the library's own functions, which don't, are written in
@@ -1105,6 +1200,35 @@ static inline rart_answer rart_bytes_restore_prefix_any(rart_bytes *RART_ALONE t
         prefix_len > 0 ? prefix : (const uint8_t *)&rart_nowhere, prefix_len, from);
 }
 #define rart_bytes_restore_prefix(...) rart_bytes_restore_prefix_any(__VA_ARGS__)
+
+RART_NONNULL_AT(1, 4) RART_MUST_USE RART_CHANGES(1) RART_WRITES(2, 3) RART_WRITES(4)
+static inline rart_answer rart_save_any(rart_tree *RART_ALONE tree, uint8_t *RART_ALONE into,
+    size_t into_len, size_t *RART_ALONE len) {
+    return (rart_save)(tree, into_len > 0 ? into : (uint8_t *)&rart_nowhere, into_len, len);
+}
+#define rart_save(...) rart_save_any(__VA_ARGS__)
+
+RART_NONNULL_AT(1, 4) RART_MUST_USE RART_CHANGES(1) RART_READS(2, 3) RART_WRITES(4)
+static inline rart_answer rart_load_any(rart_tree *RART_ALONE tree, const uint8_t *RART_ALONE bytes,
+    size_t bytes_len, size_t *RART_ALONE at) {
+    return (rart_load)(tree, bytes_len > 0 ? bytes : (const uint8_t *)&rart_nowhere, bytes_len, at);
+}
+#define rart_load(...) rart_load_any(__VA_ARGS__)
+
+RART_NONNULL_AT(1, 4) RART_MUST_USE RART_CHANGES(1) RART_WRITES(2, 3) RART_WRITES(4)
+static inline rart_answer rart_bytes_save_any(rart_bytes *RART_ALONE tree, uint8_t *RART_ALONE into,
+    size_t into_len, size_t *RART_ALONE len) {
+    return (rart_bytes_save)(tree, into_len > 0 ? into : (uint8_t *)&rart_nowhere, into_len, len);
+}
+#define rart_bytes_save(...) rart_bytes_save_any(__VA_ARGS__)
+
+RART_NONNULL_AT(1, 4) RART_MUST_USE RART_CHANGES(1) RART_READS(2, 3) RART_WRITES(4)
+static inline rart_answer rart_bytes_load_any(rart_bytes *RART_ALONE tree,
+    const uint8_t *RART_ALONE bytes, size_t bytes_len, size_t *RART_ALONE at) {
+    return (rart_bytes_load)(tree, bytes_len > 0 ? bytes : (const uint8_t *)&rart_nowhere,
+        bytes_len, at);
+}
+#define rart_bytes_load(...) rart_bytes_load_any(__VA_ARGS__)
 
 #ifdef __cplusplus
 }

@@ -1,6 +1,7 @@
 // The same calls on trees whose values are byte strings.
 #define TREE rart_bytes
 #define CALL(name) rart_bytes_##name
+#define VALUES 2
 #include "shared.h"
 
 // The byte string that stands for a number: short or long, its bytes from another generator. Gives
@@ -18,6 +19,13 @@ static bool is_same(uint64_t number, uint64_t other) {
     uint8_t one[MOST_VALUE] = {0}, another[MOST_VALUE] = {0};
     size_t len = value_of(number, one);
     return value_of(other, another) == len && memcmp(one, another, len) == 0;
+}
+
+static size_t put_value(uint64_t number, uint8_t *to) {
+    uint8_t value[MOST_VALUE] = {0};
+    size_t len = value_of(number, value), front = put_number(len, to);
+    memcpy(to + front, value, len);
+    return front + len;
 }
 
 static rart_answer insert(size_t at, const struct key *key, uint64_t number) {

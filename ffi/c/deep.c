@@ -1,23 +1,17 @@
 // That keys as long as they may be end no thread, however they begin one another: chains of them are
-// made, read, compared, taken out, put back and freed on a thread with little stack.
+// made, read, compared, cut, saved, loaded, taken out, put back and freed on a thread with little
+// stack.
 //
 //   deep [LONGEST [KIB]]   of so many bytes, 1,024 without a word, on a thread with so many KiB of
 //                          stack, 2,048 without a word
 //
 // Built with BYTES, of maps to byte strings, whose calls take more stack.
 #include "boltcomfrey.h"
+#include "expect.h"
 #include <pthread.h>
 #include <stdio.h>
 #include <stdlib.h>
 #include <string.h>
-
-#define EXPECT(claim)                                                                              \
-    do {                                                                                           \
-        if (!(claim)) {                                                                            \
-            fprintf(stderr, "%s:%d: this is false: %s\n", __FILE__, __LINE__, #claim);             \
-            exit(1);                                                                               \
-        }                                                                                          \
-    } while (0)
 
 #ifdef BYTES
 typedef rart_bytes tree;
@@ -78,6 +72,20 @@ static void refuse_longer(struct chain *chain) {
     EXPECT(CALL(set_longest_key)(&chain->tree, chain->longest + 1) == RART_NOT_EMPTY);
 }
 
+// What is made of two such trees, and of such a tree's bytes.
+static void make_others(struct chain *chain, tree *copy, size_t keys) {
+    tree none = {0}, part = {0};
+    EXPECT(CALL(intersection)(&chain->tree, copy, &part) == RART_DONE && CALL(len)(&part) == keys);
+    EXPECT(CALL(difference)(&chain->tree, &none, &part) == RART_DONE && CALL(len)(&part) == keys);
+    size_t len, at;
+    EXPECT(CALL(saved_len)(&part, &len) == RART_DONE);
+    uint8_t *bytes = malloc(len);
+    EXPECT(bytes != NULL && CALL(save)(&part, bytes, len, &len) == RART_DONE);
+    EXPECT(CALL(load)(&part, bytes, len, &at) == RART_DONE && CALL(len)(&part) == keys);
+    free(bytes);
+    CALL(clear)(&part);
+}
+
 static void try_chain(struct chain *chain) {
     tree copy = {0};
     fill(chain);
@@ -93,6 +101,7 @@ static void try_chain(struct chain *chain) {
     EXPECT(CALL(common)(&chain->tree, &copy) == keys - 1);
     EXPECT(CALL(restore_prefix)(&chain->tree, key, chain->longest, &copy) == RART_DONE);
     EXPECT(CALL(common)(&chain->tree, &copy) == keys);
+    make_others(chain, &copy, keys);
     CALL(clear)(&copy);
     CALL(clear)(&chain->tree);
 }

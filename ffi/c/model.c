@@ -1,10 +1,18 @@
 // Random calls on trees whose values are numbers, each compared with tables.
 #define TREE rart_tree
 #define CALL(name) rart_##name
+#define VALUES 1
 #include "shared.h"
 
 static bool is_same(uint64_t value, uint64_t other) {
     return value == other;
+}
+
+static size_t put_value(uint64_t value, uint8_t *to) {
+    for (size_t at = 0; at < 8; at++) {
+        to[at] = (uint8_t)(value >> 8 * at);
+    }
+    return 8;
 }
 
 // (a value before that isn't wanted may go nowhere)

@@ -2,7 +2,7 @@
 // written, of one tree given twice too.
 #define _DEFAULT_SOURCE // (for mmap's MAP_ANONYMOUS)
 #include "boltcomfrey.h"
-#include <stdio.h>
+#include "expect.h"
 #include <stdlib.h>
 #include <string.h>
 #include <sys/mman.h>
@@ -11,14 +11,6 @@ struct trees {
     rart_tree numbers, no_number;
     rart_bytes strings, no_string;
 };
-
-#define EXPECT(claim)                                                                              \
-    do {                                                                                           \
-        if (!(claim)) {                                                                            \
-            fprintf(stderr, "%s:%d: this is false: %s\n", __FILE__, __LINE__, #claim);             \
-            exit(1);                                                                               \
-        }                                                                                          \
-    } while (0)
 
 static const uint8_t te[] = {'t', 'e'}, tea[] = {'t', 'e', 'a'}, none[] = {0};
 
@@ -39,7 +31,7 @@ static void clear(struct trees *trees) {
 
 // The reads of a tree of numbers with so many of the keys; `same` is that tree once more.
 static void read_numbers(rart_tree *tree, rart_tree *same, size_t keys) {
-    uint8_t room[8];
+    uint8_t room[8], file[128];
     size_t len, count, needed;
     uint64_t value;
     rart_entry entries[2];
@@ -61,11 +53,14 @@ static void read_numbers(rart_tree *tree, rart_tree *same, size_t keys) {
     EXPECT(count == keys && rart_common(tree, same) == keys);
     EXPECT(rart_equals(tree, same) == RART_DONE);
     EXPECT(rart_snapshot(tree, &copy) == RART_DONE && rart_clone(tree, &copy) == RART_DONE);
+    EXPECT(rart_saved_len(tree, &needed) == RART_DONE);
+    EXPECT(rart_save(tree, file, sizeof file, &len) == RART_DONE && len == needed);
+    EXPECT(rart_load(&copy, file, len, &needed) == RART_DONE && rart_len(&copy) == keys);
     rart_clear(&copy);
 }
 
 static void read_strings(rart_bytes *tree, rart_bytes *same, size_t keys) {
-    uint8_t room[8], into[8];
+    uint8_t room[8], into[8], file[128];
     size_t key_len, len;
     rart_bytes copy = {0};
     rart_answer wanted = keys ? RART_DONE : RART_ABSENT;
@@ -90,6 +85,10 @@ static void read_strings(rart_bytes *tree, rart_bytes *same, size_t keys) {
     EXPECT(rart_bytes_equals(tree, same) == RART_DONE);
     EXPECT(rart_bytes_snapshot(tree, &copy) == RART_DONE);
     EXPECT(rart_bytes_clone(tree, &copy) == RART_DONE);
+    EXPECT(rart_bytes_saved_len(tree, &key_len) == RART_DONE);
+    EXPECT(rart_bytes_save(tree, file, sizeof file, &len) == RART_DONE && len == key_len);
+    EXPECT(rart_bytes_load(&copy, file, len, &key_len) == RART_DONE);
+    EXPECT(rart_bytes_len(&copy) == keys);
     rart_bytes_clear(&copy);
 }
 

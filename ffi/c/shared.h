@@ -1,12 +1,12 @@
 // What the two models share: random keys, tables of what eight trees should have, and random calls
-// on both. A model says before it includes this of what type its trees are (TREE) and how their
-// calls are named (CALL), and behind it what a value is.
+// on both. A model says before it includes this of what type its trees are (TREE), how their calls
+// are named (CALL) and of what kind their values are in files (VALUES), and behind it what a value is.
 #ifndef SHARED_H
 #define SHARED_H
 
 #include "boltcomfrey.h"
-#include <stdio.h>
-#include <stdlib.h>
+#include "expect.h"
+#include "random.h"
 #include <string.h>
 
 // Keys have few letters, so that they often begin one another; or any, so that nodes are wide.
@@ -48,22 +48,6 @@ struct table {
 
 static TREE trees[TREES];
 static struct table tables[TREES];
-
-#define EXPECT(claim)                                                                              \
-    do {                                                                                           \
-        if (!(claim)) {                                                                            \
-            fprintf(stderr, "%s:%d: this is false: %s\n", __FILE__, __LINE__, #claim);             \
-            exit(1);                                                                               \
-        }                                                                                          \
-    } while (0)
-
-static uint64_t random_below(uint64_t most) {
-    static uint64_t state = 88172645463325252u;
-    state ^= state << 13;
-    state ^= state >> 7;
-    state ^= state << 17;
-    return state % most;
-}
 
 // The key of a number.
 static struct key key_of(size_t number) {
@@ -491,6 +475,8 @@ static void expect_part(size_t at, size_t other, size_t to, bool is_common) {
     read_all(to);
 }
 
+#include "saving.h"
+
 struct bound {
     struct key key;
     uint8_t kind;
@@ -564,6 +550,8 @@ static void make_call(size_t at) {
         expect_part(at, other, third, random_below(2) == 0);
     } else if (what < 60) {
         read_all(at);
+    } else if (what < 62) {
+        expect_save(at, other, VALUES);
     } else if (what < 70) {
         expect_last(at, &key, random_below(2) == 0);
     } else if (what < 72) {

@@ -2,18 +2,10 @@
 // once. (They are only read so here: what comes from one tree stays on one thread.) And that trees
 // that have nothing to do with each other may be on several: each thread changes two of its own.
 #include "boltcomfrey.h"
+#include "expect.h"
 #include <pthread.h>
-#include <stdio.h>
 #include <stdlib.h>
 #include <string.h>
-
-#define EXPECT(claim)                                                                              \
-    do {                                                                                           \
-        if (!(claim)) {                                                                            \
-            fprintf(stderr, "%s:%d: this is false: %s\n", __FILE__, __LINE__, #claim);             \
-            exit(1);                                                                               \
-        }                                                                                          \
-    } while (0)
 
 enum { THREADS = 4, KEYS = 300, KEY = 3, PAGE = 32 };
 

@@ -2,7 +2,10 @@
 //! bytes.
 //!
 //! cargo run --release --example times -- PASSES
+mod random;
+
 use boltcomfrey::VersionedMap;
+use random::Numbers;
 use std::collections::BTreeMap;
 use std::env;
 use std::hint::black_box;
@@ -11,33 +14,17 @@ use std::time::Instant;
 type Key = [u8; 16];
 type Sorted = BTreeMap<Vec<u8>, u64>;
 
-/// Random numbers by xorshift, the same in every run.
-struct Numbers(u64);
+fn keys(numbers: &mut Numbers, count: usize) -> Vec<Key> {
+    (0..count).map(|_| numbers.key()).collect()
+}
 
-impl Numbers {
-    fn next(&mut self) -> u64 {
-        self.0 ^= self.0 << 13;
-        self.0 ^= self.0 >> 7;
-        self.0 ^= self.0 << 17;
-        self.0
+/// The keys in another order.
+fn shuffled(numbers: &mut Numbers, keys: &[Key]) -> Vec<Key> {
+    let mut keys = keys.to_vec();
+    for place in (1..keys.len()).rev() {
+        keys.swap(place, (numbers.next() % (place as u64 + 1)) as usize);
     }
-
-    fn keys(&mut self, count: usize) -> Vec<Key> {
-        let key = |numbers: &mut Numbers| {
-            let halves = u128::from(numbers.next()) << 64 | u128::from(numbers.next());
-            halves.to_be_bytes()
-        };
-        (0..count).map(|_| key(self)).collect()
-    }
-
-    /// The keys in another order.
-    fn shuffled(&mut self, keys: &[Key]) -> Vec<Key> {
-        let mut keys = keys.to_vec();
-        for place in (1..keys.len()).rev() {
-            keys.swap(place, (self.next() % (place as u64 + 1)) as usize);
-        }
-        keys
-    }
+    keys
 }
 
 /// Nanoseconds a call, made once with each of the keys.
@@ -69,8 +56,8 @@ fn row<R, S>(
 }
 
 fn pass(count: usize, numbers: &mut Numbers) -> Vec<Row> {
-    let keys = numbers.keys(count);
-    let (asked, absent) = (numbers.shuffled(&keys), numbers.keys(count));
+    let present = keys(numbers, count);
+    let (asked, absent) = (shuffled(numbers, &present), keys(numbers, count));
     let (mut tree, mut map) = (VersionedMap::new(), Sorted::new());
     let inserted = |tree: &VersionedMap, key: &Key| {
         let mut copy = tree.snapshot()?;
@@ -83,7 +70,7 @@ fn pass(count: usize, numbers: &mut Numbers) -> Vec<Row> {
     vec![
         row(
             "insertion",
-            &keys,
+            &present,
             |key| tree.insert(key, 1),
             |key| map.insert(key.to_vec(), 1),
         ),
@@ -101,7 +88,7 @@ fn pass(count: usize, numbers: &mut Numbers) -> Vec<Row> {
         ),
         row(
             "version, an empty call",
-            &keys,
+            &present,
             |_| tree.version(),
             |_| map.len(),
         ),
@@ -127,7 +114,7 @@ fn pass(count: usize, numbers: &mut Numbers) -> Vec<Row> {
 
 /// The least times of all passes, row by row.
 fn least(count: usize, passes: usize) -> Vec<Row> {
-    let mut numbers = Numbers(0x9E37_79B9_7F4A_7C15);
+    let mut numbers = Numbers::new();
     let mut least = pass(count, &mut numbers);
     for _ in 1..passes {
         for (row, other) in least.iter_mut().zip(pass(count, &mut numbers)) {

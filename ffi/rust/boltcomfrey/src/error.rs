@@ -6,11 +6,12 @@ use std::{fmt, io};
 #[derive(Clone, Copy, Debug, PartialEq, Eq, Hash)]
 #[non_exhaustive]
 pub enum Refusal {
-    /// The number of the map is `u64::MAX`: neither it nor a snapshot's can be greater.
+    /// The number would be past `u64::MAX`.
     LastNumber,
     /// Memory was refused.
     NoMemory,
-    /// The key is longer than a key of the map may be.
+    /// The key is longer than a key of the map may be, or keys may be longer in the map that is put
+    /// back.
     TooLong,
     /// The map has a key, and how long one may be is set without any.
     NotEmpty,
@@ -37,6 +38,60 @@ impl From<Refusal> for io::Error {
             Refusal::NoMemory => io::ErrorKind::OutOfMemory,
         };
         io::Error::new(kind, refusal)
+    }
+}
+
+/// Why bytes were not read as a map. The map that was to be made of them is as before.
+#[derive(Clone, Copy, Debug, PartialEq, Eq, Hash)]
+#[non_exhaustive]
+pub enum LoadError {
+    /// Memory was refused. Only with this error or `TooLong` may the bytes be a map's.
+    NoMemory,
+    /// The bytes end before the map's end.
+    Truncated,
+    /// The bytes are of a format that this library doesn't read.
+    Unsupported,
+    /// What begins at that byte stands in no map's form: bytes of another program, values of the
+    /// other kind, keys that don't ascend, or bytes behind the end.
+    Malformed {
+        /// How many bytes stand before it.
+        at: usize,
+    },
+    /// The key whose form begins at that byte is longer than a key of the map may be.
+    TooLong {
+        /// How many bytes stand before it.
+        at: usize,
+    },
+    /// The sum at the end is not that of the bytes before it.
+    WrongSum,
+}
+
+impl fmt::Display for LoadError {
+    fn fmt(&self, f: &mut fmt::Formatter<'_>) -> fmt::Result {
+        match self {
+            LoadError::NoMemory => f.write_str("out of memory"),
+            LoadError::Truncated => f.write_str("the bytes end early"),
+            LoadError::Unsupported => f.write_str("the format is another"),
+            LoadError::Malformed { at } => write!(f, "what begins at byte {at} is no map's"),
+            LoadError::TooLong { at } => write!(f, "the key at byte {at} is too long"),
+            LoadError::WrongSum => f.write_str("the checksum is another"),
+        }
+    }
+}
+
+impl Error for LoadError {}
+
+impl From<LoadError> for io::Error {
+    fn from(error: LoadError) -> io::Error {
+        let kind = match error {
+            LoadError::NoMemory => io::ErrorKind::OutOfMemory,
+            LoadError::Truncated => io::ErrorKind::UnexpectedEof,
+            LoadError::Unsupported => io::ErrorKind::Unsupported,
+            LoadError::Malformed { .. } | LoadError::TooLong { .. } | LoadError::WrongSum => {
+                io::ErrorKind::InvalidData
+            }
+        };
+        io::Error::new(kind, error)
     }
 }
 

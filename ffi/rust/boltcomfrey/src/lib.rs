@@ -32,6 +32,7 @@ mod key_range;
 mod map;
 #[allow(unsafe_code)]
 mod raw;
+mod saving;
 #[allow(unsafe_code)]
 mod sys;
 mod value;
@@ -39,7 +40,7 @@ mod walk;
 
 pub use both::{Common, Diff};
 pub use entry::Entry;
-pub use error::Refusal;
+pub use error::{LoadError, Refusal};
 pub use iter::{IntoIter, Iter, Keys, Range, Values};
 pub use key_range::KeyRange;
 pub use map::{Map, VersionedBytes, VersionedMap};

@@ -62,7 +62,7 @@ impl<V: Value> Map<V> {
     /// A map without a key, its number 0, whose keys may have so many bytes, in place of 1,024. Its
     /// snapshots and clones keep that.
     ///
-    /// A chain of keys that begin one another takes some 400 bytes of stack for each byte of the
+    /// A chain of keys that begin one another takes some 500 bytes of stack for each byte of the
     /// longest, so a limit ends what a stranger's keys can take.
     ///
     /// ```
@@ -806,7 +806,7 @@ impl<V: Value> Map<V> {
     }
 
     /// The pairs of both maps, this one's where a key is in both: this one, with what the other has
-    /// beside it.
+    /// beside it. At a refusal both are dropped.
     pub fn try_union(mut self, other: Map<V>) -> Result<Map<V>, Refusal>
     where
         V: Given<V>,
@@ -833,16 +833,18 @@ impl<V: Value> Map<V> {
         unrefused(self.try_split_off(key))
     }
 
-    /// Splits off the pairs from a key on. At a refusal some of them may be out of this map.
+    /// Splits off the pairs from a key on. At a refusal this map is as before.
     pub fn try_split_off(&mut self, key: impl AsRef<[u8]>) -> Result<Map<V>, Refusal>
     where
         V: Given<V>,
     {
         let mut behind = Map::with_longest_key(self.longest_key())?;
         behind.try_extend(self.range(key.as_ref()..))?;
+        let mut front = self.try_clone()?;
         for key in behind.keys() {
-            self.delete(key)?;
+            front.delete(key)?;
         }
+        *self = front;
         Ok(behind)
     }
 

@@ -1,8 +1,9 @@
 //! The proved calls as safe functions. All `unsafe` of this crate stands here and in `sys`.
-use crate::error::Refusal;
+use crate::error::{LoadError, Refusal};
 use crate::sys::{
-    self, ABSENT, DIFFERENT, DONE, EXCLUDED, INCLUDED, LAST_NUMBER, NOT_EMPTY, RartBytes,
-    RartBytesEntry, RartEntry, RartTree, TOO_LONG, TOO_SMALL, UNBOUNDED,
+    self, ABSENT, DIFFERENT, DONE, EXCLUDED, INCLUDED, LAST_NUMBER, MALFORMED, NOT_EMPTY,
+    RartBytes, RartBytesEntry, RartEntry, RartTree, TOO_LONG, TOO_SMALL, TRUNCATED, UNBOUNDED,
+    UNSUPPORTED, WRONG_SUM,
 };
 use std::cell::UnsafeCell;
 use std::ops::Bound;
@@ -35,6 +36,9 @@ pub trait Handle: Sized {
     const REMOVE_PREFIX: unsafe extern "C" fn(*mut Self, *const u8, usize, *mut usize) -> u8;
     const PREFIX_SNAPSHOT: unsafe extern "C" fn(*mut Self, *const u8, usize, *mut Self) -> u8;
     const RESTORE_PREFIX: unsafe extern "C" fn(*mut Self, *const u8, usize, *mut Self) -> u8;
+    const SAVED_LEN: unsafe extern "C" fn(*mut Self, *mut usize) -> u8;
+    const SAVE: unsafe extern "C" fn(*mut Self, *mut u8, usize, *mut usize) -> u8;
+    const LOAD: unsafe extern "C" fn(*mut Self, *const u8, usize, *mut usize) -> u8;
     const CLEAR: unsafe extern "C" fn(*mut Self);
 }
 
@@ -64,6 +68,11 @@ impl Handle for RartTree {
         usize,
         *mut RartTree,
     ) -> u8 = sys::rart_restore_prefix;
+    const SAVED_LEN: unsafe extern "C" fn(*mut RartTree, *mut usize) -> u8 = sys::rart_saved_len;
+    const SAVE: unsafe extern "C" fn(*mut RartTree, *mut u8, usize, *mut usize) -> u8 =
+        sys::rart_save;
+    const LOAD: unsafe extern "C" fn(*mut RartTree, *const u8, usize, *mut usize) -> u8 =
+        sys::rart_load;
     const CLEAR: unsafe extern "C" fn(*mut RartTree) = sys::rart_clear;
 }
 
@@ -96,6 +105,12 @@ impl Handle for RartBytes {
         usize,
         *mut RartBytes,
     ) -> u8 = sys::rart_bytes_restore_prefix;
+    const SAVED_LEN: unsafe extern "C" fn(*mut RartBytes, *mut usize) -> u8 =
+        sys::rart_bytes_saved_len;
+    const SAVE: unsafe extern "C" fn(*mut RartBytes, *mut u8, usize, *mut usize) -> u8 =
+        sys::rart_bytes_save;
+    const LOAD: unsafe extern "C" fn(*mut RartBytes, *const u8, usize, *mut usize) -> u8 =
+        sys::rart_bytes_load;
     const CLEAR: unsafe extern "C" fn(*mut RartBytes) = sys::rart_bytes_clear;
 }
 
@@ -200,6 +215,39 @@ impl<H: Handle> Tree<H> {
         // SAFETY: as above, and the copy is another tree.
         done(unsafe { H::CLONE(self.handle.get(), copy.handle.get()) })?;
         Ok(copy)
+    }
+
+    /// How many bytes the map has as bytes.
+    pub fn saved_len(&self) -> Result<usize, Refusal> {
+        let mut len = 0;
+        // SAFETY: as above; `len` is this call's own.
+        done(unsafe { H::SAVED_LEN(self.handle.get(), &mut len) })?;
+        Ok(len)
+    }
+
+    /// Writes the map as bytes to the front of these, if it fits there, and tells how many it has.
+    pub fn save(&self, into: &mut [u8]) -> Result<usize, Refusal> {
+        let (at, room, mut len) = (into.as_mut_ptr(), into.len(), 0);
+        // SAFETY: as above; `len` is this call's own, and `into` is borrowed to be written.
+        match unsafe { H::SAVE(self.handle.get(), at, room, &mut len) } {
+            TOO_SMALL => Ok(len),
+            answer => done(answer).map(|()| len),
+        }
+    }
+
+    /// Makes the map the one whose bytes these are.
+    pub fn load(&mut self, bytes: &[u8]) -> Result<(), LoadError> {
+        let (from, len, mut at) = (bytes.as_ptr(), bytes.len(), 0);
+        // SAFETY: as above; `at` is this call's own, and the bytes are only read.
+        match unsafe { H::LOAD(self.handle.get(), from, len, &mut at) } {
+            DONE => Ok(()),
+            TRUNCATED => Err(LoadError::Truncated),
+            UNSUPPORTED => Err(LoadError::Unsupported),
+            MALFORMED => Err(LoadError::Malformed { at }),
+            TOO_LONG => Err(LoadError::TooLong { at }),
+            WRONG_SUM => Err(LoadError::WrongSum),
+            _ => Err(LoadError::NoMemory),
+        }
     }
 }
 

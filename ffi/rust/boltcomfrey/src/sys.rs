@@ -42,11 +42,16 @@ pub const NO_ENTRIES: u8 = 5;
 pub const TOO_LONG: u8 = 6;
 pub const NOT_EMPTY: u8 = 7;
 pub const DIFFERENT: u8 = 8;
+pub const TRUNCATED: u8 = 9;
+pub const UNSUPPORTED: u8 = 10;
+pub const MALFORMED: u8 = 11;
+pub const WRONG_SUM: u8 = 12;
 pub const INCLUDED: u8 = 0;
 pub const EXCLUDED: u8 = 1;
 pub const UNBOUNDED: u8 = 2;
 pub const LONGEST_KEY: usize = 1024;
 
+#[rustfmt::skip] // (ffi/generate lays it out)
 unsafe extern "C" {
     pub fn rart_snapshot(tree: *mut RartTree, copy: *mut RartTree) -> u8;
     pub fn rart_clone(tree: *mut RartTree, copy: *mut RartTree) -> u8;
@@ -344,6 +349,22 @@ unsafe extern "C" {
         prefix: *const u8,
         prefix_len: usize,
         from: *mut RartBytes,
+    ) -> u8;
+    pub fn rart_saved_len(tree: *mut RartTree, len: *mut usize) -> u8;
+    pub fn rart_save(tree: *mut RartTree, into: *mut u8, into_len: usize, len: *mut usize) -> u8;
+    pub fn rart_load(tree: *mut RartTree, bytes: *const u8, bytes_len: usize, at: *mut usize) -> u8;
+    pub fn rart_bytes_saved_len(tree: *mut RartBytes, len: *mut usize) -> u8;
+    pub fn rart_bytes_save(
+        tree: *mut RartBytes,
+        into: *mut u8,
+        into_len: usize,
+        len: *mut usize,
+    ) -> u8;
+    pub fn rart_bytes_load(
+        tree: *mut RartBytes,
+        bytes: *const u8,
+        bytes_len: usize,
+        at: *mut usize,
     ) -> u8;
 }
 

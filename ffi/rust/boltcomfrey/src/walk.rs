@@ -4,9 +4,10 @@ use crate::value::{Calls, Value};
 use std::ops::{Bound, Range};
 
 // Many walks end at their first pairs. One over all begins with a page of so many, any other with
-// one pair, which a search finds, and then such a page. Each later one has room for four times as
-// many.
+// one pair, which a search finds, and then such a page. Each later one has room for so many times
+// as many.
 const FIRST_PAIRS: usize = 8;
+const GROWTH: usize = 8;
 const MOST_PAIRS: usize = 256;
 
 /// Pairs in an order of their keys, as the library writes them.
@@ -220,7 +221,7 @@ impl<V: Value> Walk<V> {
         let high = self.high.as_ref().map(Vec::as_slice);
         self.front
             .fill(tree, Order::Ascending, (low, high), self.asked);
-        self.asked = MOST_PAIRS.min(self.asked * 4);
+        self.asked = MOST_PAIRS.min(self.asked * GROWTH);
         match self.front.last() {
             Some((key, _)) => self.low = Bound::Excluded(key.to_vec()),
             None => self.is_last = true,
@@ -238,7 +239,7 @@ impl<V: Value> Walk<V> {
         let high = self.high.as_ref().map(Vec::as_slice);
         self.back
             .fill(tree, Order::Descending, (low, high), self.asked_back);
-        self.asked_back = MOST_PAIRS.min(self.asked_back * 4);
+        self.asked_back = MOST_PAIRS.min(self.asked_back * GROWTH);
         match self.back.last() {
             Some((key, _)) => self.high = Bound::Excluded(key.to_vec()),
             None => self.is_last = true,

@@ -76,3 +76,25 @@ fn so_do_byte_strings() {
         .collect();
     assert!(set.len() < 100 && map.iter().eq(set));
 }
+
+#[test]
+fn a_refused_split_leaves_its_map() {
+    // (keys of many nodes, which are shared, so that each takes memory)
+    let pairs = (0..100).map(|at: u8| ([at / 10, at % 10], u64::from(at)));
+    let whole: VersionedMap = pairs.collect();
+    let mut refused = 0;
+    for one_in in 20..200 {
+        let mut map = whole.clone();
+        refusals::set(one_in);
+        let told = map.try_split_off([9, 5]);
+        refusals::set(0);
+        match told {
+            Ok(behind) => assert_eq!((map.len(), behind.len()), (95, 5)),
+            Err(_) => {
+                refused += 1;
+                assert_eq!((map.version(), map), (whole.version(), whole.clone()));
+            }
+        }
+    }
+    assert!(refused > 0);
+}

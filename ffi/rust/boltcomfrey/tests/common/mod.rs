@@ -1,7 +1,7 @@
 //! Random calls on a few versions, beside a model of std's maps.
 #![allow(dead_code)] // (each test takes some of it)
 
-use boltcomfrey::{Given, Map, Refusal, Value};
+use boltcomfrey::{Given, LoadError, Map, Refusal, Value};
 use std::collections::BTreeMap;
 use std::fmt::Debug;
 use std::ops::Bound::{self, Excluded, Included, Unbounded};
@@ -157,7 +157,8 @@ impl<V: Drawn> Compared<V> {
             }
             22..42 => self.count_common(at),
             42 => self.renew(at),
-            43..600 => self.read(at),
+            43..46 => self.save(at),
+            46..600 => self.read(at),
             600..1200 => self.remove(at),
             1200..1300 => self.update(at),
             1300..1392 => self.set_if(at),
@@ -340,6 +341,46 @@ impl<V: Drawn> Compared<V> {
             Ok(map) => self.versions[at] = (map, Model::new(longest)),
             Err(refusal) => self.note(Err(refusal)),
         }
+    }
+
+    /// Saves a version, and loads it into another one, whose keys may be as long as before; then with
+    /// one bit changed.
+    fn save(&mut self, at: usize) {
+        let to = self.random.below(self.versions.len() as u64) as usize;
+        let saved = self.versions[at].0.try_to_bytes();
+        let mut file = match saved {
+            Ok(file) => file,
+            Err(refusal) => return self.note(Err(refusal)),
+        };
+        let wanted = self.versions[at].1.clone();
+        let (map, model) = &mut self.versions[to];
+        let is_long = wanted.pairs.keys().any(|it| it.len() > model.longest);
+        let told = match map.load(&file) {
+            Ok(()) => {
+                assert!(!is_long);
+                let longest = model.longest;
+                *model = Model { longest, ..wanted };
+                Ok(())
+            }
+            Err(LoadError::TooLong { at }) => {
+                assert!(is_long && at < file.len());
+                Ok(())
+            }
+            Err(LoadError::NoMemory) => Err(Refusal::NoMemory),
+            Err(error) => panic!("{error}"),
+        };
+        assert!(map.iter().eq(model.range(..)));
+        self.note(told);
+        let bit = self.random.below(8 * file.len() as u64) as usize;
+        file[bit / 8] ^= 1 << (bit % 8);
+        let told = match self.versions[to].0.load(&file) {
+            Err(LoadError::NoMemory) => Err(Refusal::NoMemory),
+            told => {
+                assert!(told.is_err());
+                Ok(())
+            }
+        };
+        self.note(told);
     }
 
     fn read(&mut self, at: usize) {

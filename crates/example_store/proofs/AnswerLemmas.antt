@@ -1,5 +1,5 @@
 -- What a line does to a family, and whether it is kept.
-use Rattle.std.proofs.Common.{inl, inr, ◌≡◌, ◌≢◌, ℕ, List, refl, sym, ◌∙◌, ap, subst, Bool, true, false, not}
+use Rattle.std.proofs.Common.{inl, inr, ◌≡◌, ◌≢◌, ℕ, ◌-◌, List, refl, sym, ◌∙◌, ap, subst, Bool, true, false, not}
 use Rattle.std.specs.Prelude.{◌⊎◌}
 use Rattle.std.specs.declared.option.Option.{Option}
 use Rattle.std.specs.declared.option.Option.TheVariants.{Some, None}
@@ -64,30 +64,32 @@ good_never old new line command reply is steps (inr (inr (inl room))) = inr (lac
 -- ---- what a store does with a line
 
 pub answers_kept : (line : List ℕ) (old mid new : Family ℕ) (before behind : List ℕ)
-    (log logged : Option (List ℕ)) (answer : Option (Reply ℕ)) →
+    (room left : ℕ) (log logged : Option (List ℕ)) (answer : Option (Reply ℕ)) →
     LineGives old line (answer_text answer) mid → IsKept old line mid → new ≡ mid →
-    behind ≡ next_sum before line → Appends log logged (entry before line) →
-    Answers line old new before behind log logged answer
-answers_kept line old mid new before behind log logged answer gives kept same sum gained = record {
-  gives = subst (LineGives old line (answer_text answer)) (sym same) gives;
-  done = inl (record {
-    kept = subst (IsKept old line) (sym same) kept;
-    sum = sum;
-    gained = gained;
-  });
-}
+    behind ≡ next_sum before line → left ≡ room - 1 → Appends log logged (entry before line) →
+    Answers line old new before behind room left log logged answer
+answers_kept line old mid new before behind room left log logged answer gives kept same sum counted
+    gained = record {
+      gives = subst (LineGives old line (answer_text answer)) (sym same) gives;
+      done = inl (record {
+        kept = subst (IsKept old line) (sym same) kept;
+        sum = sum;
+        counted = counted;
+        gained = gained;
+      });
+    }
 
 pub keeps_same : (known : Option (List ℕ)) → Keeps known known
 keeps_same None = tt
 keeps_same (Some xs) = refl
 
-pub answers_left : (line : List ℕ) (old new : Family ℕ) (sum : List ℕ)
+pub answers_left : (line : List ℕ) (old new : Family ℕ) (sum : List ℕ) (room : ℕ)
     (log : Option (List ℕ)) (answer : Option (Reply ℕ)) →
     LineGives old line (answer_text answer) new → new ≡ old →
-    Answers line old new sum sum log log answer
-answers_left line old new sum log answer gives left = record {
+    Answers line old new sum sum room room log log answer
+answers_left line old new sum room log answer gives left = record {
   gives = gives;
-  done = inr (record { family = left; sum = refl; same = keeps_same log });
+  done = inr (record { family = left; sum = refl; counted = refl; same = keeps_same log });
 }
 
 pub is_left : (kept : Bool) → not kept ≡ true → kept ≡ false

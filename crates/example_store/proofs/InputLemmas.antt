@@ -95,7 +95,7 @@ line_none None now new kept h empty ended keeps = tt
 line_none (Some xs) now new kept h empty ended keeps =
     let (none, left) = none_left now new h.input.0 h.input.1 ended keeps in
     let bare : h.line ≡ [] = taken_none h.line (sym h.kept_are ∙ empty) in
-    h.input.2 ∙ ap (λ s. h.line ++ s) none ∙ append-nil h.line ∙ bare
+    (h.input.2 ∙ ap (λ s. h.line ++ s) none ∙ append-nil h.line ∙ bare, left)
 
 -- what was taken, where it is a byte, and where it is none
 pub byte_taken : (byte : Option ℕ) (old new : Option (List ℕ)) (b : ℕ) → byte ≡ Some b →

@@ -4,12 +4,11 @@ use Rattle.std.proofs.lemmas.List.{append-nil}
 use Rattle.std.specs.declared.option.Option.TheVariants.{Some, None}
 use Rattle.rart_family.specs.Replies.{Reply, Place, Discarded, Number, Flag, Value, Entries, Values, Stopped, Pairs, ValuePairs, Count, Failed, NoVersion, NoRoom, NoMemory}
 use Rattle.rart_family.specs.Families.{Family, after}
-use Rattle.vtree_lines.specs.Laws.{HasNoFeed, NoneRefused}
+use Rattle.vtree_lines.specs.Laws.{HasNoFeed}
 use Rattle.vtree_lines.specs.ReplyTexts.{reply_line}
-use Rattle.vtree_lines.specs.Transcript.{Transcript}
 use Rattle.vtree_lines.proofs.GrammarLemmas.{line_is_one_command}
 use Rattle.vtree_lines.proofs.TranscriptLemmas.{own_reply}
-use Rattle.example_store.specs.Log.{origin, next_sum, entry, entries, sum_behind, log_of, sum_of, IsTorn}
+use Rattle.example_store.specs.Log.{next_sum, entry, entries, sum_behind, IsTorn}
 use Rattle.example_store.specs.Kept.{IsKept, Leads}
 use Rattle.example_store.specs.Laws.{KeptLinesAreServed, LogsAreOne, FrontsAreLogs, DamageIsNoLog, CrashesLoseNothing}
 use Rattle.example_store.proofs.LogLemmas.{entries_are_one, entries_more, where_cut, entry_torn, torn_no_entry}
@@ -22,7 +21,8 @@ pub kept_once : (old one other : Family ℕ) (line : List ℕ) → IsKept old li
 kept_once old one other line h k =
     let same : h.command ≡ k.command = line_is_one_command line h.command k.command h.says k.says in
     let left = own_reply old one h.command h.reply h.steps (λ e. h.changes (inr (inr (inr e)))) in
-    let right = own_reply old other k.command k.reply k.steps (λ e. k.changes (inr (inr (inr e)))) in
+    let right = own_reply old other k.command k.reply k.steps (λ e. k.changes (inr (inr (inr e))))
+    in
     left.1 ∙ ap (after (λ key. key) old) same ∙ sym right.1
 
 -- one more line is kept
@@ -71,23 +71,21 @@ no_memory_is_told NoVersion h = λ e. absurd (omega (arith, ap fourth e))
 no_memory_is_told NoRoom h = λ e. absurd (omega (arith, ap fourth e))
 no_memory_is_told NoMemory h = absurd (h refl)
 
-served : (old : Family ℕ) (lines : List (List ℕ)) (new : Family ℕ) → Leads old lines new →
-    (texts : List (List ℕ)) × Transcript old lines texts new × NoneRefused texts
-served old [] new h = ([], h, tt)
-served old (l ∷ lines) new h = let rest = served h.0 lines new h.2 in (
-  reply_line h.1.reply ∷ rest.0,
-  (h.0, inr (h.1.command, h.1.reply, h.1.says, h.1.steps, refl), rest.1),
-  (no_memory_is_told h.1.reply (λ e. h.1.changes (inr (inr (inr e)))), rest.2),
-)
-
 pub kept_lines_are_served : KeptLinesAreServed
-kept_lines_are_served lines family h = served [] lines family h
+kept_lines_are_served old [] new h = ([], h, tt)
+kept_lines_are_served old (l ∷ lines) new h =
+    let rest = kept_lines_are_served h.0 lines new h.2 in (
+      reply_line h.1.reply ∷ rest.0,
+      (h.0, inr (h.1.command, h.1.reply, h.1.says, h.1.steps, refl), rest.1),
+      (no_memory_is_told h.1.reply (λ e. h.1.changes (inr (inr (inr e)))), rest.2),
+    )
 
 -- ---- the bytes of a log
 
 -- what stands behind a first entry
-entry_first : (sum line : List ℕ) (lines : List (List ℕ)) (tail : List ℕ) →
-    entries sum (line ∷ lines) ++ tail ≡ entry sum line ++ (entries (next_sum sum line) lines ++ tail)
+pub entry_first : (sum line : List ℕ) (lines : List (List ℕ)) (tail : List ℕ) →
+    entries sum (line ∷ lines) ++ tail ≡ entry sum line ++ (entries (next_sum sum line) lines ++
+    tail)
 entry_first sum line lines tail =
     append_assoc (entry sum line) (entries (next_sum sum line) lines) tail
 
@@ -114,8 +112,9 @@ one_log sum old one other (l ∷ lines) (o ∷ others) tail more h k t m e =
     (rw (same, all) refl, end)
 
 pub logs_are_one : LogsAreOne
-logs_are_one bytes lines others one other h k =
-    one_log origin [] one other lines others h.tail k.tail h.leads k.leads h.torn.0 k.torn.0
+logs_are_one base bytes lines others one other h k =
+    one_log base.sum base.family one other lines others h.tail k.tail h.leads k.leads h.torn.0
+    k.torn.0
     (sym h.split ∙ k.split)
 
 fronts : (sum : List ℕ) (old family : Family ℕ) (lines : List (List ℕ)) (bytes lost : List ℕ) →
@@ -151,9 +150,9 @@ fronts sum old family (l ∷ lines) bytes lost h e =
     ]
 
 pub fronts_are_logs : FrontsAreLogs
-fronts_are_logs lines family bytes lost h e =
+fronts_are_logs base lines family bytes lost h e =
     let (front, later, mid, tail, are, leads, split, torn) =
-    fronts origin [] family lines bytes lost h e in
+    fronts base.sum base.family family lines bytes lost h e in
     (front, later, mid, are, record { tail = tail; split = split; torn = torn; leads = leads })
 
 -- ---- damage, and crashes
@@ -182,24 +181,32 @@ damaged sum old one other (l ∷ lines) (o ∷ others) rest tail h k torn whole 
     (behind ∙ ap (λ s. entries (next_sum sum s) others ++ tail) (sym same))
 
 pub damage_is_no_log : DamageIsNoLog
-damage_is_no_log bytes number at lines family h k =
-    damaged origin [] h.family family h.lines lines h.rest k.tail h.leads k.leads k.torn h.whole
+damage_is_no_log base bytes number at lines family h k =
+    damaged base.sum base.family h.family family h.lines lines h.rest k.tail h.leads k.leads k.torn
+    h.whole
     h.lacks (sym h.split ∙ k.split)
 
 pub crashes_lose_nothing : CrashesLoseNothing
-crashes_lose_nothing lines family line new part [] h k e = inr (record {
+crashes_lose_nothing base lines family line new part [] h k e = inr (record {
   tail = [];
-  split = ap (λ s. log_of lines ++ s) (sym (append-nil part) ∙ sym e)
-      ∙ sym (entries_more origin lines line) ∙ sym (append-nil (log_of (lines ++ line ∷ [])));
+  split = ap (λ s. entries base.sum lines ++ s) (sym (append-nil part) ∙ sym e)
+      ∙ sym (entries_more base.sum lines line)
+      ∙ sym (append-nil (entries base.sum (lines ++ line ∷ [])));
   torn = (tt, omega arith);
-  leads = leads_more [] lines family new line h k;
+  leads = leads_more base.family lines family new line h k;
 })
-crashes_lose_nothing lines family line new part (b ∷ lost) h k e = inl (record {
+crashes_lose_nothing base lines family line new part (b ∷ lost) h k e = inl (record {
   tail = part;
   split = refl;
-  torn = entry_torn (sum_of lines) line part b lost k.whole k.says.0 e;
+  torn = entry_torn (sum_behind base.sum lines) line part b lost k.whole k.says.0 e;
   leads = h;
 })
 
 -- what the bytes of logs mean
-pub ruleset laws = (kept_lines_are_served, logs_are_one, fronts_are_logs, damage_is_no_log, crashes_lose_nothing)
+pub ruleset laws = (
+  kept_lines_are_served,
+  logs_are_one,
+  fronts_are_logs,
+  damage_is_no_log,
+  crashes_lose_nothing,
+)

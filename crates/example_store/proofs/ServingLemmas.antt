@@ -1,7 +1,8 @@
 -- A store serves lines, one after another.
-use Rattle.std.proofs.Common.{inl, inr, ◌≡◌, ◌≢◌, ℕ, ◌≤◌, List, [], ◌∷◌, ◌++◌, take, length, refl, sym, ◌∙◌, ap, subst, arith, append_assoc}
+use Rattle.std.proofs.Common.{inl, inr, ◌≡◌, ◌≢◌, ℕ, ◌≤◌, List, [], ◌∷◌, ◌++◌, take, length, refl, sym, ◌∙◌, ap, subst, arith, append_assoc, length-append}
 use Rattle.std.proofs.lemmas.List.{append-nil, length-take, take_all}
-use Rattle.std.specs.Prelude.{IfSome}
+use Rattle.std.proofs.lemmas.List.Elements.{All-append, All-cons, All-nil}
+use Rattle.std.specs.Prelude.{IfSome, codes}
 use Rattle.std.specs.List.{concat}
 use Rattle.std.specs.Option.{option_map}
 use Rattle.std.specs.declared.option.Option.{Option}
@@ -16,7 +17,8 @@ use Rattle.vtree_lines.proofs.SessionLemmas.{lines_byte, transcript_more, concat
 use Rattle.example_store.specs.Input.{IsTaken, TakesLine}
 use Rattle.example_store.specs.Kept.{Leads}
 use Rattle.example_store.specs.Log.{next_sum, entry, entries, sum_behind}
-use Rattle.example_store.specs.Serving.{ServesLine, ServesLines, Midst}
+use Rattle.example_store.specs.Serving.{DoesNotAsk, ServesLine, ServesLines, Midst, ServesUpTo}
+use Rattle.example_store.specs.declared.store.Pause.TheVariants.{End, Asked, Due}
 use Rattle.example_store.proofs.KeptLemmas.{leads_more}
 use Rattle.example_store.proofs.LogLemmas.{entries_more, sum_more}
 
@@ -50,17 +52,18 @@ taken_first input line rest h = elim h.split [
 whole : (line : List ℕ) → length (take 201 line) ≤ 200 → take 201 line ≡ line
 whole line short = take_all 201 line (omega (arith, short, length-take 201 line))
 
-pub line_cut : (line : List ℕ) (old new : Family ℕ) (before behind : List ℕ)
+pub line_cut : (line : List ℕ) (old new : Family ℕ) (before behind : List ℕ) (room less : ℕ)
     (log logged out written : Option (List ℕ)) →
-    ServesLine (take 201 line) old new before behind log logged out written →
-    ServesLine line old new before behind log logged out written
-line_cut line old new before behind log logged out written h =
+    ServesLine (take 201 line) old new before behind room less log logged out written →
+    ServesLine line old new before behind room less log logged out written
+line_cut line old new before behind room less log logged out written h =
     elim h.gives [
-      | inr good ↦ subst (λ (s : List ℕ). ServesLine s old new before behind log logged out written)
+      | inr good ↦ subst (λ (s : List ℕ). ServesLine s old new before behind room less log logged
+          out written)
           (whole line good.2.0) h
       | inl bad ↦ elim h.done [
         | inl keeps ↦ subst
-            (λ (s : List ℕ). ServesLine s old new before behind log logged out written)
+            (λ (s : List ℕ). ServesLine s old new before behind room less log logged out written)
             (whole line keeps.kept.says.0) h
         | inr leaves ↦ record {
           text = h.text;
@@ -78,15 +81,16 @@ line_cut line old new before behind log logged out written h =
 
 -- ---- one more line
 
-pub serves_none : (old : Family ℕ) (sum : List ℕ) (log out : Option (List ℕ)) →
-    ServesLines [] old old sum sum log log out out
-serves_none old sum log out = record {
+pub serves_none : (old : Family ℕ) (sum : List ℕ) (room : ℕ) (log out : Option (List ℕ)) →
+    ServesLines [] old old sum sum room room log log out out
+serves_none old sum room log out = record {
   texts = [];
   run = refl;
   wrote = appends_nil out;
   kept = [];
   leads = refl;
   sum = refl;
+  counted = omega arith;
   gained = appends_nil log;
 }
 
@@ -97,11 +101,13 @@ appends_kept (Some xs) (Some ys) None x h k = absurd k
 appends_kept (Some xs) (Some ys) (Some zs) x h k = k ∙ h
 
 pub serves_more : (lines : List (List ℕ)) (line : List ℕ) (old mid new : Family ℕ)
-    (start before behind : List ℕ) (origin log logged first out written : Option (List ℕ)) →
-    ServesLines lines old mid start before origin log first out →
-    ServesLine line mid new before behind log logged out written →
-    ServesLines (lines ++ line ∷ []) old new start behind origin logged first written
-serves_more lines line old mid new start before behind origin log logged first out written h k =
+    (start before behind : List ℕ) (most room less : ℕ) (origin log logged first out written :
+    Option (List ℕ)) →
+    ServesLines lines old mid start before most room origin log first out →
+    ServesLine line mid new before behind room less log logged out written →
+    ServesLines (lines ++ line ∷ []) old new start behind most less origin logged first written
+serves_more lines line old mid new start before behind most room less origin log logged first out
+    written h k =
     let run = transcript_more old lines h.texts mid new line k.text h.run k.gives in
     let wrote = subst (Appends first written) (sym (concat_more h.texts k.text))
     (appends_twice first out written (concat h.texts) k.text h.wrote k.wrote) in
@@ -113,6 +119,7 @@ serves_more lines line old mid new start before behind origin log logged first o
         kept = h.kept ++ line ∷ [];
         leads = leads_more old h.kept mid new line h.leads keeps.kept;
         sum = keeps.sum ∙ ap (λ s. next_sum s line) h.sum ∙ sym (sum_more start h.kept line);
+        counted = omega (arith, keeps.counted, h.counted, length-append h.kept (line ∷ []));
         gained = subst (Appends origin logged) (sym (entries_more start h.kept line))
             (appends_twice origin log logged (entries start h.kept)
             (entry (sum_behind start h.kept) line) h.gained
@@ -125,22 +132,24 @@ serves_more lines line old mid new start before behind origin log logged first o
         kept = h.kept;
         leads = subst (Leads old h.kept) (sym leaves.family) h.leads;
         sum = leaves.sum ∙ h.sum;
+        counted = leaves.counted ∙ h.counted;
         gained = appends_kept origin log logged (entries start h.kept) h.gained leaves.same;
       }
     ]
 
 -- ---- in the midst of an input
 
-pub midst_none : (known : Option (List ℕ)) (old : Family ℕ) (sum : List ℕ)
+pub midst_none : (known : Option (List ℕ)) (old : Family ℕ) (sum : List ℕ) (room : ℕ)
     (log out : Option (List ℕ)) →
-    IfSome known (λ input. Midst input known old old sum sum log log out out)
-midst_none None old sum log out = tt
-midst_none (Some input) old sum log out = record {
+    IfSome known (λ input. Midst input known old old sum sum room room log log out out)
+midst_none None old sum room log out = tt
+midst_none (Some input) old sum room log out = record {
   lines = [];
   rest = input;
   split = refl;
   left_is = refl;
-  served = serves_none old sum log out;
+  unasked = All-nil DoesNotAsk;
+  served = serves_none old sum room log out;
 }
 
 -- what was taken of the bytes that were left
@@ -151,13 +160,17 @@ taken_of rest (Some xs) looked now e h = subst (λ (s : List ℕ). TakesLine s l
 taken_of rest None looked now e h = absurd (cc)
 
 pub midst_line : (known left now : Option (List ℕ)) (front : List ℕ) (old mid new : Family ℕ)
-    (start before behind : List ℕ) (origin log logged first out written : Option (List ℕ)) →
-    IfSome known (λ input. Midst input left old mid start before origin log first out) →
-    IfSome left (λ input. TakesLine input (Some front) now) →
-    ServesLine front mid new before behind log logged out written →
-    IfSome known (λ input. Midst input now old new start behind origin logged first written)
-midst_line None left now front old mid new start before behind origin log logged first out written h t k = tt
-midst_line (Some input) left now front old mid new start before behind origin log logged first out written h t k =
+    (start before behind : List ℕ) (most room less : ℕ) (origin log logged first out written :
+    Option (List ℕ)) →
+    IfSome known (λ input. Midst input left old mid start before most room origin log first out) →
+    IfSome left (λ input. TakesLine input (Some front) now) → front ≢ codes "checkpoint" →
+    ServesLine front mid new before behind room less log logged out written →
+    IfSome known (λ input. Midst input now old new start behind most less origin logged first
+    written)
+midst_line None left now front old mid new start before behind most room less origin log logged
+    first out written h t other k = tt
+midst_line (Some input) left now front old mid new start before behind most room less origin log
+    logged first out written h t other k =
     let (line, rest, left_is, cut, taken) = taken_of h.rest left (Some front) now h.left_is t in
     record {
       lines = h.lines ++ line ∷ [];
@@ -165,9 +178,13 @@ midst_line (Some input) left now front old mid new start before behind origin lo
       split = h.split ∙ ap (λ s. h.lines ++ s) (taken_first h.rest line rest taken)
           ∙ sym (append_assoc h.lines (line ∷ []) (lines_of rest));
       left_is = left_is;
-      served = serves_more h.lines line old mid new start before behind origin log logged first out written
-          h.served (line_cut line mid new before behind log logged out written
-          (subst (λ (s : List ℕ). ServesLine s mid new before behind log logged out written) cut k));
+      unasked = All-append DoesNotAsk h.lines (line ∷ []) h.unasked
+          (All-cons DoesNotAsk line [] (λ e. other (cut ∙ ap (take 201) e)) (All-nil DoesNotAsk));
+      served = serves_more h.lines line old mid new start before behind most room less origin log
+          logged first out written
+          h.served (line_cut line mid new before behind room less log logged out written
+          (subst (λ (s : List ℕ). ServesLine s mid new before behind room less log logged out
+          written) cut k));
     }
 
 -- the line that was looked at, which is some one
@@ -179,24 +196,82 @@ looked_at {V} items line some left now e h =
     subst (λ (s : Option V). IfSome left (λ input. TakesLine input (option_map items s) now)) e h
 
 pub midst_next : (known left now : Option (List ℕ)) (text front : List ℕ)
-    (old mid new : Family ℕ) (start before behind : List ℕ)
+    (old mid new : Family ℕ) (start before behind : List ℕ) (most room less : ℕ)
     (origin log logged first out written : Option (List ℕ)) →
-    IfSome known (λ input. Midst input left old mid start before origin log first out) →
+    IfSome known (λ input. Midst input left old mid start before most room origin log first out) →
     IfSome left (λ input. TakesLine input (Some front) now) → text ≡ front →
-    ServesLine text mid new before behind log logged out written →
-    IfSome known (λ input. Midst input now old new start behind origin logged first written)
-midst_next known left now text front old mid new start before behind origin log logged first out written h t e k =
-    midst_line known left now front old mid new start before behind origin log logged first out
-    written h t
-    (subst (λ (s : List ℕ). ServesLine s mid new before behind log logged out written) e k)
+    text ≢ codes "checkpoint" →
+    ServesLine text mid new before behind room less log logged out written →
+    IfSome known (λ input. Midst input now old new start behind most less origin logged first
+    written)
+midst_next known left now text front old mid new start before behind most room less origin log
+    logged first out written h t e other k =
+    midst_line known left now front old mid new start before behind most room less origin log logged
+    first out
+    written h t (λ f. other (e ∙ f))
+    (subst (λ (s : List ℕ). ServesLine s mid new before behind room less log logged out written) e
+    k)
+
+-- ---- a pause
 
 pub midst_end : (known left now : Option (List ℕ)) (old new : Family ℕ) (start behind : List ℕ)
-    (origin logged first written : Option (List ℕ)) →
-    IfSome known (λ input. Midst input left old new start behind origin logged first written) →
+    (most less : ℕ) (origin logged first written : Option (List ℕ)) →
+    IfSome known (λ input. Midst input left old new start behind most less origin logged first
+    written) →
     IfSome left (λ input. TakesLine input None now) →
-    IfSome known (λ input. ServesLines (lines_of input) old new start behind origin logged first written)
-midst_end None left now old new start behind origin logged first written h t = tt
-midst_end (Some input) left now old new start behind origin logged first written h t =
-    let none : h.rest ≡ [] = taken_of h.rest left None now h.left_is t in
-    let all : h.lines ≡ lines_of input = sym (h.split ∙ ap (λ s. h.lines ++ lines_of s) none ∙ append-nil h.lines) in
-    subst (λ (s : List (List ℕ)). ServesLines s old new start behind origin logged first written) all h.served
+    IfSome known (λ input. ServesUpTo End input now old new start behind most less origin logged
+    first written)
+midst_end None left now old new start behind most less origin logged first written h t = tt
+midst_end (Some input) left now old new start behind most less origin logged first written h t =
+    let (none, ends) = taken_of h.rest left None now h.left_is t in
+    record {
+      lines = h.lines;
+      rest = [];
+      left_is = ends;
+      up_to = (h.split ∙ ap (λ s. h.lines ++ lines_of s) none ∙ append-nil h.lines, refl);
+      unasked = h.unasked;
+      served = h.served;
+    }
+
+pub midst_due : (known left : Option (List ℕ)) (old new : Family ℕ) (start behind : List ℕ)
+    (most less : ℕ) (origin logged first written : Option (List ℕ)) →
+    IfSome known (λ input. Midst input left old new start behind most less origin logged first
+    written) →
+    IfSome known (λ input. ServesUpTo Due input left old new start behind most less origin logged
+    first written)
+midst_due None left old new start behind most less origin logged first written h = tt
+midst_due (Some input) left old new start behind most less origin logged first written h = record {
+  lines = h.lines;
+  rest = h.rest;
+  left_is = h.left_is;
+  up_to = h.split;
+  unasked = h.unasked;
+  served = h.served;
+}
+
+-- a line of which so few bytes are looked at is looked at whole
+asks : (front line : List ℕ) → front ≡ codes "checkpoint" → front ≡ take 201 line →
+    line ≡ codes "checkpoint"
+asks front line is cut = sym (whole line (omega (arith, ap length (sym cut ∙ is)))) ∙ sym cut ∙ is
+
+pub midst_asked : (known left now : Option (List ℕ)) (front : List ℕ) (old new : Family ℕ)
+    (start behind : List ℕ) (most less : ℕ) (origin logged first written : Option (List ℕ)) →
+    IfSome known (λ input. Midst input left old new start behind most less origin logged first
+    written) →
+    IfSome left (λ input. TakesLine input (Some front) now) → front ≡ codes "checkpoint" →
+    IfSome known (λ input. ServesUpTo Asked input now old new start behind most less origin logged
+    first written)
+midst_asked None left now front old new start behind most less origin logged first written h t is =
+    tt
+midst_asked (Some input) left now front old new start behind most less origin logged first written h
+    t is =
+    let (line, rest, left_is, cut, taken) = taken_of h.rest left (Some front) now h.left_is t in
+    record {
+      lines = h.lines;
+      rest = rest;
+      left_is = left_is;
+      up_to = h.split ∙ ap (λ s. h.lines ++ s) (taken_first h.rest line rest taken
+          ∙ ap (λ s. s ∷ lines_of rest) (asks front line is cut));
+      unasked = h.unasked;
+      served = h.served;
+    }

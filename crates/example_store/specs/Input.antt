@@ -12,7 +12,7 @@ pub record IsTaken (input line rest : List ℕ) : Type 0 where
 -- The next line was taken, of which 201 bytes are looked at; or none was left.
 abbrev pub TakesLine : List ℕ → Option (List ℕ) → Option (List ℕ) → Type 0
 TakesLine input looked left =
-    MatchOption looked (input ≡ [])
+    MatchOption looked ((input ≡ []) × (left ≡ Some []))
     (λ front. (line rest : List ℕ) × (left ≡ Some rest) × (front ≡ take 201 line)
     × IsTaken input line rest)
 

@@ -1,7 +1,9 @@
 pub mod Log
+pub mod Checkpoints
 pub mod Kept
 pub mod Replays
 pub mod Stores
 pub mod Laws
 pub mod Input
 pub mod Serving
+pub mod Names

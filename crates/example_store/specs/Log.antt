@@ -4,7 +4,7 @@ use Rattle.hex.specs.Hex.{encode_lower}
 use Rattle.sha2.specs.Sha256.{sha256}
 use Rattle.vtree_lines.specs.Laws.{HasNoFeed}
 
--- The sum before the first line: the name of the format.
+-- The sum before the first line of all: the name of the format.
 abbrev pub origin : List ℕ
 origin = codes "example_store 1\n"
 
@@ -20,7 +20,7 @@ entry_text sum line = sum ++ 32 ∷ line
 abbrev pub entry : List ℕ → List ℕ → List ℕ
 entry sum line = next_sum sum line ++ 32 ∷ (line ++ 10 ∷ [])
 
--- the entries of lines behind a sum
+-- The log of lines behind a sum: their entries.
 abbrev pub entries : List ℕ → List (List ℕ) → List ℕ
 entries sum [] = []
 entries sum (line ∷ lines) = entry sum line ++ entries (next_sum sum line) lines
@@ -29,14 +29,6 @@ entries sum (line ∷ lines) = entry sum line ++ entries (next_sum sum line) lin
 abbrev pub sum_behind : List ℕ → List (List ℕ) → List ℕ
 sum_behind sum [] = sum
 sum_behind sum (line ∷ lines) = sum_behind (next_sum sum line) lines
-
--- The log of lines.
-abbrev pub log_of : List (List ℕ) → List ℕ
-log_of lines = entries origin lines
-
--- the sum that the log of lines ends with
-abbrev pub sum_of : List (List ℕ) → List ℕ
-sum_of lines = sum_behind origin lines
 
 -- A torn tail: it has no line feed, and is shorter than the longest entry.
 abbrev pub IsTorn : List ℕ → Type 0

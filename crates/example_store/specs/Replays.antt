@@ -1,32 +1,36 @@
 -- What a log that is played has led to.
-use Rattle.std.specs.Prelude.{◌≡◌, ◌≢◌, ◌⊎◌, Option, Some, ◌+◌, ℕ, List, [], ◌++◌, length, ⊤}
+use Rattle.std.specs.Prelude.{◌≡◌, ◌≢◌, ◌⊎◌, Option, Some, ◌+◌, ℕ, List, ◌++◌, length, ⊤}
 use Rattle.rart_family.specs.Families.{Family}
 use Rattle.rart_family.specs.Replies.{Reply, NoMemory}
-use Rattle.example_store.specs.Log.{next_sum, entry, entry_text, log_of, sum_of, IsTorn}
+use Rattle.example_store.specs.Log.{next_sum, entry, entry_text, entries, sum_behind, IsTorn}
 use Rattle.example_store.specs.Kept.{IsKept, Leads}
+use Rattle.example_store.specs.declared.checkpoint.Base.{Base}
 use Rattle.example_store.specs.declared.replay.Replayed.{Replayed}
 use Rattle.example_store.specs.declared.replay.ReplayError.{ReplayError}
 use Rattle.example_store.specs.declared.replay.ReplayError.TheVariants.{Damaged, Memory}
 
--- The bytes are the log of these lines, a torn tail behind it; and the lines lead to the family.
-pub record IsLog (bytes : List ℕ) (lines : List (List ℕ)) (family : Family ℕ) : Type 0 where
+-- Behind a base the bytes are the log of these lines, a torn tail behind it; and from there the
+-- lines lead to the family.
+pub record IsLog (base : Base) (bytes : List ℕ) (lines : List (List ℕ))
+    (family : Family ℕ) : Type 0 where
   pub tail : List ℕ
-  pub split : bytes ≡ log_of lines ++ tail
+  pub split : bytes ≡ entries base.sum lines ++ tail
   pub torn : IsTorn tail
-  pub leads : Leads [] lines family
+  pub leads : Leads base.family lines family
 
 -- The bytes are played up to a rest: before it stands the log of lines, which lead to the family.
-pub record IsPlayed (bytes rest : List ℕ) (replayed : Replayed) : Type 0 where
+pub record IsPlayed (base : Base) (bytes rest : List ℕ) (replayed : Replayed) : Type 0 where
   pub lines : List (List ℕ)
-  pub split : bytes ≡ log_of lines ++ rest
-  pub leads : Leads [] lines replayed.family
-  pub sum : replayed.sum ≡ sum_of lines
+  pub split : bytes ≡ entries base.sum lines ++ rest
+  pub leads : Leads base.family lines replayed.family
+  pub sum : replayed.sum ≡ sum_behind base.sum lines
   pub count : replayed.count ≡ length lines
-  pub at : replayed.length ≡ length (log_of lines)
+  pub at : replayed.length ≡ length (entries base.sum lines)
 
 -- All bytes are played, but for a torn tail.
-abbrev pub IsReplayed : List ℕ → Replayed → Type 0
-IsReplayed bytes replayed = (tail : List ℕ) × IsPlayed bytes tail replayed × IsTorn tail
+abbrev pub IsReplayed : Base → List ℕ → Replayed → Type 0
+IsReplayed base bytes replayed =
+    (tail : List ℕ) × IsPlayed base bytes tail replayed × IsTorn tail
 
 -- One more entry is played, of which this is the text.
 pub record PlaysOn (text : List ℕ) (old new : Replayed) : Type 0 where
@@ -57,19 +61,19 @@ IsToldBy reply old error =
 
 -- What stands behind lines that are played is neither a torn tail nor begins with an entry that may
 -- be kept.
-pub record IsDamagedAt (bytes : List ℕ) (number at : ℕ) : Type 0 where
+pub record IsDamagedAt (base : Base) (bytes : List ℕ) (number at : ℕ) : Type 0 where
   pub lines : List (List ℕ)
   pub rest : List ℕ
   pub family : Family ℕ
-  pub split : bytes ≡ log_of lines ++ rest
-  pub leads : Leads [] lines family
+  pub split : bytes ≡ entries base.sum lines ++ rest
+  pub leads : Leads base.family lines family
   pub counted : number ≡ length lines + 1
-  pub placed : at ≡ length (log_of lines)
+  pub placed : at ≡ length (entries base.sum lines)
   pub whole : ¬ IsTorn rest
   pub lacks : (line more : List ℕ) (new : Family ℕ)
-      → rest ≡ entry (sum_of lines) line ++ more → IsKept family line new → ⊥
+      → rest ≡ entry (sum_behind base.sum lines) line ++ more → IsKept family line new → ⊥
 
 -- Why bytes are not played.
-abbrev pub IsRefusedBy : List ℕ → ReplayError → Type 0
-IsRefusedBy bytes Memory = ⊤
-IsRefusedBy bytes (Damaged line at) = IsDamagedAt bytes line at
+abbrev pub IsRefusedBy : Base → List ℕ → ReplayError → Type 0
+IsRefusedBy base bytes Memory = ⊤
+IsRefusedBy base bytes (Damaged line at) = IsDamagedAt base bytes line at

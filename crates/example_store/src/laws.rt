@@ -1,5 +1,6 @@
-//! What the definitions of logs mean: laws, each the contract of a function that does nothing.
-ghost use Rattle.example_store.specs.Laws.{KeptLinesAreServed, LogsAreOne, FrontsAreLogs, DamageIsNoLog, CrashesLoseNothing};
+//! What the definitions of logs and checkpoints mean: laws, each the contract of a function that
+//! does nothing.
+ghost use Rattle.example_store.specs.Laws.{KeptLinesAreServed, LogsAreOne, FrontsAreLogs, DamageIsNoLog, CrashesLoseNothing, EmptyLogsAreOfNoLine, CheckpointsLoseNothing, CheckpointsAreOfOne, LogsAreOfOneCheckpoint};
 
 #[tactic(auto, using(crate::proofs::KeptLemmas::laws))]
 /// A log has one meaning, and damage is no log's; each front of a log is that of some first lines;
@@ -10,4 +11,14 @@ pub fn logs_lose_nothing()
     ensures fronts { FrontsAreLogs }
     ensures damage { DamageIsNoLog }
     ensures crashes { CrashesLoseNothing }
+{}
+
+#[tactic(auto, using(crate::proofs::CheckpointLemmas::laws))]
+/// A checkpoint is of one family, from which the lines behind it go on; a log belongs to one
+/// checkpoint.
+pub fn checkpoints_lose_nothing()
+    ensures empty { EmptyLogsAreOfNoLine }
+    ensures more { CheckpointsLoseNothing }
+    ensures one { CheckpointsAreOfOne }
+    ensures logs { LogsAreOfOneCheckpoint }
 {}

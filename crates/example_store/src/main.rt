@@ -1,22 +1,26 @@
 //! A store that loses nothing: a family of versions whose changes are in a log before they are
-//! answered, and are played again at the next start.
+//! answered, and are played again at the next start, behind the last checkpoint.
 //!
 //! `example_store FOLDER` speaks the lines of `vtree`. Each line that may change the family, and
-//! was not refused, is in `FOLDER/log`, for good, before its reply is written. At its start it
-//! plays the whole log, as there are no checkpoints, drops a torn tail, and says on standard error
-//! what it found. Its status is 0, or 1 if some line was a bad one, or 2 where it could not start,
-//! or reading or writing failed.
+//! was not refused, is in `FOLDER/log`, for good, before its reply is written. The line
+//! `checkpoint`, and 100,000 lines kept, have it write the family to `FOLDER/checkpoint.N`, and go
+//! on in `FOLDER/log.N`. At its start it reads the last checkpoint, plays the log behind it, drops
+//! a torn tail, and says on standard error what it found. Its status is 0, or 1 if some line was a
+//! bad one, or 2 where it could not start, or reading or writing failed.
 #![tactic(auto)]
 
 mod answer;
+mod checkpoint;
 mod disk;
+mod folder;
 mod input;
 mod laws;
 mod log;
+mod names;
 mod replay;
 mod store;
 
-use disk::{StartError, start};
+use disk::{DiskStore, StoreError};
 use std::env;
 use std::io::{self, BufReader};
 use std::process::ExitCode;
@@ -34,13 +38,13 @@ fn main(rt: HostRuntime) -> ExitCode {
 }
 
 /// Opens the folder that the one argument names, and serves standard input.
-fn run(rt: &HostRuntime) -> Result<Served, StartError> {
+fn run(rt: &HostRuntime) -> Result<Served, StoreError> {
     let mut arguments = env::args(rt)?;
     let (Some(_), Some(folder), None) = (arguments.next(), arguments.next(), arguments.next())
     else {
-        return Err(StartError::Usage);
+        return Err(StoreError::Usage);
     };
-    let mut store = start(rt, folder.as_str())?;
+    let mut store = DiskStore::start(rt, folder.as_str())?;
     let mut reader = BufReader::new(rt.alloc(), rt.reader())?;
-    Ok(store.serve(&mut reader, &mut io::writer(rt))?)
+    store.serve(rt, &mut reader, &mut io::writer(rt))
 }

@@ -1,14 +1,14 @@
 //! A log is played: what its lines lead to.
-ghost use Rattle.std.specs.Prelude.{◌≡◌, ◌↔◌, ◌+◌, ◌<◌, ◌^◌, [], length, IfOk, IfErr, OnOk, IsTrue, Some};
+ghost use Rattle.std.specs.Prelude.{◌≡◌, ◌↔◌, ◌+◌, ◌<◌, ◌^◌, length, IfOk, IfErr, OnOk, IsTrue, Some};
 ghost use Rattle.std.specs.Option.{option_map};
 ghost use Rattle.rart_family.specs.Replies.{reply_value, NoMemory};
 ghost use Rattle.vtree_lines.specs.Laws.{HasNoFeed};
-ghost use Rattle.example_store.specs.Log.{origin};
 ghost use Rattle.example_store.specs.Replays.{IsReplayed, IsRefusedBy, PlaysOn, IsNoEntry, IsToldBy};
 ghost use Rattle.example_store.specs.declared.replay.ReplayError.TheVariants.{Damaged};
 
 use crate::answer::{Answer, LineFamily, answer_to};
-use crate::log::{Sum, line_of, origin};
+use crate::checkpoint::Base;
+use crate::log::{Sum, line_of};
 use memchr::memchr;
 use rart_family::Reply;
 use std::alloc::Global;
@@ -47,15 +47,16 @@ pub struct Replayed {
 }
 
 impl Replayed {
-    fn new(alloc: Global) -> Replayed
-        ensures family { result.family ≡ [] }
-        ensures sum { result.sum ≡ origin }
+    fn new(base: Base) -> Replayed
+        ensures family { result.family ≡ base.family }
+        ensures sum { result.sum ≡ base.sum }
         ensures count { result.count ≡ 0 }
         ensures length { result.length ≡ 0 }
     {
+        let Base { family, sum } = base;
         Replayed {
-            family: LineFamily::new(alloc),
-            sum: origin(),
+            family,
+            sum,
             count: 0,
             length: 0,
         }
@@ -115,15 +116,16 @@ fn wants_memory(answer: &Answer) -> bool
     matches!(answer.reply, Some(Reply::NoMemory))
 }
 
-/// Plays a log from its first byte. Behind its entries a part of a last one may stand, no longer
-/// than an entry and without a line feed: the torn tail that a crash leaves.
+/// Plays a log from its first byte, on what it stands behind. Behind its entries a part of a last
+/// one may stand, no longer than an entry and without a line feed: the torn tail that a crash
+/// leaves.
 ///
-/// `Damaged` comes where the bytes are no log; `Memory` where memory was refused.
-pub fn replay(alloc: Global, log: &[u8]) -> Result<Replayed, ReplayError>
-    ensures ok { IfOk result (λ replayed. IsReplayed log.now replayed) }
-    ensures damaged { IfErr result (λ error. IsRefusedBy log.now error) }
+/// `Damaged` comes where the bytes are no log behind this; `Memory` where memory was refused.
+pub fn replay(alloc: Global, base: Base, log: &[u8]) -> Result<Replayed, ReplayError>
+    ensures ok { IfOk result (λ replayed. IsReplayed base log.now replayed) }
+    ensures damaged { IfErr result (λ error. IsRefusedBy base log.now error) }
 {
-    let mut replayed = Replayed::new(alloc);
+    let mut replayed = Replayed::new(base);
     let mut rest = log;
     'entries: while let Some(end) = memchr(b'\n', rest) {
         replayed.play(alloc, &rest[..end])?;

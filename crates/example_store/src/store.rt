@@ -1,13 +1,13 @@
 //! A store: a family, and the log of the lines that led to it.
-ghost use Rattle.std.specs.Prelude.{◌≡◌, IfOk, IfSome, OnOk, OnErr};
+ghost use Rattle.std.specs.Prelude.{◌≡◌, ◌↔◌, ◌-◌, IfOk, IfSome, OnOk, OnErr, IsTrue, codes};
 ghost use Rattle.std.specs.Option.{option_map};
 ghost use Rattle.rart_family.specs.Replies.{reply_value};
 ghost use Rattle.vtree_lines.specs.Laws.{HasNoFeed};
-ghost use Rattle.vtree_lines.specs.Lines.{lines_of};
 ghost use Rattle.vtree_lines.specs.Writing.{AppendsPart, Writes};
 ghost use Rattle.example_store.specs.Log.{next_sum, entry};
-ghost use Rattle.example_store.specs.Serving.{ServesLine, ServesLines};
+ghost use Rattle.example_store.specs.Serving.{ServesLine, ServesUpTo};
 ghost use Rattle.example_store.specs.Stores.{Answers};
+ghost use Rattle.example_store.specs.declared.store.Pause.TheVariants.{Due};
 
 use crate::answer::{Answer, LineFamily, answer_to, write_answer};
 use crate::input::next_line;
@@ -18,6 +18,9 @@ use std::io::{Read, Write};
 use thiserror::Error;
 use vtree_lines::{Served, WriteFailed};
 
+/// How many lines a log keeps before a checkpoint is due.
+const LINES_TO_CHECKPOINT: u64 = 100_000;
+
 /// A family, and the log of the lines that led to it. `flush` of the log returns once what was
 /// written to it stays.
 #[derive(Drop)]
@@ -26,6 +29,20 @@ pub struct Store<L: Write + Drop> {
     family: LineFamily,
     sum: Sum,
     log: L,
+    // how many lines it still keeps before a checkpoint is due
+    room: u64,
+    served: Served,
+}
+
+/// Why a store reads no further line.
+#[derive(Debug, Clone, Copy, PartialEq, Eq)]
+pub enum Pause {
+    /// The input ended.
+    End,
+    /// The line `checkpoint` was read, and is not answered.
+    Asked,
+    /// So many lines are kept that a checkpoint is due.
+    Due,
 }
 
 /// What ended the serving of lines before their end.
@@ -48,14 +65,53 @@ impl<L: Write + Drop> Store<L> {
         ensures family { result.family ≡ replayed.family }
         ensures sum { result.sum ≡ replayed.sum }
         ensures log { result.log ≡ log }
+        ensures room { result.room ≡ 100000 - replayed.count }
     {
+        let room = LINES_TO_CHECKPOINT.saturating_sub(replayed.count);
         let Replayed { family, sum, .. } = replayed;
         Store {
             alloc,
             family,
             sum,
             log,
+            room,
+            served: Served::Clean,
         }
+    }
+
+    /// The family behind the lines so far.
+    pub fn family(&self) -> &LineFamily
+        ensures { result.now ≡ self.now.family }
+    {
+        &self.family
+    }
+
+    /// Whether some line was a bad one.
+    pub fn served(&self) -> Served {
+        self.served
+    }
+
+    /// Goes on in a log that stands behind a checkpoint of the family, and has no line. This is the
+    /// sum before its first.
+    pub fn begin_log(&mut self, first: Sum, log: L)
+        ensures family { self.new.family ≡ self.old.family }
+        ensures sum { self.new.sum ≡ first }
+        ensures log { self.new.log ≡ log }
+        ensures room { self.new.room ≡ 100000 }
+    {
+        self.sum = first;
+        self.log = log;
+        self.room = LINES_TO_CHECKPOINT;
+    }
+
+    /// Waits for as many lines as behind a checkpoint until the next one is due.
+    pub fn put_off_checkpoint(&mut self)
+        ensures family { self.new.family ≡ self.old.family }
+        ensures sum { self.new.sum ≡ self.old.sum }
+        ensures log { self.new.log ≡ self.old.log }
+        ensures room { self.new.room ≡ 100000 }
+    {
+        self.room = LINES_TO_CHECKPOINT;
     }
 
     /// Does what a line says, given without its line feed. A change is in the log, for good, before
@@ -66,7 +122,8 @@ impl<L: Write + Drop> Store<L> {
     pub fn answer(&mut self, line: &[u8]) -> Result<Answer, WriteFailed>
         requires { HasNoFeed line.now }
         ensures ok { IfOk result (λ answer. Answers line.now self.old.family self.new.family
-            self.old.sum self.new.sum (L.contents self.old.log) (L.contents self.new.log)
+            self.old.sum self.new.sum self.old.room self.new.room
+            (L.contents self.old.log) (L.contents self.new.log)
             (option_map (reply_value (λ key. key.bytes.items)) answer.reply)) }
         ensures err { OnErr result (AppendsPart (L.contents self.old.log)
             (L.contents self.new.log) (entry self.old.sum line.now)) }
@@ -85,6 +142,7 @@ impl<L: Write + Drop> Store<L> {
         ensures log { Writes result (L.contents self.old.log) (L.contents self.new.log)
             (entry self.old.sum line.now) }
         ensures sum { OnOk result (self.new.sum ≡ next_sum self.old.sum line.now) }
+        ensures room { OnOk result (self.new.room ≡ self.old.room - 1) }
     {
         let sum = next_sum(&self.sum, line);
         write_entry(&mut self.log, &sum, line)?;
@@ -92,51 +150,77 @@ impl<L: Write + Drop> Store<L> {
             return Err(WriteFailed);
         }
         self.sum = sum;
+        self.room = self.room.saturating_sub(1);
         Ok(())
     }
 
     #[tactic(auto, using(crate::proofs::ServingLemmas::midst_none))]
-    /// Reads lines to the end of input, and answers each before the next one is read. The last may
-    /// lack its line feed. A line of more than 200 bytes is a bad one.
+    /// Reads lines to the end of input, up to the line `checkpoint`, or until a checkpoint is due,
+    /// and answers each before the next one is read. The last may lack its line feed. A line of
+    /// more than 200 bytes is a bad one.
+    ///
+    /// `Read`, `Log`, `Write` come where reading, writing the log, or a reply failed. The store is
+    /// not to be used any more then.
     pub fn serve<R: Read, W: Write>(
         &mut self,
         reader: &mut R,
         writer: &mut W,
-    ) -> Result<Served, ServeError>
-        ensures { OnOk result (IfSome (R.remaining reader.old) (λ input.
-            ServesLines (lines_of input) self.old.family self.new.family
-            self.old.sum self.new.sum (L.contents self.old.log) (L.contents self.new.log)
+    ) -> Result<Pause, ServeError>
+        ensures due { IfOk result (λ pause. (pause ≡ Due) ↔ (self.new.room ≡ 0)) }
+        ensures served { IfOk result (λ pause. IfSome (R.remaining reader.old) (λ input.
+            ServesUpTo pause input (R.remaining reader.new) self.old.family self.new.family
+            self.old.sum self.new.sum self.old.room self.new.room
+            (L.contents self.old.log) (L.contents self.new.log)
             (W.contents writer.old) (W.contents writer.new))) }
     {
-        let mut served = Served::Clean;
         for _ in 0..u64::MAX {
+            if self.room == 0 {
+                return Ok(Pause::Due);
+            }
             let Ok(line) = next_line(reader) else {
                 return Err(ServeError::Read);
             };
             let Some(line) = line else {
-                return Ok(served);
+                return Ok(Pause::End);
             };
-            if self.reply(&line, writer)? {
-                served = Served::BadLine;
+            if is_checkpoint(&line) {
+                return Ok(Pause::Asked);
             }
+            self.reply(&line, writer)?;
         }
         Err(ServeError::Read)
     }
 
-    /// Answers a line in writing, and tells whether it is a bad one.
-    fn reply<W: Write>(&mut self, line: &[u8], writer: &mut W) -> Result<bool, ServeError>
+    /// Answers a line in writing.
+    fn reply<W: Write>(&mut self, line: &[u8], writer: &mut W) -> Result<(), ServeError>
         requires { HasNoFeed line.now }
         ensures { OnOk result (ServesLine line.now self.old.family self.new.family
-            self.old.sum self.new.sum (L.contents self.old.log) (L.contents self.new.log)
+            self.old.sum self.new.sum self.old.room self.new.room
+            (L.contents self.old.log) (L.contents self.new.log)
             (W.contents writer.old) (W.contents writer.new)) }
     {
         let Ok(answer) = self.answer(line) else {
             return Err(ServeError::Log);
         };
-        let is_bad = answer.reply.is_none();
+        self.served = served_with(self.served, &answer);
         match write_answer(&answer, writer) {
-            Ok(()) => Ok(is_bad),
+            Ok(()) => Ok(()),
             Err(_) => Err(ServeError::Write),
         }
     }
+}
+
+/// Whether a line was a bad one, of those before or this one.
+fn served_with(served: Served, answer: &Answer) -> Served {
+    if answer.reply.is_none() {
+        return Served::BadLine;
+    }
+    served
+}
+
+/// Whether a line asks for a checkpoint.
+fn is_checkpoint(line: &[u8]) -> bool
+    ensures { IsTrue result ↔ (line.now ≡ codes "checkpoint") }
+{
+    line == b"checkpoint".as_slice()
 }

@@ -6,4 +6,4 @@ abbrev pub decreases-entries : goal.decreases-entries
 decreases-entries l = length l.rest
 
 abbrev pub invariant-entries : goal.invariant-entries
-invariant-entries l = IsPlayed l.log l.rest l.replayed
+invariant-entries l = IsPlayed l.fn.base l.log l.rest l.replayed

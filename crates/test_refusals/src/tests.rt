@@ -3,6 +3,7 @@
 // requests is refused. What a call leaves, refused or not, its contract says.
 
 mod begun;
+mod bulk;
 mod examples;
 mod families;
 mod fragile;

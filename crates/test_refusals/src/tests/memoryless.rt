@@ -50,6 +50,8 @@ fn read(
             .is_some()
     );
     assert!(rt; base.last_slice(Bound::Unbounded, &mut room).is_some());
+    assert!(rt; base.contains_prefix_k(present));
+    assert!(rt; !base.contains_prefix_slice(b"abd"));
     assert!(rt; matches!(base.longest_prefix_match_k(absent), Ok(None)));
     base.prefix_match_for_each_k(
         present,
@@ -77,6 +79,10 @@ fn change_nothing(rt: &impl Abort, version: &mut Version, absent: &VectorKey) {
     assert!(rt; version.delete_k(absent) == Ok(false));
     assert!(rt; has_room(version));
     assert!(rt; version.update_k(absent, remove) == Ok(false));
+    assert!(rt; has_room(version));
+    assert!(rt; version.remove_prefix_k(absent) == Ok(false));
+    assert!(rt; has_room(version));
+    assert!(rt; version.prefix_snapshot_k(absent).is_ok());
 }
 
 // Makes each call so often.

@@ -11,9 +11,13 @@ use std::ops::Bound;
 #[derive(Clone, Copy)]
 pub enum Reading {
     Iter,
+    IterBack,
     Values,
+    ValuesBack,
     Range,
+    RangeBack,
     Prefix,
+    PrefixBack,
     PrefixMatches,
     Diff,
     DiffByViews,
@@ -32,6 +36,8 @@ impl Reading {
             Reading::DiffCount => Ok(base.diff_count(theirs)? == 2),
             Reading::Equals => Ok(!base.equals(theirs)?),
             Reading::PrefixMatches => Ok(give(self, alloc, base)? == 5),
+            Reading::IterBack | Reading::ValuesBack | Reading::RangeBack | Reading::PrefixBack =>
+                Ok(give_back(self, alloc, base)? == 8),
             _ => Ok(give(self, alloc, base)? == 8),
         }
     }
@@ -54,6 +60,23 @@ fn give(reading: Reading, alloc: Global, base: &Version) -> Result<usize, AllocE
                 .or(base.prefix_match_iter(probe))?,
         ),
         _ => count(base.iter().or(base.iter())?),
+    }
+}
+
+// The same, from the last item on.
+fn give_back(reading: Reading, alloc: Global, base: &Version) -> Result<usize, AllocError> {
+    let prefix = key_of(alloc, b"")?;
+    match reading {
+        Reading::ValuesBack => count(base.values_iter_rev().or(base.values_iter_rev())?),
+        Reading::RangeBack => {
+            let range = base.range_rev((Bound::Unbounded, Bound::Unbounded));
+            count(range.or(base.range_rev((Bound::Unbounded, Bound::Unbounded)))?)
+        }
+        Reading::PrefixBack => count(
+            base.prefix_iter_rev_k(&prefix)
+                .or(base.prefix_iter_rev(prefix))?,
+        ),
+        _ => count(base.iter_rev().or(base.iter_rev())?),
     }
 }
 

@@ -2,6 +2,7 @@
 //! once nothing more is refused, answers what is wanted, and makes as many clones as that takes.
 //! `checks/refusals` looks for what these tests print: that memory was refused to each call.
 use super::begun::Begun;
+use super::bulk::Bulk;
 use super::fragile::Fuse;
 use super::merges::{merge, patch};
 use super::readings::Reading;
@@ -17,6 +18,7 @@ enum Trial {
     Tracked(Call, Form),
     Patch,
     Merge,
+    Bulk(Bulk),
     Read(Reading),
 }
 
@@ -40,11 +42,26 @@ const TRACKED: &[(Call, &str, u64)] = &[
     (Call::ConflictsWith, "conflicts_with_counted", 0),
 ];
 
+// Likewise, and one of the value in the first node under a prefix, which becomes a root of its own
+// where what is under it is answered, or put into another version.
+const BULK: &[(Bulk, &str, u64)] = &[
+    (Bulk::Extend, "extend", 3),
+    (Bulk::Retain, "retain", 4),
+    (Bulk::PrefixSnapshot, "prefix_snapshot", 1),
+    (Bulk::RemovePrefix, "remove_prefix", 1),
+    (Bulk::TakePrefix, "take_prefix", 2),
+    (Bulk::RestorePrefix, "restore_prefix", 1),
+];
+
 const READINGS: &[(Reading, &str)] = &[
     (Reading::Iter, "iter"),
+    (Reading::IterBack, "iter_rev"),
     (Reading::Values, "values_iter"),
+    (Reading::ValuesBack, "values_iter_rev"),
     (Reading::Range, "range"),
+    (Reading::RangeBack, "range_rev"),
     (Reading::Prefix, "prefix_iter"),
+    (Reading::PrefixBack, "prefix_iter_rev"),
     (Reading::PrefixMatches, "prefix_match_iter"),
     (Reading::Diff, "diff_with"),
     (Reading::DiffByViews, "diff_lending_with"),
@@ -60,6 +77,7 @@ impl Trial {
             Trial::Tracked(call, form) => call.make(form, alloc, fuse, begun),
             Trial::Patch => patch(begun),
             Trial::Merge => merge(fuse, begun),
+            Trial::Bulk(call) => call.make(alloc, fuse, begun),
             Trial::Read(reading) => reading.read(alloc, &begun.base, &begun.theirs),
         }
     }
@@ -129,6 +147,14 @@ fn tracked_versions_survive_refusals(rt: HostRuntime) -> Result<(), Fail> {
 fn merges_survive_refusals(rt: HostRuntime) -> Result<(), Fail> {
     assert_survives(&rt, rt.alloc(), Trial::Patch, "patch", 3)?;
     assert_survives(&rt, rt.alloc(), Trial::Merge, "merge_with", 2)
+}
+
+#[test]
+fn bulk_calls_survive_refusals(rt: HostRuntime) -> Result<(), Fail> {
+    for (call, name, clones) in BULK {
+        assert_survives(&rt, rt.alloc(), Trial::Bulk(*call), name, *clones)?;
+    }
+    Ok(())
 }
 
 #[test]

@@ -185,13 +185,13 @@ module _ {V : Type 0} where
     pub last : before ≡ last_key [] taken
     pub counted : count ≡ length taken
 
-  pub listed-none : (written : V → List ℕ) (start bytes before : List ℕ) → bytes ≡ start
-      → before ≡ [] → IsListed written start bytes before 0 []
+  pub listed-none : (written : V → List ℕ) (start bytes before : List ℕ) (count : ℕ)
+      → bytes ≡ start → before ≡ [] → count ≡ 0 → IsListed written start bytes before count []
   unfolding entries last_key
-  listed-none written start bytes before begins nothing = record {
+  listed-none written start bytes before count begins nothing none = record {
     listed = begins ∙ sym (append-nil start);
     last = nothing;
-    counted = refl;
+    counted = none;
   }
 
   pub last_key-next : (before : List ℕ) (done : List (List ℕ × V)) (pair : List ℕ × V)

@@ -68,9 +68,8 @@ module _ {S K V : Type 0}
       → side first ≡ new → IsUnderWay [] first
   begun first none start zeroed sided =
       record {
-        lists = λ ok.
-            subst (λ n. IsListed (optional written) [] (listed first) (before first) n [])
-            (sym zeroed) (listed-none (optional written) [] (listed first) (before first) none start);
+        lists = λ ok. listed-none (optional written) [] (listed first) (before first) (count first)
+            none start zeroed;
         kept = sided;
       }
 

@@ -1,8 +1,8 @@
-//! Why bytes were not read as a version or as changes, or these not written.
+//! Why bytes were not read, or a version, a list of changes or a family not written.
 use std::alloc::AllocError;
 use thiserror::Error;
 
-/// Why bytes were not read as a version, or as a list of changes. Nothing is left behind.
+/// Why bytes were not read as a version, a list of changes or a family. Nothing is left behind.
 #[derive(Debug, Clone, Copy, PartialEq, Eq, Error)]
 pub enum LoadError {
     /// Reading failed.
@@ -32,7 +32,7 @@ pub enum LoadError {
     Unsupported { format: u8 },
 }
 
-/// Why a version, or a list of changes, was not written.
+/// Why a version, a list of changes or a family was not written.
 #[derive(Debug, Clone, Copy, PartialEq, Eq, Error)]
 pub enum SaveError {
     /// Writing failed.

@@ -24,9 +24,9 @@ use std::ops::Bound;
 /// let is_there = len <= room.len();
 /// ```
 ///
-/// Where `room` has fewer, or memory is refused, it is not told what `room` then has. It goes once
-/// through the pairs, and takes memory for that walk and for one pair, none for all. It is refused
-/// too where they are more bytes than a number of 64 bits tells.
+/// Where `room` has fewer it still gives how many; what `room` then has is unspecified, as where
+/// memory is refused. It goes once through the pairs, and takes memory for that walk and for one
+/// pair, none for all. More bytes than a `usize` tells are refused too.
 pub fn save_into<K: KeyTrait, V: SavedValue>(
     alloc: Global,
     tree: &VersionedAdaptiveRadixTree<K, V>,
@@ -113,7 +113,8 @@ fn fill_sum(room: &mut [u8], at: usize) -> Result<usize, AllocError>
     fill(room, at, &sum)
 }
 
-/// The sum of the bytes before a place, where there is room for it behind them.
+/// The sum of the bytes before an offset, where there is room for it behind them: else it is not
+/// written, and so not made.
 fn sum_before(room: &[u8], at: usize) -> [u8; 32]
     ensures { at + 32 ≤ length room.now → result ≡ sha256 (take at room.now) }
 {
@@ -124,7 +125,7 @@ fn sum_before(room: &[u8], at: usize) -> [u8; 32]
 }
 
 /// Writes some bytes behind those that a room has at its front, where there is room for them, and
-/// gives the place behind them in either case.
+/// gives the offset behind them in either case.
 fn fill(room: &mut [u8], at: usize, part: &[u8]) -> Result<usize, AllocError>
     ensures { IfOk result (λ end. (before done : List ℕ) → Fills before done room.old at
         → Fills before (done ++ part.now) room.new end) }

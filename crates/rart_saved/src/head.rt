@@ -33,7 +33,7 @@ pub(crate) fn family_head_of(kind: u8) -> [u8; 9]
     [b'l', b'i', b'n', b'e', b'a', b'g', b'e', FORMAT, kind]
 }
 
-/// The place behind a head, where the bytes begin with it.
+/// The offset behind a head, where the bytes begin with it.
 pub(crate) fn take_head(bytes: &[u8], head: &[u8; 9]) -> Result<usize, LoadError>
     ensures read { IfOk result (λ end. HasPart bytes.now 0 head.now end) }
     ensures refused { IfErr result (λ _. (rest : List ℕ) → bytes.now ≢ head.now ++ rest) }

@@ -40,8 +40,8 @@ pub(crate) fn put_key(out: &mut Vec<u8>, before: &[u8], key: &[u8]) -> Result<()
     Ok(())
 }
 
-/// Reads the key whose form begins at a place into the one before, and gives the place behind it.
-/// Refused for another reason than memory, no key behind that one has its form there.
+/// Reads the key whose form begins at an offset into the one before, and gives the offset behind
+/// it. Refused for another reason than memory, no key behind that one has its form there.
 pub(crate) fn take_key(
     bytes: &[u8],
     at: usize,

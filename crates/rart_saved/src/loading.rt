@@ -96,8 +96,8 @@ fn read_version<K: KeyTrait, V: SavedValue>(
     Ok((tree, count))
 }
 
-/// Puts so many pairs, whose forms begin at a place, into an empty tree, and gives the place behind
-/// them.
+/// Puts so many pairs, whose forms begin at an offset, into an empty tree, and gives the offset
+/// behind them.
 fn take_pairs<K: KeyTrait, V: SavedValue>(
     alloc: Global,
     bytes: &[u8],
@@ -127,8 +127,8 @@ fn take_pairs<K: KeyTrait, V: SavedValue>(
     Ok(end)
 }
 
-/// Puts the pair whose form begins at a place into the tree, its key into the one before, and gives
-/// the place behind it.
+/// Puts the pair whose form begins at an offset into the tree, its key into the one before, and
+/// gives the offset behind it.
 fn take_pair<K: KeyTrait, V: SavedValue>(
     alloc: Global,
     bytes: &[u8],
@@ -165,7 +165,7 @@ pub(crate) fn push_one<T: Drop>(list: &mut Vec<T>, one: T) -> Result<(), AllocEr
     Ok(())
 }
 
-/// Whether the bytes end with the sum of those before a place, from there on.
+/// Whether the bytes end with the sum of those before an offset, from there on.
 pub(crate) fn check_sum(bytes: &[u8], at: usize) -> Result<(), LoadError>
     requires { at ≤ length bytes.now }
     ensures read { OnOk result (drop at bytes.now ≡ sha256 (take at bytes.now)) }

@@ -20,7 +20,7 @@ pub(crate) fn put_number(out: &mut Vec<u8>, number: u64) -> Result<(), AllocErro
     Ok(())
 }
 
-/// The number whose form begins at a place, and the place behind it. Refused where none does.
+/// The number whose form begins at an offset, and the offset behind it. Refused where none does.
 pub(crate) fn number_at(bytes: &[u8], at: usize) -> Result<(u64, usize), LoadError>
     requires { at ≤ length bytes.now }
     ensures read { IfOk result (λ found. HasPart bytes.now at (leb found.0) found.1) }
@@ -31,7 +31,7 @@ pub(crate) fn number_at(bytes: &[u8], at: usize) -> Result<(u64, usize), LoadErr
     groups_at(bytes, at, 9)
 }
 
-/// The same for a number of at most so many groups and one.
+/// The same for a number of at most `more` groups and one.
 fn groups_at(bytes: &[u8], at: usize, more: u32) -> Result<(u64, usize), LoadError>
     requires { at ≤ length bytes.now }
     ensures read { IfOk result (λ found. HasPart bytes.now at (groups more found.0) found.1) }

@@ -51,6 +51,36 @@ pub(crate) struct Listed {
     pub(crate) before: Vec<u8>,
 }
 
+impl Listed {
+    /// No pair.
+    pub(crate) fn new(alloc: Global) -> Listed
+        ensures bytes { result.bytes.items ≡ [] }
+        ensures count { result.count ≡ 0 }
+        ensures before { result.before.items ≡ [] }
+    {
+        Listed {
+            bytes: Vec::new(alloc),
+            count: 0,
+            before: Vec::new(alloc),
+        }
+    }
+
+    /// The key of one more pair. Refused for memory, some of its bytes may be there.
+    pub(crate) fn put_key(&mut self, key: &[u8]) -> Result<(), AllocError>
+        requires room { self.old.count + 1 < 2 ^ 64 }
+        ensures bytes { OnOk result (self.new.bytes.items ≡ self.old.bytes.items
+            ++ key_form self.old.before.items key.now) }
+        ensures count { OnOk result (self.new.count ≡ self.old.count + 1) }
+        ensures before { OnOk result (self.new.before.items ≡ key.now) }
+    {
+        put_key(&mut self.bytes, self.before.as_slice(), key)?;
+        self.before.clear();
+        self.before.extend_from_slice(key)?;
+        self.count += 1;
+        Ok(())
+    }
+}
+
 /// The pairs of a version, each behind the one before it.
 fn list_pairs<K: KeyTrait, V: SavedValue>(
     alloc: Global,
@@ -61,11 +91,7 @@ fn list_pairs<K: KeyTrait, V: SavedValue>(
     ensures count { IfOk result (λ listed. listed.count ≡ length (pairs tree.now.content)) }
 {
     tree.know_keys_for_proof();
-    let mut listed = Listed {
-        bytes: Vec::new(alloc),
-        count: 0,
-        before: Vec::new(alloc),
-    };
+    let mut listed = Listed::new(alloc);
     let mut items = tree.iter()?;
     // (a `for` over an iterator of keys of any type gets no proof)
     'listing: while let Some(item) = items.next() {
@@ -83,22 +109,7 @@ fn put_pair<V: SavedValue>(listed: &mut Listed, key: &[u8], value: &V) -> Result
     ensures count { OnOk result (listed.new.count ≡ listed.old.count + 1) }
     ensures before { OnOk result (listed.new.before.items ≡ key.now) }
 {
-    put_next_key(listed, key)?;
+    listed.put_key(key)?;
     value.write(&mut listed.bytes)?;
-    Ok(())
-}
-
-/// The key of one more pair. Refused for memory, some of its bytes may be there.
-pub(crate) fn put_next_key(listed: &mut Listed, key: &[u8]) -> Result<(), AllocError>
-    requires room { listed.old.count + 1 < 2 ^ 64 }
-    ensures bytes { OnOk result (listed.new.bytes.items ≡ listed.old.bytes.items
-        ++ key_form listed.old.before.items key.now) }
-    ensures count { OnOk result (listed.new.count ≡ listed.old.count + 1) }
-    ensures before { OnOk result (listed.new.before.items ≡ key.now) }
-{
-    put_key(&mut listed.bytes, listed.before.as_slice(), key)?;
-    listed.before.clear();
-    listed.before.extend_from_slice(key)?;
-    listed.count += 1;
     Ok(())
 }

@@ -34,8 +34,8 @@ use std::io::{ErrorKind, Read, Write};
 /// save(alloc, &prices, &mut file)?;
 /// ```
 ///
-/// With `Io` some of them may be written, and the end lacks, as far as the writer's `write_all`
-/// does so: no clause tells of one that failed. With `Memory` the writer is as before.
+/// With `Io` some of the first may be written: no clause tells of a writer that failed. With
+/// `Memory` the writer is as before.
 pub fn save<K: KeyTrait, V: SavedValue, W: Write>(
     alloc: Global,
     tree: &VersionedAdaptiveRadixTree<K, V>,
@@ -103,7 +103,7 @@ fn write_bytes<W: Write>(writer: &mut W, bytes: &[u8]) -> Result<(), SaveError>
 /// let prices: VersionedAdaptiveRadixTree<VectorKey, u64> = load(alloc, &mut reader)?;
 /// ```
 ///
-/// `Io` comes where reading failed.
+/// `Io` comes where reading failed, but `Memory` where its error is of the kind `OutOfMemory`.
 pub fn load<K: KeyTrait, V: SavedValue, R: Read>(
     alloc: Global,
     reader: &mut R,
@@ -124,7 +124,7 @@ pub fn load<K: KeyTrait, V: SavedValue, R: Read>(
 /// let changes: Vec<KeyChange<VectorKey, u64>> = load_changes(alloc, &mut reader)?;
 /// ```
 ///
-/// `Io` comes where reading failed.
+/// `Io` comes where reading failed, but `Memory` where its error is of the kind `OutOfMemory`.
 pub fn load_changes<K: KeyTrait, V: SavedValue, R: Read>(
     alloc: Global,
     reader: &mut R,
@@ -148,7 +148,7 @@ pub fn load_changes<K: KeyTrait, V: SavedValue, R: Read>(
 /// let versions: Family<VectorKey, u64> = load_family(alloc, &mut reader)?;
 /// ```
 ///
-/// `Io` comes where reading failed.
+/// `Io` comes where reading failed, but `Memory` where its error is of the kind `OutOfMemory`.
 pub fn load_family<K: KeyTrait, V: SavedValue + Eq, R: Read>(
     alloc: Global,
     reader: &mut R,

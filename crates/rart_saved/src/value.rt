@@ -24,8 +24,8 @@ pub trait SavedValue: Clone + Drop {
     fn write(&self, out: &mut Vec<u8>) -> Result<(), AllocError>
         ensures { OnOk result (out.new.items ≡ out.old.items ++ written self.now) };
 
-    /// The value whose form begins at a place, and the place behind it. Refused for another reason
-    /// than memory, no value's form begins there.
+    /// The value whose form begins at an offset, and the offset behind it. Refused for another
+    /// reason than memory, no value's form begins there.
     fn read(alloc: Global, bytes: &[u8], at: usize) -> Result<(Self, usize), LoadError>
         requires { at ≤ length bytes.now }
         ensures read { IfOk result (λ found. HasPart bytes.now at (written found.0) found.1) }
@@ -155,8 +155,8 @@ pub fn put_sized(out: &mut Vec<u8>, string: &[u8]) -> Result<(), AllocError>
     Ok(())
 }
 
-/// The bytes of the byte string whose form begins at a place, and the place behind them. Refused,
-/// none's does.
+/// The bytes of the byte string whose form begins at an offset, and the offset behind them.
+/// Refused, none's does.
 pub fn sized_at(bytes: &[u8], at: usize) -> Result<(&[u8], usize), LoadError>
     requires { at ≤ length bytes.now }
     ensures read { IfOk result (λ found. HasPart bytes.now at (sized found.0.now) found.1) }

@@ -64,7 +64,7 @@ fn read_changes<K: KeyTrait, V: SavedValue>(
     Ok(list)
 }
 
-/// So many changes, whose forms begin at a place, and the place behind them.
+/// So many changes, whose forms begin at an offset, and the offset behind them.
 fn take_changes<K: KeyTrait, V: SavedValue>(
     alloc: Global,
     bytes: &[u8],
@@ -92,8 +92,8 @@ fn take_changes<K: KeyTrait, V: SavedValue>(
     Ok((list, end))
 }
 
-/// The change whose form begins at a place, its key read into the one before, and the place behind
-/// it.
+/// The change whose form begins at an offset, its key read into the one before, and the offset
+/// behind it.
 fn take_change<K: KeyTrait, V: SavedValue>(
     alloc: Global,
     bytes: &[u8],

@@ -7,7 +7,7 @@ ghost use Rattle.rart_saved.specs.Forms.{entry};
 use crate::changes::values::put_values;
 use crate::head::changes_head_of;
 use crate::numbers::put_number;
-use crate::saving::{Listed, put_next_key, put_sum};
+use crate::saving::{Listed, put_sum};
 use crate::value::SavedValue;
 use rart_changes::KeyChange;
 use rart_versioned::KeyTrait;
@@ -27,11 +27,7 @@ pub fn save_changes_slice<K: KeyTrait, V: SavedValue>(
     ensures { IfOk result (λ bytes. bytes.items
         ≡ saved_changes V.written V.KIND (map (shown_change K.bytes) list.now)) }
 {
-    let mut listed = Listed {
-        bytes: Vec::new(alloc),
-        count: 0,
-        before: Vec::new(alloc),
-    };
+    let mut listed = Listed::new(alloc);
     listed.bytes.extend_from_slice(&changes_head_of(V::KIND))?;
     put_number(&mut listed.bytes, list.len() as u64)?;
     'listing: for change in list {
@@ -53,7 +49,7 @@ fn put_change<K: KeyTrait, V: SavedValue>(
     ensures count { OnOk result (listed.new.count ≡ listed.old.count + 1) }
     ensures before { OnOk result (listed.new.before.items ≡ K.bytes change.now.key) }
 {
-    put_next_key(listed, change.key.as_ref())?;
+    listed.put_key(change.key.as_ref())?;
     put_values(&mut listed.bytes, &change.before, &change.after)?;
     Ok(())
 }

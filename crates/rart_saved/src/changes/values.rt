@@ -48,7 +48,7 @@ fn put_value<V: SavedValue>(out: &mut Vec<u8>, value: &Option<V>) -> Result<(), 
     Ok(())
 }
 
-/// Both values whose form begins at a place, and the place behind it. Refused for another reason
+/// Both values whose form begins at an offset, and the offset behind it. Refused for another reason
 /// than memory, no values' form begins there.
 pub(crate) fn read_values<V: SavedValue>(
     alloc: Global,
@@ -74,7 +74,7 @@ pub(crate) fn read_values<V: SavedValue>(
     Ok((before, after, end))
 }
 
-/// The value whose form begins at a place, if one is there, and the place behind it.
+/// The value whose form begins at an offset, if one is there, and the offset behind it.
 fn read_value<V: SavedValue>(
     alloc: Global,
     bytes: &[u8],

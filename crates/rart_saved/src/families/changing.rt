@@ -24,8 +24,8 @@ use rart_maps::do_differ;
 use rart_versioned::{KeyTrait, VersionedAdaptiveRadixTree};
 use std::alloc::Global;
 
-/// Makes so many changes, whose forms begin at a place, and gives the place behind them. They are
-/// what changes from the version before to the one that they lead to.
+/// Makes so many changes, whose forms begin at an offset, and gives the offset behind them. They
+/// are what changes from the version before to the one that they lead to.
 pub(crate) fn take_settings<K: KeyTrait, V: SavedValue + Eq>(
     alloc: Global,
     bytes: &[u8],
@@ -71,8 +71,8 @@ pub(crate) fn take_settings<K: KeyTrait, V: SavedValue + Eq>(
     Ok(end)
 }
 
-/// Makes the change whose form begins at a place, its key read into the one before, and gives the
-/// place behind it.
+/// Makes the change whose form begins at an offset, its key read into the one before, and gives the
+/// offset behind it.
 fn take_setting<K: KeyTrait, V: SavedValue + Eq>(
     alloc: Global,
     bytes: &[u8],

@@ -10,8 +10,8 @@ use crate::value::SavedValue;
 use rart_versioned::{KeyTrait, VersionedAdaptiveRadixTree};
 use std::alloc::{AllocError, Global};
 
-/// The version that was read last, or is being read, and how many keys it has. As each of them has
-/// its bytes before this place, they are never more than the bytes that were read.
+/// The version that was read last, or is being read, and how many keys it has. Each of them has
+/// bytes of its own in its form, so they are never more than the bytes that were read.
 #[derive(Drop)]
 pub(crate) struct Latest<K: KeyTrait, V: SavedValue> {
     pub(crate) tree: VersionedAdaptiveRadixTree<K, V>,
@@ -19,7 +19,7 @@ pub(crate) struct Latest<K: KeyTrait, V: SavedValue> {
 }
 
 impl<K: KeyTrait, V: SavedValue> Latest<K, V> {
-    /// None: the first version begins without a key.
+    /// That before the first version: the one without a key.
     pub(crate) fn new(alloc: Global) -> Latest<K, V>
         ensures empty { result.tree.content ≡ finite.empty }
         ensures counted { result.keys ≡ 0 }
@@ -30,7 +30,8 @@ impl<K: KeyTrait, V: SavedValue> Latest<K, V> {
         }
     }
 
-    /// Sets a key to the value, or takes it out where there is none. The number is then any.
+    /// Sets a key to the value, or takes it out where there is none. What the number is then is
+    /// unspecified.
     pub(crate) fn put(&mut self, key: &[u8], value: Option<V>) -> Result<(), AllocError>
         requires clones { ClonesEqual V.is_clone }
         requires admitted { IsAdmitted K.MAXIMUM_SIZE (length key.now) }
@@ -41,6 +42,7 @@ impl<K: KeyTrait, V: SavedValue> Latest<K, V> {
         ensures counted { OnOk result (self.new.keys ≡ finite.len self.new.tree.content) }
         ensures most { OnOk result (self.new.keys ≤ self.old.keys + 1) }
     {
+        // (the least that it may be, so that there is room for one more)
         self.tree.set_version(self.keys);
         match value {
             Some(value) => {

@@ -90,7 +90,7 @@ fn read_family<K: KeyTrait, V: SavedValue + Eq>(
     Ok(Family::from_versions(alloc, versions))
 }
 
-/// So many places, whose forms begin at a place of the bytes, and the place behind them.
+/// So many places of a family, whose forms begin at an offset, and the offset behind them.
 fn take_places<K: KeyTrait, V: SavedValue + Eq>(
     alloc: Global,
     bytes: &[u8],
@@ -120,8 +120,7 @@ fn take_places<K: KeyTrait, V: SavedValue + Eq>(
     Ok((versions, end))
 }
 
-/// What is at the place of the family whose form begins at a place of the bytes, and the place
-/// behind it.
+/// The version, or none, of the place whose form begins at an offset, and the offset behind it.
 fn take_place<K: KeyTrait, V: SavedValue + Eq>(
     alloc: Global,
     bytes: &[u8],
@@ -162,8 +161,8 @@ fn take_place<K: KeyTrait, V: SavedValue + Eq>(
     Ok((Some(version), end))
 }
 
-/// Makes of the version before it the one whose form begins at a place, and gives the place behind
-/// it.
+/// Makes of the version before it the one whose form begins at an offset, and gives the offset
+/// behind it.
 fn take_version<K: KeyTrait, V: SavedValue + Eq>(
     alloc: Global,
     bytes: &[u8],

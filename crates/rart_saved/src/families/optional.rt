@@ -28,8 +28,8 @@ pub(crate) fn put_optional<V: SavedValue>(
     Ok(())
 }
 
-/// The value whose form begins at a place, or that there is none, and the place behind it. Refused
-/// for another reason than memory, neither's form begins there.
+/// The value whose form begins at an offset, or that there is none, and the offset behind it.
+/// Refused for another reason than memory, neither's form begins there.
 pub(crate) fn read_optional<V: SavedValue>(
     alloc: Global,
     bytes: &[u8],

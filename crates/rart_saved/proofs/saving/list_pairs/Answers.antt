@@ -11,7 +11,8 @@ pub listing-init : goal.listing-init
 listing-init g c = (
   [],
   (pairs c.args.tree.now.content, c.in_ok-items.ensures, refl),
-  listed-none g.V.SavedValue.written [] _ _ c.new.ensures.items c.new-2.ensures.items,
+  listed-none g.V.SavedValue.written [] _ _ _ c.new-listed.ensures.bytes
+      c.new-listed.ensures.before c.new-listed.ensures.count,
 )
 
 pub put_pair-requires : goal.put_pair-requires

@@ -10,13 +10,13 @@ use Rattle.rart_saved.proofs.changes.saving.save_changes_slice.Goals as goal
 pub listing-init : goal.listing-init
 listing-init g c =
     listed-none (both_written g.V.SavedValue.written)
-    (changes_head g.V.SavedValue.KIND ++ leb (length c.args.list.now)) _ _
+    (changes_head g.V.SavedValue.KIND ++ leb (length c.args.list.now)) _ _ _
     (c.in_ok-put_number.ensures
     ∙ ap (λ bytes. bytes ++ leb (length c.args.list.now))
     (c.in_ok-extend_from_slice.ensures.items
-    ∙ (λ i. c.new.ensures.items i
+    ∙ (λ i. c.new-listed.ensures.bytes i
     ++ (c.changes_head_of.ensures ∙ ap changes_head c.KIND.ensures) i)))
-    c.new-2.ensures.items
+    c.new-listed.ensures.before c.new-listed.ensures.count
 
 pub put_change-requires : goal.put_change-requires
 put_change-requires g c =

@@ -13,7 +13,8 @@ diff_with-requires g c =
       visitable = record {
         at = λ change rest s calls a shown.
             let room = settings-room _ bytes g.V.SavedValue.written (λ s. s.0.now.made)
-            (λ s. s.0.now.bytes.items) (λ s. s.0.now.before.items) (λ s. s.0.now.count)
+            (λ s. s.0.now.listed.bytes.items) (λ s. s.0.now.listed.before.items)
+            (λ s. s.0.now.listed.count)
             (λ s. s.1.now.content) (λ s a s' called ok. search (rules, of_calls))
             (λ s a s' called. let new : s'.1.now ≡ s.1.now = search (rules, of_calls) in
             ap (λ v. v.content) new) g.V.PartialEq.eq old new _ change rest s calls
@@ -30,7 +31,8 @@ returns-clause-bytes g c =
     let begins = c.new-settings.ensures in
     let visit = c.in_ok-diff_with.ensures.visits in
     let lists = settings-listed _ bytes g.V.SavedValue.written (λ s. s.0.now.made)
-    (λ s. s.0.now.bytes.items) (λ s. s.0.now.before.items) (λ s. s.0.now.count)
+    (λ s. s.0.now.listed.bytes.items) (λ s. s.0.now.listed.before.items)
+    (λ s. s.0.now.listed.count)
     (λ s. s.1.now.content) (λ s a s' called ok. search (rules, of_calls))
     (λ s a s' called. let new : s'.1.now ≡ s.1.now = search (rules, of_calls) in
     ap (λ v. v.content) new) g.V.PartialEq.eq old new _ _ visit begins.bytes begins.before
@@ -47,7 +49,8 @@ returns-clause-count g c =
     let begins = c.new-settings.ensures in
     let visit = c.in_ok-diff_with.ensures.visits in
     let lists = settings-listed _ bytes g.V.SavedValue.written (λ s. s.0.now.made)
-    (λ s. s.0.now.bytes.items) (λ s. s.0.now.before.items) (λ s. s.0.now.count)
+    (λ s. s.0.now.listed.bytes.items) (λ s. s.0.now.listed.before.items)
+    (λ s. s.0.now.listed.count)
     (λ s. s.1.now.content) (λ s a s' called ok. search (rules, of_calls))
     (λ s a s' called. let new : s'.1.now ≡ s.1.now = search (rules, of_calls) in
     ap (λ v. v.content) new) g.V.PartialEq.eq old new _ _ visit begins.bytes begins.before

@@ -1,17 +1,17 @@
 // A versioned ordered map from byte strings to 64-bit numbers, or to byte strings. Keys are in the
-// order of their bytes, as memcmp has it, a key before those that it begins. A snapshot or a clone is
-// a map of its own, which shares its nodes with the first one: it takes no time for each key.
+// order of their bytes, as memcmp has it, a key before those that it begins. A snapshot or a clone
+// is a map of its own, which shares its nodes with the first one: it takes no time for each key.
 //
 // Proved of each function is what it answers and leaves, as its comment says, but for what that
-// calls tested, and that it returns and never panics. Of one that takes no memory it is proved that it
-// can't be refused; that it takes none, and that what is freed is given back, is tested. So is that
-// what only reads stores nothing in its tree: for it the const of a tree may be cast away.
+// calls tested, and that it returns and never panics. Of one that takes no memory it is proved that
+// it can't be refused; that it takes none, and that what is freed is given back, is tested. So is
+// that what only reads stores nothing in its tree: for it the const of a tree may be cast away.
 //
 // This is C11, and C++. Written by ffi/generate.
 #ifndef BOLTCOMFREY_H
 #define BOLTCOMFREY_H
 
-#define RART_VERSION "0.1.0"
+#define RART_VERSION "0.2.0"
 
 #include <assert.h>
 #include <stdbool.h>
@@ -103,8 +103,8 @@ enum {
     RART_WRONG_SUM = 12,
 };
 
-// Whether a change was not refused. What was to be taken out may have been absent, and what was to be
-// new may have been there: by RART_DONE and RART_ABSENT the answer says which.
+// Whether a change was not refused. What was to be taken out may have been absent, and what was to
+// be new may have been there: by RART_DONE and RART_ABSENT the answer says which.
 #define RART_OK(answer) ((answer) <= RART_ABSENT)
 
 // What an answer says, in a few words.
@@ -156,8 +156,24 @@ enum {
     RART_LONGEST_KEY = 1024,
 };
 
-// Makes of a prefix the end of the keys that it begins, for the upper bound of a page, and gives its
-// length: that bound is RART_EXCLUDED, but RART_UNBOUNDED where the length is 0.
+// What a program gives the library of memory: a block, or none where is_given is 0.
+typedef struct rattle_block {
+    size_t is_given;
+    void *at;
+} rattle_block;
+
+// What the library asks for memory by: heap.c has it over malloc, and a program may have its own.
+// - rattle_alloc gives a block of size bytes, of some where size is 0, at a multiple of align,
+//   which is a power of two, 16 at most.
+// - rattle_realloc gives one in place of a block that has old_size bytes, which stand at its front,
+//   or as many of them as it has room for. Where it gives none the block stays.
+// - rattle_dealloc takes a block back.
+rattle_block rattle_alloc(size_t size, size_t align);
+rattle_block rattle_realloc(void *at, size_t old_size, size_t size, size_t align);
+void rattle_dealloc(void *at);
+
+// Makes of a prefix the end of the keys that it begins, for the upper bound of a page, and gives
+// its length: that bound is RART_EXCLUDED, but RART_UNBOUNDED where the length is 0.
 static inline size_t rart_prefix_end(uint8_t *prefix, size_t len) {
     while (len > 0 && prefix[len - 1] == UINT8_MAX) {
         len--;
@@ -180,8 +196,8 @@ static inline size_t rart_prefix_end(uint8_t *prefix, size_t len) {
 // - trees that come from one tree, also through others, stay on one thread, as their nodes count
 //   who shares them; trees that have nothing to do with each other may be on two;
 // - no call is made in a signal handler, nor in a forked child;
-// - rattle_alloc, rattle_realloc and rattle_dealloc are one allocator, safe on each thread that has
-//   trees, and a block is aligned as it is asked for, which is to 16 bytes at most;
+// - rattle_alloc, rattle_realloc and rattle_dealloc do what stands with them above, on each thread
+//   that has trees;
 // - a thread has 500 bytes of stack for each byte that a key may have, and 16 KiB: at first 516 KiB
 //   (measured, not proved).
 
@@ -249,8 +265,8 @@ size_t rart_common(rart_tree *RART_ALONE tree, rart_tree *RART_ALONE other);
 
 // Answers RART_DONE and writes the first key that is not before this one to the front of room, its
 // length and its value; behind the key room is as before. Where room is shorter than that key it
-// answers RART_TOO_SMALL and writes its length and no value; what room has then is not told. Where
-// there is none it answers RART_ABSENT and writes nothing. It takes no memory.
+// answers RART_TOO_SMALL and writes its length and no value; what room has then is unspecified.
+// Where there is none it answers RART_ABSENT and writes nothing. It takes no memory.
 RART_NONNULL RART_MUST_USE RART_CHANGES(1) RART_READS(2, 3) RART_WRITES(4, 5) RART_WRITES(6)
 RART_WRITES(7)
 rart_answer rart_seek(
@@ -370,13 +386,13 @@ rart_answer rart_replace(
 
 // Writes the first pairs within two bounds, as many as there is room for: their keys one behind the
 // other to the front of bytes, an entry of each to the front of entries, and how many they are to
-// count. What bytes has behind the keys is not told; entries is as before there. Answers RART_DONE
-// where it has a pair, else count is 0: the next page begins RART_EXCLUDED at a copy of the last
-// key, and pages are asked for until none is there, which answers RART_ABSENT. RART_NO_ENTRIES says
-// that entries has no room, RART_TOO_SMALL that the first key is longer than bytes, and writes its
-// length to needed. A bound is of the kind RART_INCLUDED, RART_EXCLUDED or RART_UNBOUNDED. Memory
-// that it takes to walk it gives back, and where it lacks some it searches from key to key: it is
-// never refused.
+// count. What bytes has behind the keys is unspecified; entries is as before there. Answers
+// RART_DONE where it has a pair, else count is 0: the next page begins RART_EXCLUDED at a copy of
+// the last key, and pages are asked for until none is there, which answers RART_ABSENT.
+// RART_NO_ENTRIES says that entries has no room, RART_TOO_SMALL that the first key is longer than
+// bytes, and writes its length to needed. A bound is of the kind RART_INCLUDED, RART_EXCLUDED or
+// RART_UNBOUNDED. Memory that it takes to walk it gives back, and where it lacks some it searches
+// from key to key: it is never refused.
 RART_NONNULL RART_MUST_USE RART_CHANGES(1) RART_READS(2, 3) RART_READS(5, 6) RART_WRITES(8, 9)
 RART_WRITES(10, 11) RART_WRITES(12) RART_WRITES(13)
 rart_answer rart_page(
@@ -488,8 +504,8 @@ size_t rart_bytes_common(rart_bytes *RART_ALONE tree, rart_bytes *RART_ALONE oth
 // Answers RART_DONE, writes the first key that is not before this one to the front of room, its
 // value to the front of into, and the lengths of both; behind them room and into are as before.
 // Where the key is longer than room, or the value than into, it answers RART_TOO_SMALL and writes
-// both lengths, the key where room has the bytes for it, and no value; what room has else is not
-// told. Where there is none it answers RART_ABSENT and writes nothing. It takes no memory.
+// both lengths, the key where room has the bytes for it, and no value; what room has else is
+// unspecified. Where there is none it answers RART_ABSENT and writes nothing. It takes no memory.
 RART_NONNULL RART_MUST_USE RART_CHANGES(1) RART_READS(2, 3) RART_WRITES(4, 5) RART_WRITES(6)
 RART_WRITES(7, 8) RART_WRITES(9)
 rart_answer rart_bytes_seek(
@@ -676,9 +692,9 @@ rart_answer rart_bytes_intersection(
 
 // Writes the first pairs within two bounds, as many as there is room for: to the front of bytes
 // each key and its value behind it, an entry of each pair to the front of entries, and how many
-// they are to count. What bytes has behind them is not told; entries is as before there. Answers as
-// rart_page, but where RART_TOO_SMALL says that the first key and its value are longer than bytes:
-// then it writes both lengths.
+// they are to count. What bytes has behind them is unspecified; entries is as before there. Answers
+// as rart_page, but where RART_TOO_SMALL says that the first key and its value are longer than
+// bytes: then it writes both lengths.
 RART_NONNULL RART_MUST_USE RART_CHANGES(1) RART_READS(2, 3) RART_READS(5, 6) RART_WRITES(8, 9)
 RART_WRITES(10, 11) RART_WRITES(12) RART_WRITES(13) RART_WRITES(14)
 rart_answer rart_bytes_page(
@@ -807,7 +823,7 @@ rart_answer rart_saved_len(rart_tree *RART_ALONE tree, size_t *RART_ALONE len);
 // number, and a sum of all, in the one form that they have. Answers RART_DONE; the other bytes of
 // into are as before. RART_TOO_SMALL says that into has fewer, and len is written too;
 // RART_NO_MEMORY that memory was refused, of which it takes what rart_saved_len does. What into has
-// after these two answers is not told.
+// after these two answers is unspecified.
 RART_NONNULL RART_MUST_USE RART_CHANGES(1) RART_WRITES(2, 3) RART_WRITES(4)
 rart_answer rart_save(
     rart_tree *RART_ALONE tree,
@@ -819,18 +835,19 @@ rart_answer rart_save(
 // Makes the tree the version whose bytes these are, as rart_save writes them, and frees what it
 // was. Keys may be as long as before. Answers RART_DONE; with any other answer it is as before.
 // RART_TRUNCATED says that the bytes end early, RART_UNSUPPORTED that their format is another,
-// RART_MALFORMED that what begins at the byte at stands in no form, RART_TOO_LONG that the key
-// there is longer than a key may be, RART_WRONG_SUM that the sum at the end is another.
-// RART_NO_MEMORY says that memory was refused, which is asked for as bytes come: no length in them
-// is believed. The byte at is one of bytes; where none is told, at is as before. What rart_save
-// wrote has no answers but RART_DONE, RART_TOO_LONG and RART_NO_MEMORY; which other one comes of
-// other bytes, and that at is the byte to look at, is tested alone.
+// RART_MALFORMED that what begins at bytes[offset] stands in no form, RART_TOO_LONG that the key
+// whose form begins there is longer than a key may be, RART_WRONG_SUM that the sum at the end is
+// another. RART_NO_MEMORY says that memory was refused, which is asked for as bytes come: no length
+// in them is believed. offset is written with RART_MALFORMED and RART_TOO_LONG alone, and is less
+// than the length of bytes then. What rart_save wrote has no answers but RART_DONE, RART_TOO_LONG
+// and RART_NO_MEMORY; which other one comes of other bytes, and that offset is the byte to look at,
+// is tested alone.
 RART_NONNULL RART_MUST_USE RART_CHANGES(1) RART_READS(2, 3) RART_WRITES(4)
 rart_answer rart_load(
     rart_tree *RART_ALONE tree,
     const uint8_t *RART_ALONE bytes,
     size_t bytes_len,
-    size_t *RART_ALONE at
+    size_t *RART_ALONE offset
 );
 
 // Writes to len how many bytes rart_bytes_save writes, and answers RART_DONE. It goes through all
@@ -843,7 +860,7 @@ rart_answer rart_bytes_saved_len(rart_bytes *RART_ALONE tree, size_t *RART_ALONE
 // number, and a sum of all, in the one form that they have. Answers RART_DONE; the other bytes of
 // into are as before. RART_TOO_SMALL says that into has fewer, and len is written too;
 // RART_NO_MEMORY that memory was refused, of which it takes what rart_bytes_saved_len does. What
-// into has after these two answers is not told.
+// into has after these two answers is unspecified.
 RART_NONNULL RART_MUST_USE RART_CHANGES(1) RART_WRITES(2, 3) RART_WRITES(4)
 rart_answer rart_bytes_save(
     rart_bytes *RART_ALONE tree,
@@ -855,18 +872,19 @@ rart_answer rart_bytes_save(
 // Makes the tree the version whose bytes these are, as rart_bytes_save writes them, and frees what
 // it was. Keys may be as long as before. Answers RART_DONE; with any other answer it is as before.
 // RART_TRUNCATED says that the bytes end early, RART_UNSUPPORTED that their format is another,
-// RART_MALFORMED that what begins at the byte at stands in no form, RART_TOO_LONG that the key
-// there is longer than a key may be, RART_WRONG_SUM that the sum at the end is another.
-// RART_NO_MEMORY says that memory was refused, which is asked for as bytes come: no length in them
-// is believed. The byte at is one of bytes; where none is told, at is as before. What
-// rart_bytes_save wrote has no answers but RART_DONE, RART_TOO_LONG and RART_NO_MEMORY; which other
-// one comes of other bytes, and that at is the byte to look at, is tested alone.
+// RART_MALFORMED that what begins at bytes[offset] stands in no form, RART_TOO_LONG that the key
+// whose form begins there is longer than a key may be, RART_WRONG_SUM that the sum at the end is
+// another. RART_NO_MEMORY says that memory was refused, which is asked for as bytes come: no length
+// in them is believed. offset is written with RART_MALFORMED and RART_TOO_LONG alone, and is less
+// than the length of bytes then. What rart_bytes_save wrote has no answers but RART_DONE,
+// RART_TOO_LONG and RART_NO_MEMORY; which other one comes of other bytes, and that offset is the
+// byte to look at, is tested alone.
 RART_NONNULL RART_MUST_USE RART_CHANGES(1) RART_READS(2, 3) RART_WRITES(4)
 rart_answer rart_bytes_load(
     rart_bytes *RART_ALONE tree,
     const uint8_t *RART_ALONE bytes,
     size_t bytes_len,
-    size_t *RART_ALONE at
+    size_t *RART_ALONE offset
 );
 
 // The calls that take null: of these names the library's own functions, which don't, are written in
@@ -1210,8 +1228,9 @@ static inline rart_answer rart_save_any(rart_tree *RART_ALONE tree, uint8_t *RAR
 
 RART_NONNULL_AT(1, 4) RART_MUST_USE RART_CHANGES(1) RART_READS(2, 3) RART_WRITES(4)
 static inline rart_answer rart_load_any(rart_tree *RART_ALONE tree, const uint8_t *RART_ALONE bytes,
-    size_t bytes_len, size_t *RART_ALONE at) {
-    return (rart_load)(tree, bytes_len > 0 ? bytes : (const uint8_t *)&rart_nowhere, bytes_len, at);
+    size_t bytes_len, size_t *RART_ALONE offset) {
+    return (rart_load)(tree, bytes_len > 0 ? bytes : (const uint8_t *)&rart_nowhere, bytes_len,
+        offset);
 }
 #define rart_load(...) rart_load_any(__VA_ARGS__)
 
@@ -1224,9 +1243,9 @@ static inline rart_answer rart_bytes_save_any(rart_bytes *RART_ALONE tree, uint8
 
 RART_NONNULL_AT(1, 4) RART_MUST_USE RART_CHANGES(1) RART_READS(2, 3) RART_WRITES(4)
 static inline rart_answer rart_bytes_load_any(rart_bytes *RART_ALONE tree,
-    const uint8_t *RART_ALONE bytes, size_t bytes_len, size_t *RART_ALONE at) {
+    const uint8_t *RART_ALONE bytes, size_t bytes_len, size_t *RART_ALONE offset) {
     return (rart_bytes_load)(tree, bytes_len > 0 ? bytes : (const uint8_t *)&rart_nowhere,
-        bytes_len, at);
+        bytes_len, offset);
 }
 #define rart_bytes_load(...) rart_bytes_load_any(__VA_ARGS__)
 

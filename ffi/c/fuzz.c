@@ -15,12 +15,7 @@ enum { HEAD = 16 };
 
 static size_t held, most_held;
 
-struct block {
-    size_t is_given;
-    void *at;
-};
-
-static struct block resized(void *at, size_t size, size_t align) {
+static rattle_block resized(void *at, size_t size, size_t align) {
     size_t old_size = 0;
     if (at != NULL) {
         at = (uint8_t *)at - HEAD;
@@ -32,18 +27,14 @@ static struct block resized(void *at, size_t size, size_t align) {
     memcpy(at, &size, sizeof size);
     held += size - old_size;
     most_held = held > most_held ? held : most_held;
-    return (struct block){true, (uint8_t *)at + HEAD};
+    return (rattle_block){true, (uint8_t *)at + HEAD};
 }
 
-struct block rattle_alloc(size_t size, size_t align);
-struct block rattle_realloc(void *at, size_t old_size, size_t size, size_t align);
-void rattle_dealloc(void *at);
-
-struct block rattle_alloc(size_t size, size_t align) {
+rattle_block rattle_alloc(size_t size, size_t align) {
     return resized(NULL, size, align);
 }
 
-struct block rattle_realloc(void *at, size_t old_size, size_t size, size_t align) {
+rattle_block rattle_realloc(void *at, size_t old_size, size_t size, size_t align) {
     (void)old_size;
     return resized(at, size, align);
 }

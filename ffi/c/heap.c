@@ -1,29 +1,19 @@
-// How the library asks for memory: three functions, here over the C library's.
+// How the library asks for memory, over the C library.
+#include "boltcomfrey.h"
 #include <stdalign.h>
-#include <stddef.h>
 #include <stdlib.h>
 
-// Whether memory is given, and where. A request for no bytes gets as many as its alignment. One
-// greater than what malloc keeps to is refused. (The library asks for none.)
-struct block {
-    size_t is_given;
-    void *at;
-};
-
-static struct block block_of(void *at) {
-    struct block block = {at != NULL, at};
+static rattle_block block_of(void *at) {
+    rattle_block block = {at != NULL, at};
     return block;
 }
 
-#ifdef __cplusplus
-extern "C" {
-#endif
-
-struct block rattle_alloc(size_t size, size_t align) {
+// (For no bytes malloc may give null. A greater alignment than its own is never asked for.)
+rattle_block rattle_alloc(size_t size, size_t align) {
     return block_of(align > alignof(max_align_t) ? NULL : malloc(size > 0 ? size : align));
 }
 
-struct block rattle_realloc(void *at, size_t old_size, size_t size, size_t align) {
+rattle_block rattle_realloc(void *at, size_t old_size, size_t size, size_t align) {
     (void)old_size;
     return block_of(align > alignof(max_align_t) ? NULL : realloc(at, size > 0 ? size : align));
 }
@@ -31,7 +21,3 @@ struct block rattle_realloc(void *at, size_t old_size, size_t size, size_t align
 void rattle_dealloc(void *at) {
     free(at);
 }
-
-#ifdef __cplusplus
-}
-#endif

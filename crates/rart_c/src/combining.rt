@@ -6,10 +6,10 @@ ghost use Rattle.std.specs.Option.{option_copied};
 ghost use Rattle.rart_below.specs.Clones.{ClonesEqual};
 ghost use Rattle.rart_c.specs.Differences.{ArePairsOf, by_key, difference, intersection, pair_at};
 ghost use Rattle.rart_c.specs.Shown.{shown};
-ghost use Rattle.rart_c.specs.Trees.{of_content, tree_at};
+ghost use Rattle.rart_c.specs.Trees.{of_content};
 ghost use Rattle.rart_maps.specs.Pairs as maps;
 
-use crate::table::Table;
+use crate::table::{Table, or_empty};
 use rart_versioned::{LendingKeyView, SortedError, VectorKey, VersionedAdaptiveRadixTree};
 use std::alloc::{AllocError, Global};
 
@@ -25,7 +25,7 @@ pub(crate) fn difference<V: Clone + Drop + Eq>(
         (shown other.entry).version.content)) }
 {
     let none = Table::new_at(alloc, 0);
-    let part = or(table, &none).difference(alloc, or(other, &none))?;
+    let part = or_empty(table, &none).difference(alloc, or_empty(other, &none))?;
     Ok(Box::new(alloc, part)?)
 }
 
@@ -41,22 +41,8 @@ pub(crate) fn intersection<V: Clone + Drop>(
         (shown other.entry).version.content)) }
 {
     let none = Table::new_at(alloc, 0);
-    let part = or(table, &none).intersection(alloc, or(other, &none))?;
+    let part = or_empty(table, &none).intersection(alloc, or_empty(other, &none))?;
     Ok(Box::new(alloc, part)?)
-}
-
-/// The table, or where there is none this one, which has no key.
-pub(crate) fn or<'a, V: Clone + Drop>(
-    table: Option<&'a Table<V>>,
-    none: &'a Table<V>,
-) -> &'a Table<V>
-    requires { none.now ≡ tree_at 0 }
-    ensures { result.now ≡ shown table.entry }
-{
-    match table {
-        None => none,
-        Some(table) => table,
-    }
 }
 
 impl<V: Clone + Drop> Table<V> {

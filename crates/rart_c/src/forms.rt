@@ -1,4 +1,4 @@
-//! A table as bytes, or none: the tree as it is at first; and a table that is made of bytes.
+//! A table as bytes, where there is none the one without a key; and a table that is made of bytes.
 ghost use Rattle.std.specs.Prelude.{◌≡◌, Some, IfErr, IfOk, length};
 ghost use Rattle.rart_below.specs.Clones.{ClonesEqual};
 ghost use Rattle.rart_c.specs.Saves.{ExplainsLoad};
@@ -7,8 +7,7 @@ ghost use Rattle.rart_saved.specs.Fills.{Fills};
 ghost use Rattle.rart_saved.specs.Forms.{IsVersionOf, saved};
 ghost use Rattle.rart_saved.specs.Refusals.{PointsInto};
 
-use crate::combining::or;
-use crate::table::Table;
+use crate::table::{Table, or_empty};
 use rart_saved::{LoadError, SavedValue, load_slice_within, save_into, saved_len};
 use std::alloc::{AllocError, Global};
 
@@ -21,7 +20,7 @@ pub(crate) fn len<V: SavedValue>(
         ≡ length (saved V.written V.KIND (shown table.entry).version)) }
 {
     let none = Table::new_at(alloc, 0);
-    or(table, &none).saved_len(alloc)
+    or_empty(table, &none).saved_len(alloc)
 }
 
 /// Writes the version's bytes over the first of the room, where it has as many, and gives how many
@@ -36,7 +35,7 @@ pub(crate) fn save<V: SavedValue>(
     ensures loadable { IsVersionOf (Some (shown table.entry).longest) (shown table.entry).version }
 {
     let none = Table::new_at(alloc, 0);
-    or(table, &none).save(alloc, room)
+    or_empty(table, &none).save(alloc, room)
 }
 
 /// The table whose version has these bytes, keys as long as this. It takes memory as bytes come.

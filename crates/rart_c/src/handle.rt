@@ -6,7 +6,7 @@ ghost use Rattle.rart_c.specs.Owned.{held};
 ghost use Rattle.rart_c.specs.Trees.{Tree, tree_at, tree_code};
 
 use crate::answer::Refusal;
-use crate::table::Table;
+use crate::table::{Table, or_empty};
 use crate::unboxed::Unboxed;
 use std::alloc::{AllocError, Global};
 use std::marker::Model;
@@ -196,10 +196,7 @@ impl RartTree {
             (ExplainsRise self.old.shows.version (shown from.entry).version.number) }
     {
         let none = Table::new_at(alloc, 0);
-        let from = match from {
-            None => &none,
-            Some(from) => from,
-        };
+        let from = or_empty(from, &none);
         if let Some(table) = self.table_mut() {
             return table.restore_prefix(prefix, from);
         }

@@ -52,13 +52,13 @@ pub struct RartEntry {
 
 /// Writes the first pairs within two bounds, as many as there is room for: their keys one behind
 /// the other to the front of `bytes`, an entry of each to the front of `entries`, and how many they
-/// are to `count`. What `bytes` has behind the keys is not told; `entries` is as before there.
+/// are to `count`. What `bytes` has behind the keys is unspecified; `entries` is as before there.
 /// Answers `DONE` where it has a pair, else `count` is 0: the next page begins `EXCLUDED` at a copy
 /// of the last key, and pages are asked for until none is there, which answers `ABSENT`.
 /// `NO_ENTRIES` says that `entries` has no room, `TOO_SMALL` that the first key is longer than
 /// `bytes`, and writes its length to `needed`. A bound is of the kind `INCLUDED`, `EXCLUDED` or
-/// `UNBOUNDED`. Memory that it takes to walk it gives back, and where it lacks some it searches from
-/// key to key: it is never refused.
+/// `UNBOUNDED`. Memory that it takes to walk it gives back, and where it lacks some it searches
+/// from key to key: it is never refused.
 #[unsafe(no_mangle)]
 pub extern "C" fn rart_page(
     tree: &mut RartTree,
@@ -275,7 +275,7 @@ fn write_key(key: &[u8], room: &mut [u8])
     }
 }
 
-/// The same, what is written apart from the room behind it.
+/// The same without a cursor: `written` is what stands before `end`, `room` what is behind it.
 fn first_behind<'a, V: Clone + Drop>(
     table: Option<&'a Table<V>>,
     order: Order,

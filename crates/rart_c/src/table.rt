@@ -6,6 +6,7 @@ ghost use Rattle.rart_maps.specs.ChangeLaws.{Decides};
 ghost use Rattle.rart_maps.specs.Changes.{Changes, removal, replacement};
 ghost use Rattle.rart_maps.specs.Pairs.{under};
 ghost use Rattle.rart_maps.specs.Prefixes.{after_prefix_removal, after_prefix_restoring, has_under, under_prefix};
+ghost use Rattle.rart_c.specs.Shown.{shown};
 ghost use Rattle.rart_c.specs.Trees.{KeepsLimit, tree_at, with_longest, of_version};
 ghost use Rattle.rart_maps.specs.Versions.{HasRoom, has_key, has_no_key, with_rise};
 
@@ -234,5 +235,19 @@ impl<V: Clone + Drop + Eq> Table<V> {
             ↔ (self.now.version.content ≡ other.now.version.content)) }
     {
         self.tree.equals(&other.tree)
+    }
+}
+
+/// The table, or where there is none this one, which has no key.
+pub(crate) fn or_empty<'a, V: Clone + Drop>(
+    table: Option<&'a Table<V>>,
+    none: &'a Table<V>,
+) -> &'a Table<V>
+    requires { none.now ≡ tree_at 0 }
+    ensures { result.now ≡ shown table.entry }
+{
+    match table {
+        None => none,
+        Some(table) => table,
     }
 }

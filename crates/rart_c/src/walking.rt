@@ -11,7 +11,7 @@ use std::ops::Bound;
 
 /// Answers `DONE` and writes the first key that is not before this one to the front of `room`, its
 /// length and its value; behind the key `room` is as before. Where `room` is shorter than that key
-/// it answers `TOO_SMALL` and writes its length and no value; what `room` has then is not told.
+/// it answers `TOO_SMALL` and writes its length and no value; what `room` has then is unspecified.
 /// Where there is none it answers `ABSENT` and writes nothing. It takes no memory.
 #[unsafe(no_mangle)]
 pub extern "C" fn rart_seek(

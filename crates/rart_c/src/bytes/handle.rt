@@ -7,7 +7,7 @@ ghost use Rattle.rart_c.specs.Trees.{Tree, tree_at, tree_code};
 
 use crate::answer::Refusal;
 use crate::bytes::value::Bytes;
-use crate::table::Table;
+use crate::table::{Table, or_empty};
 use crate::unboxed::Unboxed;
 use std::alloc::{AllocError, Global};
 use std::marker::Model;
@@ -197,10 +197,7 @@ impl RartBytes {
             (ExplainsRise self.old.shows.version (shown from.entry).version.number) }
     {
         let none = Table::new_at(alloc, 0);
-        let from = match from {
-            None => &none,
-            Some(from) => from,
-        };
+        let from = or_empty(from, &none);
         if let Some(table) = self.table_mut() {
             return table.restore_prefix(prefix, from);
         }

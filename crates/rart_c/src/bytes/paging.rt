@@ -22,7 +22,7 @@ pub struct RartBytesEntry {
 
 /// Writes the first pairs within two bounds, as many as there is room for: to the front of `bytes`
 /// each key and its value behind it, an entry of each pair to the front of `entries`, and how many
-/// they are to `count`. What `bytes` has behind them is not told; `entries` is as before there.
+/// they are to `count`. What `bytes` has behind them is unspecified; `entries` is as before there.
 /// Answers as `rart_page`, but where `TOO_SMALL` says that the first key and its value are longer
 /// than `bytes`: then it writes both lengths.
 #[unsafe(no_mangle)]

@@ -25,7 +25,7 @@ pub extern "C" fn rart_bytes_saved_len(alloc: Global, tree: &mut RartBytes, len:
 /// its number, and a sum of all, in the one form that they have. Answers `DONE`; the other bytes of
 /// `into` are as before. `TOO_SMALL` says that `into` has fewer, and `len` is written too;
 /// `NO_MEMORY` that memory was refused, of which it takes what `rart_bytes_saved_len` does. What
-/// `into` has after these two answers is not told.
+/// `into` has after these two answers is unspecified.
 #[unsafe(no_mangle)]
 pub extern "C" fn rart_bytes_save(
     alloc: Global,
@@ -45,23 +45,24 @@ pub extern "C" fn rart_bytes_save(
 /// Makes the tree the version whose bytes these are, as `rart_bytes_save` writes them, and frees
 /// what it was. Keys may be as long as before. Answers `DONE`; with any other answer it is as
 /// before. `TRUNCATED` says that the bytes end early, `UNSUPPORTED` that their format is another,
-/// `MALFORMED` that what begins at the byte `at` stands in no form, `TOO_LONG` that the key there
-/// is longer than a key may be, `WRONG_SUM` that the sum at the end is another. `NO_MEMORY` says
-/// that memory was refused, which is asked for as bytes come: no length in them is believed. The
-/// byte `at` is one of `bytes`; where none is told, `at` is as before. What `rart_bytes_save` wrote
-/// has no answers but `DONE`, `TOO_LONG` and `NO_MEMORY`; which other one comes of other bytes, and
-/// that `at` is the byte to look at, is tested alone.
+/// `MALFORMED` that what begins at `bytes[offset]` stands in no form, `TOO_LONG` that the key whose
+/// form begins there is longer than a key may be, `WRONG_SUM` that the sum at the end is another.
+/// `NO_MEMORY` says that memory was refused, which is asked for as bytes come: no length in them is
+/// believed. `offset` is written with `MALFORMED` and `TOO_LONG` alone, and is less than the length
+/// of `bytes` then. What `rart_bytes_save` wrote has no answers but `DONE`, `TOO_LONG` and
+/// `NO_MEMORY`; which other one comes of other bytes, and that `offset` is the byte to look at, is
+/// tested alone.
 #[unsafe(no_mangle)]
 pub extern "C" fn rart_bytes_load(
     alloc: Global,
     tree: &mut RartBytes,
     bytes: &[u8],
-    at: &mut usize,
+    offset: &mut usize,
 ) -> u8
     ensures loaded { result ≡ DONE → (bytes.now ≡ saved sized 2 tree.new.shows.version)
         × (tree.new.shows.longest ≡ tree.old.shows.longest) }
     ensures refused { ¬ (result ≡ DONE) → tree.new.shows ≡ tree.old.shows }
-    ensures tells { TellsLoad bytes.now result at.old at.new }
+    ensures tells { TellsLoad bytes.now result offset.old offset.new }
     ensures gives_back { GivesBack sized 2 tree.old.shows.longest bytes.now result
         tree.new.shows.version }
 {
@@ -70,6 +71,6 @@ pub extern "C" fn rart_bytes_load(
             *tree = RartBytes::of(table);
             DONE
         }
-        Err(error) => tell_unread(error, at),
+        Err(error) => tell_unread(error, offset),
     }
 }

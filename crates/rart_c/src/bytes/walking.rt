@@ -16,7 +16,7 @@ use std::ops::Bound;
 /// value to the front of `into`, and the lengths of both; behind them `room` and `into` are as
 /// before. Where the key is longer than `room`, or the value than `into`, it answers `TOO_SMALL`
 /// and writes both lengths, the key where `room` has the bytes for it, and no value; what `room`
-/// has else is not told. Where there is none it answers `ABSENT` and writes nothing. It takes no
+/// has else is unspecified. Where there is none it answers `ABSENT` and writes nothing. It takes no
 /// memory.
 #[unsafe(no_mangle)]
 pub extern "C" fn rart_bytes_seek(

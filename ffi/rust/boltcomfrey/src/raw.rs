@@ -601,7 +601,7 @@ fn parts_of(bound: Bound<&[u8]>) -> (&[u8], u8) {
     }
 }
 
-/// What a call reads out, which is made once more where the value is longer than most.
+/// The value that a call writes out. It is made once more where the value, or its key, has no room.
 fn read_out(mut call: impl FnMut(&mut [u8], &mut usize) -> u8) -> Option<Vec<u8>> {
     let (mut short, mut len) = ([0; 128], 0);
     match call(&mut short, &mut len) {

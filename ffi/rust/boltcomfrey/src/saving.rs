@@ -88,8 +88,8 @@ impl<V: Value> Map<V> {
         self.tree.load(bytes)
     }
 
-    /// Writes what [`Map::to_bytes`] gives. An error is the writer's, or of the kind `OutOfMemory`;
-    /// then some of the bytes may be written, and are no map's.
+    /// Writes what [`Map::to_bytes`] gives. An error is the writer's, where some of the bytes may be
+    /// written, which are no map's; or of the kind `OutOfMemory`, and none is written.
     ///
     /// ```
     /// # use boltcomfrey::VersionedMap;

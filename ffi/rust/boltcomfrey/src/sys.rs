@@ -352,7 +352,12 @@ unsafe extern "C" {
     ) -> u8;
     pub fn rart_saved_len(tree: *mut RartTree, len: *mut usize) -> u8;
     pub fn rart_save(tree: *mut RartTree, into: *mut u8, into_len: usize, len: *mut usize) -> u8;
-    pub fn rart_load(tree: *mut RartTree, bytes: *const u8, bytes_len: usize, at: *mut usize) -> u8;
+    pub fn rart_load(
+        tree: *mut RartTree,
+        bytes: *const u8,
+        bytes_len: usize,
+        offset: *mut usize,
+    ) -> u8;
     pub fn rart_bytes_saved_len(tree: *mut RartBytes, len: *mut usize) -> u8;
     pub fn rart_bytes_save(
         tree: *mut RartBytes,
@@ -364,7 +369,7 @@ unsafe extern "C" {
         tree: *mut RartBytes,
         bytes: *const u8,
         bytes_len: usize,
-        at: *mut usize,
+        offset: *mut usize,
     ) -> u8;
 }
 

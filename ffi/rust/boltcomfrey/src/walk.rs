@@ -75,7 +75,7 @@ impl<V: Value> Page<V> {
 }
 
 // Whether a key meets an upper bound.
-fn meets(key: &[u8], high: Bound<&[u8]>) -> bool {
+fn is_up_to(key: &[u8], high: Bound<&[u8]>) -> bool {
     match high {
         Bound::Included(high) => key <= high,
         Bound::Excluded(high) => key < high,
@@ -84,7 +84,7 @@ fn meets(key: &[u8], high: Bound<&[u8]>) -> bool {
 }
 
 // Whether a key meets a lower bound.
-fn is_behind(key: &[u8], low: Bound<&[u8]>) -> bool {
+fn is_from(key: &[u8], low: Bound<&[u8]>) -> bool {
     match low {
         Bound::Included(low) => key >= low,
         Bound::Excluded(low) => key > low,
@@ -92,19 +92,32 @@ fn is_behind(key: &[u8], low: Bound<&[u8]>) -> bool {
     }
 }
 
+/// An end of a walk: what is left of its page, and how many pairs its next one may have.
+#[derive(Clone)]
+struct End<V: Value> {
+    page: Page<V>,
+    size: usize,
+}
+
+impl<V: Value> End<V> {
+    fn new(size: usize) -> End<V> {
+        End {
+            page: Page::new(),
+            size,
+        }
+    }
+}
+
 /// A walk over the pairs within two bounds, and how far it has come from either end. The tree stands
 /// elsewhere, and doesn't change meanwhile.
 #[derive(Clone)]
 pub struct Walk<V: Value> {
-    // What is left between the pages, unless nothing is.
+    // What is left between the pages, unless that is known to be nothing.
     low: Bound<Vec<u8>>,
     high: Bound<Vec<u8>>,
-    is_last: bool,
-    // What is left of the page of either end, and how many pairs its next one may have.
-    front: Page<V>,
-    asked: usize,
-    back: Page<V>,
-    asked_back: usize,
+    is_over: bool,
+    front: End<V>,
+    back: End<V>,
 }
 
 impl<V: Value> Walk<V> {
@@ -112,18 +125,16 @@ impl<V: Value> Walk<V> {
         Walk {
             low: low.map(<[u8]>::to_vec),
             high: high.map(<[u8]>::to_vec),
-            is_last: false,
-            front: Page::new(),
-            asked: 1,
-            back: Page::new(),
-            asked_back: 1,
+            is_over: false,
+            front: End::new(1),
+            back: End::new(1),
         }
     }
 
     /// Over all pairs.
     pub fn over_all() -> Walk<V> {
         let mut walk = Walk::within((Bound::Unbounded, Bound::Unbounded));
-        (walk.asked, walk.asked_back) = (FIRST_PAIRS, FIRST_PAIRS);
+        (walk.front.size, walk.back.size) = (FIRST_PAIRS, FIRST_PAIRS);
         walk
     }
 
@@ -137,8 +148,8 @@ impl<V: Value> Walk<V> {
     /// The next pair, copied.
     #[inline]
     pub fn next(&mut self, tree: &Tree<<V as Calls>::Handle>) -> Option<(Vec<u8>, V)> {
-        if self.asked == 1 {
-            if let Some(pair) = self.first(tree) {
+        if self.front.size == 1 {
+            if let Some(pair) = self.search(tree, Order::Ascending) {
                 return Some(pair);
             }
         }
@@ -151,100 +162,91 @@ impl<V: Value> Walk<V> {
         &mut self,
         tree: &Tree<<V as Calls>::Handle>,
     ) -> Option<(&[u8], &<V as Calls>::Lent)> {
-        if self.front.left.is_empty() && !self.turn(tree) {
-            return self.back.next_back();
+        if self.front.page.left.is_empty() && !self.turn(tree, Order::Ascending) {
+            return self.back.page.next_back();
         }
-        self.front.next()
+        self.front.page.next()
     }
 
     /// The last pair, copied.
     pub fn next_back(&mut self, tree: &Tree<<V as Calls>::Handle>) -> Option<(Vec<u8>, V)> {
-        if self.asked_back == 1 {
-            if let Some(pair) = self.last(tree) {
+        if self.back.size == 1 {
+            if let Some(pair) = self.search(tree, Order::Descending) {
                 return Some(pair);
             }
         }
-        if self.back.left.is_empty() && !self.turn_back(tree) {
-            return self.front.next_back().map(copied::<V>);
+        if self.back.page.left.is_empty() && !self.turn(tree, Order::Descending) {
+            return self.front.page.next_back().map(copied::<V>);
         }
-        self.back.next().map(copied::<V>)
+        self.back.page.next().map(copied::<V>)
     }
 
-    /// The first pair between the pages, by a search. The next one stands in a page.
-    fn first(&mut self, tree: &Tree<<V as Calls>::Handle>) -> Option<(Vec<u8>, V)> {
-        self.asked = FIRST_PAIRS;
-        if self.is_last {
+    /// The first pair between the pages in an order, by a search. The next one stands in a page.
+    fn search(&mut self, tree: &Tree<<V as Calls>::Handle>, order: Order) -> Option<(Vec<u8>, V)> {
+        self.end(order).size = FIRST_PAIRS;
+        if self.is_over {
             return None;
         }
         let low = self.low.as_ref().map(Vec::as_slice);
         let high = self.high.as_ref().map(Vec::as_slice);
         let mut key = Vec::new();
-        if let Some((len, value)) = V::first(tree, low, &mut key) {
-            key.truncate(len);
-            if meets(&key, high) {
-                self.low = Bound::Excluded(key.clone());
-                return Some((key, value));
+        let found = match order {
+            Order::Ascending => V::first(tree, low, &mut key),
+            Order::Descending => V::last(tree, high, &mut key),
+        };
+        key.truncate(found.as_ref().map_or(0, |it| it.0));
+        let is_within = match order {
+            Order::Ascending => is_up_to(&key, high),
+            Order::Descending => is_from(&key, low),
+        };
+        match found {
+            Some((_, value)) if is_within => {
+                self.pass(order, key.clone());
+                Some((key, value))
+            }
+            _ => {
+                self.is_over = true;
+                None
             }
         }
-        self.is_last = true;
-        None
     }
 
-    /// The last pair between the pages, by a search. The one before it stands in a page.
-    fn last(&mut self, tree: &Tree<<V as Calls>::Handle>) -> Option<(Vec<u8>, V)> {
-        self.asked_back = FIRST_PAIRS;
-        if self.is_last {
-            return None;
-        }
-        let low = self.low.as_ref().map(Vec::as_slice);
-        let high = self.high.as_ref().map(Vec::as_slice);
-        let mut key = Vec::new();
-        if let Some((len, value)) = V::last(tree, high, &mut key) {
-            key.truncate(len);
-            if is_behind(&key, low) {
-                self.high = Bound::Excluded(key.clone());
-                return Some((key, value));
-            }
-        }
-        self.is_last = true;
-        None
-    }
-
-    /// Takes the next page from the front, which begins behind the last key of the one before.
-    /// Answers whether it has a pair.
+    /// Takes the next page in an order, which begins behind the last key of the one before. Answers
+    /// whether it has a pair.
     #[cold]
-    fn turn(&mut self, tree: &Tree<<V as Calls>::Handle>) -> bool {
-        if self.is_last {
+    fn turn(&mut self, tree: &Tree<<V as Calls>::Handle>, order: Order) -> bool {
+        if self.is_over {
             return false;
         }
         let low = self.low.as_ref().map(Vec::as_slice);
         let high = self.high.as_ref().map(Vec::as_slice);
-        self.front
-            .fill(tree, Order::Ascending, (low, high), self.asked);
-        self.asked = MOST_PAIRS.min(self.asked * GROWTH);
-        match self.front.last() {
-            Some((key, _)) => self.low = Bound::Excluded(key.to_vec()),
-            None => self.is_last = true,
+        let end = match order {
+            Order::Ascending => &mut self.front,
+            Order::Descending => &mut self.back,
+        };
+        end.page.fill(tree, order, (low, high), end.size);
+        end.size = MOST_PAIRS.min(end.size * GROWTH);
+        match end.page.last().map(|(key, _)| key.to_vec()) {
+            Some(key) => self.pass(order, key),
+            None => self.is_over = true,
         }
-        !self.is_last
+        !self.is_over
     }
 
-    /// Takes the next page from the back, as `turn` does from the front.
-    #[cold]
-    fn turn_back(&mut self, tree: &Tree<<V as Calls>::Handle>) -> bool {
-        if self.is_last {
-            return false;
+    /// The end from which an order begins.
+    fn end(&mut self, order: Order) -> &mut End<V> {
+        match order {
+            Order::Ascending => &mut self.front,
+            Order::Descending => &mut self.back,
         }
-        let low = self.low.as_ref().map(Vec::as_slice);
-        let high = self.high.as_ref().map(Vec::as_slice);
-        self.back
-            .fill(tree, Order::Descending, (low, high), self.asked_back);
-        self.asked_back = MOST_PAIRS.min(self.asked_back * GROWTH);
-        match self.back.last() {
-            Some((key, _)) => self.high = Bound::Excluded(key.to_vec()),
-            None => self.is_last = true,
+    }
+
+    /// Leaves between the pages what stands behind a key in an order.
+    fn pass(&mut self, order: Order, key: Vec<u8>) {
+        match order {
+            Order::Ascending => self.low = Bound::Excluded(key),
+            Order::Descending => self.high = Bound::Excluded(key),
         }
-        !self.is_last
     }
 }
 

@@ -21,7 +21,7 @@ returns-in-Ok-clause-gives_back c =
 
 pub returns-in-Err-clause-loaded : goal.returns-in-Err-clause-loaded
 returns-in-Err-clause-loaded c done =
-    absurd ((unread_tells c.in-Err.error c.tell_unread.result c.args.at.now c.tell_unread.new.at
+    absurd ((unread_tells c.in-Err.error c.tell_unread.result c.args.offset.now c.tell_unread.new.at
     c.tell_unread.ensures).0 done)
 
 pub returns-in-Err-clause-gives_back : goal.returns-in-Err-clause-gives_back
@@ -29,12 +29,12 @@ returns-in-Err-clause-gives_back c =
     let longest = c.longest_key.ensures.longest ∙ ap (λ tree. tree.longest) c.table.ensures.table
     in
     gives-refused sized sized-apart 2 c.args.tree.now.shows.longest c.args.bytes.now
-    c.in-Err.error _ c.tell_unread.result c.args.at.now
+    c.in-Err.error _ c.tell_unread.result c.args.offset.now
     c.tell_unread.new.at c.tell_unread.ensures
     (subst (λ n. ExplainsLoad sized 2 n c.args.bytes.now c.in-Err.error) longest
     c.in-Err.ensures.refused)
 
 pub returns-in-Err-clause-tells : goal.returns-in-Err-clause-tells
 returns-in-Err-clause-tells c =
-    load-told c.in-Err.error c.args.bytes.now c.tell_unread.result c.args.at.now
+    load-told c.in-Err.error c.args.bytes.now c.tell_unread.result c.args.offset.now
     c.tell_unread.new.at c.in-Err.ensures.place c.tell_unread.ensures

@@ -1,6 +1,6 @@
 -- What a line does to a family, and whether it is kept.
-use Rattle.std.proofs.Common.{inl, inr, ◌≡◌, ◌≢◌, ℕ, ◌-◌, List, refl, sym, ◌∙◌, ap, subst, Bool, true, false, not}
-use Rattle.std.specs.Prelude.{◌⊎◌}
+use Rattle.std.proofs.Common.{inl, inr, ◌≡◌, ◌≢◌, ℕ, ◌-◌, List, [], ◌∷◌, refl, sym, ◌∙◌, ap, subst, Bool}
+use Rattle.std.specs.Prelude.{◌⊎◌, ◌↔◌, IsTrue}
 use Rattle.std.specs.declared.option.Option.{Option}
 use Rattle.std.specs.declared.option.Option.TheVariants.{Some, None}
 use Rattle.std.specs.Io.KnownBytes.{Appends, Keeps}
@@ -15,9 +15,9 @@ use Rattle.vtree_lines.specs.Transcript.{Replies, LineGives}
 use Rattle.vtree_lines.proofs.GrammarLemmas.{line_is_one_command}
 use Rattle.vtree_lines.proofs.ServingLawLemmas.{refusals_change_nothing}
 use Rattle.vtree_lines.proofs.TranscriptLemmas.{own_reply}
-use Rattle.example_store.specs.Kept.{IsKept, IsNeverKept, LeavesFamily, answer_text}
+use Rattle.example_store.specs.Kept.{Answered, IsKept, IsNeverKept, LeavesFamily, answer_text}
 use Rattle.example_store.specs.Log.{next_sum, entry}
-use Rattle.example_store.specs.Stores.{Answers}
+use Rattle.example_store.specs.Stores.{AlsoTells, Answers, State}
 
 pub bad_gives : (old : Family ℕ) (line : List ℕ) → IsBad line → LineGives old line bad_line old
 bad_gives old line bad = inl (bad, refl, refl)
@@ -61,41 +61,83 @@ good_never old new line command reply is steps (inr (inl version)) = inr (lack_n
 good_never old new line command reply is steps (inr (inr (inl room))) = inr (lack_never old new line
     command reply is steps (λ e. absurd (cc)) (inr (inl room)))
 
+-- ---- whether some line was bad
+
+-- a line that is not bad tells nothing new
+pub tells_good : (before behind : Bool) (line : List ℕ) → behind ≡ before → ¬ IsBad line →
+    AlsoTells (line ∷ []) before behind
+tells_good before behind line same good = (
+  (λ e. inl (sym same ∙ e)),
+  (λ h. elim h [
+    | inl e ↦ same ∙ e
+    | inr bad ↦ elim bad [
+      | inl is ↦ absurd (good is)
+      | inr none ↦ absurd none
+    ]
+  ]),
+)
+
+-- a bad line is one that gets no reply
+pub tells_reply : (before behind : Bool) (line : List ℕ) (reply : Option (Reply ℕ)) →
+    IsTrue behind ↔ (IsTrue before ⊎ (reply ≡ None)) →
+    (reply ≡ None) ↔ IsBad line → AlsoTells (line ∷ []) before behind
+tells_reply before behind line reply told bad = (
+  (λ e. elim (told.0 e) [
+    | inl was ↦ inl was
+    | inr none ↦ inr (inl (bad.0 none))
+  ]),
+  (λ h. elim h [
+    | inl was ↦ told.1 (inl was)
+    | inr has ↦ elim has [
+      | inl is ↦ told.1 (inr (bad.1 is))
+      | inr none ↦ absurd none
+    ]
+  ]),
+)
+
 -- ---- what a store does with a line
 
-pub answers_kept : (line : List ℕ) (old mid new : Family ℕ) (before behind : List ℕ)
-    (room left : ℕ) (log logged : Option (List ℕ)) (answer : Option (Reply ℕ)) →
-    LineGives old line (answer_text answer) mid → IsKept old line mid → new ≡ mid →
-    behind ≡ next_sum before line → left ≡ room - 1 → Appends log logged (entry before line) →
-    Answers line old new before behind room left log logged answer
-answers_kept line old mid new before behind room left log logged answer gives kept same sum counted
-    gained = record {
-      gives = subst (LineGives old line (answer_text answer)) (sym same) gives;
-      done = inl (record {
-        kept = subst (IsKept old line) (sym same) kept;
-        sum = sum;
-        counted = counted;
-        gained = gained;
-      });
-    }
+-- a line that is kept is a good one
+kept_good : (old new : Family ℕ) (line : List ℕ) → IsKept old line new → ¬ IsBad line
+kept_good old new line kept = λ bad. bad kept.command kept.says
 
-pub keeps_same : (known : Option (List ℕ)) → Keeps known known
+pub answers_kept : (line : List ℕ) (old new : State) (answer : Answered) (mid : Family ℕ) →
+    LineGives old.family line (answer_text answer.reply) mid → IsKept old.family line mid →
+    new.family ≡ mid → new.sum ≡ next_sum old.sum line → new.lines_left ≡ old.lines_left - 1 →
+    Appends old.log new.log (entry old.sum line) → new.has_bad ≡ old.has_bad →
+    Answers line old new answer
+answers_kept line old new answer mid gives kept same sum counted gained served = record {
+  gives = subst (LineGives old.family line (answer_text answer.reply)) (sym same) gives;
+  done = inl (record {
+    kept = subst (IsKept old.family line) (sym same) kept;
+    sum = sum;
+    counted = counted;
+    gained = gained;
+  });
+  told = tells_good old.has_bad new.has_bad line served (kept_good old.family mid line kept);
+}
+
+keeps_same : (known : Option (List ℕ)) → Keeps known known
 keeps_same None = tt
 keeps_same (Some xs) = refl
 
-pub answers_left : (line : List ℕ) (old new : Family ℕ) (sum : List ℕ) (room : ℕ)
-    (log : Option (List ℕ)) (answer : Option (Reply ℕ)) →
-    LineGives old line (answer_text answer) new → new ≡ old →
-    Answers line old new sum sum room room log log answer
-answers_left line old new sum room log answer gives left = record {
+pub answers_left : (line : List ℕ) (old new : State) (answer : Answered) →
+    LineGives old.family line (answer_text answer.reply) new.family → new.family ≡ old.family →
+    new.sum ≡ old.sum → new.lines_left ≡ old.lines_left → new.log ≡ old.log →
+    AlsoTells (line ∷ []) old.has_bad new.has_bad → Answers line old new answer
+answers_left line old new answer gives family sum counted log told = record {
   gives = gives;
-  done = inr (record { family = left; sum = refl; counted = refl; same = keeps_same log });
+  done = inr (record {
+    family = family;
+    sum = sum;
+    counted = counted;
+    same = subst (Keeps old.log) (sym log) (keeps_same old.log);
+  });
+  told = told;
 }
 
-pub is_left : (kept : Bool) → not kept ≡ true → kept ≡ false
-is_left true e = absurd (cc)
-is_left false e = refl
-
-pub is_to_keep : (kept : Bool) → not kept ≡ false → kept ≡ true
-is_to_keep true e = refl
-is_to_keep false e = absurd (cc)
+-- the same of a store as it shows
+pub answers_shown : (line : List ℕ) (seen old new : State) (answer : Answered) → seen ≡ old →
+    Answers line seen new answer → Answers line old new answer
+answers_shown line seen old new answer is h =
+    subst (λ (s : State). Answers line s new answer) is h

@@ -1,5 +1,5 @@
 -- The lines that a log keeps, and what they lead to.
-use Rattle.std.specs.Prelude.{◌≡◌, ℕ, List, [], ◌∷◌, ◌⊎◌, Option, Some, None}
+use Rattle.std.specs.Prelude.{◌≡◌, ℕ, Bool, List, [], ◌∷◌, ◌⊎◌, Option, Some, None}
 use Rattle.rart_family.specs.Replies.{Reply}
 use Rattle.rart_family.specs.Families.{Family, call_of}
 use Rattle.rart_family.specs.Laws.{OnlyReads}
@@ -30,6 +30,12 @@ IsNeverKept old line = (new : Family ℕ) → IsKept old line new → ⊥
 abbrev pub Leads : Family ℕ → List (List ℕ) → Family ℕ → Type 0
 Leads old [] new = new ≡ old
 Leads old (line ∷ lines) new = (mid : Family ℕ) × IsKept old line mid × Leads mid lines new
+
+-- What a line is answered: the reply to its command, or none where it is a bad line; and whether
+-- the line is to be kept.
+pub record Answered : Type 0 where
+  pub reply : Option (Reply ℕ)
+  pub is_kept : Bool
 
 -- What is written for an answer: the text of a reply, or that of a bad line.
 abbrev pub answer_text : Option (Reply ℕ) → List ℕ

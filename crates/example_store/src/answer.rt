@@ -1,10 +1,10 @@
 //! What a line does to a family, and whether it is to be kept.
-ghost use Rattle.std.specs.Prelude.{◌≡◌, ◌↔◌, ◌⊎◌, true, false, IsTrue, Some};
-ghost use Rattle.std.specs.Option.{option_map};
+ghost use Rattle.std.specs.Prelude.{◌≡◌, ◌↔◌, ◌⊎◌, true, false, IsTrue, None, Some};
 ghost use Rattle.rart_family.specs.Families.{call_of};
 ghost use Rattle.rart_family.specs.Keys.{by_bytes};
 ghost use Rattle.rart_family.specs.Laws.{OnlyReads};
 ghost use Rattle.rart_family.specs.Replies.{reply_value, NoMemory};
+ghost use Rattle.vtree_lines.specs.Grammar.{IsBad};
 ghost use Rattle.vtree_lines.specs.Laws.{HasNoFeed};
 ghost use Rattle.vtree_lines.specs.ServingLaws.{IsRefusal};
 ghost use Rattle.vtree_lines.specs.Sessions.{Commands};
@@ -15,6 +15,7 @@ ghost use Rattle.example_store.specs.Kept.{IsKept, IsNeverKept, LeavesFamily, an
 use rart_family::{Command, Family, Reply, Work};
 use std::alloc::Global;
 use std::io::Write;
+use std::marker::Model;
 use vtree_lines::{LineCommand, LineKey, WriteFailed, parse, write_bytes, write_reply};
 
 /// The greatest length of a good line.
@@ -35,16 +36,28 @@ pub struct Answer {
     pub is_kept: bool,
 }
 
+impl Model for Answer {
+    ghost use Rattle.std.specs.Option.{option_map};
+    ghost use Rattle.rart_family.specs.Replies.{reply_value};
+    ghost use Rattle.example_store.specs.Kept.{Answered};
+
+    ghost Value = { Answered };
+
+    ghost view = { λ answer. record {
+      reply = option_map (reply_value (λ key. key.bytes.items)) answer.reply;
+      is_kept = answer.is_kept;
+    } };
+}
+
 /// Does what a line says, given without its line feed.
 pub fn answer_to(alloc: Global, family: &mut LineFamily, line: &[u8]) -> Answer
     requires { HasNoFeed line.now }
-    ensures gives { LineGives family.old line.now (answer_text
-        (option_map (reply_value (λ key. key.bytes.items)) result.reply)) family.new }
+    ensures gives { LineGives family.old line.now (answer_text result.reply) family.new }
+    ensures bad { (result.reply ≡ None) ↔ IsBad line.now }
     ensures kept { result.is_kept ≡ true → IsKept family.old line.now family.new }
     ensures left { result.is_kept ≡ false → family.new ≡ family.old }
     ensures never { result.is_kept ≡ false
-        → (option_map (reply_value (λ key. key.bytes.items)) result.reply ≡ Some NoMemory)
-        ⊎ IsNeverKept family.old line.now }
+        → (result.reply ≡ Some NoMemory) ⊎ IsNeverKept family.old line.now }
 {
     let Some(command) = command_of(alloc, line) else {
         return Answer {
@@ -62,7 +75,7 @@ pub fn answer_to(alloc: Global, family: &mut LineFamily, line: &[u8]) -> Answer
 /// Writes the line of an answer. Where writing fails, a prefix of it is written.
 pub fn write_answer<W: Write>(answer: &Answer, writer: &mut W) -> Result<(), WriteFailed>
     ensures { Writes result (W.contents writer.old) (W.contents writer.new)
-        (answer_text (option_map (reply_value (λ key. key.bytes.items)) answer.now.reply)) }
+        (answer_text answer.now.reply) }
 {
     match &answer.reply {
         Some(reply) => write_reply(reply, writer),

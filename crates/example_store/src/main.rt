@@ -1,12 +1,13 @@
 //! A store that loses nothing: a family of versions whose changes are in a log before they are
 //! answered, and are played again at the next start, behind the last checkpoint.
 //!
-//! `example_store FOLDER` speaks the lines of `vtree`. Each line that may change the family, and
-//! was not refused, is in `FOLDER/log`, for good, before its reply is written. The line
-//! `checkpoint`, and 100,000 lines kept, have it write the family to `FOLDER/checkpoint.N`, and go
-//! on in `FOLDER/log.N`. At its start it reads the last checkpoint, plays the log behind it, drops
-//! a torn tail, and says on standard error what it found. Its status is 0, or 1 if some line was a
-//! bad one, or 2 where it could not start, or reading or writing failed.
+//! `example_store FOLDER` speaks the lines of `vtree`; here `rt run -- FOLDER` begins it. FOLDER is
+//! made where it isn't there. Each line that may change the family, and was not refused, is in
+//! `FOLDER/log`, for good, before its reply is written. The line `checkpoint`, and 100,000 lines
+//! kept, have it write the family to `FOLDER/checkpoint.N`, and go on in `FOLDER/log.N`. At its
+//! start it reads the last checkpoint, plays the log behind it, drops a torn tail, and says on
+//! standard error what it found. Its status is 0, or 1 if some line was a bad one, or 2 where it
+//! could not start, or reading or writing failed.
 #![tactic(auto)]
 
 mod answer;

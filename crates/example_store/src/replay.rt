@@ -1,7 +1,6 @@
 //! A log is played: what its lines lead to.
 ghost use Rattle.std.specs.Prelude.{◌≡◌, ◌↔◌, ◌+◌, ◌<◌, ◌^◌, length, IfOk, IfErr, OnOk, IsTrue, Some};
-ghost use Rattle.std.specs.Option.{option_map};
-ghost use Rattle.rart_family.specs.Replies.{reply_value, NoMemory};
+ghost use Rattle.rart_family.specs.Replies.{NoMemory};
 ghost use Rattle.vtree_lines.specs.Laws.{HasNoFeed};
 ghost use Rattle.example_store.specs.Replays.{IsReplayed, IsRefusedBy, PlaysOn, IsNoEntry, IsToldBy};
 ghost use Rattle.example_store.specs.declared.replay.ReplayError.TheVariants.{Damaged};
@@ -76,8 +75,7 @@ impl Replayed {
     /// What tells that an answer is not to be kept.
     fn refused(&self, answer: &Answer) -> ReplayError
         requires { self.now.count + 1 < 2 ^ 64 }
-        ensures { IsToldBy (option_map (reply_value (λ key. key.bytes.items)) answer.now.reply)
-            self.now result }
+        ensures { IsToldBy answer.now.reply self.now result }
     {
         if wants_memory(answer) {
             return ReplayError::Memory;
@@ -110,8 +108,7 @@ impl Replayed {
 }
 
 fn wants_memory(answer: &Answer) -> bool
-    ensures { IsTrue result
-        ↔ (option_map (reply_value (λ key. key.bytes.items)) answer.now.reply ≡ Some NoMemory) }
+    ensures { IsTrue result ↔ (answer.now.reply ≡ Some NoMemory) }
 {
     matches!(answer.reply, Some(Reply::NoMemory))
 }

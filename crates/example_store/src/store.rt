@@ -1,9 +1,8 @@
 //! A store: a family, and the log of the lines that led to it.
-ghost use Rattle.std.specs.Prelude.{◌≡◌, ◌↔◌, ◌-◌, IfOk, IfSome, OnOk, OnErr, IsTrue, codes};
-ghost use Rattle.std.specs.Option.{option_map};
-ghost use Rattle.rart_family.specs.Replies.{reply_value};
+ghost use Rattle.std.specs.Prelude.{◌≡◌, ◌↔◌, ◌⊎◌, ◌-◌, IfOk, IfSome, None, OnOk, OnErr, IsTrue, codes, false};
 ghost use Rattle.vtree_lines.specs.Laws.{HasNoFeed};
 ghost use Rattle.vtree_lines.specs.Writing.{AppendsPart, Writes};
+ghost use Rattle.vtree_lines.specs.declared.served.Served.TheVariants.{BadLine};
 ghost use Rattle.example_store.specs.Log.{next_sum, entry};
 ghost use Rattle.example_store.specs.Serving.{ServesLine, ServesUpTo};
 ghost use Rattle.example_store.specs.Stores.{Answers};
@@ -15,6 +14,7 @@ use crate::log::{Sum, next_sum, write_entry};
 use crate::replay::Replayed;
 use std::alloc::Global;
 use std::io::{Read, Write};
+use std::marker::Model;
 use thiserror::Error;
 use vtree_lines::{Served, WriteFailed};
 
@@ -29,9 +29,25 @@ pub struct Store<L: Write + Drop> {
     family: LineFamily,
     sum: Sum,
     log: L,
-    // how many lines it still keeps before a checkpoint is due
-    room: u64,
-    served: Served,
+    // how many lines it keeps before a checkpoint is due
+    lines_left: u64,
+    has_bad: bool,
+}
+
+impl<L: Write + Drop> Model for Store<L> {
+    ghost use Rattle.example_store.specs.Stores.{State, state_code};
+
+    ghost Value = { State };
+
+    ghost coded = { state_code };
+
+    ghost view = { λ store. record {
+      family = store.family;
+      sum = store.sum;
+      lines_left = store.lines_left;
+      log = L.contents store.log;
+      has_bad = store.has_bad;
+    } };
 }
 
 /// Why a store reads no further line.
@@ -64,18 +80,19 @@ impl<L: Write + Drop> Store<L> {
     pub fn new(alloc: Global, replayed: Replayed, log: L) -> Store<L>
         ensures family { result.family ≡ replayed.family }
         ensures sum { result.sum ≡ replayed.sum }
-        ensures log { result.log ≡ log }
-        ensures room { result.room ≡ 100000 - replayed.count }
+        ensures log { result.log ≡ L.contents log }
+        ensures lines_left { result.lines_left ≡ 100000 - replayed.count }
+        ensures bad { result.has_bad ≡ false }
     {
-        let room = LINES_TO_CHECKPOINT.saturating_sub(replayed.count);
+        let lines_left = LINES_TO_CHECKPOINT.saturating_sub(replayed.count);
         let Replayed { family, sum, .. } = replayed;
         Store {
             alloc,
             family,
             sum,
             log,
-            room,
-            served: Served::Clean,
+            lines_left,
+            has_bad: false,
         }
     }
 
@@ -87,8 +104,14 @@ impl<L: Write + Drop> Store<L> {
     }
 
     /// Whether some line was a bad one.
-    pub fn served(&self) -> Served {
-        self.served
+    pub fn served(&self) -> Served
+        ensures { (result ≡ BadLine) ↔ IsTrue self.now.has_bad }
+    {
+        if self.has_bad {
+            Served::BadLine
+        } else {
+            Served::Clean
+        }
     }
 
     /// Goes on in a log that stands behind a checkpoint of the family, and has no line. This is the
@@ -96,12 +119,13 @@ impl<L: Write + Drop> Store<L> {
     pub fn begin_log(&mut self, first: Sum, log: L)
         ensures family { self.new.family ≡ self.old.family }
         ensures sum { self.new.sum ≡ first }
-        ensures log { self.new.log ≡ log }
-        ensures room { self.new.room ≡ 100000 }
+        ensures log { self.new.log ≡ L.contents log }
+        ensures lines_left { self.new.lines_left ≡ 100000 }
+        ensures bad { self.new.has_bad ≡ self.old.has_bad }
     {
         self.sum = first;
         self.log = log;
-        self.room = LINES_TO_CHECKPOINT;
+        self.lines_left = LINES_TO_CHECKPOINT;
     }
 
     /// Waits for as many lines as behind a checkpoint until the next one is due.
@@ -109,9 +133,10 @@ impl<L: Write + Drop> Store<L> {
         ensures family { self.new.family ≡ self.old.family }
         ensures sum { self.new.sum ≡ self.old.sum }
         ensures log { self.new.log ≡ self.old.log }
-        ensures room { self.new.room ≡ 100000 }
+        ensures lines_left { self.new.lines_left ≡ 100000 }
+        ensures bad { self.new.has_bad ≡ self.old.has_bad }
     {
-        self.room = LINES_TO_CHECKPOINT;
+        self.lines_left = LINES_TO_CHECKPOINT;
     }
 
     /// Does what a line says, given without its line feed. A change is in the log, for good, before
@@ -121,15 +146,13 @@ impl<L: Write + Drop> Store<L> {
     /// the store is not to be used any more, since its family may be ahead of its log.
     pub fn answer(&mut self, line: &[u8]) -> Result<Answer, WriteFailed>
         requires { HasNoFeed line.now }
-        ensures ok { IfOk result (λ answer. Answers line.now self.old.family self.new.family
-            self.old.sum self.new.sum self.old.room self.new.room
-            (L.contents self.old.log) (L.contents self.new.log)
-            (option_map (reply_value (λ key. key.bytes.items)) answer.reply)) }
-        ensures err { OnErr result (AppendsPart (L.contents self.old.log)
-            (L.contents self.new.log) (entry self.old.sum line.now)) }
+        ensures ok { IfOk result (λ answer. Answers line.now self.old self.new answer) }
+        ensures err { OnErr result (AppendsPart self.old.log self.new.log
+            (entry self.old.sum line.now)) }
     {
         let answer = answer_to(self.alloc, &mut self.family, line);
         if !answer.is_kept {
+            self.has_bad = has_bad_with(self.has_bad, &answer);
             return Ok(answer);
         }
         self.keep(line)?;
@@ -139,10 +162,10 @@ impl<L: Write + Drop> Store<L> {
     /// Writes the entry of a line, and makes sure that it stays.
     fn keep(&mut self, line: &[u8]) -> Result<(), WriteFailed>
         ensures family { self.new.family ≡ self.old.family }
-        ensures log { Writes result (L.contents self.old.log) (L.contents self.new.log)
-            (entry self.old.sum line.now) }
+        ensures log { Writes result self.old.log self.new.log (entry self.old.sum line.now) }
         ensures sum { OnOk result (self.new.sum ≡ next_sum self.old.sum line.now) }
-        ensures room { OnOk result (self.new.room ≡ self.old.room - 1) }
+        ensures lines_left { OnOk result (self.new.lines_left ≡ self.old.lines_left - 1) }
+        ensures bad { self.new.has_bad ≡ self.old.has_bad }
     {
         let sum = next_sum(&self.sum, line);
         write_entry(&mut self.log, &sum, line)?;
@@ -150,7 +173,7 @@ impl<L: Write + Drop> Store<L> {
             return Err(WriteFailed);
         }
         self.sum = sum;
-        self.room = self.room.saturating_sub(1);
+        self.lines_left = self.lines_left.saturating_sub(1);
         Ok(())
     }
 
@@ -166,15 +189,13 @@ impl<L: Write + Drop> Store<L> {
         reader: &mut R,
         writer: &mut W,
     ) -> Result<Pause, ServeError>
-        ensures due { IfOk result (λ pause. (pause ≡ Due) ↔ (self.new.room ≡ 0)) }
+        ensures due { IfOk result (λ pause. (pause ≡ Due) ↔ (self.new.lines_left ≡ 0)) }
         ensures served { IfOk result (λ pause. IfSome (R.remaining reader.old) (λ input.
-            ServesUpTo pause input (R.remaining reader.new) self.old.family self.new.family
-            self.old.sum self.new.sum self.old.room self.new.room
-            (L.contents self.old.log) (L.contents self.new.log)
+            ServesUpTo pause input (R.remaining reader.new) self.old self.new
             (W.contents writer.old) (W.contents writer.new))) }
     {
         for _ in 0..u64::MAX {
-            if self.room == 0 {
+            if self.lines_left == 0 {
                 return Ok(Pause::Due);
             }
             let Ok(line) = next_line(reader) else {
@@ -194,15 +215,12 @@ impl<L: Write + Drop> Store<L> {
     /// Answers a line in writing.
     fn reply<W: Write>(&mut self, line: &[u8], writer: &mut W) -> Result<(), ServeError>
         requires { HasNoFeed line.now }
-        ensures { OnOk result (ServesLine line.now self.old.family self.new.family
-            self.old.sum self.new.sum self.old.room self.new.room
-            (L.contents self.old.log) (L.contents self.new.log)
+        ensures { OnOk result (ServesLine line.now self.old self.new
             (W.contents writer.old) (W.contents writer.new)) }
     {
         let Ok(answer) = self.answer(line) else {
             return Err(ServeError::Log);
         };
-        self.served = served_with(self.served, &answer);
         match write_answer(&answer, writer) {
             Ok(()) => Ok(()),
             Err(_) => Err(ServeError::Write),
@@ -211,11 +229,10 @@ impl<L: Write + Drop> Store<L> {
 }
 
 /// Whether a line was a bad one, of those before or this one.
-fn served_with(served: Served, answer: &Answer) -> Served {
-    if answer.reply.is_none() {
-        return Served::BadLine;
-    }
-    served
+fn has_bad_with(has_bad: bool, answer: &Answer) -> bool
+    ensures { IsTrue result ↔ (IsTrue has_bad ⊎ (answer.now.reply ≡ None)) }
+{
+    has_bad || answer.reply.is_none()
 }
 
 /// Whether a line asks for a checkpoint.

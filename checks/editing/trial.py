@@ -120,6 +120,23 @@ class Edits:
         return refused, len(self.known) - refused
 
 
+def unread(repository, crate):
+    """What the prover says of a crate's edits of bodies that it cannot read, over the libraries in
+    `out/`: it checks each batch of them, and no function."""
+    good, bad = edits_of(crate)
+    command = [f"{toolchain()}/bin/rattle", "check", *words_for(repository, repository.root, crate)]
+    for label, why in bad:
+        yield f"{label}: {why}"
+    for batch in (it for it in batches_of(good) if it[0].bodies):
+        texts = texts_of(batch)
+        with Room(crate, texts) as folder:
+            said = run([*command, "--only", "of_no_name"], folder)
+        lines = [it for it in said.lines if is_unread(it, texts)]
+        # (one that came to its end says that there is no such function)
+        for line in lines or [it for it in said.lines[-1:] if "`of_no_name`" not in it]:
+            yield f"{crate.name}: {' '.join(it.name for it in edits_at(line, batch))}: {line}"
+
+
 def _told(result):
     return f"{result.label}: {result.outcome.value}: {result.why[:160]}"
 

@@ -80,14 +80,14 @@ enum {
     RART_ABSENT = 1,
     // The number would be 2^64 or more. Nothing changed.
     RART_LAST_NUMBER = 2,
-    // Memory was refused. Nothing changed.
+    // Memory was refused. No tree changed.
     RART_NO_MEMORY = 3,
     // The buffer is too small for what is read, whose length is written.
     RART_TOO_SMALL = 4,
     // The page has no room for an entry, and a pair is there.
     RART_NO_ENTRIES = 5,
-    // The key is longer than a key may be, or keys may be longer in the tree that is put back.
-    // Nothing changed.
+    // The key, or one of bytes that are loaded, is longer than a key may be, or keys may be longer
+    // in the tree that is put back. No tree changed.
     RART_TOO_LONG = 6,
     // The tree has a key, and how long one may be is set without any. Nothing changed.
     RART_NOT_EMPTY = 7,
@@ -191,10 +191,12 @@ static inline size_t rart_prefix_end(uint8_t *prefix, size_t len) {
 //   what sets or takes out a key takes null for a value before that isn't wanted;
 // - no pointer that a call writes to overlaps another: two trees of it are two, and no key that is
 //   handed in lies in the room that the call writes to;
-// - a buffer for keys is as long as rart_longest_key, which rart_clear and rart_new_at set back, or
-//   RART_TOO_SMALL is looked for: pages have told all where one answers RART_ABSENT;
-// - trees that come from one tree, also through others, stay on one thread, as their nodes count
-//   who shares them; trees that have nothing to do with each other may be on two;
+// - a buffer for keys is as long as rart_longest_key, which rart_clear and rart_new_at set back and
+//   a copy has from its tree, or RART_TOO_SMALL is looked for: pages have told all where one answers
+//   RART_ABSENT;
+// - trees that come from one tree, or have had pairs of another put back, also through others, stay
+//   on one thread, as their nodes count who shares them; trees that have nothing to do with each
+//   other may be on two;
 // - no call is made in a signal handler, nor in a forked child;
 // - rattle_alloc, rattle_realloc and rattle_dealloc do what stands with them above, on each thread
 //   that has trees;
@@ -227,7 +229,8 @@ size_t rart_longest_key(rart_tree *tree);
 RART_NONNULL RART_MUST_USE RART_CHANGES(1)
 rart_answer rart_set_longest_key(rart_tree *tree, size_t longest);
 
-// The version's number, which each change raises.
+// The version's number. A key that is set or taken out raises it by one, a prefix that is put back
+// by the other tree's.
 RART_NONNULL RART_MUST_USE RART_CHANGES(1)
 uint64_t rart_version(rart_tree *tree);
 
@@ -259,7 +262,7 @@ rart_answer rart_longest(
     uint64_t *RART_ALONE value
 );
 
-// How many keys both trees have. It takes no memory.
+// How many keys are in both trees. It takes no memory.
 RART_NONNULL RART_MUST_USE RART_CHANGES(1) RART_CHANGES(2)
 size_t rart_common(rart_tree *RART_ALONE tree, rart_tree *RART_ALONE other);
 
@@ -328,8 +331,8 @@ rart_answer rart_last(
     uint64_t *RART_ALONE value
 );
 
-// Frees what the tree leads to: it is all zeros then, without a key, its number 0, and keys may be
-// as long as at first.
+// Frees what the tree leads to: it has no key then, its number is 0, and keys may be as long as at
+// first. That it is all zeros then is tested alone.
 RART_NONNULL RART_CHANGES(1)
 void rart_clear(rart_tree *tree);
 
@@ -389,10 +392,10 @@ rart_answer rart_replace(
 // count. What bytes has behind the keys is unspecified; entries is as before there. Answers
 // RART_DONE where it has a pair, else count is 0: the next page begins RART_EXCLUDED at a copy of
 // the last key, and pages are asked for until none is there, which answers RART_ABSENT.
-// RART_NO_ENTRIES says that entries has no room, RART_TOO_SMALL that the first key is longer than
-// bytes, and writes its length to needed. A bound is of the kind RART_INCLUDED, RART_EXCLUDED or
-// RART_UNBOUNDED. Memory that it takes to walk it gives back, and where it lacks some it searches
-// from key to key: it is never refused.
+// RART_NO_ENTRIES says that entries has no room for one that is there, RART_TOO_SMALL that the
+// first key is longer than bytes, and writes its length to needed. A bound is of the kind
+// RART_INCLUDED, RART_EXCLUDED or RART_UNBOUNDED. Memory that it takes to walk it gives back, and
+// where it lacks some it searches from key to key: it is never refused.
 RART_NONNULL RART_MUST_USE RART_CHANGES(1) RART_READS(2, 3) RART_READS(5, 6) RART_WRITES(8, 9)
 RART_WRITES(10, 11) RART_WRITES(12) RART_WRITES(13)
 rart_answer rart_page(
@@ -458,7 +461,8 @@ size_t rart_bytes_longest_key(rart_bytes *tree);
 RART_NONNULL RART_MUST_USE RART_CHANGES(1)
 rart_answer rart_bytes_set_longest_key(rart_bytes *tree, size_t longest);
 
-// The version's number, which each change raises.
+// The version's number. A key that is set or taken out raises it by one, a prefix that is put back
+// by the other tree's.
 RART_NONNULL RART_MUST_USE RART_CHANGES(1)
 uint64_t rart_bytes_version(rart_bytes *tree);
 
@@ -497,7 +501,7 @@ rart_answer rart_bytes_longest(
     size_t *RART_ALONE len
 );
 
-// How many keys both trees have. It takes no memory.
+// How many keys are in both trees. It takes no memory.
 RART_NONNULL RART_MUST_USE RART_CHANGES(1) RART_CHANGES(2)
 size_t rart_bytes_common(rart_bytes *RART_ALONE tree, rart_bytes *RART_ALONE other);
 
@@ -578,8 +582,8 @@ rart_answer rart_bytes_last(
     size_t *RART_ALONE len
 );
 
-// Frees what the tree leads to: it is all zeros then, without a key, its number 0, and keys may be
-// as long as at first.
+// Frees what the tree leads to: it has no key then, its number is 0, and keys may be as long as at
+// first. That it is all zeros then is tested alone.
 RART_NONNULL RART_CHANGES(1)
 void rart_bytes_clear(rart_bytes *tree);
 
@@ -764,8 +768,8 @@ rart_answer rart_prefix_snapshot(
 // number then the sum of both; the others stay, and so does the other tree. RART_TOO_LONG says that
 // keys may be longer in the other tree, RART_LAST_NUMBER that the sum is 2^64 or more,
 // RART_NO_MEMORY that memory was refused: nothing changed then. Put back from its own snapshots, a
-// tree doubles its number each time. It counts the pairs that go and come, so it takes time by
-// their number.
+// tree about doubles its number each time. It counts the pairs that go and come, so it takes time
+// by their number.
 RART_NONNULL RART_MUST_USE RART_CHANGES(1) RART_READS(2, 3) RART_CHANGES(4)
 rart_answer rart_restore_prefix(
     rart_tree *RART_ALONE tree,
@@ -803,8 +807,8 @@ rart_answer rart_bytes_prefix_snapshot(
 // number then the sum of both; the others stay, and so does the other tree. RART_TOO_LONG says that
 // keys may be longer in the other tree, RART_LAST_NUMBER that the sum is 2^64 or more,
 // RART_NO_MEMORY that memory was refused: nothing changed then. Put back from its own snapshots, a
-// tree doubles its number each time. It counts the pairs that go and come, so it takes time by
-// their number.
+// tree about doubles its number each time. It counts the pairs that go and come, so it takes time
+// by their number.
 RART_NONNULL RART_MUST_USE RART_CHANGES(1) RART_READS(2, 3) RART_CHANGES(4)
 rart_answer rart_bytes_restore_prefix(
     rart_bytes *RART_ALONE tree,

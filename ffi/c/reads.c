@@ -1,5 +1,5 @@
 // That a read stores nothing in the tree that it reads: each read of trees in memory that can't be
-// written, of one tree given twice too.
+// written, of one tree given twice too. And that one that is cleared is all zeros.
 #define _DEFAULT_SOURCE // (for mmap's MAP_ANONYMOUS)
 #include "boltcomfrey.h"
 #include "expect.h"
@@ -23,10 +23,12 @@ static void fill(struct trees *trees) {
 }
 
 static void clear(struct trees *trees) {
+    static const struct trees zeros;
     rart_clear(&trees->numbers);
     rart_clear(&trees->no_number);
     rart_bytes_clear(&trees->strings);
     rart_bytes_clear(&trees->no_string);
+    EXPECT(memcmp(trees, &zeros, sizeof zeros) == 0);
 }
 
 // The reads of a tree of numbers with so many of the keys; `same` is that tree once more.

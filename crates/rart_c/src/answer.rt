@@ -19,7 +19,7 @@ pub const ABSENT: u8 = 1;
 /// The number would be 2^64 or more. Nothing changed.
 pub const LAST_NUMBER: u8 = 2;
 
-/// Memory was refused. Nothing changed.
+/// Memory was refused. No tree changed.
 pub const NO_MEMORY: u8 = 3;
 
 /// The buffer is too small for what is read, whose length is written.
@@ -28,8 +28,8 @@ pub const TOO_SMALL: u8 = 4;
 /// The page has no room for an entry, and a pair is there.
 pub const NO_ENTRIES: u8 = 5;
 
-/// The key is longer than a key may be, or keys may be longer in the tree that is put back. Nothing
-/// changed.
+/// The key, or one of bytes that are loaded, is longer than a key may be, or keys may be longer in
+/// the tree that is put back. No tree changed.
 pub const TOO_LONG: u8 = 6;
 
 /// The tree has a key, and how long one may be is set without any. Nothing changed.
@@ -158,8 +158,8 @@ pub(crate) fn tell_length(found: Result<usize, AllocError>, len: &mut usize) -> 
     }
 }
 
-/// Tells how long what was written is, where it is no longer than the room, or that it wasn't
-/// found out.
+/// Tells how long what was to be written is, and whether the room has as many bytes; or that it
+/// wasn't found out.
 pub(crate) fn tell_written(written: Result<usize, AllocError>, room: usize, len: &mut usize) -> u8
     ensures { TellsWritten written room result len.old len.new }
 {

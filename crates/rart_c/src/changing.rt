@@ -11,8 +11,8 @@ use crate::handle::RartTree;
 use crate::lent;
 use std::alloc::Global;
 
-/// Frees what the tree leads to: it is all zeros then, without a key, its number 0, and keys may be
-/// as long as at first.
+/// Frees what the tree leads to: it has no key then, its number is 0, and keys may be as long as at
+/// first. That it is all zeros then is tested alone.
 #[unsafe(no_mangle)]
 pub extern "C" fn rart_clear(alloc: Global, tree: &mut RartTree)
     ensures { tree.new.shows ≡ tree_at 0 }

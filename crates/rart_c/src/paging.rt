@@ -55,10 +55,10 @@ pub struct RartEntry {
 /// are to `count`. What `bytes` has behind the keys is unspecified; `entries` is as before there.
 /// Answers `DONE` where it has a pair, else `count` is 0: the next page begins `EXCLUDED` at a copy
 /// of the last key, and pages are asked for until none is there, which answers `ABSENT`.
-/// `NO_ENTRIES` says that `entries` has no room, `TOO_SMALL` that the first key is longer than
-/// `bytes`, and writes its length to `needed`. A bound is of the kind `INCLUDED`, `EXCLUDED` or
-/// `UNBOUNDED`. Memory that it takes to walk it gives back, and where it lacks some it searches
-/// from key to key: it is never refused.
+/// `NO_ENTRIES` says that `entries` has no room for one that is there, `TOO_SMALL` that the first
+/// key is longer than `bytes`, and writes its length to `needed`. A bound is of the kind
+/// `INCLUDED`, `EXCLUDED` or `UNBOUNDED`. Memory that it takes to walk it gives back, and where it
+/// lacks some it searches from key to key: it is never refused.
 #[unsafe(no_mangle)]
 pub extern "C" fn rart_page(
     tree: &mut RartTree,

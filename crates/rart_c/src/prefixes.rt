@@ -68,8 +68,8 @@ pub extern "C" fn rart_prefix_snapshot(
 /// Puts in place of all pairs whose key the prefix begins those that another tree has there, the
 /// number then the sum of both; the others stay, and so does the other tree. `TOO_LONG` says that
 /// keys may be longer in the other tree, `LAST_NUMBER` that the sum is 2^64 or more, `NO_MEMORY`
-/// that memory was refused: nothing changed then. Put back from its own snapshots, a tree doubles
-/// its number each time.
+/// that memory was refused: nothing changed then. Put back from its own snapshots, a tree about
+/// doubles its number each time.
 ///
 /// It counts the pairs that go and come, so it takes time by their number.
 #[unsafe(no_mangle)]

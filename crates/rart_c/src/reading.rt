@@ -10,7 +10,8 @@ use crate::answer::{tell, tell_longest};
 use crate::handle::RartTree;
 use crate::lent;
 
-/// The version's number, which each change raises.
+/// The version's number. A key that is set or taken out raises it by one, a prefix that is put back
+/// by the other tree's.
 #[unsafe(no_mangle)]
 pub extern "C" fn rart_version(tree: &mut RartTree) -> u64
     ensures number { result ≡ tree.old.shows.version.number }
@@ -62,7 +63,7 @@ pub extern "C" fn rart_longest(
     tell_longest(lent::longest(tree.table(), probe), len, value)
 }
 
-/// How many keys both trees have. It takes no memory.
+/// How many keys are in both trees. It takes no memory.
 #[unsafe(no_mangle)]
 pub extern "C" fn rart_common(tree: &mut RartTree, other: &mut RartTree) -> usize
     ensures count { result ≡ length (common tree.old.shows.version.content

@@ -12,7 +12,8 @@ use crate::bytes::handle::RartBytes;
 use crate::bytes::value::Bytes;
 use crate::lent;
 
-/// The version's number, which each change raises.
+/// The version's number. A key that is set or taken out raises it by one, a prefix that is put back
+/// by the other tree's.
 #[unsafe(no_mangle)]
 pub extern "C" fn rart_bytes_version(tree: &mut RartBytes) -> u64
     ensures number { result ≡ tree.old.shows.version.number }
@@ -77,7 +78,7 @@ pub extern "C" fn rart_bytes_longest(
     read_longest(lent::longest(tree.table(), probe), key_len, into, len)
 }
 
-/// How many keys both trees have. It takes no memory.
+/// How many keys are in both trees. It takes no memory.
 #[unsafe(no_mangle)]
 pub extern "C" fn rart_bytes_common(tree: &mut RartBytes, other: &mut RartBytes) -> usize
     ensures count { result ≡ length (common tree.old.shows.version.content

@@ -119,6 +119,9 @@ impl Handle for RartBytes {
 /// The library takes a tree for writing even to read it, though a read stores nothing in the handle.
 /// The cell keeps the type from being `Sync`, so that no two calls meet. The pointer keeps it from
 /// being `Send`: trees share nodes, counted without atomics.
+///
+/// Its invariant: the handle is null or as a call left it, and is copied nowhere. Nothing is called
+/// back, so while a call is on its way there is no other on it. (A slice's pointer is never null.)
 pub struct Tree<H: Handle> {
     handle: UnsafeCell<H>,
 }
@@ -126,8 +129,6 @@ pub struct Tree<H: Handle> {
 // (a read calls nothing back, so none is left half done by a panic)
 impl<H: Handle> RefUnwindSafe for Tree<H> {}
 
-// What each call below relies on: the handle is null or as a call left it, and is copied nowhere.
-// Nothing is called back, so no other call on it is on its way. A slice's pointer is never null.
 impl<H: Handle> Tree<H> {
     pub const fn new() -> Tree<H> {
         Tree {
@@ -137,28 +138,28 @@ impl<H: Handle> Tree<H> {
 
     pub fn with_number(number: u64) -> Result<Tree<H>, Refusal> {
         let tree = Tree::new();
-        // SAFETY: as above.
+        // SAFETY: the invariant.
         done(unsafe { H::NEW_AT(tree.handle.get(), number) })?;
         Ok(tree)
     }
 
     pub fn longest_key(&self) -> usize {
-        // SAFETY: as above.
+        // SAFETY: the invariant.
         unsafe { H::LONGEST_KEY(self.handle.get()) }
     }
 
     pub fn set_longest_key(&mut self, longest: usize) -> Result<(), Refusal> {
-        // SAFETY: as above.
+        // SAFETY: the invariant.
         done(unsafe { H::SET_LONGEST_KEY(self.handle.get(), longest) })
     }
 
     pub fn version(&self) -> u64 {
-        // SAFETY: as above.
+        // SAFETY: the invariant.
         unsafe { H::VERSION(self.handle.get()) }
     }
 
     pub fn len(&self) -> usize {
-        // SAFETY: as above.
+        // SAFETY: the invariant.
         unsafe { H::LEN(self.handle.get()) }
     }
 
@@ -166,7 +167,7 @@ impl<H: Handle> Tree<H> {
         if eq(self, other) {
             return self.len(); // (two trees of one call may not be one)
         }
-        // SAFETY: as above, and they are two.
+        // SAFETY: the invariant, and they are two.
         unsafe { H::COMMON(self.handle.get(), other.handle.get()) }
     }
 
@@ -174,7 +175,7 @@ impl<H: Handle> Tree<H> {
         if eq(self, other) {
             return Ok(true); // (two trees of one call may not be one)
         }
-        // SAFETY: as above, and they are two.
+        // SAFETY: the invariant, and they are two.
         match unsafe { H::EQUALS(self.handle.get(), other.handle.get()) } {
             DIFFERENT => Ok(false),
             answer => done(answer).map(|()| true),
@@ -183,7 +184,7 @@ impl<H: Handle> Tree<H> {
 
     pub fn snapshot(&self) -> Result<Tree<H>, Refusal> {
         let copy = Tree::new();
-        // SAFETY: as above, and the copy is another tree.
+        // SAFETY: the invariant, and the copy is another tree.
         done(unsafe { H::SNAPSHOT(self.handle.get(), copy.handle.get()) })?;
         Ok(copy)
     }
@@ -191,7 +192,7 @@ impl<H: Handle> Tree<H> {
     pub fn remove_prefix(&mut self, prefix: &[u8]) -> Result<usize, Refusal> {
         let mut removed = 0;
         let (tree, at, len) = (self.handle.get(), prefix.as_ptr(), prefix.len());
-        // SAFETY: as above; `removed` is this call's own.
+        // SAFETY: the invariant; `removed` is this call's own.
         let answer = unsafe { H::REMOVE_PREFIX(tree, at, len, &mut removed) };
         Ok(found(answer, removed)?.unwrap_or(0))
     }
@@ -199,20 +200,21 @@ impl<H: Handle> Tree<H> {
     pub fn prefix_snapshot(&self, prefix: &[u8]) -> Result<Tree<H>, Refusal> {
         let part = Tree::new();
         let (tree, at, len) = (self.handle.get(), prefix.as_ptr(), prefix.len());
-        // SAFETY: as above, and the part is another tree.
+        // SAFETY: the invariant, and the part is another tree.
         done(unsafe { H::PREFIX_SNAPSHOT(tree, at, len, part.handle.get()) })?;
         Ok(part)
     }
 
     pub fn restore_prefix(&mut self, prefix: &[u8], from: &Tree<H>) -> Result<(), Refusal> {
         let (tree, at, len) = (self.handle.get(), prefix.as_ptr(), prefix.len());
-        // SAFETY: as above, and the other is another tree, since this one is borrowed to be written.
+        // SAFETY: the invariant, and the other is another tree, since this one is borrowed to be
+        // written.
         done(unsafe { H::RESTORE_PREFIX(tree, at, len, from.handle.get()) })
     }
 
     pub fn try_clone(&self) -> Result<Tree<H>, Refusal> {
         let copy = Tree::new();
-        // SAFETY: as above, and the copy is another tree.
+        // SAFETY: the invariant, and the copy is another tree.
         done(unsafe { H::CLONE(self.handle.get(), copy.handle.get()) })?;
         Ok(copy)
     }
@@ -220,7 +222,7 @@ impl<H: Handle> Tree<H> {
     /// How many bytes the map has as bytes.
     pub fn saved_len(&self) -> Result<usize, Refusal> {
         let mut len = 0;
-        // SAFETY: as above; `len` is this call's own.
+        // SAFETY: the invariant; `len` is this call's own.
         done(unsafe { H::SAVED_LEN(self.handle.get(), &mut len) })?;
         Ok(len)
     }
@@ -228,7 +230,7 @@ impl<H: Handle> Tree<H> {
     /// Writes the map as bytes to the front of these, if it fits there, and tells how many it has.
     pub fn save(&self, into: &mut [u8]) -> Result<usize, Refusal> {
         let (at, room, mut len) = (into.as_mut_ptr(), into.len(), 0);
-        // SAFETY: as above; `len` is this call's own, and `into` is borrowed to be written.
+        // SAFETY: the invariant; `len` is this call's own, and `into` is borrowed to be written.
         match unsafe { H::SAVE(self.handle.get(), at, room, &mut len) } {
             TOO_SMALL => Ok(len),
             answer => done(answer).map(|()| len),
@@ -238,7 +240,7 @@ impl<H: Handle> Tree<H> {
     /// Makes the map the one whose bytes these are.
     pub fn load(&mut self, bytes: &[u8]) -> Result<(), LoadError> {
         let (from, len, mut at) = (bytes.as_ptr(), bytes.len(), 0);
-        // SAFETY: as above; `at` is this call's own, and the bytes are only read.
+        // SAFETY: the invariant; `at` is this call's own, and the bytes are only read.
         match unsafe { H::LOAD(self.handle.get(), from, len, &mut at) } {
             DONE => Ok(()),
             TRUNCATED => Err(LoadError::Truncated),
@@ -253,16 +255,15 @@ impl<H: Handle> Tree<H> {
 
 impl<H: Handle> Drop for Tree<H> {
     fn drop(&mut self) {
-        // SAFETY: as above.
+        // SAFETY: the invariant.
         unsafe { H::CLEAR(self.handle.get()) }
     }
 }
 
-// What each call below relies on is as above.
 impl Tree<RartTree> {
     pub fn get(&self, key: &[u8]) -> Option<u64> {
         let mut value = 0;
-        // SAFETY: as above; `value` is this call's own.
+        // SAFETY: the invariant; `value` is this call's own.
         let answer =
             unsafe { sys::rart_get(self.handle.get(), key.as_ptr(), key.len(), &mut value) };
         (answer == DONE).then_some(value)
@@ -271,7 +272,7 @@ impl Tree<RartTree> {
     pub fn longest_prefix(&self, probe: &[u8]) -> Option<(usize, u64)> {
         let (mut len, mut value) = (0, 0);
         let (at, room) = (probe.as_ptr(), probe.len());
-        // SAFETY: as above; both numbers are this call's own.
+        // SAFETY: the invariant; both numbers are this call's own.
         let answer =
             unsafe { sys::rart_longest(self.handle.get(), at, room, &mut len, &mut value) };
         (answer == DONE).then_some((len, value))
@@ -289,7 +290,7 @@ impl Tree<RartTree> {
         loop {
             make_room(room, len);
             let (tree, at, end) = (self.handle.get(), room.as_mut_ptr(), room.len());
-            // SAFETY: as above; both numbers are this call's own, and `room` is borrowed to be
+            // SAFETY: the invariant; both numbers are this call's own, and `room` is borrowed to be
             // written.
             match unsafe {
                 call(
@@ -316,7 +317,7 @@ impl Tree<RartTree> {
         loop {
             make_room(room, len);
             let (tree, at, end) = (self.handle.get(), room.as_mut_ptr(), room.len());
-            // SAFETY: as above; both numbers are this call's own, and `room` is borrowed to be
+            // SAFETY: the invariant; both numbers are this call's own, and `room` is borrowed to be
             // written.
             match unsafe {
                 match kind {
@@ -335,7 +336,7 @@ impl Tree<RartTree> {
     pub fn insert(&mut self, key: &[u8], value: u64) -> Result<Option<u64>, Refusal> {
         let mut replaced = 0;
         let (at, len) = (key.as_ptr(), key.len());
-        // SAFETY: as above; `replaced` is this call's own.
+        // SAFETY: the invariant; `replaced` is this call's own.
         let answer = unsafe { sys::rart_insert(self.handle.get(), at, len, value, &mut replaced) };
         found(answer, replaced)
     }
@@ -344,7 +345,7 @@ impl Tree<RartTree> {
     pub fn add(&mut self, key: &[u8], value: u64) -> Result<Option<u64>, Refusal> {
         let mut there = 0;
         let (at, len) = (key.as_ptr(), key.len());
-        // SAFETY: as above; `there` is this call's own.
+        // SAFETY: the invariant; `there` is this call's own.
         let answer = unsafe { sys::rart_add(self.handle.get(), at, len, value, &mut there) };
         found(answer, there)
     }
@@ -353,14 +354,14 @@ impl Tree<RartTree> {
     pub fn replace(&mut self, key: &[u8], value: u64) -> Result<Option<u64>, Refusal> {
         let mut replaced = 0;
         let (at, len) = (key.as_ptr(), key.len());
-        // SAFETY: as above; `replaced` is this call's own.
+        // SAFETY: the invariant; `replaced` is this call's own.
         let answer = unsafe { sys::rart_replace(self.handle.get(), at, len, value, &mut replaced) };
         found(answer, replaced)
     }
 
     pub fn remove(&mut self, key: &[u8]) -> Result<Option<u64>, Refusal> {
         let mut value = 0;
-        // SAFETY: as above; `value` is this call's own.
+        // SAFETY: the invariant; `value` is this call's own.
         let answer =
             unsafe { sys::rart_remove(self.handle.get(), key.as_ptr(), key.len(), &mut value) };
         found(answer, value)
@@ -387,8 +388,8 @@ impl Tree<RartTree> {
             make_room(bytes, needed);
             let (from, to) = ((low.as_ptr(), low.len()), (high.as_ptr(), high.len()));
             let (at, end) = (bytes.as_mut_ptr(), bytes.len());
-            // SAFETY: as above; both numbers are this call's own, and `bytes` and `entries` are
-            // borrowed to be written, so no two overlap.
+            // SAFETY: the invariant; both numbers are this call's own, and `bytes` and `entries`
+            // are borrowed to be written, so no two overlap.
             let answer = unsafe {
                 call(
                     self.handle.get(),
@@ -413,12 +414,11 @@ impl Tree<RartTree> {
     }
 }
 
-// What each call below relies on is as above.
 impl Tree<RartBytes> {
     /// Reads a value out where it fits into these bytes, and tells its length.
     fn read(&self, key: &[u8], into: &mut [u8], len: &mut usize) -> u8 {
         let (at, room) = (into.as_mut_ptr(), into.len());
-        // SAFETY: as above; `into` and `len` are borrowed to be written, so neither overlaps.
+        // SAFETY: the invariant; `into` and `len` are borrowed to be written, so neither overlaps.
         unsafe { sys::rart_bytes_get(self.handle.get(), key.as_ptr(), key.len(), at, room, len) }
     }
 
@@ -448,8 +448,8 @@ impl Tree<RartBytes> {
         let value = read_out(|into, len| {
             let (start, size) = (into.as_mut_ptr(), into.len());
             let tree = self.handle.get();
-            // SAFETY: as above; `key_len` is this call's own, and `into` and `len` are borrowed to
-            // be written, so no two overlap.
+            // SAFETY: the invariant; `key_len` is this call's own, and `into` and `len` are
+            // borrowed to be written, so no two overlap.
             unsafe { sys::rart_bytes_longest(tree, at, room, &mut key_len, start, size, len) }
         })?;
         Some((key_len, value))
@@ -468,7 +468,7 @@ impl Tree<RartBytes> {
         let value = read_out(|into, len| {
             let (at, end) = (room.as_mut_ptr(), room.len());
             let (start, size) = (into.as_mut_ptr(), into.len());
-            // SAFETY: as above; `key_len` is this call's own, and `room`, `into` and `len` are
+            // SAFETY: the invariant; `key_len` is this call's own, and `room`, `into` and `len` are
             // borrowed to be written, so no two overlap.
             let answer =
                 unsafe { call(tree, key.0, key.1, at, end, &mut key_len, start, size, len) };
@@ -499,7 +499,7 @@ impl Tree<RartBytes> {
             make_room(bytes, key_len + len);
             let (from, to) = ((low.as_ptr(), low.len()), (high.as_ptr(), high.len()));
             let (at, end) = (bytes.as_mut_ptr(), bytes.len());
-            // SAFETY: as above; the numbers are this call's own, and `bytes` and `entries` are
+            // SAFETY: the invariant; the numbers are this call's own, and `bytes` and `entries` are
             // borrowed to be written, so no two overlap.
             let answer = unsafe {
                 call(
@@ -533,7 +533,7 @@ impl Tree<RartBytes> {
         let value = read_out(|into, len| {
             let (at, end, key_len) = (room.as_mut_ptr(), room.len(), &mut key_len);
             let (start, size) = (into.as_mut_ptr(), into.len());
-            // SAFETY: as above; `key_len` is this call's own, and `room`, `into` and `len` are
+            // SAFETY: the invariant; `key_len` is this call's own, and `room`, `into` and `len` are
             // borrowed to be written, so no two overlap.
             let answer = unsafe {
                 match kind {
@@ -555,7 +555,7 @@ impl Tree<RartBytes> {
     pub fn insert(&mut self, key: &[u8], value: &[u8]) -> Result<bool, Refusal> {
         let (at, len) = (key.as_ptr(), key.len());
         let (start, size) = (value.as_ptr(), value.len());
-        // SAFETY: as above; the key and the value are only read.
+        // SAFETY: the invariant; the key and the value are only read.
         let answer = unsafe { sys::rart_bytes_insert(self.handle.get(), at, len, start, size) };
         Ok(found(answer, ())?.is_some())
     }
@@ -564,7 +564,7 @@ impl Tree<RartBytes> {
     pub fn add(&mut self, key: &[u8], value: &[u8]) -> Result<bool, Refusal> {
         let (at, len) = (key.as_ptr(), key.len());
         let (start, size) = (value.as_ptr(), value.len());
-        // SAFETY: as above; the key and the value are only read.
+        // SAFETY: the invariant; the key and the value are only read.
         let answer = unsafe { sys::rart_bytes_add(self.handle.get(), at, len, start, size) };
         Ok(found(answer, ())?.is_some())
     }
@@ -573,13 +573,13 @@ impl Tree<RartBytes> {
     pub fn replace(&mut self, key: &[u8], value: &[u8]) -> Result<bool, Refusal> {
         let (at, len) = (key.as_ptr(), key.len());
         let (start, size) = (value.as_ptr(), value.len());
-        // SAFETY: as above; the key and the value are only read.
+        // SAFETY: the invariant; the key and the value are only read.
         let answer = unsafe { sys::rart_bytes_replace(self.handle.get(), at, len, start, size) };
         Ok(found(answer, ())?.is_some())
     }
 
     pub fn remove(&mut self, key: &[u8]) -> Result<bool, Refusal> {
-        // SAFETY: as above.
+        // SAFETY: the invariant.
         let answer = unsafe { sys::rart_bytes_remove(self.handle.get(), key.as_ptr(), key.len()) };
         Ok(found(answer, ())?.is_some())
     }

@@ -1,5 +1,5 @@
 -- What a line does to a family, and whether it is kept.
-use Rattle.std.proofs.Common.{inl, inr, ◌≡◌, ◌≢◌, ℕ, ◌-◌, List, [], ◌∷◌, refl, sym, ◌∙◌, ap, subst, Bool}
+use Rattle.std.proofs.Common.{inl, inr, ◌≡◌, ◌≢◌, ℕ, ◌-◌, List, [], ◌∷◌, refl, sym, ◌∙◌, ap, subst, Bool, true, false}
 use Rattle.std.specs.Prelude.{◌⊎◌, ◌↔◌, IsTrue}
 use Rattle.std.specs.declared.option.Option.{Option}
 use Rattle.std.specs.declared.option.Option.TheVariants.{Some, None}
@@ -17,7 +17,7 @@ use Rattle.vtree_lines.proofs.ServingLawLemmas.{refusals_change_nothing}
 use Rattle.vtree_lines.proofs.TranscriptLemmas.{own_reply}
 use Rattle.example_store.specs.Kept.{Answered, IsKept, IsNeverKept, LeavesFamily, answer_text}
 use Rattle.example_store.specs.Log.{next_sum, entry}
-use Rattle.example_store.specs.Stores.{AlsoTells, Answers, State}
+use Rattle.example_store.specs.Stores.{AlsoTells, Answers, KeepsLine, LeavesLine, State}
 
 pub bad_gives : (old : Family ℕ) (line : List ℕ) → IsBad line → LineGives old line bad_line old
 bad_gives old line bad = inl (bad, refl, refl)
@@ -102,18 +102,20 @@ kept_good : (old new : Family ℕ) (line : List ℕ) → IsKept old line new →
 kept_good old new line kept = λ bad. bad kept.command kept.says
 
 pub answers_kept : (line : List ℕ) (old new : State) (answer : Answered) (mid : Family ℕ) →
+    answer.is_kept ≡ true →
     LineGives old.family line (answer_text answer.reply) mid → IsKept old.family line mid →
     new.family ≡ mid → new.sum ≡ next_sum old.sum line → new.lines_left ≡ old.lines_left - 1 →
     Appends old.log new.log (entry old.sum line) → new.has_bad ≡ old.has_bad →
     Answers line old new answer
-answers_kept line old new answer mid gives kept same sum counted gained served = record {
+answers_kept line old new answer mid keep gives kept same sum counted gained served = record {
   gives = subst (LineGives old.family line (answer_text answer.reply)) (sym same) gives;
-  done = inl (record {
+  kept = λ _. record {
     kept = subst (IsKept old.family line) (sym same) kept;
     sum = sum;
     counted = counted;
     gained = gained;
-  });
+  };
+  left = λ lose. let e : true ≡ false = sym keep ∙ lose in absurd (cc);
   told = tells_good old.has_bad new.has_bad line served (kept_good old.family mid line kept);
 }
 
@@ -122,19 +124,30 @@ keeps_same None = tt
 keeps_same (Some xs) = refl
 
 pub answers_left : (line : List ℕ) (old new : State) (answer : Answered) →
+    answer.is_kept ≡ false →
     LineGives old.family line (answer_text answer.reply) new.family → new.family ≡ old.family →
     new.sum ≡ old.sum → new.lines_left ≡ old.lines_left → new.log ≡ old.log →
     AlsoTells (line ∷ []) old.has_bad new.has_bad → Answers line old new answer
-answers_left line old new answer gives family sum counted log told = record {
+answers_left line old new answer lose gives family sum counted log told = record {
   gives = gives;
-  done = inr (record {
+  kept = λ keep. let e : true ≡ false = sym keep ∙ lose in absurd (cc);
+  left = λ _. record {
     family = family;
     sum = sum;
     counted = counted;
     same = subst (Keeps old.log) (sym log) (keeps_same old.log);
-  });
+  };
   told = told;
 }
+
+by_kept : {A B : Type 0} (kept : Bool) → (kept ≡ true → A) → (kept ≡ false → B) → A ⊎ B
+by_kept true keep lose = inl (keep refl)
+by_kept false keep lose = inr (lose refl)
+
+-- a line is kept or leaves the store
+pub answer_done : (line : List ℕ) (old new : State) (answer : Answered) →
+    Answers line old new answer → KeepsLine line old new ⊎ LeavesLine old new
+answer_done line old new answer h = by_kept answer.is_kept h.kept h.left
 
 -- the same of a store as it shows
 pub answers_shown : (line : List ℕ) (seen old new : State) (answer : Answered) → seen ≡ old →

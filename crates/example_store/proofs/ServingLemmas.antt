@@ -2,7 +2,9 @@
 use Rattle.std.proofs.Common.{inl, inr, ◌≡◌, ◌≢◌, ℕ, ◌≤◌, Bool, List, [], ◌∷◌, ◌++◌, take, length, refl, sym, ◌∙◌, ap, subst, arith, append_assoc, length-append}
 use Rattle.std.proofs.lemmas.List.{append-nil, length-take, take_all}
 use Rattle.std.proofs.lemmas.List.Elements.{All-append, All-cons, All-nil}
-use Rattle.std.specs.Prelude.{◌⊎◌, ◌↔◌, All, IfSome, codes}
+use Rattle.std.specs.Prelude.{◌⊎◌, ◌↔◌, All, IfSome, IsErrAnd, codes}
+use Rattle.std.specs.declared.result.Result.{Result}
+use Rattle.std.specs.declared.result.Result.TheVariants.{Ok, Err}
 use Rattle.std.specs.List.{concat}
 use Rattle.std.specs.Option.{option_map}
 use Rattle.std.specs.declared.option.Option.{Option}
@@ -12,14 +14,18 @@ use Rattle.vtree_lines.specs.Grammar.{IsBad, IsLineOf}
 use Rattle.vtree_lines.specs.Laws.{HasNoFeed}
 use Rattle.vtree_lines.specs.Lines.{lines_of, onto_line}
 use Rattle.vtree_lines.specs.Transcript.{HasBad}
+use Rattle.vtree_lines.specs.Writing.{AppendsPart}
 use Rattle.vtree_lines.proofs.KnownLemmas.{appends_nil, appends_twice}
 use Rattle.vtree_lines.proofs.SessionLemmas.{lines_byte, transcript_more, concat_more}
 use Rattle.example_store.specs.Input.{IsTaken, TakesLine}
 use Rattle.example_store.specs.Kept.{Answered, Leads, answer_text}
 use Rattle.example_store.specs.Log.{next_sum, entry, entries, sum_behind}
-use Rattle.example_store.specs.Serving.{DoesNotAsk, ServesLine, ServesLines, ServesUpTo}
-use Rattle.example_store.specs.Stores.{AlsoTells, Answers, State}
+use Rattle.example_store.specs.Serving.{BreaksOff, DoesNotAsk, ServesLine, ServesLines, ServesUpTo}
+use Rattle.example_store.specs.Stores.{AlsoTells, Answers, KeepsLine, State}
 use Rattle.example_store.specs.declared.store.Pause.TheVariants.{End, Asked, Due}
+use Rattle.example_store.specs.declared.store.ServeError.{ServeError}
+use Rattle.example_store.specs.declared.store.ServeError.TheVariants.{Log}
+use Rattle.example_store.proofs.AnswerLemmas.{answer_done}
 use Rattle.example_store.proofs.KeptLemmas.{leads_more}
 use Rattle.example_store.proofs.LogLemmas.{entries_more, sum_more}
 
@@ -70,15 +76,13 @@ answers_cut : (line : List ℕ) (old new : State) (answer : Answered) →
 answers_cut line old new answer h =
     elim h.gives [
       | inr good ↦ subst (λ (s : List ℕ). Answers s old new answer) (whole line good.2.0) h
-      | inl bad ↦ elim h.done [
-        | inl keeps ↦ subst (λ (s : List ℕ). Answers s old new answer)
-            (whole line keeps.kept.says.0) h
-        | inr leaves ↦ record {
-          gives = inl (cut_bad line bad.0, bad.1, bad.2);
-          done = inr leaves;
-          told = bad_cut line old.has_bad new.has_bad bad.0 (cut_bad line bad.0) h.told;
-        }
-      ]
+      | inl bad ↦ record {
+        gives = inl (cut_bad line bad.0, bad.1, bad.2);
+        kept = λ keep. subst (λ (s : List ℕ). KeepsLine s old new)
+            (whole line (h.kept keep).kept.says.0) (h.kept keep);
+        left = h.left;
+        told = bad_cut line old.has_bad new.has_bad bad.0 (cut_bad line bad.0) h.told;
+      }
     ]
 
 line_cut : (line : List ℕ) (old new : State) (out written : Option (List ℕ)) →
@@ -172,7 +176,7 @@ serves_more lines line old mid new first out written h (answer, k, wrote) =
     let all = subst (Appends first written) (sym (concat_more h.texts text))
     (appends_twice first out written (concat h.texts) text h.wrote wrote) in
     let told = tells_more lines line old.has_bad mid.has_bad new.has_bad h.told k.told in
-    elim k.done [
+    elim (answer_done line mid new answer k) [
       | inl keeps ↦ record {
         texts = h.texts ++ text ∷ [];
         run = run;
@@ -327,3 +331,31 @@ midst_asked (Some input) left now front old new first written h t is =
       unasked = h.unasked;
       served = h.served;
     }
+
+-- ---- a log that could not be written
+
+pub midst_broken : (known left now : Option (List ℕ)) (text front : List ℕ) (old mid new : State)
+    (first out written : Option (List ℕ)) →
+    IfSome known (λ input. Midst input left old mid first out) →
+    IfSome left (λ input. TakesLine input (Some front) now) → text ≡ front →
+    AppendsPart mid.log new.log (entry mid.sum text) → written ≡ out →
+    IfSome known (λ input. BreaksOff input old new first written)
+midst_broken None left now text front old mid new first out written h t e k same = tt
+midst_broken (Some input) left now text front old mid new first out written h t e k same =
+    let (line, rest, left_is, cut, taken) = taken_of h.rest left (Some front) now h.left_is t in
+    record {
+      lines = h.lines;
+      line = line;
+      rest = rest;
+      mid = mid;
+      split = h.split ∙ ap (λ s. h.lines ++ s) (taken_first h.rest line rest taken);
+      unasked = h.unasked;
+      served = subst (ServesLines h.lines old mid first) (sym same) h.served;
+      part = subst (λ (s : List ℕ). AppendsPart mid.log new.log (entry mid.sum s)) (e ∙ cut) k;
+    }
+
+-- an error that is handed on
+pub error_same : {S : Type 0} (r : Result S ServeError) (e : ServeError) →
+    IsErrAnd r (λ x. x ≡ e) → r ≡ Err Log → e ≡ Log
+error_same (Ok it) e is told = absurd is
+error_same (Err x) e is told = cc

@@ -1,10 +1,11 @@
 -- What a store does with lines, one after another.
-use Rattle.std.specs.Prelude.{◌≡◌, ◌≢◌, ◌-◌, ℕ, List, [], ◌∷◌, ◌++◌, length, codes, All, Option, Some}
+use Rattle.std.specs.Prelude.{◌≡◌, ◌≢◌, ◌-◌, ℕ, List, [], ◌∷◌, ◌++◌, length, take, codes, All, Option, Some}
 use Rattle.std.specs.List.{concat}
 use Rattle.std.specs.Io.KnownBytes.{Appends}
 use Rattle.vtree_lines.specs.Lines.{lines_of}
 use Rattle.vtree_lines.specs.Transcript.{Transcript}
-use Rattle.example_store.specs.Log.{entries, sum_behind}
+use Rattle.vtree_lines.specs.Writing.{AppendsPart}
+use Rattle.example_store.specs.Log.{entry, entries, sum_behind}
 use Rattle.example_store.specs.Kept.{Answered, Leads, answer_text}
 use Rattle.example_store.specs.Stores.{AlsoTells, Answers, State}
 use Rattle.example_store.specs.declared.store.Pause.{Pause}
@@ -51,3 +52,16 @@ pub record ServesUpTo (pause : Pause) (input : List ℕ) (left : Option (List �
   pub up_to : AreUpTo pause lines (lines_of input) rest
   pub unasked : All DoesNotAsk lines
   pub served : ServesLines lines old new out written
+
+-- The first lines of an input are served, none of which asks for a checkpoint; and of the entry of
+-- the next one, of which 201 bytes are looked at, a part is in the log.
+pub record BreaksOff (input : List ℕ) (old new : State)
+    (out written : Option (List ℕ)) : Type 0 where
+  pub lines : List (List ℕ)
+  pub line : List ℕ
+  pub rest : List ℕ
+  pub mid : State
+  pub split : lines_of input ≡ lines ++ line ∷ lines_of rest
+  pub unasked : All DoesNotAsk lines
+  pub served : ServesLines lines old mid out written
+  pub part : AppendsPart mid.log new.log (entry mid.sum (take 201 line))

@@ -1,5 +1,5 @@
 -- A store, and what it does with a line.
-use Rattle.std.specs.Prelude.{◌≡◌, ◌↔◌, ◌-◌, ℕ, Bool, List, [], ◌∷◌, Option, ◌⊎◌, IsTrue, refl}
+use Rattle.std.specs.Prelude.{◌≡◌, ◌↔◌, ◌-◌, ℕ, Bool, List, [], ◌∷◌, Option, ◌⊎◌, IsTrue, false, refl, true}
 use Rattle.std.specs.Coded.{Coded, code_by, coded×, coded_bool, coded_list, coded_option, coded_ℕ}
 use Rattle.std.specs.Io.KnownBytes.{Appends, Keeps}
 use Rattle.rart_family.specs.Families.{Family}
@@ -51,8 +51,10 @@ pub record LeavesLine (old new : State) : Type 0 where
 abbrev pub AlsoTells : List (List ℕ) → Bool → Bool → Type 0
 AlsoTells lines before behind = IsTrue behind ↔ (IsTrue before ⊎ HasBad lines)
 
--- A line is answered: as `vtree` does, and with its entry in the log where it is kept.
+-- A line is answered: as `vtree` does, and with its entry in the log where the answer says that it
+-- is kept.
 pub record Answers (line : List ℕ) (old new : State) (answer : Answered) : Type 0 where
   pub gives : LineGives old.family line (answer_text answer.reply) new.family
-  pub done : KeepsLine line old new ⊎ LeavesLine old new
+  pub kept : answer.is_kept ≡ true → KeepsLine line old new
+  pub left : answer.is_kept ≡ false → LeavesLine old new
   pub told : AlsoTells (line ∷ []) old.has_bad new.has_bad

@@ -1,6 +1,7 @@
 //! A checkpoint: a family as bytes, behind which a log begins anew.
-ghost use Rattle.std.specs.Prelude.{◌≡◌, Some, IfOk};
+ghost use Rattle.std.specs.Prelude.{◌≡◌, Some, IfErr, IfOk};
 ghost use Rattle.rart_saved.specs.FamilyForms.{IsFamilyOf};
+ghost use Rattle.rart_saved.specs.Refusals.{PointsInto};
 ghost use Rattle.example_store.specs.Checkpoints.{GivesBack, checkpoint, first_sum, no_checkpoint};
 
 use crate::answer::LineFamily;
@@ -36,6 +37,7 @@ impl Base {
         ensures family { IfOk result (λ base. bytes.now ≡ checkpoint base.family) }
         ensures sum { IfOk result (λ base. base.sum ≡ first_sum bytes.now) }
         ensures gives_back { GivesBack bytes.now result }
+        ensures place { IfErr result (PointsInto bytes.now) }
     {
         let family = load_family_slice(alloc, bytes)?;
         Ok(Base {

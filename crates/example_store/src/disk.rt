@@ -48,9 +48,9 @@ pub struct DiskStore {
 }
 
 impl DiskStore {
-    /// Starts from the last checkpoint in a folder, and the log behind it. A folder that isn't there
-    /// is made in the one above it. Says on standard error what was found, and removes what was
-    /// before it.
+    /// Starts from the last checkpoint in a folder, and the log behind it. A folder that isn't
+    /// there is made in the one above it. Says on standard error what was found, and removes what
+    /// was before it.
     ///
     /// An error leaves checkpoint and log as they are, but for a torn tail; files before them may
     /// be gone.

@@ -1,12 +1,13 @@
 //! A store: a family, and the log of the lines that led to it.
-ghost use Rattle.std.specs.Prelude.{◌≡◌, ◌↔◌, ◌⊎◌, ◌-◌, IfOk, IfSome, None, OnOk, OnErr, IsTrue, codes, false};
+ghost use Rattle.std.specs.Prelude.{◌≡◌, ◌↔◌, ◌⊎◌, ◌-◌, Err, IfOk, IfSome, None, OnOk, OnErr, IsTrue, codes, false};
 ghost use Rattle.vtree_lines.specs.Laws.{HasNoFeed};
 ghost use Rattle.vtree_lines.specs.Writing.{AppendsPart, Writes};
 ghost use Rattle.vtree_lines.specs.declared.served.Served.TheVariants.{BadLine};
 ghost use Rattle.example_store.specs.Log.{next_sum, entry};
-ghost use Rattle.example_store.specs.Serving.{ServesLine, ServesUpTo};
+ghost use Rattle.example_store.specs.Serving.{BreaksOff, ServesLine, ServesUpTo};
 ghost use Rattle.example_store.specs.Stores.{Answers};
 ghost use Rattle.example_store.specs.declared.store.Pause.TheVariants.{Due};
+ghost use Rattle.example_store.specs.declared.store.ServeError.TheVariants.{Log};
 
 use crate::answer::{Answer, LineFamily, answer_to, write_answer};
 use crate::input::next_line;
@@ -193,6 +194,8 @@ impl<L: Write + Drop> Store<L> {
         ensures served { IfOk result (λ pause. IfSome (R.remaining reader.old) (λ input.
             ServesUpTo pause input (R.remaining reader.new) self.old self.new
             (W.contents writer.old) (W.contents writer.new))) }
+        ensures log { result ≡ Err Log → IfSome (R.remaining reader.old) (λ input.
+            BreaksOff input self.old self.new (W.contents writer.old) (W.contents writer.new)) }
     {
         for _ in 0..u64::MAX {
             if self.lines_left == 0 {
@@ -215,8 +218,10 @@ impl<L: Write + Drop> Store<L> {
     /// Answers a line in writing.
     fn reply<W: Write>(&mut self, line: &[u8], writer: &mut W) -> Result<(), ServeError>
         requires { HasNoFeed line.now }
-        ensures { OnOk result (ServesLine line.now self.old self.new
+        ensures ok { OnOk result (ServesLine line.now self.old self.new
             (W.contents writer.old) (W.contents writer.new)) }
+        ensures log { result ≡ Err Log → AppendsPart self.old.log self.new.log
+            (entry self.old.sum line.now) × (W.contents writer.new ≡ W.contents writer.old) }
     {
         let Ok(answer) = self.answer(line) else {
             return Err(ServeError::Log);

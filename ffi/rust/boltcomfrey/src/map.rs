@@ -121,8 +121,8 @@ impl<V: Value> Map<V> {
     }
 
     /// The number, at first 0 or that of `with_number`. An insertion raises it by one, and so does
-    /// the removal of a key that is there; `restore_prefix` adds the other map's. A snapshot's is one
-    /// greater, and this one stays then. So two maps with one number may differ.
+    /// the removal of a key that is there; `restore_prefix` adds the other map's. A snapshot's is
+    /// one greater, and this one stays then. So two maps with one number may differ.
     ///
     /// ```
     /// # use boltcomfrey::VersionedMap;
@@ -518,7 +518,8 @@ impl<V: Value> Map<V> {
     }
 
     /// Takes a key out, and gives its value; the number rises by one then. Without the key nothing
-    /// changes. Refused, nothing has changed. A byte string is copied before: `delete` does without.
+    /// changes. Refused, nothing has changed. A byte string is copied before: `delete` does
+    /// without.
     ///
     /// ```
     /// # use boltcomfrey::VersionedMap;

@@ -6,8 +6,8 @@ ghost use Rattle.std.specs.Coded.{coded_ℕ, coded_list};
 
 use std::marker::Model;
 
-/// Segments that contracts alone see: they take no bytes and nothing runs. What it means rests on
-/// its two calls, which no other module can reach past.
+/// Segments that contracts alone see: they take no bytes and nothing runs. Only `new` and `push` make
+/// or change one.
 #[derive(Drop)]
 pub(crate) struct Trail {
     pub ghost segments: { List (List ℕ) } by { coded_list (coded_list coded_ℕ) },

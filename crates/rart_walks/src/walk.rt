@@ -25,7 +25,7 @@ use std::mem;
 struct Frame<'a, P: Partial, V> {
     mark: usize,
     children: VersionedNodeIter<'a, P, V>,
-    // from the frame above
+    // the prefixes since the frame above, which contracts alone see
     way: Trail,
 }
 
@@ -40,7 +40,7 @@ pub struct Walk<'a, P: Partial, V, T> {
     key_path: T,
     outer: Vec<Frame<'a, P, V>>,
     inner: Option<Frame<'a, P, V>>,
-    // from the innermost frame
+    // those since the innermost frame
     below: Trail,
     pending: Option<&'a V>,
 }
@@ -59,8 +59,8 @@ impl<'a, P: Partial, V: Drop, T: KeyPath<'a>> Walk<'a, P, V, T> {
         }
     }
 
-    /// Passes a node with this prefix, of which nothing is left. Refused for memory, it is not
-    /// passed.
+    /// Adds the prefix of a node that gets no frame to the key path. Refused for memory, it is not
+    /// added.
     #[inline(always)]
     fn pass(&mut self, segment: &'a [u8]) -> Result<(), AllocError>
         requires { CanPass T.holds T.greatest segment.now self.old }

@@ -21,7 +21,7 @@ impl<K: KeyTrait, V: Clone + Drop> VersionedAdaptiveRadixTree<K, V> {
     /// ```
     ///
     /// The key is written to the front of `room`, if it fits there; else what `room` has then is
-    /// not told. Behind the key, and where there is none, `room` is as before.
+    /// unspecified. Behind the key, and where there is none, `room` is as before.
     pub fn first_slice(&self, low: Bound<&[u8]>, room: &mut [u8]) -> Option<(usize, &V)>
         ensures { Finds (within self.now.content (bound_map (λ low. low.now) low.entry)
             Unbounded) result room.old room.new }

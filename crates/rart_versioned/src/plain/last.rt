@@ -22,7 +22,7 @@ impl<K: KeyTrait, V: Clone + Drop> VersionedAdaptiveRadixTree<K, V> {
     /// ```
     ///
     /// The key is written to the front of `room`, if it fits there; else what `room` has then is
-    /// not told. Behind the key, and where there is none, `room` is as before.
+    /// unspecified. Behind the key, and where there is none, `room` is as before.
     pub fn last_slice(&self, high: Bound<&[u8]>, room: &mut [u8]) -> Option<(usize, &V)>
         ensures { Finds (reverse (within self.now.content Unbounded
             (bound_map (λ high. high.now) high.entry))) result room.old room.new }

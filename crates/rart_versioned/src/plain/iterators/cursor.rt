@@ -71,8 +71,8 @@ impl<'a, P: Partial, V: Drop> VersionedCursor<'a, P, V> {
         self.walk.next_value(&mut Work::new())
     }
 
-    /// The bytes of the key whose value was given last. Before the first, and behind the end, it is
-    /// not told what they are.
+    /// The bytes of the key whose value was given last. Before the first, and behind the end, they
+    /// are unspecified.
     pub fn key(&self) -> &[u8]
         ensures { result.now ≡ self.now.key }
     {

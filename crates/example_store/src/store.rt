@@ -183,7 +183,8 @@ impl<L: Write + Drop> Store<L> {
     /// and answers each before the next one is read. The last may lack its line feed. A line of
     /// more than 200 bytes is a bad one.
     ///
-    /// `Read`, `Log`, `Write` come where reading, writing the log, or a reply failed. The store is
+    /// `Read`, `Log`, `Write` come where reading, writing the log, or a reply failed. With `Log` the
+    /// lines before are served, and of the next one's entry a part may be in the log. The store is
     /// not to be used any more then.
     pub fn serve<R: Read, W: Write>(
         &mut self,

@@ -1,5 +1,6 @@
 //! Times of the tree, through its library for C, beside those of std's `BTreeMap`, and of rart where
-//! the script `beside_rart` names it. `meanings.md`, printed behind the tables, says what is in them.
+//! the script `beside_rart` names it; and of some calls beside a loop of others. `meanings.md`,
+//! printed behind the tables, says what is in them.
 //!
 //! Each map gets the same calls in the same program, and all must tell the same. Each pass goes over
 //! all maps in turn, and of each row the least time counts.
@@ -10,6 +11,7 @@ mod pages;
 mod rart;
 mod report;
 mod rows;
+mod ways;
 
 use crate::keys::{Data, Kind};
 use crate::rows::{Row, rows};
@@ -113,14 +115,19 @@ fn main() -> Result<(), Box<dyn Error>> {
     let title =
         format!("{count} keys of 16 bytes that share a prefix; nanoseconds an operation or entry");
     println!("{title}:\n\n{}", report::times(shared));
+    if let Some(file) = &options.svg {
+        fs::write(file, report::bars(shared, &title))?;
+    }
     let sizes: Vec<String> = options.sizes.iter().copied().map(report::grouped).collect();
     for (at, (name, _)) in COLUMNS.iter().enumerate().skip(1) {
         println!("Ratios to {name}, at {} keys:\n", sizes.join(" and "));
         println!("{}", report::ratios(&kinds, at));
     }
+    let data: Vec<Data> = kinds.into_iter().flatten().map(|it| it.data).collect();
+    println!(
+        "Two ways to the same; nanoseconds:\n\n{}",
+        ways::table(&data, options.passes)
+    );
     print!("{}", include_str!("meanings.md"));
-    if let Some(file) = options.svg {
-        fs::write(file, report::bars(shared, &title))?;
-    }
     Ok(())
 }

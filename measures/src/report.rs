@@ -23,6 +23,16 @@ pub fn ratios(kinds: &[Vec<Results>], other: usize) -> String {
     table
 }
 
+/// Times of a call and of another way to the same, and the first divided by the second.
+pub fn pairs<'a>(pairs: impl Iterator<Item = (&'a str, (f64, f64))>) -> String {
+    let mut table = head(["the call", "the other way", "ratio"].into_iter());
+    for (name, (call, other)) in pairs {
+        let cells = [shown(call), shown(other), ratio(call / other)];
+        table += &line(name, cells.into_iter());
+    }
+    table
+}
+
 fn head<'a>(names: impl Iterator<Item = &'a str>) -> String {
     let names: Vec<&str> = names.collect();
     let rule = "---|".repeat(names.len());

@@ -15,7 +15,7 @@ pub struct Row {
 }
 
 /// Times rounds over what `prepare` makes, but neither that nor its drop.
-fn row<S>(
+pub fn row<S>(
     name: &'static str,
     prepare: impl Fn() -> S,
     mut round: impl FnMut(&mut S) -> Tally,
@@ -127,7 +127,7 @@ fn fill<M: Map>(map: &mut M, keys: impl IntoIterator<Item = impl AsRef<[u8]>>) -
     tally(numbered.map(|(key, value)| u64::from(map.insert(key.as_ref(), value))))
 }
 
-fn tally(told: impl Iterator<Item = u64>) -> Tally {
+pub fn tally(told: impl Iterator<Item = u64>) -> Tally {
     told.fold((0, 0), add)
 }
 

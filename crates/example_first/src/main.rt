@@ -1,18 +1,32 @@
-//! A first program over the tree: a price list whose keys are texts.
+//! A routing table: a route is tried, and rolled back.
 #![tactic(auto)]
 
-use rart_versioned::{KeyTrait, VectorKey, VersionedAdaptiveRadixTree};
+use rart_versioned::{ArrayKey, KeyTrait, VersionedAdaptiveRadixTree};
+
+type Routes = VersionedAdaptiveRadixTree<ArrayKey<4>, u32>;
+
+/// Says where the longest route leads that begins the address 10.1.2.3.
+fn show(rt: &HostRuntime, routes: &Routes, title: &str) -> anyhow::Result<()> {
+    let address = ArrayKey::new_from_slice(rt.alloc(), &[10, 1, 2, 3])?;
+    if let Some((_route, hop)) = routes.longest_prefix_match_k(&address)? {
+        println!(rt; "{title}: 10.1.2.3 goes to {hop}")?;
+    }
+    Ok(())
+}
 
 fn main(rt: HostRuntime) -> anyhow::Result<()> {
     let alloc = rt.alloc();
-    let tea = VectorKey::new_from_slice(alloc, "tea".as_bytes())?;
+    let site = ArrayKey::new_from_slice(alloc, &[10])?;
+    let office = ArrayKey::new_from_slice(alloc, &[10, 1])?;
+    let mut routes = Routes::new(alloc);
+    routes.insert_k(&site, 1)?;
+    routes.insert_k(&office, 2)?;
+    let before = routes.snapshot()?;
 
-    let mut prices = VersionedAdaptiveRadixTree::new(alloc);
-    prices.insert_k(&tea, 300_u64)?;
-    let yesterday = prices.snapshot()?;
-    prices.insert_k(&tea, 350)?;
+    routes.insert_k(&office, 7)?;
+    show(&rt, &routes, "on trial")?;
+    show(&rt, &before, "as before")?;
 
-    println!(rt; "tea was {:?}", yesterday.get_k(&tea))?;
-    println!(rt; "tea is {:?}", prices.get_k(&tea))?;
-    Ok(())
+    routes = before;
+    show(&rt, &routes, "rolled back")
 }

@@ -1,6 +1,7 @@
 """What `./test` runs side by side: the toolchain over all crates, scripts, and the trials of edits."""
-import concurrent.futures
+import itertools
 import os
+import queue
 import re
 import shutil
 import subprocess
@@ -11,25 +12,29 @@ from editing.prover import functions_of, run
 from editing.repository import Repository
 from editing.trial import BEGAN, say
 
+# How much of a processor is to be free where something that gives way begins.
+MOSTLY = 0.7
+
 
 class Build:
-    """A run of `rt ci` in a copy of the crates without edits, which takes nothing from earlier runs
-    on this machine, where the toolchain can be told so: of a crate that it keeps it tells no
-    functions, and an edit needs another one beside it. `repository` is a copy with them: of the
-    crates what is tried is what stood there when it began."""
+    """A run of `rt ci` in a copy of the crates without edits. Of all crates each proof is made from
+    nothing, where the toolchain can be told so; where some are named, what an earlier run on this
+    machine proved of the same texts is taken, by the toolchain's own sums. `repository` is a copy
+    with the edits: of the crates what is tried is what stood there when it began."""
 
     def __init__(self, root, room, names=()):
-        self.folder, self.log = f"{room}/copy", f"{room}/log"
+        self.folder, self.log, self.is_anew = f"{room}/copy", f"{room}/log", not names
         self.seconds, self.status = 0.0, None
         copy_crates(Repository(root), f"{room}/texts", names)
         self.repository = Repository(f"{room}/texts")
         copy_crates(self.repository, self.folder, leave=("must-fail", "edits.txt"))
 
     def __enter__(self):
-        anew = ["--anew"] if any("--anew" in it for it in run(["rt", "help"], self.folder).lines) else []
+        knows = any("--anew" in it for it in run(["rt", "help"], self.folder).lines)
+        words = ["rt", "ci", *(["--anew"] if self.is_anew and knows else [])]
         with open(self.log, "wb") as log:
             how = {"cwd": self.folder, "stdin": subprocess.DEVNULL, "stdout": log, "stderr": log}
-            self.process = subprocess.Popen(["rt", "ci", *anew], **how)
+            self.process = subprocess.Popen(words, **how)
         self.waiter = threading.Thread(target=self._wait)
         self.waiter.start()
         return self
@@ -89,33 +94,51 @@ def copy_crates(repository, to, names=(), leave=()):
 
 
 class Lanes:
-    """Calls side by side: while the toolchain runs on half of the processors, and behind it."""
+    """Calls side by side, each of which gives way to all else: while the toolchain proves, one begins
+    where a processor is free, and behind it as many as there are processors."""
 
-    def __init__(self):
-        processors = len(os.sched_getaffinity(0))
-        self.pool = concurrent.futures.ThreadPoolExecutor(processors, initializer=_give_way)
-        self.half = max(processors // 2, 1)
-        self.room, self.calls = threading.Semaphore(self.half), []
+    def __init__(self, watch):
+        self.watch, self.is_alone = watch, threading.Event()
+        self.queue, self.numbers = queue.PriorityQueue(), itertools.count()
+        self.turn, self.counting, self.running = threading.Lock(), threading.Lock(), 0
+        self.lost = []
+        self.lanes = [threading.Thread(target=self._work, daemon=True) for _ in watch.processors]
+        for it in self.lanes:
+            it.start()
 
-    def put(self, *calls):
-        def guarded(call):
-            with self.room:
-                return call()
+    def put(self, *calls, is_urgent=False):
+        for it in calls:
+            self.queue.put((0 if is_urgent else 1, next(self.numbers), it))
 
-        self.calls += [self.pool.submit(guarded, it) for it in calls]
+    def _work(self):
+        # (what a thread begins is as nice as the thread)
+        os.setpriority(os.PRIO_PROCESS, threading.get_native_id(), 19)
+        while call := self._next():
+            try:
+                call()
+            except Exception as lost:  # (one call that breaks off ends no other)
+                self.lost.append(lost)
+            with self.counting:
+                self.running -= 1
+
+    def _next(self):
+        with self.turn:
+            while not self.is_alone.is_set() and self.watch.free() - self.running < MOSTLY:
+                self.is_alone.wait(1)
+            _, _, call = self.queue.get()
+            with self.counting:
+                self.running += 1
+            return call
 
     def end(self):
         """Gives all processors to what is left, and waits for its end."""
-        for _ in range(self.half):
-            self.room.release()
-        for it in self.calls:
-            it.result()
-        self.pool.shutdown()
-
-
-def _give_way():
-    # (what a thread begins is as nice as the thread)
-    os.setpriority(os.PRIO_PROCESS, threading.get_native_id(), 19)
+        self.is_alone.set()
+        for _ in self.lanes:
+            self.queue.put((2, next(self.numbers), None))
+        for it in self.lanes:
+            it.join()
+        for it in self.lost:
+            raise it
 
 
 class Scripts:
@@ -137,26 +160,3 @@ class Scripts:
     def counts(self):
         passed = sum(not it.status for it in self.said)
         return passed, len(self.said) - passed
-
-
-class Memory(threading.Thread):
-    """Looks each second how much memory is free."""
-
-    def __init__(self):
-        super().__init__(daemon=True)
-        self.before = self.least = self.free()
-        self.start()
-
-    @staticmethod
-    def free():
-        with open("/proc/meminfo", encoding="ascii") as it:
-            return next(int(line.split()[1]) for line in it if line.startswith("MemAvailable:"))
-
-    def run(self):
-        while True:
-            self.least = min(self.least, self.free())
-            time.sleep(1)
-
-    def most(self):
-        """The most that was taken at a time, in GB."""
-        return (self.before - self.least) / 1e6

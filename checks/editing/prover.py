@@ -67,6 +67,14 @@ def words_for(repository, built, crate):
     return [*found, "--logic-built", f"{kit}/logic_built", "--jobs", "1"]
 
 
+def archive_words(repository, built, crate):
+    """The words that build a static library, as `rt lib` does, over the libraries below it."""
+    kit = toolchain()
+    how = ["--toolchain", f"{kit}/toolchain", "--links", f"{crate.name}=", "--backend", "llvm"]
+    words = [*words_for(repository, built, crate), *how, "-o", f"lib{crate.name}.a"]
+    return [f"{kit}/bin/rattle", "build", *words]
+
+
 def run(words, folder, longest=LONGEST):
     """What a command says in a folder: its status, its lines, and the seconds of a processor that
     it took. It is ended where one of its processes takes more of a processor than `longest`."""

@@ -37,6 +37,8 @@ class Edit:
     name: str
     function: str
     pairs: list
+    # Whether it stands in the folder `must-fail`, and not in the table.
+    is_of_folder: bool
     # The crate's files with the edit; what it exchanges in them; the functions in whose bodies that
     # stands, by file and line, or None where it changes more than bodies.
     texts: dict = dataclasses.field(default_factory=dict)
@@ -46,6 +48,10 @@ class Edit:
     @property
     def label(self):
         return f"{self.crate.name}/{self.name}"
+
+    @property
+    def as_written(self):
+        return self.name, self.function, self.pairs
 
     def apply(self):
         """Finds what it changes. A text that it takes out stands there once."""
@@ -100,12 +106,13 @@ def function_around(lines, at):
 def edits_of(crate):
     """The edits of a crate, and for each that cannot be read or applied its name and why."""
     good, bad, seen = [], [], set()
-    for name, function, pairs in [*_of_folder(crate), *_of_table(crate)]:
-        edit = Edit(crate, name, function, pairs)
+    table = edits_of_text(crate.text("edits.txt") if crate.has("edits.txt") else "")
+    written = [Edit(crate, *it, is_of_folder=True) for it in _of_folder(crate)]
+    for edit in [*written, *(Edit(crate, *it, is_of_folder=False) for it in table)]:
         try:
-            if name in seen:
+            if edit.name in seen:
                 raise BadEdit("another edit of its crate has its name")
-            seen.add(name)
+            seen.add(edit.name)
             edit.apply()
             good.append(edit)
         except BadEdit as why:
@@ -113,11 +120,10 @@ def edits_of(crate):
     return good, bad
 
 
-def _of_table(crate):
-    if not crate.has("edits.txt"):
-        return
-    text = re.sub(r"(?m)^#.*\n", "", crate.text("edits.txt"))
-    for block in re.split(r"\n\n+", text.strip("\n")):
+def edits_of_text(table):
+    """The edits that a table's text has: of each its name, its function and what it exchanges."""
+    text = re.sub(r"(?m)^#.*\n", "", table).strip("\n")
+    for block in re.split(r"\n\n+", text) if text else ():
         head, _, pairs = block.partition("\n")
         name, _, function = head.partition(": ")
         yield name, function.strip(), _pairs(pairs)

@@ -19,6 +19,7 @@ import threading
 import time
 import traceback
 
+from .drawing import EveryEdit
 from .prover import (
     NAMES, NOTED, PLACE, Room, functions_of, is_unread, is_well, own_pages, own_reason, run,
     toolchain, words_for,
@@ -49,10 +50,10 @@ def say(text):
 
 
 class Edits:
-    """The trials of the edits of crates, and what came of each."""
+    """The trials of edits of crates, of those that are chosen, and what came of each."""
 
-    def __init__(self):
-        self.results, self.known = [], []
+    def __init__(self, chosen=EveryEdit()):
+        self.chosen, self.results, self.known = chosen, [], []
         # The seconds of a processor that the edits of each crate took.
         self.seconds = collections.Counter()
 
@@ -99,8 +100,13 @@ class Edits:
         for it in self._edits_of(crate):
             self._end(Result(it.label, Outcome.UNTRIED, "its crate is not proved without it"))
 
-    def _edits_of(self, crate):
+    def of(self, crate):
+        """The edits of a crate that are tried, and those that cannot be."""
         good, bad = edits_of(crate)
+        return [it for it in good if self.chosen.takes(it)], bad
+
+    def _edits_of(self, crate):
+        good, bad = self.of(crate)
         self.known += [it.label for it in good] + [label for label, _ in bad]
         for label, why in bad:
             self._end(Result(label, Outcome.BAD, why))

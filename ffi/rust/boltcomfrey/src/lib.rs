@@ -1,5 +1,5 @@
 //! A versioned ordered map from byte strings to numbers, or to byte strings, over a library whose
-//! every call is proved.
+//! every call is proved. This crate round the library is tested, and not proved.
 //!
 //! A snapshot is a map of its own: what changes in one is never seen in the other, though both
 //! share the nodes that neither has changed.
@@ -18,8 +18,11 @@
 //! Proved is what the exports answer and leave, as `boltcomfrey.h` says it. Tested are this crate
 //! round them, and that memory is refused only where there is none.
 //!
+//! Memory that the library is refused is answered as a [`Refusal`]. Copies of keys, of byte strings
+//! and of pages are `Vec`s: where these get no memory Rust ends the process, in a `try_` call too.
+//!
 //! A map and all that came from it stay on one thread, and maps that have nothing to do with each
-//! other may be on several. It runs on Linux, on 64 bits, with Rust 1.85 or later.
+//! other may be on several. It runs on Linux on x86-64-v2, with Rust 1.85 or later.
 #![warn(missing_docs)]
 #![deny(unsafe_code)]
 

@@ -19,8 +19,8 @@ use std::alloc::{AllocError, Global};
 /// let bytes = save_family_slice(alloc, &versions)?;
 /// ```
 ///
-/// A version that has little in common with the one before it takes bytes for each key at which they
-/// differ.
+/// A version that has little in common with the one before it takes bytes for each key at which
+/// they differ.
 pub fn save_family_slice<K: KeyTrait, V: SavedValue + Eq>(
     alloc: Global,
     family: &Family<K, V>,

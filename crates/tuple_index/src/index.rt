@@ -78,7 +78,7 @@ impl TupleIndex {
     }
 
     /// Takes a tuple out, and answers whether it was there: the number is then one greater. Where
-    /// it wasn't, set and number stay, and no memory is taken. Refused for memory, they are as
+    /// it wasn't, set and number stay, and it isn't refused. Refused for memory, they are as
     /// before.
     pub fn take(&mut self, tuple: Tuple) -> Result<bool, AllocError>
         requires room { HasRoom self.old 1 }
@@ -123,7 +123,7 @@ impl TupleIndex {
     }
 
     /// Whether there is a tuple whose first columns are these, at most four. Of no column it tells
-    /// whether there is any. It takes no memory.
+    /// whether there is any. It can't be refused.
     ///
     /// ```
     /// let knows_someone = facts.has_any(&[KNOWS, ann]);
@@ -138,7 +138,7 @@ impl TupleIndex {
 
     /// Takes out all tuples whose first columns are these, at most four, and answers whether there
     /// was one: the number is then one greater, however many they were. Where there was none, set
-    /// and number stay, and no memory is taken. Refused for memory, they are as before.
+    /// and number stay, and it isn't refused. Refused for memory, they are as before.
     ///
     /// ```
     /// let knew_someone = facts.take_all(&[KNOWS, ann])?;

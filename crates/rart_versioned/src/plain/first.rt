@@ -12,7 +12,7 @@ use std::ops::Bound;
 
 impl<K: KeyTrait, V: Clone + Drop> VersionedAdaptiveRadixTree<K, V> {
     /// The first of the pairs whose keys meet a lower bound: how many bytes its key has, and a
-    /// reference to its value. `None` where there is none. It takes no memory. rart has no such
+    /// reference to its value. `None` where there is none. It can't be refused. rart has no such
     /// call.
     ///
     /// ```

@@ -17,7 +17,7 @@ use std::alloc::AllocError;
 impl<K: KeyTrait, V: Clone + Drop> VersionedAdaptiveRadixTree<K, V> {
     /// Lends the value of a key for writing. The number is one greater then, and once the reference
     /// is over the key has the value that it was left with. `Absent` comes where nothing is at the
-    /// key, and no memory is taken then; `Memory` where a copy on the way was refused. Either way
+    /// key, and then it isn't refused; `Memory` where a copy on the way was refused. Either way
     /// map and number are as before.
     pub fn value_mut_k(&mut self, key: &K) -> Result<&mut V, Missing>
         requires clones { ClonesEqual V.is_clone }

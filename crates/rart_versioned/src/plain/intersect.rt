@@ -58,7 +58,7 @@ impl<K: KeyTrait, V: Clone + Drop> VersionedAdaptiveRadixTree<K, V> {
         self.intersect_lending_with_counted(other, f, &mut Work::new())
     }
 
-    /// As `intersect_with`, with the values alone. It takes no memory.
+    /// As `intersect_with`, with the values alone. It can't be refused.
     ///
     /// ```
     /// let mut product = 0u64;
@@ -79,7 +79,7 @@ impl<K: KeyTrait, V: Clone + Drop> VersionedAdaptiveRadixTree<K, V> {
         self.intersect_values_with_counted(other, f, &mut Work::new());
     }
 
-    /// How many keys both maps have. It takes no memory.
+    /// How many keys both maps have. It can't be refused.
     ///
     /// ```
     /// let kept = before.intersect_count(&after);

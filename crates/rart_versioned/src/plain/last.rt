@@ -14,7 +14,7 @@ use std::ops::Bound;
 impl<K: KeyTrait, V: Clone + Drop> VersionedAdaptiveRadixTree<K, V> {
     /// The last of the pairs whose keys meet an upper bound, as `first_slice` tells the first from
     /// a lower one: how many bytes its key has, and a reference to its value. `None` where there is
-    /// none. It takes no memory. rart has no such call.
+    /// none. It can't be refused. rart has no such call.
     ///
     /// ```
     /// let mut room = [0; 16];

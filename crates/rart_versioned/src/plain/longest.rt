@@ -28,7 +28,7 @@ impl<K: KeyTrait, V: Clone + Drop> VersionedAdaptiveRadixTree<K, V> {
     }
 
     /// How many bytes of the probe the longest key has that begins it, and a reference to its
-    /// value. It takes no memory. rart has no such call.
+    /// value. It can't be refused. rart has no such call.
     ///
     /// ```
     /// let hop = routes.longest_slice(&[10, 1, 2, 3]).map(|route| *route.1);

@@ -9,7 +9,7 @@ use rart_below::KeyTrait;
 use rart_node::Work;
 
 impl<K: KeyTrait, V: Clone + Drop> VersionedAdaptiveRadixTree<K, V> {
-    /// The value of a key, if the key is there. It takes no memory.
+    /// The value of a key, if the key is there. It can't be refused.
     ///
     /// ```
     /// let price = list.get_k(&tea).copied().unwrap_or(0);
@@ -38,7 +38,7 @@ impl<K: KeyTrait, V: Clone + Drop> VersionedAdaptiveRadixTree<K, V> {
         self.get_slice_counted(key, &mut Work::new())
     }
 
-    /// Whether a key is there. It takes no memory. rart has no such call.
+    /// Whether a key is there. It can't be refused. rart has no such call.
     ///
     /// ```
     /// let is_listed = list.contains_key_k(&tea);

@@ -18,7 +18,7 @@ impl<K: KeyTrait, V: Clone + Drop> VersionedAdaptiveRadixTree<K, V> {
         self.contains_prefix_k(&prefix)
     }
 
-    /// Whether the prefix begins a key, itself among them. It takes no memory. rart has no such
+    /// Whether the prefix begins a key, itself among them. It can't be refused. rart has no such
     /// call.
     ///
     /// ```
@@ -100,7 +100,7 @@ impl<K: KeyTrait, V: Clone + Drop> VersionedAdaptiveRadixTree<K, V> {
     }
 
     /// Takes out all pairs whose key the prefix begins, and says whether there was one: the number
-    /// is then one greater. Where there was none, map and number stay, and no memory is taken.
+    /// is then one greater. Where there was none, map and number stay, and it isn't refused.
     /// Refused for memory, map and number are as before.
     ///
     /// ```

@@ -26,7 +26,7 @@ impl<K: KeyTrait, V: Clone + Drop> VersionedAdaptiveRadixTree<K, V> {
     }
 
     /// Takes the key out and gives its value: the number is then one greater. Where the key is
-    /// absent the answer is None, map and number stay, and no memory is taken. Refused for memory,
+    /// absent the answer is None, map and number stay, and it isn't refused. Refused for memory,
     /// map and number are as before.
     ///
     /// ```

@@ -47,7 +47,7 @@ impl<K: KeyTrait, V: Clone + Drop> VersionedAdaptiveRadixTree<K, V> {
     /// })?;
     /// ```
     ///
-    /// Of an absent key `Keep` and `Remove` leave map and number and take no memory. Where the
+    /// Of an absent key `Keep` and `Remove` leave map and number and aren't refused. Where the
     /// callback leaves an occupied slot vacant and answers `Keep`, the value stays. Refused for
     /// memory, map and number are as before, and the callback may have run.
     pub fn update_k<F: FnOnce(&mut Slot<V>) -> SlotUpdate<V>>(

@@ -177,7 +177,7 @@ impl<K: KeyTrait, V: Clone + Drop> VersionedAdaptiveRadixTree<K, V> {
     }
 
     /// Calls the closure on each pair whose key begins the probe, the shortest first: with the part
-    /// of the probe that the key is, and a reference to the value. It takes no memory.
+    /// of the probe that the key is, and a reference to the value. It can't be refused.
     ///
     /// In Rust the closure is passed by value.
     ///

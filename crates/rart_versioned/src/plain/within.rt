@@ -10,7 +10,7 @@ use rart_node::Work;
 use std::ops::Bound;
 
 impl<K: KeyTrait, V: Clone + Drop> VersionedAdaptiveRadixTree<K, V> {
-    /// Whether there is a pair whose key is within two bounds. It takes no memory, and puts no key
+    /// Whether there is a pair whose key is within two bounds. It can't be refused, and puts no key
     /// together. rart has no such call.
     ///
     /// ```

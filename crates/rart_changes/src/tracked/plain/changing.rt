@@ -60,7 +60,7 @@ impl<K: KeyTrait, V: Clone + Drop> TrackedTree<K, V> {
     }
 
     /// Takes a key out, touches it, and gives its value: the number is one greater then. Where the
-    /// key is absent the answer is `None`, all is as before, and no memory is taken. Refused for
+    /// key is absent the answer is `None`, all is as before, and it isn't refused. Refused for
     /// memory, all is as before.
     pub fn remove_k(&mut self, key: &K) -> Result<Option<V>, AllocError>
         requires clones { ClonesEqual V.is_clone }

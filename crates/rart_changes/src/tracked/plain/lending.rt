@@ -13,7 +13,7 @@ use rart_versioned::{Missing, Work};
 impl<K: KeyTrait, V: Clone + Drop> TrackedTree<K, V> {
     /// Lends the value of a key of the current version for writing. The key is touched then, the
     /// number is one greater, and once the reference is over the key has the value that it was left
-    /// with. `Absent` comes where nothing is at the key, and no memory is taken then; `Memory`
+    /// with. `Absent` comes where nothing is at the key, and then it isn't refused; `Memory`
     /// where a copy on the way, or the key's mark, was refused. Either way all is as before.
     pub fn value_mut_k(&mut self, key: &K) -> Result<&mut V, Missing>
         requires clones { ClonesEqual V.is_clone }

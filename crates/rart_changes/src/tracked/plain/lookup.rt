@@ -8,7 +8,7 @@ use crate::tracked::TrackedTree;
 use rart_below::KeyTrait;
 
 impl<K: KeyTrait, V: Clone + Drop> TrackedTree<K, V> {
-    /// The value of a key, if the key is there. It takes no memory.
+    /// The value of a key, if the key is there. It can't be refused.
     pub fn get_k(&self, key: &K) -> Option<&V>
         ensures { option_copied result ≡ value_at self.now.current (K.bytes key.now) }
     {
@@ -22,7 +22,7 @@ impl<K: KeyTrait, V: Clone + Drop> TrackedTree<K, V> {
         self.get_k(&key)
     }
 
-    /// Whether a key was touched. It takes no memory.
+    /// Whether a key was touched. It can't be refused.
     pub fn is_touched(&self, key: &K) -> bool
         ensures touched { result ≡ is_in self.now.touched (K.bytes key.now) }
         ensures tracked { result ≡ false → value_at self.now.current (K.bytes key.now)

@@ -17,7 +17,7 @@ use std::alloc::AllocError;
 impl<K: KeyTrait, V: Clone + Drop> TrackedTree<K, V> {
     /// Lends the callback the slot of the key, and does what it answers, as the tree's `update_k`.
     /// The answer is whether the key was there or is now: then it is touched, and the number is one
-    /// greater. Else all is as before, and no memory is taken. Refused for memory, all is as
+    /// greater. Else all is as before, and it isn't refused. Refused for memory, all is as
     /// before, and the callback may have run.
     pub fn update_k<F: FnOnce(&mut Slot<V>) -> SlotUpdate<V>>(
         &mut self,

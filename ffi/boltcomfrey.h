@@ -2,10 +2,11 @@
 // order of their bytes, as memcmp has it, a key before those that it begins. A snapshot or a clone
 // is a map of its own, which shares its nodes with the first one: it takes no time for each key.
 //
-// Proved of each function is what it answers and leaves, as its comment says, but for what that
-// calls tested, and that it returns and never panics. Of one that takes no memory it is proved that
-// it can't be refused; that it takes none, and that what is freed is given back, is tested. So is
-// that what only reads stores nothing in its tree: for it the const of a tree may be cast away.
+// It is proved that every function returns, never panics, and does what its comment says, except
+// where the comment says "tested". Where a comment says that a function takes no memory, it is
+// proved that the function can't be refused, and tested that it takes none. Tested are also that
+// what is freed is given back, and that a function that only reads stores nothing in its tree: for
+// such a function the const of a tree may be cast away.
 //
 // This is C11, and C++. Written by ffi/generate.
 #ifndef BOLTCOMFREY_H

@@ -6,6 +6,8 @@
 //! clones the value that it lends.
 
 mod counted;
+mod drafts;
+mod families;
 
 use crate::tests::clones::counted::Counted;
 use rart_versioned::{KeyTrait, Slot, SlotUpdate, VectorKey, VersionedAdaptiveRadixTree};

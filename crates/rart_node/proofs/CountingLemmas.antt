@@ -1,8 +1,7 @@
 -- Counts along a path: each node on it is entered, and takes at least one byte of the key with it.
 use Rattle.std.proofs.Common.{◌≡◌, ℕ, suc, ◌+◌, ◌<◌, ◌≤◌, cond, true, false, List, [], ◌∷◌, length, arith}
-use Rattle.rart_node.specs.Counts.{Counts}
+use Rattle.rart_node.specs.Counts.{Counts, CountsUpTo}
 use Rattle.rart_node.specs.Shape.{Shape, node, prefix_of, entries_of, is_full_at}
-use Rattle.rart_node.specs.Counts.{CountsUpTo}
 use Rattle.rart_node.specs.Trees.{BeginsWith, path_bound, ending, cut_at}
 
 pub counts-then : {entered made later_entered later_made most most_made : ℕ}
@@ -124,3 +123,14 @@ module _ {V : Type 0} where
   pub ending-cut : (s : Shape V) (at : ℕ) (rest : List ℕ) → ending (cut_at at s) rest ≤ length rest
   ending-cut (node prefix value width forest) at [] = omega arith
   ending-cut (node prefix value width forest) at (b ∷ rest) = omega arith
+
+-- So many nodes were entered at most, and none made.
+pub counts-none_made : {most : ℕ} {start now : Counts} → start.entered ≤ now.entered →
+    now.entered ≤ start.entered + most → now.made ≡ start.made → CountsUpTo most 0 start now
+counts-none_made grows most made =
+    record {
+      entered_grows = grows;
+      entered_at_most = most;
+      made_grows = omega (arith, made);
+      made_at_most = omega (arith, made);
+    }

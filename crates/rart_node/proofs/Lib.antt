@@ -1,9 +1,12 @@
+pub mod AlongLemmas
+pub mod BehindLemmas
 pub mod ChildMapLemmas
 pub mod ChildOrderLemmas
 pub mod ContentLemmas
 pub mod CopyLemmas
 pub mod CountingLemmas
 pub mod FindLemmas
+pub mod GatherLemmas
 pub mod InsertionLemmas
 pub mod KeyLemmas
 pub mod MatchLemmas
@@ -11,7 +14,11 @@ pub mod NodeMergeLemmas
 pub mod OnlyChildLemmas
 pub mod PairLemmas
 pub mod PairOrderLemmas
+pub mod PartingLemmas
 pub mod PrefixLemmas
+pub mod PrefixMatchLemmas
 pub mod RoomLemmas
 pub mod SearchLemmas
+pub mod SkipLemmas
+pub mod SublistLemmas
 pub mod WidthLemmas

@@ -5,6 +5,7 @@ pub mod Laws
 pub mod Lent
 pub mod NodeShapes
 pub mod Nodes
+pub mod PairsBehind
 pub mod Seen
 pub mod Shape
 pub mod Trees

@@ -10,8 +10,8 @@ use Rattle.rart_node.proofs.FindLemmas.{branch, ordered}
 use Rattle.rart_ways.specs.Steps.{child_under}
 use Rattle.rart_ways.proofs.StepLemmas.{take-front, own-first, under}
 use Rattle.rart_walks.specs.Frames.{behind_path, pending_pair}
-use Rattle.rart_walks.proofs.PrefixMatchLemmas.{matches_of, matches_at, matches_of-left}
-use Rattle.rart_walks.proofs.WalkLemmas.{behind-none}
+use Rattle.rart_node.proofs.PrefixMatchLemmas.{matches_of, matches_at, matches_of-left}
+use Rattle.rart_node.proofs.BehindLemmas.{behind-none}
 use Rattle.rart_versioned.specs.Iterators.{height_in, matches_below}
 use Rattle.rart_versioned.specs.Roots.{IsTreeIn, pairs_in}
 

@@ -7,7 +7,7 @@ use Rattle.rart_node.specs.Shape.{Shape, prefix_of, value_of, children_of}
 use Rattle.rart_node.specs.Trees.{found, pairs_of}
 use Rattle.rart_walks.specs.Walks.{AreShort}
 use Rattle.rart_walks.specs.Frames.{behind_path, pairs_of_all, pending_pair}
-use Rattle.rart_walks.proofs.WalkLemmas.{behind-none, pairs-entered}
+use Rattle.rart_node.proofs.BehindLemmas.{behind-none, pairs-entered}
 use Rattle.std.specs.declared.ops.Bound.{Bound}
 use Rattle.std.specs.declared.ops.Bound.TheVariants.{Unbounded}
 use Rattle.rart_maps.specs.Pairs.{pairs, within}

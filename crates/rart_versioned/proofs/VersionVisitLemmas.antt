@@ -1,11 +1,11 @@
 -- What a visitor over a tree goes over and enters, in the words of the version that is shown.
-use Rattle.std.proofs.Common.{◌≡◌, ◌+◌, ◌*◌, ◌≤◌, ◌++◌, ◌&&◌, ⊎_elim, inl, inr, ℕ, Bool, true, false, cond, List, [], ◌∷◌, Option, None, Some, Result, Ok, Err, OnOk, OnErr, length, filter, map, arith, refl, sym, ap, subst, ◌∙◌}
+use Rattle.std.proofs.Common.{◌≡◌, ◌+◌, ◌*◌, ◌≤◌, ◌++◌, ◌&&◌, ⊎_elim, inl, inr, ℕ, Bool, true, false, cond, List, [], ◌∷◌, Option, None, Some, Result, Ok, Err, OnOk, OnErr, length, filter, map, arith, sym, ap, subst, ◌∙◌}
 use Rattle.std.specs.Prelude.{count_by}
 use Rattle.std.specs.Fn.{Mut}
 use Rattle.std.specs.Option.{option_map}
 use Rattle.std.specs.Ordering.{is_lt}
 use Rattle.std.specs.declared.ops.Bound.{Bound}
-use Rattle.std.specs.declared.ops.Bound.TheVariants.{Included, Excluded, Unbounded}
+use Rattle.std.specs.declared.ops.Bound.TheVariants.{Included}
 use Rattle.std.proofs.lemmas.Bool.{true≢false}
 use Rattle.std.proofs.lemmas.List.Sums.{length-filter, sum_by-cons}
 use Rattle.std.specs.FinMap as finite
@@ -24,7 +24,6 @@ use Rattle.rart_node.specs.Counts.{Counts, CountsUpTo}
 use Rattle.rart_node.specs.Shape.{Shape, node}
 use Rattle.rart_node.specs.Trees.{found, pairs_of}
 use Rattle.rart_walks.specs.Ends.{Ends, EndsWithin}
-use Rattle.rart_walks.specs.Parts.{start_of}
 use Rattle.rart_walks.specs.Walks.{IsEndOf, paths_of, nodes_of}
 use Rattle.rart_walks.proofs.CursorLemmas.{nodes-paths}
 use Rattle.rart_versioned.specs.Roots.{map_of, IsSound}
@@ -89,12 +88,6 @@ counts-through way nodes visit =
 -- A tree has a node.
 pub some-node : {V : Type 0} (s : Shape V) → 1 ≤ nodes_of s
 some-node (node prefix value width forest) = omega arith
-
--- A lower bound starts at its string.
-pub start-is : (low : Bound (List ℕ)) → start_of low ≡ bound_string low
-start-is (Included low) = refl
-start-is (Excluded low) = refl
-start-is Unbounded = refl
 
 -- What passes a test at the end of a list is no more than what does in the list.
 end-counts : {A : Type 0} (test : A → Bool) {end whole : List A} → IsEndOf end whole →
@@ -178,21 +171,19 @@ module _ {A V : Type 0} (shape : A → Shape V) (most : Option ℕ) (count : ℕ
 
     -- Of the nodes behind a lower bound no more meet an upper one than it may enter there.
     pub root-range : (low high : Bound (List ℕ)) (paths : List (List ℕ)) →
-        IsEndOf paths (filter (λ path. is_lt (byte_order (start_of low) path))
+        IsEndOf paths (filter (λ path. is_lt (byte_order (bound_string low) path))
         (paths_of (shape root))) →
         count_by (is_below high) paths
         ≤ bound_length high + 2 * length (within v.content low high)
     root-range low high paths end =
         let tree = (root-sound shape most count inside v sound shows root is).0 in
-        let behind = λ (path : List ℕ). is_lt (byte_order (start_of low) path) in
+        let behind = λ (path : List ℕ). is_lt (byte_order (bound_string low) path) in
         let all = paths_of (shape root) in
         let few = nodes-within v.content (shape root) tree content-found low high in
         let fewer = end-counts (is_below high) end in
         let both = sym (length-filter (is_below high) (filter behind all))
         ∙ ap length (sym (filter-both behind (is_below high) all))
-        ∙ length-filter (λ path. behind path && is_below high path) all
-        ∙ ap (λ start. count_by (λ path. is_lt (byte_order start path) && is_below high path) all)
-        (start-is low) in
+        ∙ length-filter (λ path. behind path && is_below high path) all in
         omega (arith, few, fewer, both)
 
     -- Of the nodes under p no more meet an upper bound than do so between the two, and one.

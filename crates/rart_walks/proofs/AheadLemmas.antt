@@ -7,9 +7,10 @@ use Rattle.std.proofs.lemmas.List.{append-nil, append_assoc}
 use Rattle.rart_node.specs.Shape.{Shape}
 use Rattle.rart_node.specs.Trees.{own_pair}
 use Rattle.rart_walks.specs.Frames.{OpenNode, Pushes, behind_path, under_path, segments_of, pairs_ahead, paths_ahead, with_rest}
-use Rattle.rart_walks.proofs.GatherLemmas.{gathered_all, all-gathered}
+use Rattle.rart_node.proofs.GatherLemmas.{gathered_all, all-gathered}
 use Rattle.rart_walks.proofs.CursorLemmas.{own_place, keys_of, keys-behind, keys-append, all-paths}
-use Rattle.rart_walks.proofs.WalkLemmas.{behind-append, behind-behind, pushed-way}
+use Rattle.rart_node.proofs.BehindLemmas.{behind-append, behind-behind}
+use Rattle.rart_walks.proofs.WalkLemmas.{pushed-way}
 
 -- `own` is what a node itself has, below its prefix
 module _ {V A : Type 0} (own : Option V → List (List ℕ × A)) where

@@ -1,5 +1,5 @@
 -- A walk back enters a node, whose value it gives there or keeps.
-use Rattle.std.proofs.Common.{◌≡◌, ◌+◌, ◌≤◌, ℕ, cond, List, [], ◌∷◌, ◌++◌, Option, Some, None, length, map, reverse, is_some, refl, arith, sym, ap, subst, ◌∙◌, ⊎_elim, inl}
+use Rattle.std.proofs.Common.{◌≡◌, ◌+◌, ◌≤◌, ℕ, cond, List, [], ◌∷◌, ◌++◌, Option, Some, None, length, reverse, is_some, refl, arith, sym, ap, subst, ◌∙◌, ⊎_elim, inl}
 use Rattle.std.specs.List.{concat}
 use Rattle.std.proofs.lemmas.List.{append_assoc, append-nil, length-append, length-map, length-reverse, reverse-append}
 use Rattle.rart_below.specs.Bytes.{IsAdmitted}
@@ -9,7 +9,8 @@ use Rattle.rart_walks.specs.BackFrames.{KeepsBack, OpenBack, SplitsOwn, TakesChi
 use Rattle.rart_walks.specs.Frames.{behind_path, pairs_of_all, under_path}
 use Rattle.rart_walks.specs.Walks.{AreShort, GoesOnFirst, nodes_of, nodes_below, pending_pair}
 use Rattle.rart_walks.proofs.BackLemmas.{keeps-all, owns-push, pairs-push, path-at, paths-push, spent-left, trees-push}
-use Rattle.rart_walks.proofs.WalkLemmas.{tree-has-pair, behind-append, behind-none, pairs-entered, path-fits, short-back, short-front, trees-entered, under-none, under-under}
+use Rattle.rart_node.proofs.BehindLemmas.{tree-has-pair, behind-append, behind-none, pairs-entered, short-back, short-front}
+use Rattle.rart_walks.proofs.WalkLemmas.{path-fits, trees-entered, under-none, under-under}
 
 -- a list with an element has a last one
 pub has-last : {A : Type 0} (x : A) (xs : List A)

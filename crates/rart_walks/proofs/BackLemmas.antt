@@ -10,7 +10,8 @@ use Rattle.rart_node.specs.Trees.{IsTree, own_pair, pairs_of}
 use Rattle.rart_walks.specs.BackFrames.{KeepsBack, IsSpent, OpenBack, TakesChildBack, TakesOwn, TreesBehind, back_paths_of, back_paths_of_all, back_segments, owns_behind, pairs_behind, paths_behind}
 use Rattle.rart_walks.specs.Frames.{AreTrees, behind_path, pairs_of_all, under_path}
 use Rattle.rart_walks.proofs.LastLemmas.{map-push}
-use Rattle.rart_walks.proofs.WalkLemmas.{behind-append, behind-behind, under-append, under-under}
+use Rattle.rart_node.proofs.BehindLemmas.{behind-append, behind-behind}
+use Rattle.rart_walks.proofs.WalkLemmas.{under-append, under-under}
 
 -- ---- one prefix more
 pub path-push : (segments : List (List ℕ)) (segment : List ℕ)

@@ -19,9 +19,9 @@ use Rattle.rart_walks.specs.Frames.{behind_path}
 use Rattle.rart_walks.specs.Fronts.{at_end_of, has_lower, is_under, keeps, reached_pairs, reached_paths, reaches, stands_before}
 use Rattle.rart_walks.specs.Walks.{paths_of}
 use Rattle.rart_walks.proofs.CursorLemmas.{own_place, own_place-ends, keys_of, paths-are, paths-kept}
-use Rattle.rart_walks.proofs.EndLemmas.{IsFront, PartsAt}
-use Rattle.rart_walks.proofs.GatherLemmas.{AreBegun, behind-either, either-append, either-none, gathered, gathered_all, gathered-is, keeping, keeping-append, keeping-begun, keeping-behind, keeping-either, keeping-same, kept_at, pairs-gathered, tree-ascending, tree-begun}
-use Rattle.rart_walks.proofs.PartLemmas.{StandsAtEnd, begins-along, order-along, own_pair-ends}
+use Rattle.rart_node.proofs.PartingLemmas.{IsFront, PartsAt}
+use Rattle.rart_node.proofs.GatherLemmas.{AreBegun, behind-either, either-append, either-none, gathered, gathered_all, gathered-is, keeping, keeping-append, keeping-begun, keeping-behind, keeping-either, keeping-same, kept_at, pairs-gathered, tree-ascending, tree-begun}
+use Rattle.rart_node.proofs.AlongLemmas.{StandsAtEnd, begins-along, order-along, own_pair-ends}
 
 -- A test of strings goes along two strings that begin alike, and is told by the first byte that
 -- differs: what stands before passes or not, and what stands behind does not.

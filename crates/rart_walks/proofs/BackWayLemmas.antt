@@ -22,10 +22,11 @@ use Rattle.rart_walks.proofs.BackEnterLemmas.{whole-pairs, whole-paths}
 use Rattle.rart_walks.proofs.BackLemmas.{owns-push, pairs-push, path-at, paths-push, trees-push}
 use Rattle.rart_walks.proofs.BackPartLemmas.{SortsBack, keeps-sorts, parted-on, reaches-sorts}
 use Rattle.rart_walks.proofs.CursorLemmas.{own_place, own_place-ends, all-paths, keys_of, keys-append, keys-behind, paths-kept}
-use Rattle.rart_walks.proofs.GatherLemmas.{all-gathered, gathered, gathered_all, keeping, kept_at, pairs-gathered}
-use Rattle.rart_walks.proofs.PartLemmas.{StandsAtEnd, own_pair-ends}
-use Rattle.rart_walks.proofs.SublistLemmas.{child-short}
-use Rattle.rart_walks.proofs.WalkLemmas.{behind-append, behind-behind, behind-none, pairs-entered, short-pending, trees-entered}
+use Rattle.rart_node.proofs.GatherLemmas.{all-gathered, gathered, gathered_all, keeping, kept_at, pairs-gathered}
+use Rattle.rart_node.proofs.AlongLemmas.{StandsAtEnd, own_pair-ends}
+use Rattle.rart_node.proofs.SublistLemmas.{child-short}
+use Rattle.rart_node.proofs.BehindLemmas.{behind-append, behind-behind, behind-none, pairs-entered, short-pending}
+use Rattle.rart_walks.proofs.WalkLemmas.{trees-entered}
 
 -- `own` is what a node itself has, below its prefix, and `keep` what of that an open one has left
 module _ {V A : Type 0} (own keep : Option V → List (List ℕ × A)) where

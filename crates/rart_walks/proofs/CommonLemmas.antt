@@ -13,7 +13,7 @@ use Rattle.rart_node.proofs.FindLemmas.{found-below}
 use Rattle.rart_node.proofs.PairLemmas.{found-empty, found-other}
 use Rattle.rart_node.proofs.PrefixLemmas.{behind-append, strip_prefix-own}
 use Rattle.rart_walks.specs.Frames.{behind_path}
-use Rattle.rart_walks.proofs.WalkLemmas.{behind-behind, behind-none}
+use Rattle.rart_node.proofs.BehindLemmas.{behind-behind, behind-none}
 use Rattle.rart_walks.specs.Children.{common_children}
 use Rattle.rart_walks.specs.CommonPairs.{common_pairs}
 use Rattle.rart_walks.specs.Entries.{own_entry, behind_key}

@@ -2,18 +2,7 @@
 -- enter have fallen by.
 use Rattle.std.proofs.Common.{◌≡◌, ◌+◌, ◌≤◌, ℕ, arith, ◌∙◌}
 use Rattle.rart_node.specs.Counts.{Counts, CountsUpTo}
-use Rattle.rart_node.proofs.CountingLemmas.{made-none}
-
--- So many nodes were entered at most, and none made.
-pub counts-none_made : {most : ℕ} {start now : Counts} → start.entered ≤ now.entered →
-    now.entered ≤ start.entered + most → now.made ≡ start.made → CountsUpTo most 0 start now
-counts-none_made grows most made =
-    record {
-      entered_grows = grows;
-      entered_at_most = most;
-      made_grows = omega (arith, made);
-      made_at_most = omega (arith, made);
-    }
+use Rattle.rart_node.proofs.CountingLemmas.{counts-none_made, made-none}
 
 -- The nodes that were to enter at the start, those that are now, and the counts.
 pub record IsCounted (nodes : ℕ) (start : Counts) (left : ℕ) (now : Counts) : Type 0 where

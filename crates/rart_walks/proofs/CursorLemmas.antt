@@ -4,8 +4,8 @@ use Rattle.std.proofs.lemmas.List.{length-append, length-map, map-append}
 use Rattle.rart_node.specs.Shape.{Shape, Forest, node, bare, grown}
 use Rattle.rart_walks.specs.Frames.{behind_path, under_path, paths_of_all}
 use Rattle.rart_walks.specs.Walks.{nodes_of, nodes_below, paths_of, paths_below}
-use Rattle.rart_walks.proofs.GatherLemmas.{keeping, gathered, gathered_below, gathered_all}
-use Rattle.rart_walks.proofs.PartLemmas.{StandsAtEnd}
+use Rattle.rart_node.proofs.GatherLemmas.{keeping, gathered, gathered_below, gathered_all}
+use Rattle.rart_node.proofs.AlongLemmas.{StandsAtEnd}
 
 -- the node itself, whatever its value
 abbrev pub own_place : {V : Type 0} → Option V → List (List ℕ × Unit {0})

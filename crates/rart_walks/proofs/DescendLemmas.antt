@@ -17,7 +17,7 @@ use Rattle.rart_maps.proofs.ElementLemmas.{All-from_contains, AllPairs-first, Al
 use Rattle.rart_maps.proofs.OrderLemmas.{before-lt, bounds_contain-is, lt-before}
 use Rattle.rart_maps.proofs.RangeLemmas.{IsBefore-through, is_above}
 use Rattle.rart_walks.specs.Descending.{KeysDescend, leads_from, pairs_down_to}
-use Rattle.rart_walks.specs.Parts.{start_of}
+use Rattle.rart_maps.specs.Bounds.{bound_string}
 use Rattle.rart_walks.specs.Walks.{GoesOnFirst}
 use Rattle.rart_walks.proofs.PassLemmas.{begins-longer}
 
@@ -141,7 +141,7 @@ leads-to (d ∷ key) (b ∷ u) (c ∷ w) most is =
         most
 
 starts-low : (low : Bound (List ℕ)) (key : List ℕ) → is_above low key ≡ true
-    → IsAtMost (start_of low) key
+    → IsAtMost (bound_string low) key
 starts-low (Included a) key is = above-meets (Included a) key is
 starts-low (Excluded a) key is = inr (above-meets (Excluded a) key is)
 starts-low Unbounded [] is = inl refl
@@ -174,7 +174,7 @@ module _ {V : Type 0} where
 
   -- Below a node that leads to no key from the bound on, and behind it, none meets the bound.
   pub none-leads : (low : Bound (List ℕ)) (path : List ℕ) (pairs : List (List ℕ × V))
-      → GoesOnFirst path pairs → KeysDescend pairs → leads_from (start_of low) path ≡ false
+      → GoesOnFirst path pairs → KeysDescend pairs → leads_from (bound_string low) path ≡ false
       → pairs_down_to low pairs ≡ []
   none-leads low path pairs first descend off =
       ap (pairs_down_to low) first.3
@@ -183,7 +183,7 @@ module _ {V : Type 0} where
       (elim (is_above low (path ++ first.0))
       as (λ b. is_above low (path ++ first.0) ≡ b → b ≡ false) [
         | true ↦ λ is.
-            absurd (true≢false (sym (leads-to (start_of low) path (path ++ first.0)
+            absurd (true≢false (sym (leads-to (bound_string low) path (path ++ first.0)
             (starts-low low (path ++ first.0) is) (begins-longer path first.0)) ∙ off))
         | false ↦ λ _. refl
       ] refl)

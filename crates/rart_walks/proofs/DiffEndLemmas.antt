@@ -19,7 +19,8 @@ use Rattle.rart_walks.specs.Passes.{GoesTo}
 use Rattle.rart_walks.specs.SideFields.{HasLeft, paths_left}
 use Rattle.rart_walks.specs.TwoWalks.{nodes_ahead}
 use Rattle.rart_walks.specs.declared.diff.changes.ChangeWalk.{ChangeWalk}
-use Rattle.rart_walks.proofs.CountedLemmas.{IsCounted, counts-none_made}
+use Rattle.rart_node.proofs.CountingLemmas.{counts-none_made}
+use Rattle.rart_walks.proofs.CountedLemmas.{IsCounted}
 use Rattle.rart_walks.proofs.DiffPassLemmas.{up_to_first-passes}
 
 module _ {P V : Type 0} {partial : _} (same : V → V → Bool) (old new : Walk P V (List ℕ) partial)

@@ -1,97 +1,20 @@
 -- The end of a way: a node inside whose prefix the string ends, or with it, or whose prefix it
 -- leaves.
-use Rattle.std.proofs.Common.{◌≡◌, ◌<◌, ◌≤◌, ◌⊎◌, ⊎_elim, inl, inr, ◌≢◌, ℕ, suc, Bool, true, false, cond, ◌&&◌, List, [], ◌∷◌, ◌++◌, Option, length, refl, arith, sym, ap, subst, ◌∙◌}
-use Rattle.std.specs.Prelude.{◌==◌, slice_index_or, filter}
+use Rattle.std.proofs.Common.{◌≡◌, ◌<◌, ◌≤◌, ◌⊎◌, ⊎_elim, inl, inr, ◌≢◌, ℕ, Bool, true, false, cond, ◌&&◌, List, [], ◌∷◌, ◌++◌, Option, length, refl, arith, sym, ap, ◌∙◌}
+use Rattle.std.specs.Prelude.{◌==◌, filter}
 use Rattle.std.proofs.lemmas.Bool.{eqb-true, eqb-false, cases_order}
 use Rattle.std.proofs.lemmas.List.{append-nil, length-append}
-use Rattle.rart_below.specs.Bytes.{common_length}
 use Rattle.rart_node.specs.Shape.{Shape, prefix_of, children_of}
 use Rattle.rart_node.specs.Trees.{IsTree, own_pair, pairs_of}
-use Rattle.rart_node.proofs.PrefixLemmas.{common_fits}
+use Rattle.rart_node.proofs.PartingLemmas.{IsFront, PartsAt}
 use Rattle.rart_walks.specs.declared.walk.path.Part.{Part}
 use Rattle.rart_walks.specs.Frames.{behind_path, under_path, pairs_inside}
 use Rattle.rart_walks.specs.Parts.{keeps, reaches, goes_on, is_strict}
 use Rattle.rart_walks.specs.Walks.{IsEndOf, paths_of}
-use Rattle.rart_walks.proofs.GatherLemmas.{keeping, gathered, gathered_all, gathered-is, pairs-gathered, all-gathered}
-use Rattle.rart_walks.proofs.PartLemmas.{StandsAtEnd, GoesAlong, own_pair-ends, keeps-goes, reaches-goes, keeps-itself, strict-itself, reaches-itself, parted-lower, parted-upper, parted-all, parted-inside}
+use Rattle.rart_node.proofs.GatherLemmas.{keeping, gathered, gathered_all, gathered-is, pairs-gathered, all-gathered}
+use Rattle.rart_node.proofs.AlongLemmas.{StandsAtEnd, GoesAlong, own_pair-ends, parted-lower, parted-upper, parted-all, parted-inside}
+use Rattle.rart_walks.proofs.PartLemmas.{keeps-goes, reaches-goes, keeps-itself, strict-itself, reaches-itself}
 use Rattle.rart_walks.proofs.CursorLemmas.{own_place, own_place-ends, keys_of, paths-are, paths-kept}
-
--- The first list is the front of the second.
-pub record IsFront (rest prefix : List ℕ) : Type 0 where
-  pub more : List ℕ
-  pub is : prefix ≡ rest ++ more
-
--- a string that is matched to its end
-pub common-front : (prefix rest : List ℕ) → common_length prefix rest ≡ length rest
-    → IsFront rest prefix
-common-front prefix [] all = record { more = prefix; is = refl }
-common-front [] (c ∷ rest) all = absurd (omega (arith, all))
-common-front (b ∷ prefix) (c ∷ rest) all =
-    let P : Bool → Type 0 =
-    λ t. (b == c) ≡ t → cond t (suc (common_length prefix rest)) 0 ≡ suc (length rest)
-    → IsFront (c ∷ rest) (b ∷ prefix) in
-    let both : (t : Bool) → P t = elim [
-      | true ↦ (λ same e. let front = common-front prefix rest (omega (arith, e)) in
-          record { more = front.more; is = λ i. eqb-true b c same i ∷ front.is i })
-      | false ↦ (λ differs e. absurd (omega (arith, e)))
-    ] in
-    both (b == c) refl all
-
--- Two strings part at two bytes.
-pub record PartsAt (prefix rest : List ℕ) (b c : ℕ) : Type 0 where
-  pub front : List ℕ
-  pub more : List ℕ
-  pub left : List ℕ
-  pub is : prefix ≡ front ++ (b ∷ more)
-  pub also : rest ≡ front ++ (c ∷ left)
-  pub differs : b ≢ c
-
--- strings that are matched to the end of neither
-pub common-parts : (prefix rest : List ℕ) → common_length prefix rest < length prefix
-    → common_length prefix rest < length rest
-    → PartsAt prefix rest (slice_index_or prefix (common_length prefix rest) 0)
-    (slice_index_or rest (common_length prefix rest) 0)
-common-parts [] rest short also = absurd (omega (arith, short))
-common-parts (b ∷ prefix) [] short also = absurd (omega (arith, also))
-common-parts (b ∷ prefix) (c ∷ rest) short also =
-    let P : Bool → Type 0 =
-    λ t. (b == c) ≡ t → cond t (suc (common_length prefix rest)) 0 < suc (length prefix)
-    → cond t (suc (common_length prefix rest)) 0 < suc (length rest)
-    → PartsAt (b ∷ prefix) (c ∷ rest)
-    (slice_index_or (b ∷ prefix) (cond t (suc (common_length prefix rest)) 0) 0)
-    (slice_index_or (c ∷ rest) (cond t (suc (common_length prefix rest)) 0) 0) in
-    let both : (t : Bool) → P t = elim [
-      | true ↦ (λ same s a.
-          let parts = common-parts prefix rest (omega (arith, s)) (omega (arith, a)) in
-          record {
-            front = b ∷ parts.front;
-            more = parts.more;
-            left = parts.left;
-            is = ap (λ z. b ∷ z) parts.is;
-            also = λ i. sym (eqb-true b c same) i ∷ parts.also i;
-            differs = parts.differs;
-          })
-      | false ↦ (λ differs s a. record {
-        front = [];
-        more = prefix;
-        left = rest;
-        is = refl;
-        also = refl;
-        differs = eqb-false b c differs;
-      })
-    ] in
-    both (b == c) refl short also
-
-pub parts-at : (prefix rest : List ℕ) (common : ℕ) → common ≡ common_length prefix rest
-    → (common ≡ length rest) ⊎ (common < length prefix) → (common ≡ length rest → ⊥)
-    → PartsAt prefix rest (slice_index_or prefix common 0) (slice_index_or rest common 0)
-parts-at prefix rest common is ends goes_on =
-    let fits = common_fits prefix rest in
-    let short : common_length prefix rest < length prefix =
-    ⊎_elim (λ end. absurd (goes_on end)) (λ less. omega (arith, less, is)) ends in
-    let also : common_length prefix rest < length rest = omega (arith, fits, is, goes_on) in
-    subst (λ n. PartsAt prefix rest (slice_index_or prefix n 0) (slice_index_or rest n 0)) (sym is)
-    (common-parts prefix rest short also)
 
 either-less : (b c : ℕ) → b ≢ c → (b < c) ⊎ (c < b)
 either-less b c differs =

@@ -1,8 +1,7 @@
 -- Frames: how far the key path reaches down to each, and one more or one less.
-use Rattle.std.proofs.Common.{◌≡◌, ◌+◌, ◌<◌, ℕ, List, [], ◌∷◌, ◌++◌, Option, Some, None, length, refl, arith, sym, ap, subst, ◌∙◌}
+use Rattle.std.proofs.Common.{◌≡◌, ℕ, List, [], ◌∷◌, ◌++◌, Option, length, refl, arith, sym, ap, ◌∙◌}
 use Rattle.std.specs.Option.{option_to_list}
-use Rattle.std.proofs.lemmas.List.{append_assoc, append-nil, length-append, map-append}
-use Rattle.rart_node.specs.Shape.{Shape}
+use Rattle.std.proofs.lemmas.List.{append_assoc, append-nil, map-append}
 use Rattle.rart_node.specs.VersionedNodeIter.{children_left}
 use Rattle.rart_walks.specs.declared.walk.Frame.{Frame}
 use Rattle.rart_walks.specs.Frames.{OpenNode, AreSpent, Pushes, segments_of, with_rest}

@@ -13,7 +13,7 @@ use Rattle.rart_node.specs.Counts.{Counts, CountsUpTo}
 use Rattle.rart_node.specs.Shape.{Shape}
 use Rattle.rart_node.specs.Trees.{pairs_of}
 use Rattle.rart_walks.specs.Walks.{AreShort}
-use Rattle.rart_walks.proofs.WalkLemmas.{behind-none}
+use Rattle.rart_node.proofs.BehindLemmas.{behind-none}
 use Rattle.rart_walks.specs.CommonPairs.{common_pairs, shared_of}
 use Rattle.rart_walks.specs.Entries.{both, own_entry, entry_here}
 use Rattle.rart_walks.specs.Intersections.{CanIntersect, HasIntersected}

@@ -1,5 +1,5 @@
 -- The node that a walk stands at below its frames, and what is taken of the frames above it.
-use Rattle.std.proofs.Common.{◌≡◌, ℕ, List, [], ◌∷◌, ◌++◌, Option, Some, None, refl, sym, ap, ◌∙◌}
+use Rattle.std.proofs.Common.{ℕ, List, [], ◌∷◌, ◌++◌, Option, Some, None, refl, ap, ◌∙◌}
 use Rattle.std.proofs.lemmas.List.{append_assoc}
 use Rattle.rart_node.specs.Shape.{Shape}
 use Rattle.rart_walks.specs.Frames.{OpenNode, AreSpent, TakesAhead, with_rest}

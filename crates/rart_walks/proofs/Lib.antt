@@ -17,7 +17,6 @@ pub mod DiffPassLemmas
 pub mod EndLemmas
 pub mod EnterLemmas
 pub mod FrameLemmas
-pub mod GatherLemmas
 pub mod IntersectionLemmas
 pub mod KeyPathLemmas
 pub mod LastLemmas
@@ -30,11 +29,8 @@ pub mod PairStepLemmas
 pub mod PartLemmas
 pub mod PassLemmas
 pub mod PathLemmas
-pub mod PrefixMatchLemmas
 pub mod SharedLemmas
 pub mod SideLemmas
-pub mod SkipLemmas
-pub mod SublistLemmas
 pub mod TreeCursorLemmas
 pub mod UpToLemmas
 pub mod VisitEndLemmas

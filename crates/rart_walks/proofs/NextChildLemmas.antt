@@ -17,7 +17,7 @@ use Rattle.rart_node.proofs.KeyLemmas.{tree-has-pair}
 use Rattle.rart_maps.proofs.ElementLemmas.{Contains-here, Contains-later, Contains-cases, Contains-map, All-from_contains}
 use Rattle.rart_walks.specs.Walks.{AreShort}
 use Rattle.rart_walks.specs.Frames.{behind_path}
-use Rattle.rart_walks.proofs.WalkLemmas.{behind-none, behind-behind}
+use Rattle.rart_node.proofs.BehindLemmas.{behind-none, behind-behind}
 use Rattle.rart_walks.specs.Children.{common_children}
 use Rattle.rart_walks.specs.TreeCursors.{next_children}
 use Rattle.rart_walks.proofs.ChildLemmas.{ascending-common}

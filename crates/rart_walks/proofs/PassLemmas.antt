@@ -6,7 +6,7 @@ use Rattle.std.specs.Borrow.{Bor}
 use Rattle.std.proofs.lemmas.List.Elements.{All-nil, All-push, All-weaker}
 use Rattle.rart_below.specs.Bytes.{begins}
 use Rattle.rart_walks.specs.Walks.{Cursor, ComesTo, GoesOnFirst, PassesTo}
-use Rattle.rart_walks.proofs.PartLemmas.{begins-along}
+use Rattle.rart_node.proofs.AlongLemmas.{begins-along}
 
 pub begins-longer : (u more : List ℕ) → begins u (u ++ more) ≡ true
 begins-longer u more =

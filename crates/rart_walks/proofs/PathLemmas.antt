@@ -12,11 +12,13 @@ use Rattle.rart_walks.specs.Frames.{OpenNode, Pushes, behind_path, under_path, p
 use Rattle.rart_walks.specs.Parts.{keeps, reaches, goes_on}
 use Rattle.rart_walks.specs.Walks.{AreShort, paths_of}
 use Rattle.rart_walks.proofs.AheadLemmas.{gathered_ahead, pushed-gathered, pairs-ahead, paths-ahead}
-use Rattle.rart_walks.proofs.GatherLemmas.{keeping, gathered, gathered_all, kept_at, pairs-gathered}
-use Rattle.rart_walks.proofs.PartLemmas.{StandsAtEnd, GoesAlong, own_pair-ends, keeps-goes, reaches-goes, parted-below}
+use Rattle.rart_node.proofs.GatherLemmas.{keeping, gathered, gathered_all, kept_at, pairs-gathered}
+use Rattle.rart_node.proofs.AlongLemmas.{StandsAtEnd, GoesAlong, own_pair-ends, parted-below}
+use Rattle.rart_walks.proofs.PartLemmas.{keeps-goes, reaches-goes}
 use Rattle.rart_walks.proofs.CursorLemmas.{own_place, own_place-ends, keys_of, keys-behind, keys-append, paths-kept}
-use Rattle.rart_walks.proofs.WalkLemmas.{behind-none, behind-behind, behind-append, pairs-entered, trees-entered, pushed-path, pushed-pairs, pushed-trees, short-none, short-append, short-pending}
-use Rattle.rart_walks.proofs.SublistLemmas.{later-trees, later-short, child-short}
+use Rattle.rart_node.proofs.BehindLemmas.{behind-none, behind-behind, behind-append, pairs-entered, short-none, short-append, short-pending}
+use Rattle.rart_walks.proofs.WalkLemmas.{trees-entered, pushed-path, pushed-pairs, pushed-trees}
+use Rattle.rart_node.proofs.SublistLemmas.{later-trees, later-short, child-short}
 
 module _ {V : Type 0} where
   -- What a test keeps of what is gathered from the root is what it keeps of the node s, and then

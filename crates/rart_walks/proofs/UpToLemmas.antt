@@ -11,9 +11,8 @@ use Rattle.rart_maps.specs.FoundLaws.{KeysAscend}
 use Rattle.rart_maps.specs.Order.{IsBefore}
 use Rattle.rart_maps.proofs.RangeLemmas.{up_to, is_below, up_to-past, past-behind}
 use Rattle.rart_node.specs.Counts.{Counts, CountsUpTo}
-use Rattle.rart_node.proofs.CountingLemmas.{made-none}
+use Rattle.rart_node.proofs.CountingLemmas.{made-none, counts-none_made}
 use Rattle.rart_walks.specs.Walks.{Cursor, ComesTo, GoesOnFirst}
-use Rattle.rart_walks.proofs.CountedLemmas.{counts-none_made}
 
 -- ---- paths past the bound
 longer-behind : (u : List ℕ) (c : ℕ) (more : List ℕ) → IsBefore u (u ++ (c ∷ more))

@@ -20,7 +20,7 @@ use Rattle.rart_walks.specs.Walks.{Cursor, ComesTo, GoesOnFirst}
 use Rattle.rart_walks.specs.Ends.{EndsWithin, MeetUpTo, EntersUpTo}
 use Rattle.rart_walks.specs.OnWay.{EntersOnWay, PassesStarts}
 use Rattle.rart_walks.proofs.PassLemmas.{begins-longer}
-use Rattle.rart_walks.proofs.CountedLemmas.{counts-none_made}
+use Rattle.rart_node.proofs.CountingLemmas.{counts-none_made}
 use Rattle.rart_walks.proofs.UpToLemmas.{IsFew, few-next, past-further}
 
 -- the first of some, where there is one

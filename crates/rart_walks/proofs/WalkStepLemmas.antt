@@ -1,55 +1,21 @@
 -- A step of a way down, as its calls know it.
-use Rattle.std.proofs.Common.{◌≡◌, ◌+◌, ◌<◌, ◌≤◌, ℕ, suc, cond, List, [], ◌∷◌, ◌++◌, Option, Some, None, length, drop, slice_get, add-one, refl, arith, sym, ap, subst, ◌∙◌}
-use Rattle.std.specs.Prelude.{slice_index_or, filter}
+use Rattle.std.proofs.Common.{◌≡◌, ◌+◌, ◌<◌, ℕ, suc, cond, List, [], ◌∷◌, ◌++◌, Option, Some, None, length, add-one, refl, sym, ap, subst, ◌∙◌}
+use Rattle.std.specs.Prelude.{filter}
 use Rattle.std.specs.List.{concat}
-use Rattle.std.proofs.lemmas.List.{length-drop}
-use Rattle.rart_below.specs.Bytes.{common_length, IsAdmitted}
+use Rattle.rart_below.specs.Bytes.{IsAdmitted}
 use Rattle.rart_below.specs.Children.{child_at, children_from}
 use Rattle.rart_node.specs.Counts.{Counts, CountsUpTo}
 use Rattle.rart_node.specs.Shape.{Shape, height, prefix_of, children_of}
-use Rattle.rart_node.specs.Trees.{strip_prefix, pairs_of, path_bound}
-use Rattle.rart_node.proofs.PrefixLemmas.{strip_prefix-whole, split-whole, common_fits}
+use Rattle.rart_node.specs.Trees.{pairs_of, path_bound}
+use Rattle.rart_node.proofs.PartingLemmas.{GoesOn}
 use Rattle.rart_node.proofs.SearchLemmas.{IsSearchAt, search-counted, search-entered, search-lower, search-child}
 use Rattle.rart_walks.specs.declared.walk.path.Part.{Part}
 use Rattle.rart_walks.specs.Frames.{OpenNode, Pushes, segments_of, pairs_ahead, paths_ahead, TreesAhead}
 use Rattle.rart_walks.specs.Parts.{keeps, reaches, goes_on}
 use Rattle.rart_walks.specs.Walks.{AreShort, paths_of}
-use Rattle.rart_walks.proofs.GatherLemmas.{keeping}
+use Rattle.rart_node.proofs.GatherLemmas.{keeping}
 use Rattle.rart_walks.proofs.WalkLemmas.{path-fits}
 use Rattle.rart_walks.proofs.PathLemmas.{IsOnWay, way-child, way-missing, passed-trees, passed-short}
-
--- The string goes on behind the prefix, with this byte.
-pub record GoesOn (prefix rest : List ℕ) (byte : ℕ) (left : List ℕ) : Type 0 where
-  pub more : List ℕ
-  pub is : left ≡ byte ∷ more
-  pub whole : rest ≡ prefix ++ (byte ∷ more)
-  pub strips : Some left ≡ strip_prefix prefix rest
-  pub next : Some byte ≡ slice_get left 0
-
-goes-parts : (prefix rest left : List ℕ) → 0 < length left → rest ≡ prefix ++ left
-    → Some left ≡ strip_prefix prefix rest → GoesOn prefix rest (slice_index_or left 0 0) left
-goes-parts prefix rest [] some split strips = absurd (omega (arith, some))
-goes-parts prefix rest (b ∷ more) some split strips =
-    record { more = more; is = refl; whole = split; strips = strips; next = refl }
-
-pub goes-on : (prefix rest left : List ℕ) (common : ℕ) → left ≡ drop common rest
-    → common ≡ common_length prefix rest → (common ≡ length rest → ⊥) → length prefix ≤ common
-    → GoesOn prefix rest (slice_index_or left 0 0) left
-goes-on prefix rest left common is matched on whole =
-    let fits = common_fits prefix rest in
-    let long : length prefix ≤ common_length prefix rest = omega (arith, matched, whole) in
-    let some : 0 < length (drop common rest) = let l = length-drop common rest in
-    omega (arith, l, fits, matched, on) in
-    let split : rest ≡ prefix ++ drop common rest =
-    split-whole prefix rest long ∙ ap (λ n. prefix ++ drop n rest) (sym matched) in
-    let strips : Some (drop common rest) ≡ strip_prefix prefix rest =
-    sym (strip_prefix-whole prefix rest long ∙ ap (λ n. Some (drop n rest)) (sym matched)) in
-    subst (λ z. GoesOn prefix rest (slice_index_or z 0 0) z) (sym is)
-    (goes-parts prefix rest (drop common rest) some split strips)
-
-pub goes-some : (prefix rest : List ℕ) (byte : ℕ) (left : List ℕ) → GoesOn prefix rest byte left
-    → 0 < length left
-goes-some prefix rest byte left goes = let l = ap length goes.is in omega (arith, l)
 
 module _ {V : Type 0} (part : Part) (greatest : Option ℕ) (probe : List ℕ) (root : Shape V)
     (start : Counts) (s : Shape V) (rest : List ℕ) (frames : List (OpenNode V)) (now : Counts)

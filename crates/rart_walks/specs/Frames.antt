@@ -2,10 +2,9 @@
 -- the one above, and the children that are left.
 use Rattle.std.specs.Prelude.{◌≡◌, ℕ, List, [], ◌∷◌, ◌++◌, Option, Some, None, map, ⊤}
 use Rattle.std.specs.List.{concat}
-use Rattle.rart_node.specs.Shape.{Shape, prefix_of, children_of}
-use Rattle.rart_node.specs.Trees.{IsTree, pairs_of}
+use Rattle.rart_node.specs.Shape.{Shape}
 use Rattle.rart_walks.specs.Walks.{Cursor, paths_of}
-pub use Rattle.rart_walks.specs.Walks.{pending_pair}
+pub use Rattle.rart_node.specs.PairsBehind.{behind_path, pending_pair, pairs_of_all, pairs_inside, AreTrees}
 
 abbrev pub OpenNode : Type 0 → Type 0
 OpenNode V = List (List ℕ) × List (ℕ × Shape V)
@@ -15,26 +14,10 @@ abbrev pub under_path : List ℕ → List (List ℕ) → List (List ℕ)
 under_path path paths = map (λ more. path ++ more) paths
 
 module _ {V : Type 0} where
-  -- the pairs with this string before each key
-  abbrev pub behind_path : List ℕ → List (List ℕ × V) → List (List ℕ × V)
-  behind_path path pairs = map (λ pair. (path ++ pair.0, pair.1)) pairs
-
-  -- the pairs of children, one child after the other, and the paths of their nodes
-  abbrev pub pairs_of_all : List (ℕ × Shape V) → List (List ℕ × V)
-  pairs_of_all [] = []
-  pairs_of_all (child ∷ children) = pairs_of child.1 ++ pairs_of_all children
-
+  -- the paths of the nodes of children, one child after the other
   abbrev pub paths_of_all : List (ℕ × Shape V) → List (List ℕ)
   paths_of_all [] = []
   paths_of_all (child ∷ children) = paths_of child.1 ++ paths_of_all children
-
-  -- the pairs of a node but its own
-  abbrev pub pairs_inside : Shape V → List (List ℕ × V)
-  pairs_inside s = behind_path (prefix_of s) (pairs_of_all (children_of s))
-
-  abbrev pub AreTrees : List (ℕ × Shape V) → Type 0
-  AreTrees [] = ⊤
-  AreTrees (child ∷ children) = IsTree child.1 × AreTrees children
 
   -- the nodes, and below them one with nothing left, to which these segments lead, if any
   abbrev pub with_rest : List (OpenNode V) → List (List ℕ) → List (OpenNode V)

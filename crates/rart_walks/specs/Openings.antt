@@ -1,13 +1,13 @@
 -- How a walk opens nodes and leaves them: inside only.
-use Rattle.std.specs.Prelude.{◌≡◌, ◌<◌, ◌⊎◌, ℕ, Bool, List, [], ◌∷◌, ◌++◌, Option, None, Some, Result, OnOk, filter, is_ok, length, if◌then◌else◌}
+use Rattle.std.specs.Prelude.{◌≡◌, ◌<◌, ◌⊎◌, ℕ, List, [], ◌∷◌, ◌++◌, Option, None, Some, Result, OnOk, filter, is_ok, length, if◌then◌else◌}
 use Rattle.std.specs.List.{concat}
 use Rattle.std.specs.Option.{option_copied}
 use Rattle.rart_below.specs.Bytes.{IsAdmitted, common_length}
-use Rattle.rart_node.specs.Shape.{Shape, IsAscending, prefix_of, value_of, children_of}
+use Rattle.rart_node.specs.Shape.{Shape, prefix_of, value_of, children_of}
 use Rattle.rart_node.specs.Trees.{IsTree, pairs_of}
-use Rattle.rart_walks.specs.Frames.{OpenNode, Pushes, TakesAhead, behind_path, under_path, pairs_ahead, pairs_inside, segments_of}
+use Rattle.rart_walks.specs.Frames.{Pushes, TakesAhead, behind_path, under_path, pairs_ahead, pairs_inside, segments_of}
 use Rattle.rart_walks.specs.Parts.{keeps, reaches}
-use Rattle.rart_walks.specs.WalkFields.{IsFramed, IsWalk, cursor, nodes_open, open_nodes, path_to}
+use Rattle.rart_walks.specs.WalkFields.{IsFramed, IsWalk, cursor, nodes_open, path_to}
 use Rattle.rart_walks.specs.Walks.{AreShort, IsEndOf, paths_of}
 use Rattle.rart_walks.specs.declared.walk.Walk.{Walk}
 use Rattle.rart_walks.specs.declared.walk.path.Part.{Part}

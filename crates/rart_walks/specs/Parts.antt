@@ -1,8 +1,6 @@
 -- Which part of a tree a way down leads to, by a string.
-use Rattle.std.specs.Prelude.{ℕ, Bool, true, false, List, []}
+use Rattle.std.specs.Prelude.{ℕ, Bool, true, false, List}
 use Rattle.std.specs.Ordering.{is_le, is_lt}
-use Rattle.std.specs.declared.ops.Bound.{Bound}
-use Rattle.std.specs.declared.ops.Bound.TheVariants.{Included, Excluded, Unbounded}
 use Rattle.rart_below.specs.Bytes.{byte_order, begins}
 use Rattle.rart_walks.specs.declared.walk.path.Part.{Part}
 use Rattle.rart_walks.specs.declared.walk.path.Part.TheVariants.{Under, From, Behind}
@@ -30,9 +28,3 @@ abbrev pub is_strict : Part → Bool
 is_strict Under = false
 is_strict From = false
 is_strict Behind = true
-
--- the string at which a lower bound starts
-abbrev pub start_of : Bound (List ℕ) → List ℕ
-start_of (Included low) = low
-start_of (Excluded low) = low
-start_of Unbounded = []

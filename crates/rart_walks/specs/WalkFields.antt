@@ -1,5 +1,5 @@
 -- What the fields of a walk mean.
-use Rattle.std.specs.Prelude.{◌≡◌, ℕ, ◌+◌, ◌≤◌, List, [], ◌∷◌, ◌++◌, Option, None, Some, is_some, length, map, if◌then◌else◌, ⊤}
+use Rattle.std.specs.Prelude.{◌≡◌, ℕ, ◌+◌, ◌≤◌, List, [], ◌∷◌, ◌++◌, Option, None, is_some, length, map, if◌then◌else◌, ⊤}
 use Rattle.std.specs.List.{concat}
 use Rattle.std.specs.Option.{option_copied, option_to_list}
 use Rattle.rart_node.specs.Counts.{Counts}

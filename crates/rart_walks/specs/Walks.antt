@@ -1,11 +1,12 @@
 -- What a walk over a tree has left, and how long the keys of what it goes over may be.
-use Rattle.std.specs.Prelude.{◌≡◌, ◌≤◌, ◌⊎◌, ℕ, true, List, [], ◌∷◌, ◌++◌, map, Option, Some, None, IsSome, All, length, ⊤}
+use Rattle.std.specs.Prelude.{◌≡◌, ◌⊎◌, ℕ, true, List, [], ◌∷◌, ◌++◌, map, Option, Some, None, IsSome, All}
 use Rattle.std.specs.Option.{option_copied}
 use Rattle.std.specs.List.{concat}
 use Rattle.std.specs.Borrow.{Bor}
 use Rattle.rart_below.specs.Bytes.{begins}
 use Rattle.rart_node.specs.Shape.{Shape, Forest, node, bare, grown}
 pub use Rattle.rart_node.specs.Nodes.{nodes_of, nodes_below}
+pub use Rattle.rart_node.specs.PairsBehind.{AreShort, pending_pair}
 
 module _ {V : Type 0} where
   abbrev mutual
@@ -17,11 +18,6 @@ module _ {V : Type 0} where
     pub paths_below : Forest V → List (List ℕ)
     paths_below bare = []
     paths_below (grown byte child forest) = paths_of child ++ paths_below forest
-
-  -- No key is longer than this, where there is a greatest length.
-  abbrev pub AreShort : Option ℕ → List (List ℕ × V) → Type 0
-  AreShort None pairs = ⊤
-  AreShort (Some most) pairs = All (λ pair. length pair.0 ≤ most) pairs
 
 -- Where a walk stands, and what it has left.
 pub record Cursor (V : Type 0) : Type 0 where
@@ -42,11 +38,6 @@ module _ {V : Type 0} where
   abbrev pub Gives : Cursor V → Option (Bor V) → Cursor V → Type 0
   Gives before None after = (before.pairs ≡ []) × (after ≡ walk_end)
   Gives before (Some value) after = before.pairs ≡ (concat after.segments, value.now) ∷ after.pairs
-
-  -- the pair of a value that is still to be given
-  abbrev pub pending_pair : List ℕ → Option V → List (List ℕ × V)
-  pending_pair path None = []
-  pending_pair path (Some value) = (path, value) ∷ []
 
   -- The first of these pairs has a key that the string begins.
   abbrev pub GoesOnFirst : List ℕ → List (List ℕ × V) → Type 0

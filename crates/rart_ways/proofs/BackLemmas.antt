@@ -5,9 +5,9 @@ use Rattle.std.proofs.lemmas.List.{append-nil, append_assoc}
 use Rattle.rart_below.specs.Children.{child_at, children_below}
 use Rattle.rart_node.specs.Shape.{Shape, prefix_of, value_of, children_of}
 use Rattle.rart_node.specs.Trees.{IsTree, own_pair, pairs_of}
-use Rattle.rart_walks.specs.Frames.{behind_path, pairs_of_all, pending_pair}
-use Rattle.rart_walks.proofs.GatherLemmas.{keeping, kept_at, pairs-gathered}
-use Rattle.rart_walks.proofs.WalkLemmas.{behind-append, behind-behind, behind-none}
+use Rattle.rart_node.specs.PairsBehind.{behind_path, pairs_of_all, pending_pair}
+use Rattle.rart_node.proofs.GatherLemmas.{keeping, kept_at, pairs-gathered}
+use Rattle.rart_node.proofs.BehindLemmas.{behind-append, behind-behind, behind-none}
 use Rattle.rart_ways.specs.Besides.{is_to}
 use Rattle.rart_ways.specs.Lasts.{EndAt, IsEnd}
 use Rattle.rart_ways.specs.declared.seeking.Edge.{Edge}

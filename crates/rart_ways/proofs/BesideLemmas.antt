@@ -4,7 +4,7 @@ use Rattle.std.specs.FinMap as finite
 use Rattle.std.specs.declared.cmp.Ordering.TheVariants.{Less, Equal, Greater}
 use Rattle.std.specs.Ordering.{ordering_then, nat_cmp, is_le, is_lt}
 use Rattle.rart_below.specs.Bytes.{byte_order}
-use Rattle.rart_walks.proofs.PartLemmas.{order-along}
+use Rattle.rart_node.proofs.AlongLemmas.{order-along}
 use Rattle.rart_ways.specs.Besides.{is_to}
 use Rattle.rart_ways.specs.declared.seeking.Edge.{Edge}
 use Rattle.rart_ways.specs.declared.seeking.Edge.TheVariants.{Included, Excluded}

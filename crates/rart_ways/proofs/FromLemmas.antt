@@ -7,10 +7,10 @@ use Rattle.rart_ways.specs.Starts.{is_from}
 use Rattle.rart_ways.specs.declared.seeking.Edge.{Edge}
 use Rattle.rart_ways.specs.declared.seeking.Edge.TheVariants.{Included, Excluded}
 use Rattle.rart_node.specs.Trees.{IsTree, own_pair, pairs_of}
-use Rattle.rart_walks.specs.Frames.{behind_path, pairs_inside}
-use Rattle.rart_walks.proofs.EndLemmas.{IsFront, PartsAt}
-use Rattle.rart_walks.proofs.GatherLemmas.{keeping, gathered, pairs-gathered, all-gathered}
-use Rattle.rart_walks.proofs.PartLemmas.{GoesAlong, order-goes, own_pair-ends, parted-lower, parted-upper, parted-all, parted-inside}
+use Rattle.rart_node.specs.PairsBehind.{behind_path, pairs_inside}
+use Rattle.rart_node.proofs.PartingLemmas.{IsFront, PartsAt}
+use Rattle.rart_node.proofs.GatherLemmas.{keeping, gathered, pairs-gathered, all-gathered}
+use Rattle.rart_node.proofs.AlongLemmas.{GoesAlong, order-goes, own_pair-ends, parted-lower, parted-upper, parted-all, parted-inside}
 
 pub from-goes : (edge : Edge) → GoesAlong (is_from edge) true
 from-goes Included = order-goes is_le refl refl

@@ -10,9 +10,8 @@ use Rattle.rart_node.specs.Trees.{IsTree, pairs_of}
 use Rattle.rart_below.specs.Laws.{IsBelow}
 use Rattle.rart_below.proofs.AscendingLemmas.{ascending_parts, below_parts, child_at-here, child_at-later}
 use Rattle.rart_node.proofs.FindLemmas.{ascending, branch, ordered, tree-some}
-use Rattle.rart_walks.specs.Frames.{behind_path, pairs_of_all, pending_pair}
-use Rattle.rart_walks.specs.Walks.{AreShort}
-use Rattle.rart_walks.proofs.WalkLemmas.{behind-append, pairs-entered, short-back}
+use Rattle.rart_node.specs.PairsBehind.{behind_path, pairs_of_all, pending_pair, AreShort}
+use Rattle.rart_node.proofs.BehindLemmas.{behind-append, pairs-entered, short-back}
 use Rattle.rart_ways.specs.Firsts.{IsFirst}
 use Rattle.rart_ways.specs.Lasts.{EndAt, IsEnd, pairs_to}
 use Rattle.rart_ways.specs.Besides.{is_to}

@@ -10,9 +10,8 @@ use Rattle.rart_ways.specs.Starts.{IsStart}
 use Rattle.rart_ways.proofs.TurnLemmas.{tree-turns, turn-first, turn-deep}
 use Rattle.rart_node.specs.Trees.{IsTree, pairs_of}
 use Rattle.rart_node.proofs.FindLemmas.{branch, ordered, tree-some}
-use Rattle.rart_walks.specs.Frames.{behind_path, pairs_of_all, pending_pair}
-use Rattle.rart_walks.specs.Walks.{AreShort}
-use Rattle.rart_walks.proofs.WalkLemmas.{pairs-entered, short-pending, tree-has-pair}
+use Rattle.rart_node.specs.PairsBehind.{behind_path, pairs_of_all, pending_pair, AreShort}
+use Rattle.rart_node.proofs.BehindLemmas.{pairs-entered, short-pending, tree-has-pair}
 
 module _ {V : Type 0} where
   pub start-whole : (path : List ℕ) (s : Shape V) → IsTree s

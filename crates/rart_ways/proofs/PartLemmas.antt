@@ -19,7 +19,7 @@ use Rattle.rart_node.proofs.CountingLemmas.{counts-opened, counts-then, path-one
 use Rattle.rart_node.proofs.FindLemmas.{branch, ordered, tree-some}
 use Rattle.rart_node.proofs.InsertionLemmas.{in-child, ascending-with, branches-with}
 use Rattle.rart_node.proofs.PrefixLemmas.{strip_prefix-own, strip_prefix-is, split-common, common-within, begins-common}
-use Rattle.rart_walks.proofs.PartLemmas.{begins-along}
+use Rattle.rart_node.proofs.AlongLemmas.{begins-along}
 use Rattle.rart_ways.specs.Prefixes.{IsGrafted, tail_of, under_or}
 use Rattle.rart_ways.proofs.CutLemmas.{cut-absent, cut-child, cut-found, cut-ordered}
 use Rattle.rart_ways.proofs.GraftLemmas.{look, below-changed, node-changed, child_at-with, grafted-child}

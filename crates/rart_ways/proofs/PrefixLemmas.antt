@@ -19,7 +19,7 @@ use Rattle.rart_node.proofs.InsertionLemmas.{inside}
 use Rattle.rart_node.proofs.KeyLemmas.{tree-has-key}
 use Rattle.rart_node.proofs.MatchLemmas.{found-left, found-deeper}
 use Rattle.rart_maps.proofs.OrderLemmas.{begins-rest}
-use Rattle.rart_walks.proofs.PartLemmas.{begins-along}
+use Rattle.rart_node.proofs.AlongLemmas.{begins-along}
 use Rattle.rart_ways.specs.Paths.{first_byte, child_along, step, path_end}
 use Rattle.rart_ways.specs.Prefixes.{HasNoneUnder, HasSomeUnder, StandsUnder, IsUnderAlone}
 use Rattle.rart_ways.specs.Removals.{AreAdmitted}

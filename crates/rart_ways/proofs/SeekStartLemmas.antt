@@ -11,12 +11,11 @@ use Rattle.rart_ways.proofs.FromLemmas.{from-goes}
 use Rattle.rart_ways.proofs.TurnLemmas.{tree-turns, later-turns}
 use Rattle.rart_node.specs.Trees.{IsTree, own_pair, pairs_of}
 use Rattle.rart_node.proofs.SearchLemmas.{IsSearchAt, search-start}
-use Rattle.rart_walks.specs.Frames.{behind_path, pairs_of_all, pairs_inside}
-use Rattle.rart_walks.specs.Walks.{AreShort}
-use Rattle.rart_walks.proofs.GatherLemmas.{keeping, kept_at, pairs-gathered, all-gathered}
-use Rattle.rart_walks.proofs.PartLemmas.{own_pair-ends, parted-below}
-use Rattle.rart_walks.proofs.SublistLemmas.{later-short, child-short}
-use Rattle.rart_walks.proofs.WalkLemmas.{behind-append, behind-behind, behind-none, pairs-entered, short-pending}
+use Rattle.rart_node.specs.PairsBehind.{behind_path, pairs_of_all, pairs_inside, AreShort}
+use Rattle.rart_node.proofs.GatherLemmas.{keeping, kept_at, pairs-gathered, all-gathered}
+use Rattle.rart_node.proofs.AlongLemmas.{own_pair-ends, parted-below}
+use Rattle.rart_node.proofs.SublistLemmas.{later-short, child-short}
+use Rattle.rart_node.proofs.BehindLemmas.{behind-append, behind-behind, behind-none, pairs-entered, short-pending}
 
 -- The front of a string, by the length of its rest.
 pub front-of : (low path rest : List ℕ) → low ≡ path ++ rest

@@ -9,9 +9,8 @@ use Rattle.rart_ways.specs.declared.seeking.Edge.{Edge}
 use Rattle.rart_ways.proofs.SeekStartLemmas.{IsSeekAt, from_low, passed, later-fits, later-brief, turn-passed, ends-missing, seek-child}
 use Rattle.rart_node.specs.Trees.{path_bound}
 use Rattle.rart_node.proofs.SearchLemmas.{IsSearchAt, search-counted, search-lower, search-child}
-use Rattle.rart_walks.specs.Frames.{behind_path, pairs_of_all}
-use Rattle.rart_walks.specs.Walks.{AreShort}
-use Rattle.rart_walks.proofs.WalkStepLemmas.{GoesOn}
+use Rattle.rart_node.specs.PairsBehind.{behind_path, pairs_of_all, AreShort}
+use Rattle.rart_node.proofs.PartingLemmas.{GoesOn}
 
 module _ {V : Type 0} (edge : Edge) (low : List ℕ) (root : Shape V) (start : Counts)
     (s : Shape V) (rest : List ℕ) (now : Counts) (path : List ℕ) (ahead : List (List ℕ × V))

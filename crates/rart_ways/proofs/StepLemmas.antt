@@ -13,9 +13,9 @@ use Rattle.rart_ways.specs.Steps.{child_under}
 use Rattle.rart_node.specs.Trees.{strip_prefix, found, IsTree, own_pair, path_bound}
 use Rattle.rart_node.proofs.PrefixLemmas.{strip_prefix-is}
 use Rattle.rart_node.proofs.SearchLemmas.{IsSearchAt, search-counted, search-entered, search-left, search-here, search-missing, search-lower, search-child}
-use Rattle.rart_walks.specs.Frames.{behind_path, pending_pair}
-use Rattle.rart_walks.proofs.PrefixMatchLemmas.{matches_of, matches_at, matches_of-left, matches_of-end, matches_of-deeper}
-use Rattle.rart_walks.proofs.WalkLemmas.{behind-behind, behind-append, behind-none}
+use Rattle.rart_node.specs.PairsBehind.{behind_path, pending_pair}
+use Rattle.rart_node.proofs.PrefixMatchLemmas.{matches_of, matches_at, matches_of-left, matches_of-end, matches_of-deeper}
+use Rattle.rart_node.proofs.BehindLemmas.{behind-behind, behind-append, behind-none}
 
 -- ---- what a `?` on nothing tells, and a rest without a byte
 pub nothing-if : {A : Type 0} (P : A → Type 0) (o : Option A) → o ≡ None → IfSome o P

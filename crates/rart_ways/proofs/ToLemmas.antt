@@ -12,11 +12,11 @@ use Rattle.rart_below.proofs.AscendingLemmas.{ascending_parts, below_lower, belo
 use Rattle.rart_below.proofs.ChildrenBelowLemmas.{below-kept, below-none, below-passed}
 use Rattle.rart_node.specs.Shape.{Shape, prefix_of, value_of, children_of}
 use Rattle.rart_node.specs.Trees.{IsTree, own_pair, pairs_of}
-use Rattle.rart_walks.specs.Frames.{behind_path, pairs_of_all, pending_pair}
-use Rattle.rart_walks.proofs.EndLemmas.{IsFront, PartsAt}
-use Rattle.rart_walks.proofs.GatherLemmas.{AreBegun, keeping, keeping-append, keeping-begun, keeping-behind, keeping-either, keeping-same, kept_at, behind-either, gathered, gathered_all, gathered-is, pairs-gathered, all-gathered, tree-ascending, tree-begun}
-use Rattle.rart_walks.proofs.PartLemmas.{order-along}
-use Rattle.rart_walks.proofs.WalkLemmas.{behind-append}
+use Rattle.rart_node.specs.PairsBehind.{behind_path, pairs_of_all, pending_pair}
+use Rattle.rart_node.proofs.PartingLemmas.{IsFront, PartsAt}
+use Rattle.rart_node.proofs.GatherLemmas.{AreBegun, keeping, keeping-append, keeping-begun, keeping-behind, keeping-either, keeping-same, kept_at, behind-either, gathered, gathered_all, gathered-is, pairs-gathered, all-gathered, tree-ascending, tree-begun}
+use Rattle.rart_node.proofs.AlongLemmas.{order-along}
+use Rattle.rart_node.proofs.BehindLemmas.{behind-append}
 use Rattle.rart_ways.specs.Besides.{is_to}
 use Rattle.rart_ways.specs.declared.seeking.Edge.{Edge}
 use Rattle.rart_ways.specs.declared.seeking.Edge.TheVariants.{Included, Excluded}

@@ -7,12 +7,10 @@ use Rattle.rart_node.specs.Counts.{Counts, CountsUpTo}
 use Rattle.rart_node.specs.Shape.{Shape, Forest, node, bare, grown, prefix_of, children_of, entries_of}
 use Rattle.rart_ways.specs.Starts.{IsStart, StartAt, AreTurns, IsDeep, start_length}
 use Rattle.rart_node.specs.Trees.{IsTree, AreBranches, pairs_of}
-use Rattle.rart_node.proofs.CountingLemmas.{counts-then}
+use Rattle.rart_node.proofs.CountingLemmas.{counts-then, counts-none_made}
 use Rattle.rart_node.proofs.PrefixLemmas.{begins-long}
-use Rattle.rart_walks.specs.Frames.{behind_path, pairs_of_all}
-use Rattle.rart_walks.specs.Walks.{AreShort}
-use Rattle.rart_walks.proofs.CountedLemmas.{counts-none_made}
-use Rattle.rart_walks.proofs.WalkLemmas.{behind-append, short-front}
+use Rattle.rart_node.specs.PairsBehind.{behind_path, pairs_of_all, AreShort}
+use Rattle.rart_node.proofs.BehindLemmas.{behind-append, short-front}
 
 module _ {V : Type 0} where
   branch-turns : (forest : Forest V) → AreBranches forest → AreTurns (entries_of forest)

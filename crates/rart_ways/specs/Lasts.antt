@@ -8,7 +8,7 @@ use Rattle.rart_below.specs.Bytes.{byte_order}
 use Rattle.rart_node.specs.Shape.{Shape, prefix_of, value_of}
 use Rattle.rart_node.specs.Seen.{Seen}
 use Rattle.rart_node.specs.Trees.{IsTree, pairs_of}
-use Rattle.rart_walks.specs.Frames.{behind_path, pending_pair}
+use Rattle.rart_node.specs.PairsBehind.{behind_path, pending_pair}
 use Rattle.rart_ways.specs.Besides.{is_to}
 use Rattle.rart_ways.specs.declared.seeking.Edge.{Edge}
 use Rattle.rart_ways.specs.declared.seeking.end.Last.{Last}

@@ -12,8 +12,7 @@ use Rattle.rart_ways.specs.declared.seeking.Edge.TheVariants.{Included, Excluded
 use Rattle.rart_ways.specs.declared.seeking.start.Kept.{Kept}
 use Rattle.rart_ways.specs.declared.seeking.start.Kept.TheVariants.{All, Inside, Nothing}
 use Rattle.rart_node.specs.Trees.{IsTree, pairs_of}
-use Rattle.rart_walks.specs.Frames.{behind_path, pairs_inside}
-use Rattle.rart_walks.specs.Walks.{AreShort}
+use Rattle.rart_node.specs.PairsBehind.{behind_path, pairs_inside, AreShort}
 
 -- whether a key is from a string on, or, where that is excluded, behind it
 abbrev pub is_from : Edge → List ℕ → List ℕ → Bool

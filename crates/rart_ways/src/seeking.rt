@@ -9,8 +9,8 @@ ghost use Rattle.std.specs.Range.Bound.{is_up_to_end, bound_map};
 ghost use Rattle.rart_below.specs.Bytes.{byte_order};
 ghost use Rattle.rart_node.specs.Counts.{CountsUpTo};
 ghost use Rattle.rart_node.specs.Trees.{IsTree, pairs_of, path_bound};
-ghost use Rattle.rart_walks.specs.Parts.{start_of};
-ghost use Rattle.rart_walks.specs.Walks.{AreShort};
+ghost use Rattle.rart_maps.specs.Bounds.{bound_string};
+ghost use Rattle.rart_node.specs.PairsBehind.{AreShort};
 ghost use Rattle.rart_ways.specs.Firsts.{Finds, first_passes, found_length};
 ghost use Rattle.rart_ways.specs.Lasts.{pairs_reaching, pairs_to};
 ghost use Rattle.rart_ways.specs.Starts.{pairs_from, pairs_meeting};
@@ -53,7 +53,7 @@ pub fn first_from<'a, P: Partial, V: Drop>(
     requires short { AreShort (Some (2 ^ 64 - 1)) (pairs_of root.now.shape) }
     ensures first { Finds (pairs_meeting (bound_map (λ low. low.now) low.entry) root.now.shape)
         result room.old room.new }
-    ensures counted { let from = start_of (bound_map (λ low. low.now) low.entry) in
+    ensures counted { let from = bound_string (bound_map (λ low. low.now) low.entry) in
         CountsUpTo (path_bound root.now.shape from + found_length result) 0 work.old work.new }
     ensures entered { work.old.entered < work.new.entered }
 {
@@ -96,7 +96,7 @@ pub fn last_to<'a, P: Partial, V: Drop>(
     requires short { AreShort (Some (2 ^ 64 - 1)) (pairs_of root.now.shape) }
     ensures last { Finds (reverse (pairs_reaching (bound_map (λ high. high.now) high.entry)
         root.now.shape)) result room.old room.new }
-    ensures counted { let to = start_of (bound_map (λ high. high.now) high.entry) in
+    ensures counted { let to = bound_string (bound_map (λ high. high.now) high.entry) in
         CountsUpTo (path_bound root.now.shape to + found_length result) 0 work.old work.new }
     ensures entered { work.old.entered < work.new.entered }
 {
@@ -146,8 +146,8 @@ pub fn has_within<P: Partial, V: Drop>(
         let to = bound_map (λ high. high.now) high.entry in
         result ≡ first_passes (is_up_to_end (as_partial_cmp byte_order) to)
         (pairs_meeting from root.now.shape) }
-    ensures counted { let from = start_of (bound_map (λ low. low.now) low.entry) in
-        let to = start_of (bound_map (λ high. high.now) high.entry) in
+    ensures counted { let from = bound_string (bound_map (λ low. low.now) low.entry) in
+        let to = bound_string (bound_map (λ high. high.now) high.entry) in
         CountsUpTo (path_bound root.now.shape from + length to + 2) 0 work.old work.new }
     ensures entered { work.old.entered < work.new.entered }
 {
@@ -171,7 +171,7 @@ fn has_behind<P: Partial, V: Drop>(
     ensures passes { let to = bound_map (λ high. high.now) high.entry in
         result ≡ first_passes (is_up_to_end (as_partial_cmp byte_order) to)
         (pairs_from edge low.now root.now.shape) }
-    ensures counted { let to = start_of (bound_map (λ high. high.now) high.entry) in
+    ensures counted { let to = bound_string (bound_map (λ high. high.now) high.entry) in
         CountsUpTo (path_bound root.now.shape low.now + length to + 2) 0 work.old work.new }
     ensures entered { work.old.entered < work.new.entered }
 {

@@ -10,7 +10,8 @@ ghost use Rattle.rart_node.specs.VersionedNodeIter.{children_left};
 ghost use Rattle.rart_node.specs.Trees.{IsTree, pairs_of, path_bound};
 ghost use Rattle.rart_walks.specs.Frames.{pairs_inside};
 ghost use Rattle.rart_walks.specs.Openings.{CanPass, EndsIn, EntersEnd, Finishes, OpensPart, StandsAbove};
-ghost use Rattle.rart_walks.specs.Parts.{keeps, reaches, goes_on, is_strict, start_of};
+ghost use Rattle.rart_maps.specs.Bounds.{bound_string};
+ghost use Rattle.rart_walks.specs.Parts.{keeps, reaches, goes_on, is_strict};
 ghost use Rattle.rart_walks.specs.Walked.{StartsWithin};
 ghost use Rattle.rart_walks.specs.WalkFields.{IsFramed};
 ghost use Rattle.rart_walks.specs.Walks.{AreShort};
@@ -88,8 +89,8 @@ impl<'a, P: Partial, V: Drop, T: KeyPath<'a>> Walk<'a, P, V, T> {
         requires short { AreShort T.greatest (pairs_of root.now.shape) }
         ensures { StartsWithin T.holds T.extent T.greatest result
             (is_from_start (as_partial_cmp byte_order) (bound_map (λ low. low.now) low.entry))
-            (λ path. is_lt (byte_order (start_of (bound_map (λ low. low.now) low.entry)) path))
-            (length (start_of (bound_map (λ low. low.now) low.entry)) + 1)
+            (λ path. is_lt (byte_order (bound_string (bound_map (λ low. low.now) low.entry)) path))
+            (length (bound_string (bound_map (λ low. low.now) low.entry)) + 1)
             root.now.shape work.old work.new }
     {
         match low {

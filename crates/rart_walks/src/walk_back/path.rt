@@ -11,7 +11,7 @@ ghost use Rattle.rart_node.specs.Trees.{IsTree, pairs_of, path_bound};
 ghost use Rattle.rart_node.specs.VersionedNodeRevIter.{children_before};
 ghost use Rattle.rart_walks.specs.Fronts.{EntersReached, StandsAbove, StartsWithin, at_end_of, has_lower, keeps, reached_pairs, reached_paths, reaches, reaches_to};
 ghost use Rattle.rart_walks.specs.Openings.{EndsIn};
-ghost use Rattle.rart_walks.specs.Parts.{start_of};
+ghost use Rattle.rart_maps.specs.Bounds.{bound_string};
 ghost use Rattle.rart_walks.specs.Walks.{AreShort, paths_of};
 
 use super::WalkBack;
@@ -84,7 +84,7 @@ impl<'a, P: Partial, V: Drop, T: KeyPath<'a>> WalkBack<'a, P, V, T> {
         ensures { StartsWithin T.holds T.greatest result
             (is_up_to_end (as_partial_cmp byte_order) (bound_map (λ high. high.now) high.entry))
             (reaches_to (bound_map (λ high. high.now) high.entry))
-            (length (start_of (bound_map (λ high. high.now) high.entry)) + 1)
+            (length (bound_string (bound_map (λ high. high.now) high.entry)) + 1)
             root.now.shape work.old work.new }
     {
         match high {

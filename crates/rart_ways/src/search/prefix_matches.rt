@@ -5,7 +5,7 @@ ghost use Rattle.std.specs.Option.{option_copied};
 ghost use Rattle.rart_maps.specs.Visits.{BySlice, Visit, Visitable};
 ghost use Rattle.rart_node.specs.Counts.{CountsUpTo};
 ghost use Rattle.rart_node.specs.Trees.{IsTree, path_bound};
-ghost use Rattle.rart_walks.specs.Frames.{pending_pair};
+ghost use Rattle.rart_node.specs.PairsBehind.{pending_pair};
 ghost use Rattle.rart_ways.specs.Searches.{EntersEach, prefix_matches};
 
 use crate::search::steps::step;

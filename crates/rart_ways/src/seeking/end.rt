@@ -7,8 +7,7 @@ ghost use Rattle.rart_below.specs.Children.{children_below};
 ghost use Rattle.rart_node.specs.Counts.{CountsUpTo};
 ghost use Rattle.rart_node.specs.Shape.{IsAscending, children_of, prefix_of, value_of};
 ghost use Rattle.rart_node.specs.Trees.{IsTree, pairs_of, path_bound};
-ghost use Rattle.rart_walks.specs.Frames.{behind_path, pairs_of_all, pending_pair};
-ghost use Rattle.rart_walks.specs.Walks.{AreShort};
+ghost use Rattle.rart_node.specs.PairsBehind.{behind_path, pairs_of_all, pending_pair, AreShort};
 ghost use Rattle.rart_ways.specs.Lasts.{EndAt, IsDeepEnd, end_length, end_shape, pairs_to, reached_part};
 ghost use Rattle.rart_ways.specs.Starts.{AreTurns};
 

@@ -4,8 +4,7 @@ ghost use Rattle.std.specs.Prelude.{◌≡◌, ◌+◌, ◌-◌, ◌^◌, ◌≤
 ghost use Rattle.rart_node.specs.Counts.{CountsUpTo};
 ghost use Rattle.rart_node.specs.Shape.{prefix_of, value_of};
 ghost use Rattle.rart_node.specs.Trees.{IsTree, pairs_of};
-ghost use Rattle.rart_walks.specs.Frames.{behind_path};
-ghost use Rattle.rart_walks.specs.Walks.{AreShort};
+ghost use Rattle.rart_node.specs.PairsBehind.{behind_path, AreShort};
 ghost use Rattle.rart_ways.specs.Firsts.{IsFirst};
 
 use crate::seeking::least::write_at;

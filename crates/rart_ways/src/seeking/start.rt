@@ -8,8 +8,7 @@ ghost use Rattle.rart_node.specs.Counts.{CountsUpTo};
 ghost use Rattle.rart_node.specs.Shape.{IsAscending, children_of, prefix_of};
 ghost use Rattle.rart_node.specs.Trees.{IsTree, pairs_of, path_bound};
 ghost use Rattle.rart_node.specs.VersionedNodeIter.{children_left};
-ghost use Rattle.rart_walks.specs.Frames.{behind_path, pairs_of_all};
-ghost use Rattle.rart_walks.specs.Walks.{AreShort};
+ghost use Rattle.rart_node.specs.PairsBehind.{behind_path, pairs_of_all, AreShort};
 ghost use Rattle.rart_ways.specs.Starts.{AreTurns, IsDeep, StartAt, kept_part, pairs_from, start_length, start_shape};
 
 use crate::seeking::Edge;

@@ -3,8 +3,7 @@
 ghost use Rattle.std.specs.Prelude.{◌≡◌, ◌+◌, ◌-◌, ◌^◌, ◌∷◌, [], ℕ, List, Some, length};
 ghost use Rattle.rart_node.specs.Counts.{CountsUpTo};
 ghost use Rattle.rart_node.specs.Trees.{IsTree, pairs_of};
-ghost use Rattle.rart_walks.specs.Frames.{behind_path};
-ghost use Rattle.rart_walks.specs.Walks.{AreShort};
+ghost use Rattle.rart_node.specs.PairsBehind.{behind_path, AreShort};
 ghost use Rattle.rart_ways.specs.Besides.{StandsSo, is_to};
 
 use crate::seeking::Edge;

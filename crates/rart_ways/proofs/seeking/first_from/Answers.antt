@@ -4,7 +4,7 @@ use Rattle.rart_ways.specs.Starts.{is_from}
 use Rattle.rart_ways.specs.declared.seeking.Edge.TheVariants.{Included}
 use Rattle.rart_ways.proofs.FromLemmas.{from-itself}
 use Rattle.rart_node.specs.Trees.{pairs_of}
-use Rattle.rart_walks.proofs.GatherLemmas.{keeping-same}
+use Rattle.rart_node.proofs.GatherLemmas.{keeping-same}
 use Rattle.rart_ways.proofs.seeking.first_from.Goals as goal
 
 pub returns-in-Unbounded : goal.returns-in-Unbounded

@@ -1,9 +1,9 @@
 use Rattle.std.proofs.Common.{true, refl, reverse, sym, subst, ◌∙◌}
 use Rattle.std.specs.Prelude.{◌-◌, ◌^◌, Some}
 use Rattle.rart_node.specs.Trees.{pairs_of}
-use Rattle.rart_walks.specs.Walks.{AreShort}
-use Rattle.rart_walks.proofs.GatherLemmas.{keeping-either}
-use Rattle.rart_walks.proofs.WalkLemmas.{behind-none}
+use Rattle.rart_node.specs.PairsBehind.{AreShort}
+use Rattle.rart_node.proofs.GatherLemmas.{keeping-either}
+use Rattle.rart_node.proofs.BehindLemmas.{behind-none}
 use Rattle.rart_ways.specs.Firsts.{IsFirst}
 use Rattle.rart_ways.proofs.seeking.last_to.Goals as goal
 

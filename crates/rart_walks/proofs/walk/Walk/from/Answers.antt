@@ -6,7 +6,7 @@ use Rattle.rart_below.specs.Bytes.{byte_order}
 use Rattle.rart_node.specs.Trees.{pairs_of}
 use Rattle.rart_node.proofs.CountingLemmas.{counts-most, path-most}
 use Rattle.rart_walks.specs.declared.walk.path.Part.TheVariants.{From}
-use Rattle.rart_walks.proofs.GatherLemmas.{keeping-same}
+use Rattle.rart_node.proofs.GatherLemmas.{keeping-same}
 use Rattle.rart_walks.proofs.PartLemmas.{keeps-itself}
 use Rattle.rart_walks.proofs.walk.Walk.from.Goals as goal
 

@@ -5,7 +5,8 @@ use Rattle.rart_node.specs.Trees.{pairs_of}
 use Rattle.rart_walks.specs.Frames.{behind_path, under_path}
 use Rattle.rart_walks.specs.Walks.{AreShort, Cursor, paths_of}
 use Rattle.rart_walks.proofs.CursorLemmas.{nodes-paths}
-use Rattle.rart_walks.proofs.WalkLemmas.{behind-none, under-none}
+use Rattle.rart_node.proofs.BehindLemmas.{behind-none}
+use Rattle.rart_walks.proofs.WalkLemmas.{under-none}
 use Rattle.rart_walks.proofs.walk.Walk.whole.Goals as goal
 
 pub enter_whole-requires : goal.enter_whole-requires

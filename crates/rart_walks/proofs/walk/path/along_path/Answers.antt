@@ -11,7 +11,8 @@ use Rattle.rart_walks.specs.WalkFields.{nodes_open, open_nodes}
 use Rattle.rart_walks.specs.Parts.{reaches}
 use Rattle.rart_walks.specs.Walks.{IsEndOf, paths_of}
 use Rattle.rart_walks.proofs.EndLemmas.{end-fewer}
-use Rattle.rart_walks.proofs.WalkStepLemmas.{goes-on, goes-some, step-counted, step-entered, step-fits, step-lower, step-child, step-missing, step-trees, step-short}
+use Rattle.rart_node.proofs.PartingLemmas.{goes-on, goes-some}
+use Rattle.rart_walks.proofs.WalkStepLemmas.{step-counted, step-entered, step-fits, step-lower, step-child, step-missing, step-trees, step-short}
 use Rattle.rart_walks.proofs.PathLemmas.{IsOnWay, way-start, way-kept, way-placed}
 use Rattle.rart_walks.proofs.walk.path.along_path.Goals as goal
 

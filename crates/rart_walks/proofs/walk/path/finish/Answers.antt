@@ -8,7 +8,8 @@ use Rattle.rart_node.proofs.PrefixLemmas.{common_fits}
 use Rattle.rart_walks.specs.Frames.{behind_path, under_path, pairs_inside}
 use Rattle.rart_walks.specs.WalkFields.{cursor}
 use Rattle.rart_walks.specs.Parts.{is_strict, goes_on}
-use Rattle.rart_walks.proofs.EndLemmas.{common-front, parts-at, end-within, end-within-paths, end-above, end-below, end-off, entered-end}
+use Rattle.rart_node.proofs.PartingLemmas.{common-front, parts-at}
+use Rattle.rart_walks.proofs.EndLemmas.{end-within, end-within-paths, end-above, end-below, end-off, entered-end}
 use Rattle.rart_walks.proofs.walk.path.finish.Goals as goal
 
 pub bounds-rest-common : goal.bounds-rest-common

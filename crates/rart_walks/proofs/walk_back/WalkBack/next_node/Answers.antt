@@ -6,8 +6,8 @@ use Rattle.rart_walks.specs.BackFields.{open_back, nodes_back}
 use Rattle.rart_walks.specs.BackFrames.{SplitsOwn}
 use Rattle.rart_walks.proofs.BackLemmas.{keeps-on}
 use Rattle.rart_walks.proofs.BackEnterLemmas.{leaf-left, own-given, own-first, own-short, child-tree, child-fits, inner-pairs, inner-paths, inner-first, inner-trees, inner-short, inner-each}
-use Rattle.rart_walks.proofs.CountedLemmas.{counts-none_made}
-use Rattle.rart_walks.proofs.WalkLemmas.{short-none}
+use Rattle.rart_node.proofs.CountingLemmas.{counts-none_made}
+use Rattle.rart_node.proofs.BehindLemmas.{short-none}
 use Rattle.rart_walks.proofs.walk_back.WalkBack.next_node.Goals as goal
 
 pub returns-in_default : goal.returns-in_default

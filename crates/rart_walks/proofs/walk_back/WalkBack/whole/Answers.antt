@@ -4,7 +4,8 @@ use Rattle.rart_node.specs.Trees.{pairs_of}
 use Rattle.rart_walks.specs.BackFields.{open_back}
 use Rattle.rart_walks.specs.Walks.{AreShort}
 use Rattle.rart_walks.proofs.BackEnterLemmas.{nodes-back_paths, root-owns, root-pairs, root-paths, root-trees}
-use Rattle.rart_walks.proofs.WalkLemmas.{behind-none, path-fits}
+use Rattle.rart_node.proofs.BehindLemmas.{behind-none}
+use Rattle.rart_walks.proofs.WalkLemmas.{path-fits}
 use Rattle.rart_walks.proofs.walk_back.WalkBack.whole.Goals as goal
 
 pub enter_part-requires : goal.enter_part-requires

@@ -12,7 +12,7 @@ use Rattle.rart_walks.specs.BackFrames.{back_segments}
 use Rattle.rart_walks.specs.Fronts.{has_lower, keeps, passed_frame, reached_frames}
 use Rattle.rart_walks.specs.Walks.{AreShort}
 use Rattle.rart_walks.proofs.BackWayLemmas.{IsOnWayBack, back-child, back-ended, back-missing, back-start, short-kept}
-use Rattle.rart_walks.proofs.WalkStepLemmas.{goes-on, goes-some}
+use Rattle.rart_node.proofs.PartingLemmas.{goes-on, goes-some}
 use Rattle.rart_walks.proofs.WalkLemmas.{path-fits}
 use Rattle.rart_walks.proofs.walk_back.path.along_path.Goals as goal
 

@@ -4,7 +4,7 @@ use Rattle.rart_node.specs.Shape.{prefix_of}
 use Rattle.rart_node.proofs.PrefixLemmas.{common_fits}
 use Rattle.rart_walks.specs.Fronts.{at_end_of, has_lower, reached_pairs, reached_paths}
 use Rattle.rart_walks.proofs.BackPartLemmas.{end-pairs, end-paths, parts-all, parts-lacks, parts-none}
-use Rattle.rart_walks.proofs.EndLemmas.{common-front, parts-at}
+use Rattle.rart_node.proofs.PartingLemmas.{common-front, parts-at}
 use Rattle.rart_walks.proofs.walk_back.path.reached_of.Goals as goal
 
 pub returns-then-common-rest : goal.returns-then-common-rest

@@ -7,7 +7,7 @@ use Rattle.rart_node.proofs.SearchLemmas.{search-start}
 use Rattle.rart_ways.specs.Steps.{child_under}
 use Rattle.rart_ways.proofs.StepLemmas.{step-counted, step-entered, step-lower, step-child, match-start, match-left, match-fits, match-last, match-next, last_or-append, each-left, each-last, each-child, above-start}
 use Rattle.rart_ways.proofs.search.longest.longest_prefix_match.Goals as goal
-use Rattle.rart_walks.specs.Frames.{pending_pair}
+use Rattle.rart_node.specs.PairsBehind.{pending_pair}
 
 pub down-init : goal.down-init
 down-init g c =

@@ -1,5 +1,5 @@
 use Rattle.std.proofs.Common.{◌++◌, ap, sym}
-use Rattle.rart_walks.specs.Frames.{pending_pair}
+use Rattle.rart_node.specs.PairsBehind.{pending_pair}
 use Rattle.rart_ways.proofs.seeking.end.own_turn.Goals as goal
 
 pub returns-in-Some-clause-end : goal.returns-in-Some-clause-end

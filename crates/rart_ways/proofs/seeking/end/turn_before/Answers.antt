@@ -1,7 +1,7 @@
 use Rattle.std.proofs.Common.{◌++◌}
 use Rattle.rart_below.specs.Children.{children_below}
 use Rattle.rart_node.specs.Shape.{children_of, value_of}
-use Rattle.rart_walks.specs.Frames.{pending_pair}
+use Rattle.rart_node.specs.PairsBehind.{pending_pair}
 use Rattle.rart_ways.specs.Lasts.{end_shape}
 use Rattle.rart_ways.proofs.LastLemmas.{last-below-fits, last-end, no-turn}
 use Rattle.rart_ways.proofs.seeking.end.turn_before.Goals as goal

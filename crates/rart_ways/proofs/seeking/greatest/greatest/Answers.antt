@@ -4,8 +4,8 @@ use Rattle.std.proofs.lemmas.List.{length-append}
 use Rattle.rart_node.specs.Shape.{prefix_of}
 use Rattle.rart_node.specs.Trees.{pairs_of}
 use Rattle.rart_node.proofs.FindLemmas.{ascending, ordered}
-use Rattle.rart_walks.specs.Frames.{behind_path}
-use Rattle.rart_walks.proofs.CountedLemmas.{counts-none_made}
+use Rattle.rart_node.specs.PairsBehind.{behind_path}
+use Rattle.rart_node.proofs.CountingLemmas.{counts-none_made}
 use Rattle.rart_ways.specs.Lasts.{IsEnd}
 use Rattle.rart_ways.proofs.LastLemmas.{end-fits, end-own, end-whole, last-deep, last-deeper, last-here, last-lower}
 use Rattle.rart_ways.proofs.seeking.greatest.greatest.Goals as goal

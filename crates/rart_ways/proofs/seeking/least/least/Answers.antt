@@ -4,8 +4,8 @@ use Rattle.std.proofs.lemmas.List.{length-append}
 use Rattle.rart_node.specs.Shape.{prefix_of}
 use Rattle.rart_ways.specs.Starts.{IsStart}
 use Rattle.rart_node.specs.Trees.{pairs_of}
-use Rattle.rart_walks.specs.Frames.{behind_path}
-use Rattle.rart_walks.proofs.CountedLemmas.{counts-none_made}
+use Rattle.rart_node.specs.PairsBehind.{behind_path}
+use Rattle.rart_node.proofs.CountingLemmas.{counts-none_made}
 use Rattle.rart_ways.proofs.LeastLemmas.{start-whole, start-fits, first-here, first-below, first-lower, first-deep, none-some}
 use Rattle.rart_ways.proofs.seeking.least.least.Goals as goal
 

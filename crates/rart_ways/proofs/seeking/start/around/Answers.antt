@@ -1,7 +1,7 @@
 use Rattle.std.proofs.Common.{sym}
 use Rattle.rart_node.specs.NodeShapes.{entry_shape}
 use Rattle.rart_node.specs.Shape.{children_of}
-use Rattle.rart_walks.proofs.SkipLemmas.{skipped, unskipped}
+use Rattle.rart_node.proofs.SkipLemmas.{skipped, unskipped}
 use Rattle.rart_ways.proofs.seeking.start.around.Goals as goal
 
 pub returns-in-Some-clause-later : goal.returns-in-Some-clause-later

@@ -8,7 +8,7 @@ use Rattle.rart_ways.proofs.SeekStepLemmas.{step_passed, step-counted, step-ente
 use Rattle.rart_ways.proofs.TurnLemmas.{found-turn}
 use Rattle.rart_node.proofs.CountingLemmas.{counts-most}
 use Rattle.rart_node.proofs.PrefixLemmas.{common_fits}
-use Rattle.rart_walks.proofs.WalkStepLemmas.{goes-on, goes-some}
+use Rattle.rart_node.proofs.PartingLemmas.{goes-on, goes-some}
 use Rattle.rart_ways.proofs.seeking.start.find_start.Goals as goal
 
 pub down-init : goal.down-init

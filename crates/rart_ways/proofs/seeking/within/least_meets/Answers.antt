@@ -7,8 +7,8 @@ use Rattle.rart_ways.specs.Besides.{is_to}
 use Rattle.rart_ways.specs.Starts.{IsStart}
 use Rattle.rart_ways.specs.declared.seeking.Edge.{Edge}
 use Rattle.rart_node.specs.Trees.{pairs_of}
-use Rattle.rart_walks.specs.Frames.{behind_path}
-use Rattle.rart_walks.proofs.CountedLemmas.{counts-none_made}
+use Rattle.rart_node.specs.PairsBehind.{behind_path}
+use Rattle.rart_node.proofs.CountingLemmas.{counts-none_made}
 use Rattle.rart_ways.proofs.BesideLemmas.{is_to-along, is_to-before, is_to-behind}
 use Rattle.rart_ways.proofs.LeastLemmas.{start-whole, first-goes, first-ends, first-below, first-lower, first-deep, none-some}
 use Rattle.rart_ways.proofs.seeking.within.least_meets.Goals as goal

@@ -2,7 +2,7 @@ use Rattle.std.proofs.Common.{◌≡◌, ◌+◌, ◌<◌, ◌≤◌, ◌⊎◌,
 use Rattle.rart_node.specs.Shape.{height, prefix_of}
 use Rattle.rart_ways.specs.Starts.{IsStart}
 use Rattle.rart_node.specs.Trees.{pairs_of}
-use Rattle.rart_walks.specs.Frames.{behind_path}
+use Rattle.rart_node.specs.PairsBehind.{behind_path}
 use Rattle.rart_ways.proofs.seeking.within.least_meets.Given as goal
 
 abbrev pub invariant-down : goal.invariant-down

@@ -8,9 +8,9 @@ use Rattle.rart_node.specs.Seen.{shape_of}
 use Rattle.rart_maps.proofs.RangeLemmas.{from, up_to, within-from}
 use Rattle.rart_ways.specs.Firsts.{Finds}
 use Rattle.rart_node.proofs.CountingLemmas.{counts-most, path-most}
-use Rattle.rart_walks.specs.Parts.{start_of}
+use Rattle.rart_maps.specs.Bounds.{bound_string}
 use Rattle.rart_versioned.proofs.VersionIterationLemmas.{no-pairs, root-sound, root-pairs, root-short}
-use Rattle.rart_versioned.proofs.VersionVisitLemmas.{none-keyed, start-is}
+use Rattle.rart_versioned.proofs.VersionVisitLemmas.{none-keyed}
 use Rattle.rart_versioned.proofs.counted.tree.VersionedAdaptiveRadixTree.first_slice_counted.Goals as goal
 
 -- without an upper bound all are kept
@@ -61,6 +61,5 @@ pub returns-in-Some-clause-counted : goal.returns-in-Some-clause-counted
 returns-in-Some-clause-counted g c =
     let s = c.in-Some.root.shape in
     let low = bound_map (λ low. low.now) c.args.low in
-    let most = path-most s (start_of low) in
-    let same = ap length (start-is low) in
-    counts-most c.first_from.ensures.counted (omega (arith, most, same)) (omega arith)
+    let most = path-most s (bound_string low) in
+    counts-most c.first_from.ensures.counted (omega (arith, most)) (omega arith)

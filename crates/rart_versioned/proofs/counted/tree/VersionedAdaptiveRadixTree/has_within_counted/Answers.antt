@@ -11,9 +11,9 @@ use Rattle.rart_maps.specs.FoundLaws.{KeysAscend}
 use Rattle.rart_maps.specs.Pairs.{pairs}
 use Rattle.rart_ways.specs.Firsts.{first_passes}
 use Rattle.rart_node.proofs.CountingLemmas.{counts-most, path-most}
-use Rattle.rart_walks.specs.Parts.{start_of}
+use Rattle.rart_maps.specs.Bounds.{bound_string}
 use Rattle.rart_versioned.proofs.VersionIterationLemmas.{no-pairs, root-sound, root-pairs, root-short}
-use Rattle.rart_versioned.proofs.VersionVisitLemmas.{none-keyed, start-is}
+use Rattle.rart_versioned.proofs.VersionVisitLemmas.{none-keyed}
 use Rattle.rart_versioned.proofs.counted.tree.VersionedAdaptiveRadixTree.has_within_counted.Goals as goal
 
 -- a list that begins so has an element
@@ -84,7 +84,5 @@ returns-in-Some-clause-counted g c =
     let s = c.in-Some.root.shape in
     let low = bound_map (λ low. low.now) c.args.low in
     let high = bound_map (λ high. high.now) c.args.high in
-    let most = path-most s (start_of low) in
-    let same = ap length (start-is low) in
-    let also = ap length (start-is high) in
-    counts-most c.has_within.ensures.counted (omega (arith, most, same, also)) (omega arith)
+    let most = path-most s (bound_string low) in
+    counts-most c.has_within.ensures.counted (omega (arith, most)) (omega arith)

@@ -8,9 +8,9 @@ use Rattle.rart_node.specs.Seen.{shape_of}
 use Rattle.rart_maps.proofs.RangeLemmas.{from, up_to, within-from}
 use Rattle.rart_ways.specs.Firsts.{Finds}
 use Rattle.rart_node.proofs.CountingLemmas.{counts-most, path-most}
-use Rattle.rart_walks.specs.Parts.{start_of}
+use Rattle.rart_maps.specs.Bounds.{bound_string}
 use Rattle.rart_versioned.proofs.VersionIterationLemmas.{no-pairs, root-sound, root-pairs, root-short}
-use Rattle.rart_versioned.proofs.VersionVisitLemmas.{none-keyed, start-is}
+use Rattle.rart_versioned.proofs.VersionVisitLemmas.{none-keyed}
 use Rattle.rart_versioned.proofs.counted.tree.VersionedAdaptiveRadixTree.last_slice_counted.Goals as goal
 
 -- without a lower bound all are kept
@@ -60,6 +60,5 @@ pub returns-in-Some-clause-counted : goal.returns-in-Some-clause-counted
 returns-in-Some-clause-counted g c =
     let s = c.in-Some.root.shape in
     let high = bound_map (λ high. high.now) c.args.high in
-    let most = path-most s (start_of high) in
-    let same = ap length (start-is high) in
-    counts-most c.last_to.ensures.counted (omega (arith, most, same)) (omega arith)
+    let most = path-most s (bound_string high) in
+    counts-most c.last_to.ensures.counted (omega (arith, most)) (omega arith)

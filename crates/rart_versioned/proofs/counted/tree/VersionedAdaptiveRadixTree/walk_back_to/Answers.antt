@@ -10,7 +10,7 @@ use Rattle.rart_walks.proofs.DescendLemmas.{All-reverse}
 use Rattle.rart_versioned.specs.TreeWalks.{AreAdmitted}
 use Rattle.rart_versioned.proofs.VersionIterationLemmas.{content-admitted, no-pairs, root-sound, root-pairs, root-short}
 use Rattle.rart_node.proofs.CountingLemmas.{counts-most}
-use Rattle.rart_versioned.proofs.VersionVisitLemmas.{none-keyed, start-is}
+use Rattle.rart_versioned.proofs.VersionVisitLemmas.{none-keyed}
 use Rattle.rart_versioned.proofs.counted.tree.VersionedAdaptiveRadixTree.walk_back_to.Goals as goal
 
 pub to-requires : goal.to-requires
@@ -63,7 +63,6 @@ returns-in-Some g c =
           (All-filter test admits (pairs c.args.self.now.content) whole) in
           IfOk-weaker c.to.result _ _
           (λ walk is. subst (AreAdmitted most) (sym (is ∙ same)) kept) starts.pairs;
-      counted = let bytes = ap length (start-is (bound_map (λ high. high.now) c.args.high)) in
-          counts-most starts.counted (omega (arith, bytes)) (omega arith);
+      counted = counts-most starts.counted (omega arith) (omega arith);
       entered = λ keyed. starts.entered;
     }

@@ -9,7 +9,7 @@ use Rattle.rart_node.specs.Seen.{shape_of}
 use Rattle.rart_maps.specs.Pairs.{pairs}
 use Rattle.rart_versioned.specs.TreeWalks.{AreAdmitted}
 use Rattle.rart_versioned.proofs.VersionIterationLemmas.{content-admitted, no-pairs, root-sound, root-pairs, root-short}
-use Rattle.rart_versioned.proofs.VersionVisitLemmas.{start-is, none-keyed, root-range}
+use Rattle.rart_versioned.proofs.VersionVisitLemmas.{none-keyed, root-range}
 use Rattle.std.specs.Prelude.{count_by}
 use Rattle.rart_node.proofs.CountingLemmas.{counts-most}
 use Rattle.rart_walks.specs.WalkFields.{at_hand}
@@ -86,8 +86,7 @@ returns-in-Some g c =
           c.args.self.now
           c.self.invariant c.self.view_is c.in-Some.root c.in-Some.is low in
           IfOk-weaker c.from.result _ _ (λ walk end high. within high _ end) c.from.ensures.paths;
-      counted = let same = ap length (start-is (bound_map (λ low. low.now) c.args.low)) in
-          counts-most c.from.ensures.counted (omega (arith, same)) (omega arith);
+      counted = counts-most c.from.ensures.counted (omega arith) (omega arith);
       entered = λ keyed. c.from.ensures.entered;
       at_hand = c.from.ensures.at_hand;
     }

@@ -9,7 +9,7 @@ use Rattle.rart_below.specs.Laws.{IsBelow, below_from}
 use Rattle.rart_below.proofs.AscendingLemmas.{below_parts, below_lower, ascending_parts, child_at-later, child_at-here, child_at-below, children_from-passed, children_from-below}
 use Rattle.rart_node.specs.Shape.{Shape, Forest, node, bare, grown, prefix_of, value_of, children_of, entries_of}
 use Rattle.rart_node.specs.Trees.{BeginsWith, IsTree, AreBranches, own_pair, pairs_of, pairs_below}
-use Rattle.rart_walks.specs.Frames.{behind_path, pairs_of_all}
+use Rattle.rart_node.specs.PairsBehind.{behind_path, pairs_of_all}
 
 module _ {A : Type 0} where
   abbrev pub keeping : (List ℕ → Bool) → List (List ℕ × A) → List (List ℕ × A)

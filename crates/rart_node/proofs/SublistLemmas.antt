@@ -6,9 +6,8 @@ use Rattle.std.proofs.lemmas.Option.{same_Some, none-some}
 use Rattle.rart_below.specs.Children.{child_at, children_from}
 use Rattle.rart_node.specs.Shape.{Shape}
 use Rattle.rart_node.specs.Trees.{pairs_of}
-use Rattle.rart_walks.specs.Frames.{behind_path, pairs_of_all, AreTrees}
-use Rattle.rart_walks.specs.Walks.{AreShort}
-use Rattle.rart_walks.proofs.WalkLemmas.{behind-append, short-append, short-front, short-back, short-none}
+use Rattle.rart_node.specs.PairsBehind.{behind_path, pairs_of_all, AreTrees, AreShort}
+use Rattle.rart_node.proofs.BehindLemmas.{behind-append, short-append, short-front, short-back, short-none}
 
 module _ {V : Type 0} where
   from-trees : (least : ℕ) (children : List (ℕ × Shape V)) → AreTrees children

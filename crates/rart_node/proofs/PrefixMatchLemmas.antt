@@ -9,9 +9,9 @@ use Rattle.rart_below.specs.Children.{child_at}
 use Rattle.rart_node.specs.Shape.{Shape, prefix_of, value_of, children_of}
 use Rattle.rart_node.specs.Trees.{strip_prefix, IsTree, own_pair, pairs_of}
 use Rattle.rart_node.proofs.PrefixLemmas.{strip_prefix-is, eqb-sym}
-use Rattle.rart_walks.specs.Frames.{behind_path}
-use Rattle.rart_walks.proofs.GatherLemmas.{keeping, keeping-append, keeping-behind, keeping-begun, keeping-children, keeping-either, keeping-same, gathered, gathered_all, gathered-is, kept_at, pairs-gathered, AreBegun, tree-ascending, tree-begun}
-use Rattle.rart_walks.proofs.PartLemmas.{begins-along, own_pair-ends}
+use Rattle.rart_node.specs.PairsBehind.{behind_path}
+use Rattle.rart_node.proofs.GatherLemmas.{keeping, keeping-append, keeping-behind, keeping-begun, keeping-children, keeping-either, keeping-same, gathered, gathered_all, gathered-is, kept_at, pairs-gathered, AreBegun, tree-ascending, tree-begun}
+use Rattle.rart_node.proofs.AlongLemmas.{begins-along, own_pair-ends}
 
 -- A string that leaves p before its end begins with no string that p begins.
 begins-left : (p w key : List ℕ) → strip_prefix p w ≡ None → begins (p ++ key) w ≡ false

@@ -24,9 +24,15 @@ type Column = (&'static str, fn(&Data) -> Vec<Row>);
 const COLUMNS: &[Column] = &[
     ("tree", rows::<boltcomfrey::VersionedMap>),
     #[cfg(feature = "rart")]
-    ("rart", rows::<rart::Inline>),
+    (
+        concat!(env!("RART"), ", keys of any length"),
+        rows::<rart::AnyLength>,
+    ),
     #[cfg(feature = "rart")]
-    ("rart, `VectorKey`", rows::<rart::AnyLength>),
+    (
+        concat!(env!("RART"), ", keys of 16 bytes"),
+        rows::<rart::Inline>,
+    ),
     ("`BTreeMap`", rows::<map::Sorted>),
 ];
 

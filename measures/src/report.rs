@@ -77,7 +77,7 @@ pub fn bars(results: &Results, title: &str) -> String {
     let told = text(4, 25, "in each row the slowest is the longest");
     let (mut shapes, mut y) = (text(4, 12, title) + &told, 56);
     for (at, (name, _)) in COLUMNS.iter().enumerate() {
-        let x = LEFT + 110 * at;
+        let x = 4 + 160 * at;
         shapes += &(bar(x, 34, 9.0, at) + &text(x + 13, 42, name));
     }
     for (row, name) in results.names().enumerate() {

@@ -1,11 +1,11 @@
 // Ported from rart 0.11.0 (Apache-2.0), and rewritten.
 //! All that another version has under a prefix, put in place of what stands there.
-ghost use Rattle.std.specs.Prelude.{◌≡◌, ◌⊎◌, ◌+◌, ◌*◌, ℕ, List, IfOk, IfSome, IsSome, IsTrue, None, OnErr, OnOk, length};
+ghost use Rattle.std.specs.Prelude.{◌≡◌, ◌⊎◌, ◌+◌, ◌*◌, ◌<◌, ℕ, List, IfOk, IfSome, IsSome, IsTrue, None, OnErr, OnOk, false, length};
 ghost use Rattle.rart_below.specs.Bytes.{IsAdmitted, begins};
 ghost use Rattle.rart_below.specs.Clones.{ClonesEqual};
 ghost use Rattle.rart_maps.specs.Bounds.{change_bound, lookup_bound};
 ghost use Rattle.rart_maps.specs.Prefixes.{after_prefix_restoring, has_under};
-ghost use Rattle.rart_maps.specs.Versions.{HasRoom};
+ghost use Rattle.rart_maps.specs.Versions.{HasRoom, has_no_key};
 ghost use Rattle.rart_node.specs.Counts.{CountsUpTo};
 ghost use Rattle.rart_node.specs.Shape.{prefix_of};
 ghost use Rattle.rart_versioned.specs.Roots.{HasSomeIn, IsReplacedUnder, IsTreeIn, IsUnderIn, below_root, found_in};
@@ -19,7 +19,7 @@ use std::alloc::{AllocError, Global};
 impl<K: KeyTrait, V: Clone + Drop> VersionedAdaptiveRadixTree<K, V> {
     /// As `restore_prefix_k`, with the nodes entered and made counted into `work`: in both versions
     /// together at most three more entered than three times the bytes of the prefix, and at most
-    /// four more made than it has.
+    /// four more made than it has. One is entered at least where either map has a key.
     pub fn restore_prefix_k_counted(
         &mut self,
         prefix: &K,
@@ -35,6 +35,8 @@ impl<K: KeyTrait, V: Clone + Drop> VersionedAdaptiveRadixTree<K, V> {
             ⊎ IsTrue (has_under from.now (K.bytes prefix.now))) }
         ensures counted { CountsUpTo (3 * lookup_bound (K.bytes prefix.now))
             (change_bound (K.bytes prefix.now) + 2) work.old work.new }
+        ensures entered { has_no_key self.old ≡ false → work.old.entered < work.new.entered }
+        ensures entered_other { has_no_key from.now ≡ false → work.old.entered < work.new.entered }
     {
         self.restore_prefix_slice_counted(prefix.as_ref(), from, work)
     }
@@ -55,6 +57,8 @@ impl<K: KeyTrait, V: Clone + Drop> VersionedAdaptiveRadixTree<K, V> {
             ⊎ IsTrue (has_under from.now prefix.now)) }
         ensures counted { CountsUpTo (3 * lookup_bound prefix.now) (change_bound prefix.now + 2)
             work.old work.new }
+        ensures entered { has_no_key self.old ≡ false → work.old.entered < work.new.entered }
+        ensures entered_other { has_no_key from.now ≡ false → work.old.entered < work.new.entered }
     {
         let version = self.version + from.version;
         let part = part_under(self.alloc, &from.root, prefix, version, work)?;
@@ -82,6 +86,8 @@ fn part_under<P: Partial, V: Clone + Drop>(
         IsTrue (begins prefix.now (prefix_of it.shape)))) }
     ensures present { OnErr result (HasSomeIn prefix.now (below_root root.now)) }
     ensures counted { CountsUpTo (lookup_bound prefix.now) 1 work.old work.new }
+    ensures entered { IsSome root.now → work.old.entered < work.new.entered }
+    ensures entered_refused { OnErr result (work.old.entered < work.new.entered) }
 {
     match root {
         None => Ok(None),
@@ -112,6 +118,7 @@ fn replace_under<P: Partial, V: Clone + Drop>(
         (IsSome (below_root part) ⊎ HasSomeIn prefix.now (below_root root.old)) }
     ensures counted { CountsUpTo (2 * lookup_bound prefix.now) (change_bound prefix.now + 1)
         work.old work.new }
+    ensures entered { IsSome root.old → work.old.entered < work.new.entered }
 {
     let Some(part) = part else {
         return empty_under(alloc, root, prefix, version, work);
@@ -144,6 +151,7 @@ fn empty_under<P: Partial, V: Clone + Drop>(
     ensures present { OnErr result (HasSomeIn prefix.now (below_root root.old)) }
     ensures counted { CountsUpTo (2 * lookup_bound prefix.now) (lookup_bound prefix.now)
         work.old work.new }
+    ensures entered { IsSome root.old → work.old.entered < work.new.entered }
 {
     let Some(node) = root else {
         return Ok(());

@@ -8,7 +8,7 @@ use Rattle.rart_versioned.specs.Roots.{IsSound}
 use Rattle.rart_versioned.proofs.RestoringLemmas.{part-there, restored-in, some-in, map-restored, sound-restored}
 use Rattle.rart_ways.proofs.EditLemmas.{on-any}
 use Rattle.rart_versioned.proofs.VersionIterationLemmas.{value-found}
-use Rattle.rart_versioned.proofs.SoundLemmas.{tree-in, admitted}
+use Rattle.rart_versioned.proofs.SoundLemmas.{tree-in, admitted, has-root}
 use Rattle.rart_versioned.proofs.counted.tree.VersionedAdaptiveRadixTree.restore_prefix_slice_counted.Goals as goal
 
 pub part_under-requires-clause-tree : goal.part_under-requires-clause-tree
@@ -67,7 +67,37 @@ returns-clause-counted g c =
     counts-then c.in_ok-part.ensures.counted c.in_ok-replace_under.ensures.counted (omega arith)
     (omega arith)
 
+pub returns-clause-entered : goal.returns-clause-entered
+returns-clause-entered g c keyed =
+    let mine = c.replace_under.ensures.entered (has-root shape_of c.self.inside.root
+    c.self.inside.version c.args.self.now c.self.view_is keyed) in
+    let before = c.part_under.ensures.counted.entered_grows in
+    omega (arith, mine, before)
+
+pub returns-clause-entered_other : goal.returns-clause-entered_other
+returns-clause-entered_other g c keyed =
+    let other = c.part_under.ensures.entered (has-root shape_of c.from.inside.root
+    c.from.inside.version c.args.from.now c.from.view_is keyed) in
+    let after = c.replace_under.ensures.counted.entered_grows in
+    omega (arith, other, after)
+
 -- ---- refused
+
+pub returns-in_err-replace_under-clause-entered :
+    goal.returns-in_err-replace_under-clause-entered
+returns-in_err-replace_under-clause-entered g c keyed =
+    let mine = c.replace_under.ensures.entered (has-root shape_of c.self.inside.root
+    c.self.inside.version c.args.self.now c.self.view_is keyed) in
+    let before = c.part_under.ensures.counted.entered_grows in
+    omega (arith, mine, before)
+
+pub returns-in_err-replace_under-clause-entered_other :
+    goal.returns-in_err-replace_under-clause-entered_other
+returns-in_err-replace_under-clause-entered_other g c keyed =
+    let other = c.part_under.ensures.entered (has-root shape_of c.from.inside.root
+    c.from.inside.version c.args.from.now c.from.view_is keyed) in
+    let after = c.replace_under.ensures.counted.entered_grows in
+    omega (arith, other, after)
 
 pub returns-in_err-part-clause-present : goal.returns-in_err-part-clause-present
 returns-in_err-part-clause-present g c =

@@ -130,8 +130,8 @@ impl<'a, 'view> LendingKeyView<'a, 'view> {
         Ok(bytes)
     }
 
-    /// The key itself, or out of memory. Only a key on the heap, or one of more than 64 bytes,
-    /// takes memory.
+    /// The key itself, or out of memory. By its code, which no clause tells, only a key on the heap
+    /// or one of more than 64 bytes takes memory.
     ///
     /// ```
     /// let owned: VectorKey = key.to_key(alloc)?;

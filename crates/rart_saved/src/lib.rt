@@ -2,13 +2,9 @@
 //! read only where the bytes are its form.
 #![tactic(auto)]
 
-#[cfg(test)]
-mod change_tests;
 mod changes;
 mod error;
 mod families;
-#[cfg(test)]
-mod family_tests;
 mod filling;
 mod head;
 mod keys;
@@ -17,8 +13,6 @@ mod loading;
 mod numbers;
 mod saving;
 mod streams;
-#[cfg(test)]
-mod tests;
 mod value;
 
 pub use changes::loading::load_changes_slice;

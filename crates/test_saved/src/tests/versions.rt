@@ -1,15 +1,13 @@
-//! What no clause says: that calls succeed where there is memory, which error comes, and that the
-//! bytes are those that another program makes.
-use crate::error::{LoadError, SaveError};
-use crate::filling::{save_into, saved_len};
-use crate::loading::{load_slice, load_slice_within};
-use crate::saving::save_slice;
-use crate::streams::{load, save};
-use crate::value::{ByteString, SavedValue};
+//! Versions as bytes.
+use crate::tests::broken::Broken;
+use crate::tests::random::{Random, with_sum};
+use rart_saved::{
+    ByteString, LoadError, SaveError, SavedValue, load, load_slice, load_slice_within, save,
+    save_into, save_slice, saved_len,
+};
 use rart_versioned::{ArrayKey, KeyTrait, VectorKey, VersionedAdaptiveRadixTree};
-use sha2::{Digest, Sha256};
 use std::alloc::{AllocError, Global};
-use std::io::{self, Read, Write};
+use std::io;
 use std::process::Abort;
 use std::test::Fail;
 
@@ -57,42 +55,55 @@ fn files_are_those_of_another_program(rt: HostRuntime) -> Result<(), Fail> {
     Ok(())
 }
 
+/// Keys of up to eight bytes, each with the place at which it was put in.
+fn many(alloc: Global) -> Result<Tree, AllocError> {
+    let mut tree = Tree::new_at(alloc, 1 << 40);
+    for i in 0..2000_u64 {
+        let bytes = i.wrapping_mul(0x9e37_79b9_7f4a_7c15).to_be_bytes();
+        if tree.version() < u64::MAX {
+            tree.insert_slice(&bytes[..(i % 9) as usize], i)?;
+        }
+    }
+    Ok(tree)
+}
+
 #[test]
 fn trees_come_back(rt: HostRuntime) -> Result<(), Fail> {
     let alloc = rt.alloc();
-    let mut numbers = Tree::new_at(alloc, 1 << 40);
-    for i in 0..2000_u64 {
-        let number = i.wrapping_mul(0x9e37_79b9_7f4a_7c15);
-        let bytes = number.to_be_bytes();
-        if numbers.version() < u64::MAX {
-            numbers.insert_slice(&bytes[..(i % 9) as usize], i)?;
-        }
-    }
-    let bytes = save_slice(alloc, &numbers)?;
-    let Ok(back) = load_slice::<VectorKey, u64>(alloc, bytes.as_slice()) else {
-        return Err(Fail::from(AllocError));
-    };
-    assert!(rt; back.version() == numbers.version());
-    assert!(rt; back.equals(&numbers)?);
+    let tree = many(alloc)?;
+    let bytes = save_slice(alloc, &tree)?;
+    let back = load_slice::<VectorKey, u64>(alloc, bytes.as_slice())?;
+    assert!(rt; back.version() == tree.version());
+    assert!(rt; back.equals(&tree)?);
     assert!(rt; save_slice(alloc, &back)?.as_slice() == bytes.as_slice());
     Ok(())
+}
+
+/// `a` with no byte and `abcd` with four, at number 10.
+fn two_strings(alloc: Global) -> Result<Vec<u8>, AllocError> {
+    let mut tree: VersionedAdaptiveRadixTree<ArrayKey<4>, ByteString> =
+        VersionedAdaptiveRadixTree::new_at(alloc, 8);
+    tree.insert_slice(b"a", ByteString::new(alloc, b"")?)?;
+    tree.insert_slice(b"abcd", ByteString::new(alloc, b"two\0")?)?;
+    save_slice(alloc, &tree)
 }
 
 #[test]
 fn byte_strings_come_back(rt: HostRuntime) -> Result<(), Fail> {
     let alloc = rt.alloc();
-    let mut tree: VersionedAdaptiveRadixTree<ArrayKey<4>, ByteString> =
-        VersionedAdaptiveRadixTree::new_at(alloc, 8);
-    tree.insert_slice(b"a", ByteString::new(alloc, b"")?)?;
-    tree.insert_slice(b"abcd", ByteString::new(alloc, b"two\0")?)?;
-    let bytes = save_slice(alloc, &tree)?;
-    let Ok(back) = load_slice::<ArrayKey<4>, ByteString>(alloc, bytes.as_slice()) else {
-        return Err(Fail::from(AllocError));
-    };
+    let bytes = two_strings(alloc)?;
+    let back = load_slice::<ArrayKey<4>, ByteString>(alloc, bytes.as_slice())?;
     assert!(rt; back.version() == 10);
     assert!(rt; save_slice(alloc, &back)?.as_slice() == bytes.as_slice());
     let value = back.get_slice(b"abcd");
     assert!(rt; value.is_some_and(|value| value.as_slice() == b"two\0".as_slice()));
+    Ok(())
+}
+
+#[test]
+fn other_types_are_refused(rt: HostRuntime) -> Result<(), Fail> {
+    let alloc = rt.alloc();
+    let bytes = two_strings(alloc)?;
     // (a key of four bytes is too long for this one)
     let narrow = load_slice::<ArrayKey<3>, ByteString>(alloc, bytes.as_slice());
     assert!(rt; matches!(narrow, Err(LoadError::Malformed { at: 15 })));
@@ -101,27 +112,29 @@ fn byte_strings_come_back(rt: HostRuntime) -> Result<(), Fail> {
     Ok(())
 }
 
+/// A flipped bit is refused; of the first bytes and of the sum it is known by which error.
+fn assert_flip_is_refused(rt: &impl Abort, alloc: Global, at: usize, bit: u8) {
+    let mut bytes = THREE;
+    if let Some(byte) = bytes.get_mut(at) {
+        *byte ^= bit;
+    }
+    let answer = load_slice::<VectorKey, u64>(alloc, bytes.as_slice()).err();
+    assert!(rt; answer.is_some());
+    if at < 7 {
+        assert!(rt; answer == Some(LoadError::Malformed { at }));
+    } else if at == 7 {
+        let format = bytes[7];
+        assert!(rt; answer == Some(LoadError::Unsupported { format }));
+    } else if at >= 47 {
+        assert!(rt; answer == Some(LoadError::Checksum));
+    }
+}
+
 #[test]
 fn each_flipped_bit_is_refused(rt: HostRuntime) -> Result<(), Fail> {
-    let alloc = rt.alloc();
     for at in 0..THREE.len() {
         for bit in [1_u8, 2, 4, 8, 16, 32, 64, 128] {
-            let mut bytes = THREE;
-            bytes[at] ^= bit;
-            let answer = load_slice::<VectorKey, u64>(alloc, bytes.as_slice());
-            assert!(rt; answer.is_err());
-            if at < 7 {
-                assert!(rt; matches!(answer, Err(LoadError::Malformed { at: told }) if told == at));
-            }
-            if at == 7 {
-                let format = bytes[7];
-                assert!(rt;
-                    matches!(answer, Err(LoadError::Unsupported { format: told }) if told == format)
-                );
-            }
-            if at >= 47 {
-                assert!(rt; matches!(answer, Err(LoadError::Checksum)));
-            }
+            assert_flip_is_refused(&rt, rt.alloc(), at, bit);
         }
     }
     Ok(())
@@ -141,43 +154,42 @@ fn each_prefix_is_truncated(rt: HostRuntime) -> Result<(), Fail> {
     Ok(())
 }
 
+/// The beginning of a file, and what may be none of it.
+fn random_file(alloc: Global, random: &mut Random, round: usize) -> Result<Vec<u8>, AllocError> {
+    let mut bytes = THREE[..round % 48].to_vec(alloc)?;
+    for _ in 0..round % 61 {
+        let byte = random.byte();
+        bytes.push(if round % 3 == 0 { byte } else { byte % 4 })?;
+    }
+    Ok(bytes)
+}
+
 #[test]
 fn random_files_are_refused(rt: HostRuntime) -> Result<(), Fail> {
     let alloc = rt.alloc();
-    let mut state = 1_u64;
-    for round in 0..20_000_usize {
-        let mut bytes = THREE[..round % 48].to_vec(alloc)?;
-        for _ in 0..round % 61 {
-            state = state
-                .wrapping_mul(0x5851_f42d_4c95_7f2d)
-                .wrapping_add(0x1405_7b7e_f767_814f);
-            let byte = (state >> 56) as u8;
-            bytes.push(if round % 3 == 0 { byte } else { byte % 4 })?;
-        }
+    let mut random = Random::new(1);
+    for round in 0..20_000 {
+        let bytes = random_file(alloc, &mut random, round)?;
         assert!(rt; is_refused_or_saved(alloc, bytes.as_slice())?);
     }
     Ok(())
 }
 
+/// A file of which two bytes were changed, with a right sum.
+fn changed_file(alloc: Global, random: &mut Random) -> Result<Vec<u8>, AllocError> {
+    let mut bytes = THREE[..47].to_vec(alloc)?;
+    random.change(&mut bytes, 9);
+    random.change(&mut bytes, 9);
+    with_sum(alloc, bytes.as_slice())
+}
+
 #[test]
 fn changed_files_with_a_right_sum_are_of_what_is_read(rt: HostRuntime) -> Result<(), Fail> {
     let alloc = rt.alloc();
-    let mut state = 7_u64;
+    let mut random = Random::new(7);
     let mut accepted = 0_usize;
     for _ in 0..20_000_usize {
-        let mut bytes = THREE[..47].to_vec(alloc)?;
-        for _ in 0..2 {
-            state = state
-                .wrapping_mul(0x5851_f42d_4c95_7f2d)
-                .wrapping_add(0x1405_7b7e_f767_814f);
-            let at = (state >> 33) as usize % 38 + 9;
-            let byte = (state >> 56) as u8;
-            if at < bytes.len() {
-                bytes[at] = if byte % 2 == 0 { byte } else { byte % 6 };
-            }
-        }
-        let sum = Sha256::digest(bytes.as_slice());
-        bytes.extend_from_slice(&sum)?;
+        let bytes = changed_file(alloc, &mut random)?;
         assert!(rt; is_refused_or_saved(alloc, bytes.as_slice())?);
         if load_slice::<VectorKey, u64>(alloc, bytes.as_slice()).is_ok() {
             accepted = accepted.saturating_add(1);
@@ -238,51 +250,37 @@ fn keys_may_have_a_limit(rt: HostRuntime) -> Result<(), Fail> {
 }
 
 #[test]
-fn errors_say_what_happened(rt: HostRuntime) -> Result<(), Fail> {
-    let [io, memory, truncated] = [LoadError::Io, LoadError::Memory, LoadError::Truncated];
-    let (malformed, checksum) = (LoadError::Malformed { at: 9 }, LoadError::Checksum);
-    let (unsupported, long) = (
-        LoadError::Unsupported { format: 2 },
-        LoadError::TooLong { at: 11 },
-    );
-    let loads = format!(in rt.alloc();
-        "{io}; {memory}; {truncated}; {malformed}; {checksum}; {unsupported}; {long}"
-    )?;
-    assert_eq!(rt;
-        loads.as_str(),
-        "reading failed; out of memory; the bytes end too early; \
-         what begins at byte 9 stands in no form; the checksum is another one; \
-         format 2 is not supported; the key at byte 11 is too long"
-    );
+fn load_errors_say_what_happened(rt: HostRuntime) -> Result<(), Fail> {
+    let texts = [
+        (LoadError::Io, "reading failed"),
+        (LoadError::Memory, "out of memory"),
+        (LoadError::Truncated, "the bytes end too early"),
+        (
+            LoadError::Malformed { at: 9 },
+            "what begins at byte 9 stands in no form",
+        ),
+        (LoadError::Checksum, "the checksum is another one"),
+        (
+            LoadError::Unsupported { format: 2 },
+            "format 2 is not supported",
+        ),
+        (
+            LoadError::TooLong { at: 11 },
+            "the key at byte 11 is too long",
+        ),
+    ];
+    for (error, text) in texts {
+        assert_eq!(rt; format!(in rt.alloc(); "{error}")?.as_str(), text);
+    }
+    Ok(())
+}
+
+#[test]
+fn save_errors_say_what_happened(rt: HostRuntime) -> Result<(), Fail> {
     let (io, memory) = (SaveError::Io, SaveError::Memory);
     let saves = format!(in rt.alloc(); "{io}; {memory}")?;
     assert_eq!(rt; saves.as_str(), "writing failed; out of memory");
     Ok(())
-}
-
-/// Gives and takes nothing, and fails so.
-#[derive(Drop)]
-pub(crate) struct Broken {
-    pub(crate) calls: usize,
-    pub(crate) kind: io::ErrorKind,
-}
-
-impl Read for Broken {
-    fn read(&mut self, _buffer: &mut [u8]) -> io::Result<usize> {
-        self.calls = self.calls.saturating_add(1);
-        Err(io::Error::from(self.kind))
-    }
-}
-
-impl Write for Broken {
-    fn write(&mut self, _bytes: &[u8]) -> io::Result<usize> {
-        self.calls = self.calls.saturating_add(1);
-        Err(io::Error::from(self.kind))
-    }
-
-    fn flush(&mut self) -> io::Result<()> {
-        Ok(())
-    }
 }
 
 #[test]
@@ -290,23 +288,25 @@ fn streams_carry_the_same_bytes(rt: HostRuntime) -> Result<(), Fail> {
     let alloc = rt.alloc();
     let tree = three(alloc)?;
     let mut written = Vec::new(alloc);
-    assert!(rt; matches!(save(alloc, &tree, &mut written), Ok(())));
+    save(alloc, &tree, &mut written)?;
     assert!(rt; written.as_slice() == THREE.as_slice());
     let mut reader = written.as_slice();
-    let Ok(back) = load::<VectorKey, u64, &[u8]>(alloc, &mut reader) else {
-        return Err(Fail::from(AllocError));
-    };
+    let back = load::<VectorKey, u64, &[u8]>(alloc, &mut reader)?;
     assert!(rt; back.equals(&tree)?);
-    let mut broken = Broken {
-        calls: 0,
-        kind: io::ErrorKind::Other,
-    };
+    Ok(())
+}
+
+#[test]
+fn broken_streams_are_told(rt: HostRuntime) -> Result<(), Fail> {
+    let alloc = rt.alloc();
+    let tree = three(alloc)?;
+    let mut broken = Broken::new(io::ErrorKind::Other);
     assert!(rt; matches!(save(alloc, &tree, &mut broken), Err(SaveError::Io)));
     let answer = load::<VectorKey, u64, Broken>(alloc, &mut broken);
     assert!(rt; matches!(answer, Err(LoadError::Io)));
     assert!(rt; broken.calls == 2);
-    broken.kind = io::ErrorKind::OutOfMemory;
-    let answer = load::<VectorKey, u64, Broken>(alloc, &mut broken);
+    let mut full = Broken::new(io::ErrorKind::OutOfMemory);
+    let answer = load::<VectorKey, u64, Broken>(alloc, &mut full);
     assert!(rt; matches!(answer, Err(LoadError::Memory)));
     Ok(())
 }

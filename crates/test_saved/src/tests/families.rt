@@ -1,15 +1,14 @@
-//! Of families what no clause says: that calls succeed where there is memory, which error comes,
-//! and that the bytes are those that another program makes.
-use crate::error::{LoadError, SaveError};
-use crate::families::loading::{load_family_slice, load_family_slice_within};
-use crate::families::saving::save_family_slice;
-use crate::loading::load_slice;
-use crate::streams::{load_family, save_family};
-use crate::tests::Broken;
-use crate::value::ByteString;
+//! Families as bytes.
+ghost use Rattle.rart_maps.specs.Versions.{HasRoom};
+
+use crate::tests::broken::Broken;
+use crate::tests::random::{Random, with_sum};
 use rart_family::Family;
+use rart_saved::{
+    ByteString, LoadError, SaveError, load_family, load_family_slice, load_family_slice_within,
+    load_slice, save_family, save_family_slice,
+};
 use rart_versioned::{ArrayKey, VectorKey, VersionedAdaptiveRadixTree};
-use sha2::{Digest, Sha256};
 use std::alloc::{AllocError, Global};
 use std::io;
 use std::process::Abort;
@@ -39,15 +38,30 @@ const THREE: [u8; 138] = [
     0x2c, 0xc0, 0xfa, 0x6a, 0xa7, 0xe3,
 ];
 
-fn three(alloc: Global) -> Result<Versions, AllocError> {
-    let mut first = Tree::new(alloc);
-    first.insert_slice(b"teapot", 2)?;
-    first.insert_slice(b"", u64::MAX)?;
-    first.insert_slice(b"tea", 300)?;
+/// The first place of `THREE`.
+fn first(alloc: Global) -> Result<Tree, AllocError> {
+    let mut tree = Tree::new(alloc);
+    tree.insert_slice(b"teapot", 2)?;
+    tree.insert_slice(b"", u64::MAX)?;
+    tree.insert_slice(b"tea", 300)?;
+    Ok(tree)
+}
+
+/// What its third place has of the first.
+fn change(tree: &mut Tree) -> Result<(), AllocError>
+    requires { HasRoom tree.old 3 }
+{
+    tree.remove_slice(b"")?;
+    tree.insert_slice(b"tin", 5)?;
+    tree.insert_slice(b"tea", 7)?;
+    Ok(())
+}
+
+fn three(rt: &impl Abort, alloc: Global) -> Result<Versions, AllocError> {
+    let first = first(alloc)?;
     let mut later = first.clone()?;
-    later.remove_slice(b"")?;
-    later.insert_slice(b"tin", 5)?;
-    later.insert_slice(b"tea", 7)?;
+    assert!(rt; later.version() == 3);
+    change(&mut later)?;
     let mut versions = Vec::new(alloc);
     versions.push(Some(first))?;
     versions.push(None)?;
@@ -61,7 +75,7 @@ fn files_are_those_of_another_program(rt: HostRuntime) -> Result<(), Fail> {
     let alloc = rt.alloc();
     let none = save_family_slice(alloc, &Versions::new(alloc))?;
     assert!(rt; none.as_slice() == NONE.as_slice());
-    let bytes = save_family_slice(alloc, &three(alloc)?)?;
+    let bytes = save_family_slice(alloc, &three(&rt, alloc)?)?;
     assert!(rt; bytes.as_slice() == THREE.as_slice());
     Ok(())
 }
@@ -75,31 +89,42 @@ fn are_same(one: Option<&Tree>, other: Option<&Tree>) -> Result<bool, AllocError
     }
 }
 
-#[test]
-fn families_come_back(rt: HostRuntime) -> Result<(), Fail> {
-    let alloc = rt.alloc();
+/// Sets a key of up to eight bytes, or takes it out.
+fn change_one(tree: &mut Tree, i: u64) -> Result<(), AllocError>
+    requires { HasRoom tree.old 1 }
+{
+    let bytes = (i % 700).wrapping_mul(0x9e37_79b9_7f4a_7c15).to_be_bytes();
+    let key = &bytes[..(i % 9) as usize];
+    if i % 5 == 4 {
+        tree.remove_slice(key)?;
+    } else {
+        tree.insert_slice(key, i / 2)?;
+    }
+    Ok(())
+}
+
+/// 60 places, of which one in two was discarded.
+fn many(alloc: Global) -> Result<Versions, AllocError> {
     let mut tree = Tree::new_at(alloc, 1 << 40);
     let mut versions = Vec::new(alloc);
     for i in 0..1500_u64 {
         if tree.version() < u64::MAX {
-            let bytes = (i % 700).wrapping_mul(0x9e37_79b9_7f4a_7c15).to_be_bytes();
-            let key = &bytes[..(i % 9) as usize];
-            if i % 5 == 4 {
-                tree.remove_slice(key)?;
-            } else {
-                tree.insert_slice(key, i / 2)?;
-            }
-            if i % 50 == 0 {
-                versions.push(Some(tree.clone()?))?;
-                versions.push(None)?;
-            }
+            change_one(&mut tree, i)?;
+        }
+        if i % 50 == 0 {
+            versions.push(Some(tree.clone()?))?;
+            versions.push(None)?;
         }
     }
-    let family = Family::from_versions(alloc, versions);
+    Ok(Family::from_versions(alloc, versions))
+}
+
+#[test]
+fn families_come_back(rt: HostRuntime) -> Result<(), Fail> {
+    let alloc = rt.alloc();
+    let family = many(alloc)?;
     let bytes = save_family_slice(alloc, &family)?;
-    let Ok(back) = load_family_slice::<VectorKey, u64>(alloc, bytes.as_slice()) else {
-        return Err(Fail::from(AllocError));
-    };
+    let back = load_family_slice::<VectorKey, u64>(alloc, bytes.as_slice())?;
     assert!(rt; back.len() == 60);
     for place in 0..60 {
         assert!(rt; are_same(back.version_at(place), family.version_at(place))?);
@@ -108,20 +133,30 @@ fn families_come_back(rt: HostRuntime) -> Result<(), Fail> {
     Ok(())
 }
 
+/// A flipped bit is refused, of the sum by its own error.
+fn assert_flip_is_refused(rt: &impl Abort, alloc: Global, at: usize, bit: u8) {
+    let mut bytes = THREE;
+    if let Some(byte) = bytes.get_mut(at) {
+        *byte ^= bit;
+    }
+    let answer = load_family_slice::<VectorKey, u64>(alloc, bytes.as_slice()).err();
+    assert!(rt; answer.is_some());
+    assert!(rt; at < 106 || answer == Some(LoadError::Checksum));
+}
+
 #[test]
 fn each_flipped_bit_is_refused(rt: HostRuntime) -> Result<(), Fail> {
-    let alloc = rt.alloc();
     for at in 0..THREE.len() {
         for bit in [1_u8, 2, 4, 8, 16, 32, 64, 128] {
-            let mut bytes = THREE;
-            bytes[at] ^= bit;
-            let answer = load_family_slice::<VectorKey, u64>(alloc, bytes.as_slice());
-            assert!(rt; answer.is_err());
-            if at >= THREE.len().saturating_sub(32) {
-                assert!(rt; matches!(answer, Err(LoadError::Checksum)));
-            }
+            assert_flip_is_refused(&rt, rt.alloc(), at, bit);
         }
     }
+    Ok(())
+}
+
+#[test]
+fn each_prefix_is_truncated(rt: HostRuntime) -> Result<(), Fail> {
+    let alloc = rt.alloc();
     for count in 0..THREE.len() {
         let answer = load_family_slice::<VectorKey, u64>(alloc, &THREE[..count]);
         assert!(rt; matches!(answer, Err(LoadError::Truncated)));
@@ -133,9 +168,7 @@ fn each_flipped_bit_is_refused(rt: HostRuntime) -> Result<(), Fail> {
 fn closed(alloc: Global, behind: &[u8]) -> Result<Vec<u8>, AllocError> {
     let mut bytes = THREE[..9].to_vec(alloc)?;
     bytes.extend_from_slice(behind)?;
-    let sum = Sha256::digest(bytes.as_slice());
-    bytes.extend_from_slice(&sum)?;
-    Ok(bytes)
+    with_sum(alloc, bytes.as_slice())
 }
 
 /// Why bytes are not read as a family of numbers that have these behind the head, and a right sum.
@@ -156,27 +189,37 @@ fn refusal_within(
 
 #[test]
 fn each_refusal_tells_its_place(rt: HostRuntime) -> Result<(), Fail> {
-    let alloc = rt.alloc();
+    for (bytes, at) in REFUSED {
+        let refused = refusal(rt.alloc(), bytes)?;
+        assert!(rt;
+            refused == Some(LoadError::Malformed { at: *at }),
+            "at {at}"
+        );
+    }
     // (two places, each of which has `a` with 7: nothing changed in the second)
     let two = [2, 1, 1, 1, 0, 1, 97, 1, 7, 0, 0, 0, 0, 0, 0, 0, 1, 1, 0];
-    assert!(rt; refusal(alloc, &two)?.is_none());
-    // (`a` set to what it has)
-    let again = [
-        2, 1, 1, 1, 0, 1, 97, 1, 7, 0, 0, 0, 0, 0, 0, 0, 1, 1, 1, 0, 1, 97, 1, 7, 0, 0, 0, 0, 0, 0,
-        0,
-    ];
-    assert!(rt; refusal(alloc, &again)? == Some(LoadError::Malformed { at: 28 }));
-    // (`a` taken out where it isn't there, one key at number 0, and marks that say nothing)
-    assert!(rt;
-        refusal(alloc, &[1, 1, 0, 1, 0, 1, 97, 0])? == Some(LoadError::Malformed { at: 13 })
-    );
-    let few = [1, 1, 0, 1, 0, 1, 97, 1, 7, 0, 0, 0, 0, 0, 0, 0];
-    assert!(rt; refusal(alloc, &few)? == Some(LoadError::Malformed { at: 11 }));
-    assert!(rt; refusal(alloc, &[1, 2])? == Some(LoadError::Malformed { at: 10 }));
-    let mark = [1, 1, 1, 1, 0, 1, 97, 2];
-    assert!(rt; refusal(alloc, &mark)? == Some(LoadError::Malformed { at: 16 }));
+    assert!(rt; refusal(rt.alloc(), &two)?.is_none());
     Ok(())
 }
+
+/// What stands in no form behind the head of a family of numbers, and where.
+const REFUSED: &[(&[u8], usize)] = &[
+    // (two places, each of which has `a` with 7: in the second it is set to what it has)
+    (
+        &[
+            2, 1, 1, 1, 0, 1, 97, 1, 7, 0, 0, 0, 0, 0, 0, 0, 1, 1, 1, 0, 1, 97, 1, 7, 0, 0, 0, 0,
+            0, 0, 0,
+        ],
+        28,
+    ),
+    // (`a` taken out where it isn't there)
+    (&[1, 1, 0, 1, 0, 1, 97, 0], 13),
+    // (one key at number 0)
+    (&[1, 1, 0, 1, 0, 1, 97, 1, 7, 0, 0, 0, 0, 0, 0, 0], 11),
+    // (marks that say nothing)
+    (&[1, 2], 10),
+    (&[1, 1, 1, 1, 0, 1, 97, 2], 16),
+];
 
 #[test]
 fn keys_may_have_a_limit(rt: HostRuntime) -> Result<(), Fail> {
@@ -186,6 +229,12 @@ fn keys_may_have_a_limit(rt: HostRuntime) -> Result<(), Fail> {
     assert!(rt; matches!(refused, Err(LoadError::TooLong { at: 38 })));
     let family = load_family_slice_within::<VectorKey, u64>(alloc, THREE.as_slice(), 6)?;
     assert!(rt; save_family_slice(alloc, &family)?.as_slice() == THREE.as_slice());
+    Ok(())
+}
+
+#[test]
+fn each_key_is_held_to_the_limit(rt: HostRuntime) -> Result<(), Fail> {
+    let alloc = rt.alloc();
     // (`a` with 7, and behind it `abc` with 7: its form begins behind 12 bytes of `a` and 3 more)
     let longer = [
         2, 1, 1, 1, 0, 1, 97, 1, 7, 0, 0, 0, 0, 0, 0, 0, 1, 2, 1, 0, 3, 97, 98, 99, 1, 7, 0, 0, 0,
@@ -213,25 +262,21 @@ fn neither_is_read_as_the_other(rt: HostRuntime) -> Result<(), Fail> {
     Ok(())
 }
 
+/// A file of which two bytes were changed, with a right sum.
+fn changed_file(alloc: Global, random: &mut Random) -> Result<Vec<u8>, AllocError> {
+    let mut bytes = THREE[..106].to_vec(alloc)?;
+    random.change(&mut bytes, 9);
+    random.change(&mut bytes, 9);
+    with_sum(alloc, bytes.as_slice())
+}
+
 #[test]
 fn changed_files_with_a_right_sum_are_of_what_is_read(rt: HostRuntime) -> Result<(), Fail> {
     let alloc = rt.alloc();
-    let mut state = 7_u64;
+    let mut random = Random::new(7);
     let mut accepted = 0_usize;
     for _ in 0..2_000_usize {
-        let mut bytes = THREE[..THREE.len().saturating_sub(32)].to_vec(alloc)?;
-        for _ in 0..2 {
-            state = state
-                .wrapping_mul(0x5851_f42d_4c95_7f2d)
-                .wrapping_add(0x1405_7b7e_f767_814f);
-            let at = (state >> 33) as usize % bytes.len().max(1);
-            let byte = (state >> 56) as u8;
-            if at >= 9 && at < bytes.len() {
-                bytes[at] = if byte % 2 == 0 { byte } else { byte % 6 };
-            }
-        }
-        let sum = Sha256::digest(bytes.as_slice());
-        bytes.extend_from_slice(&sum)?;
+        let bytes = changed_file(alloc, &mut random)?;
         if let Ok(family) = load_family_slice::<VectorKey, u64>(alloc, bytes.as_slice()) {
             accepted = accepted.saturating_add(1);
             assert!(rt; save_family_slice(alloc, &family)?.as_slice() == bytes.as_slice());
@@ -244,19 +289,21 @@ fn changed_files_with_a_right_sum_are_of_what_is_read(rt: HostRuntime) -> Result
 #[test]
 fn streams_carry_the_same_bytes(rt: HostRuntime) -> Result<(), Fail> {
     let alloc = rt.alloc();
-    let family = three(alloc)?;
+    let family = three(&rt, alloc)?;
     let mut written = Vec::new(alloc);
-    assert!(rt; matches!(save_family(alloc, &family, &mut written), Ok(())));
+    save_family(alloc, &family, &mut written)?;
     assert!(rt; written.as_slice() == THREE.as_slice());
     let mut reader = written.as_slice();
-    let Ok(back) = load_family::<VectorKey, u64, &[u8]>(alloc, &mut reader) else {
-        return Err(Fail::from(AllocError));
-    };
+    let back = load_family::<VectorKey, u64, &[u8]>(alloc, &mut reader)?;
     assert!(rt; save_family_slice(alloc, &back)?.as_slice() == THREE.as_slice());
-    let mut broken = Broken {
-        calls: 0,
-        kind: io::ErrorKind::Other,
-    };
+    Ok(())
+}
+
+#[test]
+fn broken_streams_are_told(rt: HostRuntime) -> Result<(), Fail> {
+    let alloc = rt.alloc();
+    let family = three(&rt, alloc)?;
+    let mut broken = Broken::new(io::ErrorKind::Other);
     assert!(rt; matches!(save_family(alloc, &family, &mut broken), Err(SaveError::Io)));
     let answer = load_family::<VectorKey, u64, Broken>(alloc, &mut broken);
     assert!(rt; matches!(answer, Err(LoadError::Io)));

@@ -1,14 +1,10 @@
-//! Of lists of changes what no clause says: that calls succeed where there is memory, which error
-//! comes, and that the bytes are those that another program makes.
-use crate::changes::loading::load_changes_slice;
-use crate::changes::saving::save_changes_slice;
-use crate::error::{LoadError, SaveError};
-use crate::loading::load_slice;
-use crate::saving::save_slice;
-use crate::streams::{load_changes, save_changes};
-use crate::tests::Broken;
-use crate::value::ByteString;
+//! Lists of changes as bytes.
+use crate::tests::broken::Broken;
 use rart_changes::{KeyChange, TrackedTree};
+use rart_saved::{
+    ByteString, LoadError, SaveError, load_changes, load_changes_slice, load_slice, save_changes,
+    save_changes_slice, save_slice,
+};
 use rart_versioned::{ArrayKey, KeyTrait, VectorKey, VersionedAdaptiveRadixTree};
 use std::alloc::{AllocError, Global};
 use std::io;
@@ -81,33 +77,45 @@ fn make(replica: &mut Tree, list: Vec<Change>) -> Result<(), AllocError> {
     Ok(())
 }
 
-#[test]
-fn replica_makes_what_it_is_sent(rt: HostRuntime) -> Result<(), Fail> {
-    let alloc = rt.alloc();
+/// A key of up to eight bytes.
+fn key(alloc: Global, i: u64) -> Result<VectorKey, AllocError> {
+    let bytes = i.wrapping_mul(0x9e37_79b9_7f4a_7c15).to_be_bytes();
+    VectorKey::new_from_slice(alloc, &bytes[..(i % 9) as usize])
+}
+
+fn many(alloc: Global) -> Result<Tree, AllocError> {
     let mut tree = Tree::new(alloc);
     for i in 0..500_u64 {
         if tree.version() < u64::MAX {
-            let bytes = i.wrapping_mul(0x9e37_79b9_7f4a_7c15).to_be_bytes();
-            tree.insert_slice(&bytes[..(i % 9) as usize], i)?;
+            tree.insert(key(alloc, i)?, i)?;
         }
     }
-    let mut replica = tree.clone()?;
-    let mut tracked = TrackedTree::begin(alloc, &tree)?;
+    Ok(tree)
+}
+
+/// Takes one key in three out, and sets the others.
+fn touch(alloc: Global, tracked: &mut TrackedTree<VectorKey, u64>) -> Result<(), AllocError> {
     for i in 0..900_u64 {
         if tracked.current().version() < u64::MAX {
-            let bytes = i.wrapping_mul(0x9e37_79b9_7f4a_7c15).to_be_bytes();
-            let key = VectorKey::new_from_slice(alloc, &bytes[..(i % 9) as usize])?;
             if i % 3 == 0 {
-                tracked.delete(key)?;
+                tracked.delete(key(alloc, i)?)?;
             } else {
-                tracked.insert(key, i / 2)?;
+                tracked.insert(key(alloc, i)?, i / 2)?;
             }
         }
     }
+    Ok(())
+}
+
+#[test]
+fn replica_makes_what_it_is_sent(rt: HostRuntime) -> Result<(), Fail> {
+    let alloc = rt.alloc();
+    let tree = many(alloc)?;
+    let mut replica = tree.clone()?;
+    let mut tracked = TrackedTree::begin(alloc, &tree)?;
+    touch(alloc, &mut tracked)?;
     let bytes = save_changes_slice(alloc, tracked.changes()?.as_slice())?;
-    let Ok(list) = load_changes_slice::<VectorKey, u64>(alloc, bytes.as_slice()) else {
-        return Err(Fail::from(AllocError));
-    };
+    let list = load_changes_slice::<VectorKey, u64>(alloc, bytes.as_slice())?;
     let again = save_changes_slice(alloc, list.as_slice())?;
     assert!(rt; again.as_slice() == bytes.as_slice());
     assert!(rt; !replica.equals(tracked.current())?);
@@ -116,20 +124,30 @@ fn replica_makes_what_it_is_sent(rt: HostRuntime) -> Result<(), Fail> {
     Ok(())
 }
 
+/// A flipped bit is refused, of the sum by its own error.
+fn assert_flip_is_refused(rt: &impl Abort, alloc: Global, at: usize, bit: u8) {
+    let mut bytes = THREE;
+    if let Some(byte) = bytes.get_mut(at) {
+        *byte ^= bit;
+    }
+    let answer = load_changes_slice::<VectorKey, u64>(alloc, bytes.as_slice()).err();
+    assert!(rt; answer.is_some());
+    assert!(rt; at < 57 || answer == Some(LoadError::Checksum));
+}
+
 #[test]
 fn each_flipped_bit_is_refused(rt: HostRuntime) -> Result<(), Fail> {
-    let alloc = rt.alloc();
     for at in 0..THREE.len() {
         for bit in [1_u8, 2, 4, 8, 16, 32, 64, 128] {
-            let mut bytes = THREE;
-            bytes[at] ^= bit;
-            let answer = load_changes_slice::<VectorKey, u64>(alloc, bytes.as_slice());
-            assert!(rt; answer.is_err());
-            if at >= 57 {
-                assert!(rt; matches!(answer, Err(LoadError::Checksum)));
-            }
+            assert_flip_is_refused(&rt, rt.alloc(), at, bit);
         }
     }
+    Ok(())
+}
+
+#[test]
+fn each_prefix_is_truncated(rt: HostRuntime) -> Result<(), Fail> {
+    let alloc = rt.alloc();
     for count in 0..THREE.len() {
         let answer = load_changes_slice::<VectorKey, u64>(alloc, &THREE[..count]);
         assert!(rt; matches!(answer, Err(LoadError::Truncated)));
@@ -145,11 +163,23 @@ fn neither_is_read_as_the_other(rt: HostRuntime) -> Result<(), Fail> {
     let version = save_slice(alloc, &Tree::new(alloc))?;
     let answer = load_changes_slice::<VectorKey, u64>(alloc, version.as_slice());
     assert!(rt; matches!(answer, Err(LoadError::Malformed { at: 1 })));
+    Ok(())
+}
+
+#[test]
+fn other_types_are_refused(rt: HostRuntime) -> Result<(), Fail> {
+    let alloc = rt.alloc();
     let answer = load_changes_slice::<VectorKey, ByteString>(alloc, THREE.as_slice());
     assert!(rt; matches!(answer, Err(LoadError::Malformed { at: 8 })));
     // (a key of six bytes is too long for this one)
     let answer = load_changes_slice::<ArrayKey<5>, u64>(alloc, THREE.as_slice());
     assert!(rt; matches!(answer, Err(LoadError::Malformed { at: 43 })));
+    Ok(())
+}
+
+#[test]
+fn keys_out_of_order_are_refused(rt: HostRuntime) -> Result<(), Fail> {
+    let alloc = rt.alloc();
     // (`tea` does not stand behind `teapot`)
     let mut list = three(alloc)?;
     list.push(change(alloc, b"tea", None, None)?)?;
@@ -164,17 +194,19 @@ fn streams_carry_the_same_bytes(rt: HostRuntime) -> Result<(), Fail> {
     let alloc = rt.alloc();
     let list = three(alloc)?;
     let mut written = Vec::new(alloc);
-    assert!(rt; matches!(save_changes(alloc, list.as_slice(), &mut written), Ok(())));
+    save_changes(alloc, list.as_slice(), &mut written)?;
     assert!(rt; written.as_slice() == THREE.as_slice());
     let mut reader = written.as_slice();
-    let Ok(back) = load_changes::<VectorKey, u64, &[u8]>(alloc, &mut reader) else {
-        return Err(Fail::from(AllocError));
-    };
+    let back = load_changes::<VectorKey, u64, &[u8]>(alloc, &mut reader)?;
     assert!(rt; save_changes_slice(alloc, back.as_slice())?.as_slice() == THREE.as_slice());
-    let mut broken = Broken {
-        calls: 0,
-        kind: io::ErrorKind::Other,
-    };
+    Ok(())
+}
+
+#[test]
+fn broken_streams_are_told(rt: HostRuntime) -> Result<(), Fail> {
+    let alloc = rt.alloc();
+    let list = three(alloc)?;
+    let mut broken = Broken::new(io::ErrorKind::Other);
     let answer = save_changes(alloc, list.as_slice(), &mut broken);
     assert!(rt; matches!(answer, Err(SaveError::Io)));
     let answer = load_changes::<VectorKey, u64, Broken>(alloc, &mut broken);

@@ -14,8 +14,6 @@ mod server;
 mod session;
 mod slice;
 mod status;
-#[cfg(test)]
-mod tests;
 mod words;
 
 pub use line::{LineCommand, LineKey, parse};

@@ -1,11 +1,11 @@
 //! Readers and writers that are interrupted, do a part of what they are asked, or fail.
 use super::{Trial, assert_served};
-use crate::served::{ServeError, Served};
 use std::alloc::{AllocError, Global};
 use std::cell::Cell;
 use std::io::{self, Read, Write};
 use std::rc::Rc;
 use std::test::Fail;
+use vtree_lines::{ServeError, Served};
 
 /// How many lines a writer was given, which its reader sees.
 #[derive(Drop)]

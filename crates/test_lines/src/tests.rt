@@ -4,12 +4,11 @@ mod heap;
 mod lists;
 mod streams;
 
-use crate::served::{ServeError, Served};
-use crate::server::serve;
 use std::alloc::Global;
 use std::process::Abort;
 use std::test::Fail;
 use streams::{Sink, Source, none_answered};
+use vtree_lines::{ServeError, Served, serve};
 
 /// How a text of lines is read and its replies are written.
 #[derive(Clone, Copy)]

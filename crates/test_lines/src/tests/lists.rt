@@ -1,9 +1,9 @@
 //! Long lines and long lists: where there is memory no command that lists is refused, however much
 //! it lists.
 use super::{Trial, assert_served};
-use crate::served::Served;
 use std::alloc::{AllocError, Global};
 use std::test::Fail;
+use vtree_lines::Served;
 
 /// Lines that make a version of 300 keys and a snapshot of it, and their replies.
 fn made(alloc: Global) -> Result<(String, String), AllocError> {

@@ -1,10 +1,10 @@
 //! Each command with ample memory, on keys on the heap.
-use crate::reply::write_reply;
 use rart_family::{Command, Family, KeyTrait, SlotUpdate, VectorKey, Work};
 use std::alloc::{AllocError, Global};
 use std::ops::Bound;
 use std::process::Abort;
 use std::test::Fail;
+use vtree_lines::write_reply;
 
 fn key(alloc: Global, text: &str) -> Result<VectorKey, AllocError> {
     VectorKey::new_from_slice(alloc, text.as_bytes())

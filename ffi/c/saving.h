@@ -87,3 +87,33 @@ static void expect_save(size_t at, size_t to, uint8_t kind) {
     expect_state(at, &key);
     expect_state(to, &key);
 }
+
+// Loads so many bytes, which are no tree's. What is told is the answer, and a place or SIZE_MAX.
+static void expect_no_tree(size_t at, size_t len, rart_answer wanted, size_t place) {
+    const struct key key = key_of(2);
+    size_t told = SIZE_MAX;
+    EXPECT(CALL(load)(&trees[at], saved, len, &told) == wanted);
+    EXPECT(told == place);
+    expect_state(at, &key);
+}
+
+// Each way in which bytes are no tree's has its own answer. (The key of two bytes stands first,
+// behind a head of nine bytes, the number and the count.)
+static void run_broken(void) {
+    const struct key one = key_of(2), two = key_of(LETTERS + 1);
+    size_t len = 0;
+    expect_insert(2, &one, 300);
+    expect_insert(2, &two, 100);
+    expect_longest_key(3, 1);
+    EXPECT(CALL(save)(&trees[2], saved, sizeof saved, &len) == RART_DONE);
+    expect_no_tree(3, len, RART_TOO_LONG, 11);
+    expect_no_tree(2, len - 1, RART_TRUNCATED, SIZE_MAX);
+    saved[len - 1] ^= 1;
+    expect_no_tree(2, len, RART_WRONG_SUM, SIZE_MAX);
+    saved[7] = 2;
+    expect_no_tree(2, len, RART_UNSUPPORTED, SIZE_MAX);
+    saved[0] = 7;
+    expect_no_tree(2, len, RART_MALFORMED, 0);
+    expect_clear(2);
+    expect_clear(3);
+}

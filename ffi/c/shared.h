@@ -623,6 +623,7 @@ static int compare(int count, char **words, const char *values) {
     }
     run_out();
     run_long();
+    run_broken();
     refuse_one_in(count > 2 ? strtoull(words[2], NULL, 10) : 0);
     for (unsigned long long call = 0; call < calls; call++) {
         make_call(random_below(TREES));

@@ -8,8 +8,6 @@ pub(crate) mod paging;
 pub(crate) mod prefixes;
 pub(crate) mod reading;
 pub(crate) mod saving;
-#[cfg(test)]
-mod tests;
 pub(crate) mod value;
 pub(crate) mod versions;
 pub(crate) mod walking;

@@ -21,8 +21,6 @@ mod prefixes;
 mod reading;
 mod saving;
 mod table;
-#[cfg(test)]
-mod tests;
 mod unboxed;
 mod versions;
 mod walking;

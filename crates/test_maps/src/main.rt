@@ -1,17 +1,10 @@
-//! Tests of the versioned tree, of merges and of tuple indexes, through public calls alone: that
-//! calls succeed where there is memory, how often values are cloned, and texts. No contract can say
-//! these.
-//!
-//! The program compares what changed between versions with std's maps: random diffs, patches and
-//! merges, what stands under random prefixes, and trees of sorted pairs. What differs first ends
-//! the program.
+//! Compares what changed between versions with std's maps: random diffs, patches and merges, what
+//! stands under random prefixes, and trees of sorted pairs. What differs first ends the program.
 #![tactic(auto)]
 
 mod draw;
 mod prefixes;
 mod sorted;
-#[cfg(test)]
-mod tests;
 mod trials;
 mod version;
 

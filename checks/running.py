@@ -73,6 +73,10 @@ class Build:
                     then(name, is_proved)
             time.sleep(1)
 
+    def failed(self):
+        """What the run told of that failed: crates, tests and programs."""
+        return re.findall(r"(?m)^rt: (FAILED: .*|.* NOT PROVED.*)$", self.text())
+
     def counts(self):
         """How many crates passed, and how many parts of them failed: one where the run did."""
         last = re.findall(r"(?m)^(\d+) passed, (\d+) failed", self.text())

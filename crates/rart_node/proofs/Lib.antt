@@ -9,6 +9,7 @@ pub mod FindLemmas
 pub mod GatherLemmas
 pub mod InsertionLemmas
 pub mod KeyLemmas
+pub mod KeyPathLemmas
 pub mod MatchLemmas
 pub mod NodeMergeLemmas
 pub mod OnlyChildLemmas

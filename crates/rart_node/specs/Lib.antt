@@ -1,6 +1,7 @@
 pub mod Contents
 pub mod Counts
 pub mod Depths
+pub mod KeyPaths
 pub mod Laws
 pub mod Lent
 pub mod NodeShapes

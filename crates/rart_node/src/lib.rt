@@ -14,6 +14,7 @@
 mod content;
 mod grow_error;
 mod held;
+mod key_path;
 pub mod laws;
 mod matching;
 mod node;
@@ -24,6 +25,7 @@ mod wide_box;
 mod work;
 
 pub use grow_error::GrowError;
+pub use key_path::{BytesPath, KeyPath, NoPath, SegmentsPath};
 pub use matching::{rest_of, strip_prefix};
 pub use node::VersionedNode;
 pub use node_iter::VersionedNodeIter;

@@ -3,7 +3,7 @@ use Rattle.std.proofs.Common.{◌≡◌, ◌≤◌, ℕ, true, List, [], ◌∷�
 use Rattle.std.specs.List.{filter_map, cons_option}
 use Rattle.std.specs.Option.{option_map}
 use Rattle.std.specs.FinMap as finite
-use Rattle.rart_walks.specs.CommonPairs.{common_pairs}
+use Rattle.rart_lockstep.specs.CommonPairs.{common_pairs}
 use Rattle.rart_maps.specs.Pairs.{common, shared}
 use Rattle.rart_maps.specs.Versions.{Version, has_no_key}
 use Rattle.rart_maps.proofs.WorkedPairLemmas.{common_of_empty}

@@ -6,7 +6,7 @@ use Rattle.std.specs.FinSet as set
 use Rattle.rart_maps.specs.Pairs.{common, shared}
 use Rattle.rart_node.specs.Shape.{Shape}
 use Rattle.rart_node.specs.Trees.{IsTree}
-use Rattle.rart_walks.specs.CommonPairs.{common_pairs, starts_of, shared_of}
+use Rattle.rart_lockstep.specs.CommonPairs.{common_pairs, starts_of, shared_of}
 use Rattle.rart_versioned.specs.Roots.{map_of}
 use Rattle.rart_versioned.proofs.VersionMapLemmas.{get-found, pairs-map}
 

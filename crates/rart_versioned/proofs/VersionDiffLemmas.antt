@@ -12,7 +12,7 @@ use Rattle.rart_maps.specs.Pairs.{pairs}
 use Rattle.rart_maps.specs.Versions.{Map, Version}
 use Rattle.rart_maps.proofs.FoundLemmas.{pairs_ascend_by_key}
 use Rattle.rart_maps.proofs.OrderLemmas.{byte_order-IsAntisymmetric}
-use Rattle.rart_walks.specs.KeyPaths.{HoldsBytes, extent_in_bytes}
+use Rattle.rart_node.specs.KeyPaths.{HoldsBytes, extent_in_bytes}
 use Rattle.rart_walks.specs.WalkFields.{IsWalk, cursor}
 use Rattle.rart_walks.specs.declared.walk.Walk.{Walk}
 use Rattle.rart_versioned.specs.TreeWalks.{AreWalks}

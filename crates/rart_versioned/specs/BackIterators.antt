@@ -4,7 +4,7 @@ use Rattle.std.specs.Option.{option_map}
 use Rattle.std.specs.declared.ops.Bound.{Bound}
 use Rattle.rart_walks.specs.BackFields.{IsWalkBack, back_cursor}
 use Rattle.rart_walks.specs.Descending.{KeysDescend, pairs_down_to}
-use Rattle.rart_walks.specs.KeyPaths.{HoldsBytes}
+use Rattle.rart_node.specs.KeyPaths.{HoldsBytes}
 use Rattle.rart_walks.specs.declared.walk_back.WalkBack.{WalkBack}
 use Rattle.rart_versioned.specs.TreeWalks.{AreAdmitted}
 

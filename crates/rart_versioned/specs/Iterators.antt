@@ -13,7 +13,7 @@ use Rattle.rart_node.specs.Trees.{pairs_of}
 use Rattle.rart_walks.specs.Frames.{behind_path}
 use Rattle.rart_walks.specs.declared.walk.Walk.{Walk as PairWalk}
 use Rattle.rart_walks.specs.WalkFields.{IsWalk, cursor}
-use Rattle.rart_walks.specs.KeyPaths.{HoldsBytes, extent_in_bytes}
+use Rattle.rart_node.specs.KeyPaths.{HoldsBytes, extent_in_bytes}
 use Rattle.rart_versioned.specs.declared.plain.iterators.iter.Entries.{Entries}
 use Rattle.rart_versioned.specs.declared.plain.iterators.iter.Entries.TheVariants.{Empty, Entry, Walk}
 use Rattle.rart_versioned.specs.declared.plain.iterators.prefix_match.Way.{Way}

@@ -1,6 +1,6 @@
 -- What is known of two versions that are intersected, by their roots.
 use Rattle.std.specs.Prelude.{◌≡◌, ◌⊎◌, ◌^◌, ◌-◌, ◌≤◌, ℕ, true, [], Option, Some, length}
-use Rattle.rart_walks.specs.CommonPairs.{common_pairs, shared_of}
+use Rattle.rart_lockstep.specs.CommonPairs.{common_pairs, shared_of}
 use Rattle.rart_maps.specs.Pairs.{common, shared}
 use Rattle.rart_maps.specs.Versions.{Version, has_no_key}
 use Rattle.rart_node.specs.Shape.{Shape}

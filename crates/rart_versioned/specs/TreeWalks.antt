@@ -14,7 +14,7 @@ use Rattle.rart_maps.specs.Pairs.{pairs, under, within}
 use Rattle.rart_maps.specs.Versions.{Version, has_no_key}
 use Rattle.rart_node.specs.Counts.{Counts, CountsUpTo}
 use Rattle.rart_versioned.specs.VisitCounts.{node_count_to}
-use Rattle.rart_walks.specs.KeyPaths.{HoldsBytes, extent_in_bytes}
+use Rattle.rart_node.specs.KeyPaths.{HoldsBytes, extent_in_bytes}
 use Rattle.rart_walks.specs.WalkFields.{IsWalk, cursor, at_hand}
 use Rattle.rart_walks.specs.declared.walk.Walk.{Walk}
 

@@ -9,7 +9,7 @@ use Rattle.rart_node.specs.Trees.{IsTree, AreBranches, pairs_of}
 use Rattle.rart_walks.specs.Walks.{AreShort, GoesOnFirst, pending_pair, paths_of, paths_below}
 use Rattle.rart_walks.specs.Frames.{OpenNode, Pushes, behind_path, under_path, pairs_inside, pairs_of_all, paths_of_all, AreTrees, segments_of, pairs_ahead, paths_ahead, TreesAhead, AreSpent, TakesAhead, with_rest}
 use Rattle.rart_node.proofs.BehindLemmas.{behind-append, behind-behind, behind-none, pairs-entered, short-append, short-first, short-front, short-pending, tree-has-pair}
-use Rattle.rart_walks.proofs.KeyPathLemmas.{concat-push}
+use Rattle.rart_node.proofs.KeyPathLemmas.{concat-push}
 
 -- ---- paths behind a path
 pub under-none : (paths : List (List ℕ)) → under_path [] paths ≡ paths

@@ -4,7 +4,7 @@ use Rattle.std.specs.Option.{is_some, option_copied}
 use Rattle.std.specs.declared.cmp.Ordering.{Ordering}
 use Rattle.std.specs.declared.cmp.Ordering.TheVariants.{Less, Equal, Greater}
 use Rattle.rart_maps.specs.FoundLaws.{KeysAscend}
-use Rattle.rart_walks.specs.KeyPaths.{HoldsBytes, extent_in_bytes}
+use Rattle.rart_node.specs.KeyPaths.{HoldsBytes, extent_in_bytes}
 use Rattle.rart_walks.specs.Walks.{pending_pair}
 use Rattle.rart_walks.specs.WalkFields.{IsWalk, path_to, cursor, at_hand}
 use Rattle.rart_walks.specs.declared.walk.Walk.{Walk}

@@ -2,7 +2,7 @@
 use Rattle.std.specs.Prelude.{ℕ, ◌+◌, Bool, List, None, length}
 use Rattle.rart_maps.specs.ChangeLists.{Change}
 use Rattle.rart_maps.specs.FoundLaws.{KeysAscend}
-use Rattle.rart_walks.specs.KeyPaths.{HoldsBytes, extent_in_bytes}
+use Rattle.rart_node.specs.KeyPaths.{HoldsBytes, extent_in_bytes}
 use Rattle.rart_walks.specs.WalkFields.{IsWalk, cursor}
 use Rattle.rart_walks.specs.declared.walk.Walk.{Walk}
 use Rattle.rart_walks.specs.Diffs.{changes_between}

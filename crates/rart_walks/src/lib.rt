@@ -4,13 +4,11 @@
 //! A walk (`walk`) goes from node to node with a stack on the heap, gives the values in order, and
 //! keeps the way to where it stands on a key path. A walk back (`walk_back`) gives them from the
 //! last to the first. Over these stand the visits of one tree (`visits`), over the first those
-//! of the keys that two trees have in common (`lockstep`), and of what two trees differ in
-//! (`diff`). They know prefixes and pointers, and no key type but for the keys that they make.
+//! of what two trees differ in (`diff`). They know prefixes and pointers, and no key type but for
+//! the keys that they make.
 #![tactic(auto)]
 
 mod diff;
-mod key_path;
-mod lockstep;
 mod trail;
 mod visits;
 mod walk;
@@ -19,10 +17,7 @@ mod walk_back;
 pub use diff::{
     are_equal, count_changes, visit_changed_keys, visit_changed_views, visit_changed_views_until,
 };
-pub use key_path::{BytesPath, KeyPath, NoPath, SegmentsPath};
-pub use lockstep::{
-    IntersectionPath, ViewsPath, count_common, visit_common, visit_common_keys, visit_common_values,
-};
+pub use rart_node::{BytesPath, KeyPath, NoPath, SegmentsPath};
 pub use visits::{
     visit_values, visit_values_until, visit_views, visit_views_back, visit_views_back_until,
     visit_views_up_to,

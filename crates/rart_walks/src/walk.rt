@@ -13,10 +13,9 @@ ghost use Rattle.rart_walks.specs.Walks.{AreShort};
 
 mod path;
 
-use crate::key_path::KeyPath;
 use crate::trail::Trail;
 use rart_below::Partial;
-use rart_node::{NodeRef, VersionedNode, VersionedNodeIter, Work};
+use rart_node::{KeyPath, NodeRef, VersionedNode, VersionedNodeIter, Work};
 use std::alloc::{AllocError, Global};
 use std::mem;
 

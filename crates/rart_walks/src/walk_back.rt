@@ -14,9 +14,8 @@ ghost use Rattle.rart_walks.specs.Walks.{AreShort};
 
 mod path;
 
-use crate::key_path::KeyPath;
 use rart_below::Partial;
-use rart_node::{NodeRef, VersionedNode, VersionedNodeRevIter, Work};
+use rart_node::{KeyPath, NodeRef, VersionedNode, VersionedNodeRevIter, Work};
 use std::alloc::{AllocError, Global};
 
 /// A node that is open: its prefix, its own value, where that is still to give, and the children

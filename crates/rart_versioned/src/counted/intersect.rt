@@ -10,10 +10,10 @@ ghost use Rattle.rart_versioned.specs.Meets.{AreRoots, HaveNoCommon};
 
 use crate::counted::tree::VersionedAdaptiveRadixTree;
 use rart_below::{KeyTrait, LendingKeyView, Partial};
-use rart_node::{NodeRef, Work};
-use rart_walks::{
-    KeyPath, ViewsPath, count_common, visit_common, visit_common_keys, visit_common_values,
+use rart_lockstep::{
+    ViewsPath, count_common, visit_common, visit_common_keys, visit_common_values,
 };
+use rart_node::{KeyPath, NodeRef, Work};
 use std::alloc::AllocError;
 
 impl<K: KeyTrait, V: Clone + Drop> VersionedAdaptiveRadixTree<K, V> {

@@ -2,7 +2,7 @@
 //! How many keys there are, which no tree keeps: a walk over them.
 ghost use Rattle.std.specs.Prelude.{◌≡◌, ◌^◌, ◌<◌, None, IfOk, length};
 ghost use Rattle.rart_maps.specs.Pairs.{pairs, under};
-ghost use Rattle.rart_walks.specs.KeyPaths.{HoldsNothing, no_extent};
+ghost use Rattle.rart_node.specs.KeyPaths.{HoldsNothing, no_extent};
 ghost use Rattle.rart_walks.specs.WalkFields.{IsWalk, cursor};
 
 use crate::counted::VersionedAdaptiveRadixTree;

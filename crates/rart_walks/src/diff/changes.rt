@@ -7,11 +7,10 @@ ghost use Rattle.rart_walks.specs.TwoWalks.{GoTogether, changes_ahead, nodes_ahe
 
 use crate::diff::order::order_of;
 use crate::diff::side::Side;
-use crate::key_path::BytesPath;
 use crate::walk::Walk;
 use rart_below::Partial;
 use rart_maps::do_differ;
-use rart_node::Work;
+use rart_node::{BytesPath, Work};
 use std::alloc::AllocError;
 use std::cmp::Ordering;
 

@@ -5,10 +5,9 @@ ghost use Rattle.rart_walks.specs.DiffEnds.{EntersToFirst};
 ghost use Rattle.rart_walks.specs.TwoWalks.{GoTogether, changes_ahead, nodes_ahead};
 
 use crate::diff::changes::ChangeWalk;
-use crate::key_path::BytesPath;
 use crate::walk::Walk;
 use rart_below::Partial;
-use rart_node::Work;
+use rart_node::{BytesPath, Work};
 use std::alloc::AllocError;
 
 /// At how many keys what two walks have left differs.

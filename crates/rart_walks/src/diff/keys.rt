@@ -8,10 +8,9 @@ ghost use Rattle.rart_walks.specs.TwoWalks.{GoTogether, changes_ahead, nodes_ahe
 ghost use Rattle.rart_walks.specs.WalkFields.{cursor};
 
 use crate::diff::changes::ChangeWalk;
-use crate::key_path::BytesPath;
 use crate::walk::Walk;
 use rart_below::{KeyTrait, Partial};
-use rart_node::Work;
+use rart_node::{BytesPath, Work};
 use std::alloc::{AllocError, Global};
 
 /// Calls the closure on each key at which what two walks have left differs, in order: with the key,

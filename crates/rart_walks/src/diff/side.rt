@@ -5,10 +5,9 @@ ghost use Rattle.rart_node.specs.Counts.{CountsUpTo};
 ghost use Rattle.rart_walks.specs.Diffs.{Leads};
 ghost use Rattle.rart_walks.specs.TwoWalks.{Ascends};
 
-use crate::key_path::BytesPath;
 use crate::walk::Walk;
 use rart_below::Partial;
-use rart_node::Work;
+use rart_node::{BytesPath, Work};
 use std::alloc::AllocError;
 
 /// A walk over one of two trees, and the value of the key that it stands at until that is taken.

@@ -9,10 +9,9 @@ ghost use Rattle.rart_walks.specs.Ends.{Ends};
 ghost use Rattle.rart_walks.specs.TwoWalks.{GoTogether, changes_ahead, nodes_ahead};
 
 use crate::diff::changes::ChangeWalk;
-use crate::key_path::BytesPath;
 use crate::walk::Walk;
 use rart_below::{LendingKeyView, Partial, Refusal, VisitControl};
-use rart_node::Work;
+use rart_node::{BytesPath, Work};
 use std::alloc::AllocError;
 
 /// As `visit_changed_keys`, with a view of the key, which ends with the call.

@@ -6,10 +6,9 @@ ghost use Rattle.rart_node.specs.Counts.{CountsUpTo};
 ghost use Rattle.rart_walks.specs.Ends.{ByPairValue, Ends, EntersUpTo};
 ghost use Rattle.rart_walks.specs.WalkFields.{at_hand, cursor, IsWalk};
 
-use crate::key_path::KeyPath;
 use crate::walk::Walk;
 use rart_below::{Partial, Refusal, VisitControl};
-use rart_node::Work;
+use rart_node::{KeyPath, Work};
 use std::alloc::AllocError;
 
 /// Calls the closure on each value that a walk has left. It enters a node at least for each, but

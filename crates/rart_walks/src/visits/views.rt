@@ -10,12 +10,11 @@ ghost use Rattle.rart_maps.specs.Visits.{ByView, Visitable, Visits};
 ghost use Rattle.rart_node.specs.Counts.{CountsUpTo};
 ghost use Rattle.rart_walks.specs.Visited.{pairs_up_to};
 ghost use Rattle.rart_walks.specs.WalkFields.{at_hand, cursor, IsWalk};
-ghost use Rattle.rart_walks.specs.KeyPaths.{HoldsSegments, extent_in_segments};
+ghost use Rattle.rart_node.specs.KeyPaths.{HoldsSegments, extent_in_segments};
 
-use crate::key_path::SegmentsPath;
 use crate::walk::Walk;
 use rart_below::{LendingKeyView, Partial};
-use rart_node::Work;
+use rart_node::{SegmentsPath, Work};
 use std::alloc::AllocError;
 use std::cmp::Ordering;
 use std::ops::Bound;

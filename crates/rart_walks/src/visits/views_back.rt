@@ -5,14 +5,13 @@ ghost use Rattle.rart_maps.specs.Visits.{ByView, Visitable, VisitableUntil, Visi
 ghost use Rattle.rart_node.specs.Counts.{CountsUpTo};
 ghost use Rattle.rart_walks.specs.BackFields.{IsWalkBack, at_hand, back_cursor};
 ghost use Rattle.rart_walks.specs.Ends.{Ends};
-ghost use Rattle.rart_walks.specs.KeyPaths.{HoldsSegments};
+ghost use Rattle.rart_node.specs.KeyPaths.{HoldsSegments};
 ghost use Rattle.rart_walks.specs.OnWay.{EntersOnWay};
 
 use super::views::view_of;
-use crate::key_path::SegmentsPath;
 use crate::walk_back::WalkBack;
 use rart_below::{LendingKeyView, Partial, Refusal, VisitControl};
-use rart_node::Work;
+use rart_node::{SegmentsPath, Work};
 use std::alloc::AllocError;
 
 /// Calls the closure on each pair that a walk back has left: with a view of the key, which ends

@@ -17,9 +17,8 @@ ghost use Rattle.rart_walks.specs.WalkFields.{IsFramed};
 ghost use Rattle.rart_walks.specs.Walks.{AreShort};
 
 use super::Walk;
-use crate::key_path::KeyPath;
 use rart_below::Partial;
-use rart_node::{NodeRef, VersionedNode, VersionedNodeIter, Work, rest_of};
+use rart_node::{KeyPath, NodeRef, VersionedNode, VersionedNodeIter, Work, rest_of};
 use std::alloc::{AllocError, Global};
 use std::ops::Bound;
 

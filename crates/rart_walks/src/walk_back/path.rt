@@ -15,9 +15,8 @@ ghost use Rattle.rart_maps.specs.Bounds.{bound_string};
 ghost use Rattle.rart_walks.specs.Walks.{AreShort, paths_of};
 
 use super::WalkBack;
-use crate::key_path::KeyPath;
 use rart_below::Partial;
-use rart_node::{NodeRef, VersionedNode, VersionedNodeRevIter, Work, rest_of};
+use rart_node::{KeyPath, NodeRef, VersionedNode, VersionedNodeRevIter, Work, rest_of};
 use std::alloc::{AllocError, Global};
 use std::ops::Bound;
 

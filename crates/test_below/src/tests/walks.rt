@@ -5,8 +5,9 @@ ghost use Rattle.rart_node.specs.Trees.{IsTree};
 ghost use Rattle.rart_walks.specs.WalkFields.{IsWalk};
 
 use rart_below::{ArrPartial, ArrayKey, KeyTrait, LendingKeyView, Partial};
+use rart_lockstep::{ViewsPath, visit_common, visit_common_keys};
 use rart_node::{NodeRef, VersionedNode, Work};
-use rart_walks::{BytesPath, KeyPath, ViewsPath, Walk, visit_common, visit_common_keys};
+use rart_walks::{BytesPath, KeyPath, Walk};
 use std::alloc::{AllocError, Global};
 use std::ops::Bound;
 use std::test::Fail;

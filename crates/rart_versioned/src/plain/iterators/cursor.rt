@@ -25,7 +25,7 @@ pub struct VersionedCursor<'a, P: Partial, V> {
 
 impl<'a, P: Partial, V> Model for VersionedCursor<'a, P, V> {
     ghost use Rattle.std.specs.Prelude.{None};
-    ghost use Rattle.rart_walks.specs.KeyPaths.{HoldsBytes, extent_in_bytes};
+    ghost use Rattle.rart_node.specs.KeyPaths.{HoldsBytes, extent_in_bytes};
     ghost use Rattle.rart_walks.specs.WalkFields.{IsWalk, cursor, path_to};
     ghost use Rattle.rart_versioned.specs.Cursors.{Cursor};
 

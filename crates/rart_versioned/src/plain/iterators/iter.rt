@@ -5,7 +5,7 @@ ghost use Rattle.rart_below.specs.Bytes.{IsAdmitted};
 ghost use Rattle.rart_maps.specs.Pairs.{pairs, under};
 ghost use Rattle.rart_node.specs.Trees.{pairs_of};
 ghost use Rattle.rart_versioned.specs.Iterators.{HasKeys, pairs_to_come};
-ghost use Rattle.rart_walks.specs.KeyPaths.{HoldsBytes, extent_in_bytes};
+ghost use Rattle.rart_node.specs.KeyPaths.{HoldsBytes, extent_in_bytes};
 ghost use Rattle.rart_walks.specs.WalkFields.{path_to, IsWalk};
 
 use crate::counted::VersionedAdaptiveRadixTree;

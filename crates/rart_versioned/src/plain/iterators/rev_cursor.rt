@@ -25,7 +25,7 @@ pub struct VersionedCursorRev<'a, P: Partial, V> {
 
 impl<'a, P: Partial, V> Model for VersionedCursorRev<'a, P, V> {
     ghost use Rattle.std.specs.Prelude.{None};
-    ghost use Rattle.rart_walks.specs.KeyPaths.{HoldsBytes};
+    ghost use Rattle.rart_node.specs.KeyPaths.{HoldsBytes};
     ghost use Rattle.rart_walks.specs.BackFields.{IsWalkBack, back_cursor, path_to};
     ghost use Rattle.rart_versioned.specs.Cursors.{Cursor};
 

@@ -4,7 +4,7 @@ ghost use Rattle.std.specs.Prelude.{◌≡◌, ◌∷◌, Some, None, Err, IfOk,
 ghost use Rattle.rart_below.specs.Bytes.{IsAdmitted};
 ghost use Rattle.rart_maps.specs.Pairs.{pairs, under};
 ghost use Rattle.rart_walks.specs.BackFields.{IsWalkBack, path_to};
-ghost use Rattle.rart_walks.specs.KeyPaths.{HoldsBytes};
+ghost use Rattle.rart_node.specs.KeyPaths.{HoldsBytes};
 
 use crate::counted::VersionedAdaptiveRadixTree;
 use rart_below::{KeyTrait, Partial};

@@ -21,7 +21,7 @@ pub struct VersionedValuesRevIter<'a, P: Partial, V> {
 impl<'a, P: Partial, V> Model for VersionedValuesRevIter<'a, P, V> {
     ghost use Rattle.std.specs.Prelude.{List, Option, IfSome, None};
     ghost use Rattle.rart_walks.specs.BackFields.{IsWalkBack};
-    ghost use Rattle.rart_walks.specs.KeyPaths.{HoldsNothing};
+    ghost use Rattle.rart_node.specs.KeyPaths.{HoldsNothing};
     ghost use Rattle.rart_versioned.specs.BackIterators.{values_back};
 
     ghost Value = { Option (List V) };

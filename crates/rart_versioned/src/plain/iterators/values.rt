@@ -21,7 +21,7 @@ pub struct VersionedValuesIter<'a, P: Partial, V> {
 impl<'a, P: Partial, V> Model for VersionedValuesIter<'a, P, V> {
     ghost use Rattle.std.specs.Prelude.{List, Option, IfSome, None};
     ghost use Rattle.rart_walks.specs.WalkFields.{IsWalk};
-    ghost use Rattle.rart_walks.specs.KeyPaths.{HoldsNothing, no_extent};
+    ghost use Rattle.rart_node.specs.KeyPaths.{HoldsNothing, no_extent};
     ghost use Rattle.rart_versioned.specs.Iterators.{values_left};
 
     ghost Value = { Option (List V) };

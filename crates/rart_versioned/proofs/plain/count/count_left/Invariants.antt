@@ -1,5 +1,5 @@
 use Rattle.std.proofs.Common.{◌≡◌, ◌+◌, None, length}
-use Rattle.rart_walks.specs.KeyPaths.{HoldsNothing, no_extent}
+use Rattle.rart_node.specs.KeyPaths.{HoldsNothing, no_extent}
 use Rattle.rart_walks.specs.WalkFields.{IsWalk, cursor}
 use Rattle.rart_versioned.proofs.plain.count.count_left.Given as goal
 

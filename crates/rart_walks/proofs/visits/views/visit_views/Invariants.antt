@@ -1,7 +1,7 @@
 use Rattle.std.proofs.Common.{◌^◌, ◌-◌, length, Some}
 use Rattle.rart_maps.specs.Visits.{ByView, AnswersUpTo}
 use Rattle.rart_walks.specs.WalkFields.{cursor, IsWalk, EntersForEach}
-use Rattle.rart_walks.specs.KeyPaths.{HoldsSegments, extent_in_segments}
+use Rattle.rart_node.specs.KeyPaths.{HoldsSegments, extent_in_segments}
 use Rattle.rart_walks.proofs.CountedLemmas.{IsCounted}
 use Rattle.rart_walks.proofs.visits.views.visit_views.Given as goal
 

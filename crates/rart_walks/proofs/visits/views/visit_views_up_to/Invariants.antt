@@ -4,7 +4,7 @@ use Rattle.rart_maps.specs.FoundLaws.{KeysAscend}
 use Rattle.rart_maps.specs.Visits.{ByView, AnswersUpTo}
 use Rattle.rart_maps.proofs.RangeLemmas.{up_to, is_below}
 use Rattle.rart_walks.specs.WalkFields.{cursor, at_hand, IsWalk}
-use Rattle.rart_walks.specs.KeyPaths.{HoldsSegments, extent_in_segments}
+use Rattle.rart_node.specs.KeyPaths.{HoldsSegments, extent_in_segments}
 use Rattle.rart_walks.proofs.CountedLemmas.{IsCounted}
 use Rattle.rart_walks.proofs.UpToLemmas.{IsFew}
 use Rattle.rart_walks.proofs.visits.views.visit_views_up_to.Given as goal

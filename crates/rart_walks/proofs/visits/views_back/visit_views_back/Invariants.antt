@@ -1,7 +1,7 @@
 use Rattle.std.proofs.Common.{◌^◌, ◌-◌, length, Some}
 use Rattle.rart_maps.specs.Visits.{ByView, AnswersUpTo}
 use Rattle.rart_walks.specs.BackFields.{back_cursor, IsWalkBack, EntersForEach}
-use Rattle.rart_walks.specs.KeyPaths.{HoldsSegments}
+use Rattle.rart_node.specs.KeyPaths.{HoldsSegments}
 use Rattle.rart_walks.proofs.CountedLemmas.{IsCounted}
 use Rattle.rart_walks.proofs.visits.views_back.visit_views_back.Given as goal
 

@@ -1,7 +1,7 @@
 use Rattle.std.proofs.Common.{◌+◌, ◌^◌, ◌-◌, length, Ok, Some}
 use Rattle.rart_below.specs.declared.visit.VisitControl.TheVariants.{Continue}
 use Rattle.rart_maps.specs.Visits.{ByView, AnswersUpTo}
-use Rattle.rart_walks.specs.KeyPaths.{HoldsSegments}
+use Rattle.rart_node.specs.KeyPaths.{HoldsSegments}
 use Rattle.rart_walks.specs.BackFields.{back_cursor, at_hand, IsWalkBack}
 use Rattle.rart_walks.proofs.CountedLemmas.{IsCounted}
 use Rattle.rart_walks.proofs.VisitEndLemmas.{GoesOn}

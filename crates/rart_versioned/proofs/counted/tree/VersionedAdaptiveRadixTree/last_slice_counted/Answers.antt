@@ -1,5 +1,5 @@
 use Rattle.std.proofs.Common.{◌≡◌, ℕ, List, [], ◌∷◌, arith, refl, reverse, sym, ap, subst, ◌∙◌}
-use Rattle.std.specs.Prelude.{◌-◌, ◌^◌, Some, filter, length}
+use Rattle.std.specs.Prelude.{◌-◌, ◌^◌, Some, filter}
 use Rattle.std.specs.Ordering.{as_partial_cmp}
 use Rattle.std.specs.Range.Bound.{bound_map, bounds_contain}
 use Rattle.std.specs.declared.ops.Bound.TheVariants.{Unbounded}

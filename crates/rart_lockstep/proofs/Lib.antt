@@ -1,0 +1,13 @@
+pub mod BranchLemmas
+pub mod ChildLemmas
+pub mod CommonLemmas
+pub mod CommonVisitLemmas
+pub mod EnterLemmas
+pub mod IntersectionLemmas
+pub mod LeastLemmas
+pub mod LockstepLemmas
+pub mod NextChildLemmas
+pub mod PairLeafLemmas
+pub mod PairStepLemmas
+pub mod SharedLemmas
+pub mod TreeCursorLemmas

@@ -1,0 +1,10 @@
+pub mod Branches
+pub mod ChildFields
+pub mod Children
+pub mod CommonPairs
+pub mod Entries
+pub mod Intersections
+pub mod PairCursors
+pub mod Steps
+pub mod TreeCursorFields
+pub mod TreeCursors

@@ -1,8 +1,0 @@
-use Rattle.std.specs.Prelude.{is_ok}
-use Rattle.rart_walks.proofs.KeyPathLemmas.{bytes-push}
-use Rattle.rart_walks.proofs.lockstep.keys.KeyMakerKeyPath.push.Goals as goal
-
-pub returns-clause-keeps : goal.returns-clause-keeps
-returns-clause-keeps g c =
-    λ segments holds. bytes-push (is_ok c.push_short.result) _ _ c.args.segment.now segments
-    c.push_short.ensures holds

@@ -1,5 +1,5 @@
-//! Tests of keys, prefixes, views, nodes and walks, through their public calls alone: that calls
-//! succeed where there is memory, texts, sizes, and what is dropped. No contract can say these.
+//! Tests of keys, prefixes, views and nodes, through their public calls alone: that calls succeed
+//! where there is memory, texts, sizes, and what is dropped. No contract can say these.
 #![tactic(auto)]
 
 #[cfg(test)]

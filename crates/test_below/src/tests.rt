@@ -9,5 +9,4 @@ mod nodes;
 mod sizes;
 mod texts;
 mod views;
-mod walks;
 mod widths;

@@ -15,3 +15,4 @@ mod tracked;
 mod trees;
 mod versions;
 mod visits;
+mod walks;

@@ -1,7 +1,7 @@
 //! Iterators and visitors from the last key to the first.
 ghost use Rattle.std.specs.Iterator.{IsFinite};
 
-use crate::tests::trees::{Tree, chain, dense, four, key, mix};
+use crate::tests::trees::{Tree, assert_form, chain, dense, four, key, mix};
 use rart_versioned::{KeyTrait, LendingKeyView, Refusal, VectorKey, VisitControl, Work};
 use std::alloc::{AllocError, Global};
 use std::ops::Bound;
@@ -88,16 +88,12 @@ fn assert_goes_back(
 ) -> Result<(), AllocError> {
     let all = mixed_back(count);
     for form in 0..5 {
-        assert_eq!(rt;
-            listed(tree, form, key(alloc, prefix)?)?,
-            all,
-            "form {form}"
-        );
+        assert_form(rt, form, listed(tree, form, key(alloc, prefix)?)?, all);
     }
-    assert_eq!(rt; values_listed(tree)?, all);
+    assert_form(rt, 5, values_listed(tree)?, all);
     for form in 0..2 {
-        assert_eq!(rt; viewed(tree, form)?, all, "form {form}");
-        assert_eq!(rt; tried(tree, form).ok(), Some(all), "form {form}");
+        assert_form(rt, form, viewed(tree, form)?, all);
+        assert_form(rt, form, tried(tree, form).or(Err(AllocError))?, all);
     }
     Ok(())
 }
@@ -124,9 +120,31 @@ fn digits_of<'a, I: Iterator<Item = Result<(VectorKey, &'a u64), AllocError>>>(
     Ok(digits)
 }
 
-// Those of the pairs within two bounds.
-fn digits_between(tree: &Tree, low: Bound<&[u8]>, high: Bound<&[u8]>) -> Result<u64, AllocError> {
-    digits_of(tree.range_slice_rev(low, high)?)
+// The same of the pairs within two bounds.
+fn assert_between(
+    rt: &impl Abort,
+    tree: &Tree,
+    low: Bound<&[u8]>,
+    high: Bound<&[u8]>,
+    digits: u64,
+) -> Result<(), AllocError> {
+    assert_eq!(rt; digits_of(tree.range_slice_rev(low, high)?)?, digits);
+    Ok(())
+}
+
+// The same of those under a prefix.
+fn assert_under(
+    rt: &impl Abort,
+    alloc: Global,
+    tree: &Tree,
+    prefix: &[u8],
+    digits: u64,
+) -> Result<(), AllocError> {
+    assert_eq!(rt;
+        digits_of(tree.prefix_iter_rev(key(alloc, prefix)?)?)?,
+        digits
+    );
+    Ok(())
 }
 
 // "a", "abc", "abd" and "b" have 1 to 4, so they come back as 4321.
@@ -134,40 +152,68 @@ fn digits_between(tree: &Tree, low: Bound<&[u8]>, high: Bound<&[u8]>) -> Result<
 fn some_pairs_come_from_the_last(rt: HostRuntime) -> Result<(), Fail> {
     let tree = four(&rt, rt.alloc())?;
     assert_eq!(rt; digits_of(tree.iter_rev()?)?, 4321);
-    assert_eq!(rt;
-        digits_of(tree.prefix_iter_rev(key(rt.alloc(), b"ab")?)?)?,
-        32
-    );
-    assert_eq!(rt;
-        digits_of(tree.prefix_iter_rev(key(rt.alloc(), b"c")?)?)?,
-        0
-    );
-    assert_eq!(rt;
-        digits_between(&tree, Bound::Excluded(b"a"), Bound::Included(b"abd"))?,
-        32
-    );
-    assert_eq!(rt;
-        digits_between(&tree, Bound::Included(b"a"), Bound::Excluded(b"abd"))?,
-        21
-    );
-    assert_eq!(rt;
-        digits_between(&tree, Bound::Included(b"abd"), Bound::Excluded(b"abb"))?,
-        0
-    );
+    assert_under(&rt, rt.alloc(), &tree, b"ab", 32)?;
+    assert_under(&rt, rt.alloc(), &tree, b"c", 0)?;
+    let (first, last) = (b"a".as_slice(), b"abd".as_slice());
+    assert_between(
+        &rt,
+        &tree,
+        Bound::Excluded(first),
+        Bound::Included(last),
+        32,
+    )?;
+    assert_between(
+        &rt,
+        &tree,
+        Bound::Included(first),
+        Bound::Excluded(last),
+        21,
+    )?;
+    assert_between(
+        &rt,
+        &tree,
+        Bound::Included(last),
+        Bound::Excluded(b"abb"),
+        0,
+    )?;
     Ok(())
+}
+
+// The first value behind a bound, where it is that of this key.
+fn value_from(tree: &Tree, low: Bound<&[u8]>, key: &[u8]) -> Result<Option<u64>, AllocError> {
+    let mut cursor = tree.cursor_from(low)?;
+    let value = cursor.next_value()?.copied();
+    Ok(if cursor.key() == key { value } else { None })
+}
+
+// The last one before a bound, likewise.
+fn value_to(tree: &Tree, high: Bound<&[u8]>, key: &[u8]) -> Result<Option<u64>, AllocError> {
+    let mut cursor = tree.cursor_to(high)?;
+    let value = cursor.next_value()?.copied();
+    Ok(if cursor.key() == key { value } else { None })
+}
+
+// The last three, as digits, each that isn't there as a 0.
+fn digits_to(tree: &Tree, high: Bound<&[u8]>) -> Result<u64, AllocError> {
+    let mut cursor = tree.cursor_to(high)?;
+    let mut digits: u64 = 0;
+    for _ in 0..3 {
+        let value = cursor.next_value()?.copied().unwrap_or(0);
+        digits = digits.wrapping_mul(10).wrapping_add(value);
+    }
+    Ok(digits)
 }
 
 // Of the same, "abc" is the first behind "a", and the last before "abd".
 #[test]
 fn cursors_lend_keys(rt: HostRuntime) -> Result<(), Fail> {
     let tree = four(&rt, rt.alloc())?;
-    let mut on = tree.cursor_from(Bound::Excluded(b"a"))?;
-    assert_eq!(rt; on.next_value()?.copied(), Some(2));
-    assert_eq!(rt; on.key(), b"abc".as_slice());
-    let mut back = tree.cursor_to(Bound::Excluded(b"abd"))?;
-    assert_eq!(rt; back.next_value()?.copied(), Some(2));
-    assert_eq!(rt; back.key(), b"abc".as_slice());
-    assert_eq!(rt; back.next_value()?.copied(), Some(1));
-    assert_eq!(rt; back.next_value()?.copied(), None);
+    let (first, last) = (
+        Bound::Excluded(b"a".as_slice()),
+        Bound::Excluded(b"abd".as_slice()),
+    );
+    assert_eq!(rt; value_from(&tree, first, b"abc")?, Some(2));
+    assert_eq!(rt; value_to(&tree, last, b"abc")?, Some(2));
+    assert_eq!(rt; digits_to(&tree, last)?, 210);
     Ok(())
 }

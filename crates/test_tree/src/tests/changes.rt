@@ -148,6 +148,12 @@ fn is_answered(
     }
 }
 
+// The answer is the right one, and this is left at "abc".
+fn assert_left(rt: &impl Abort, form: usize, answered: bool, tree: &Tree, left: Option<u64>) {
+    let is_left = tree.get_slice(b"abc").copied() == left;
+    assert!(rt; answered && is_left, "form {form}");
+}
+
 // Changes "abc" of a version whose nodes a snapshot shares.
 fn assert_change(
     rt: &impl Abort,
@@ -159,12 +165,9 @@ fn assert_change(
     let mut tree = four(rt, alloc)?;
     assert!(rt; has_room(&tree));
     let older = tree.snapshot()?;
-    assert!(rt;
-        is_answered(&mut tree, change, form, key(alloc, b"abc")?)?,
-        "form {form}"
-    );
-    assert_eq!(rt; tree.get_slice(b"abc").copied(), left, "form {form}");
-    assert_eq!(rt; older.get_slice(b"abc").copied(), Some(2), "form {form}");
+    let answered = is_answered(&mut tree, change, form, key(alloc, b"abc")?)?;
+    assert_left(rt, form, answered, &tree, left);
+    assert_left(rt, form, answered, &older, Some(2));
     Ok(())
 }
 

@@ -1,7 +1,7 @@
 //! Iterators, and the longest match.
 ghost use Rattle.std.specs.Iterator.{IsFinite};
 
-use crate::tests::trees::{Tree, chain, dense, key, mix, mixed};
+use crate::tests::trees::{Tree, assert_form, chain, dense, key, mix, mixed};
 use rart_versioned::{KeyTrait, VectorKey, Work};
 use std::alloc::{AllocError, Global};
 use std::ops::Bound;
@@ -50,15 +50,11 @@ fn assert_lists(
 ) -> Result<(), AllocError> {
     let all = mixed(count);
     for form in 0..4 {
-        assert_eq!(rt;
-            listed(tree, form, key(alloc, prefix)?)?,
-            all,
-            "form {form}"
-        );
+        assert_form(rt, form, listed(tree, form, key(alloc, prefix)?)?, all);
     }
-    assert_eq!(rt; values_listed(tree)?, all);
-    assert_eq!(rt; tree.count()?, count);
-    assert_eq!(rt; tree.count_under(key(alloc, prefix)?)?, count);
+    assert_form(rt, 4, values_listed(tree)?, all);
+    assert_form(rt, 5, tree.count()?, count);
+    assert_form(rt, 6, tree.count_under(key(alloc, prefix)?)?, count);
     Ok(())
 }
 
@@ -67,6 +63,14 @@ fn iterators_give_all_pairs(rt: HostRuntime) -> Result<(), Fail> {
     assert_lists(&rt, rt.alloc(), &chain(&rt, rt.alloc())?, b"", 300)?;
     assert_lists(&rt, rt.alloc(), &dense(&rt, rt.alloc())?, &[8], 4096)?;
     Ok(())
+}
+
+// The values of the keys that begin a probe.
+fn matched(tree: &Tree, form: usize, probe: VectorKey) -> Result<u64, AllocError> {
+    match form {
+        0 => values_of(tree.prefix_match_iter(probe)?),
+        _ => values_of(tree.prefix_match_iter_k(&probe)?),
+    }
 }
 
 // The value of the longest key that begins a probe.
@@ -87,13 +91,13 @@ fn probe(alloc: Global) -> Result<VectorKey, AllocError> {
 #[test]
 fn all_keys_that_begin_a_probe_are_given(rt: HostRuntime) -> Result<(), Fail> {
     let tree = chain(&rt, rt.alloc())?;
-    let all = tree.prefix_match_iter_k(&probe(rt.alloc())?)?;
-    assert_eq!(rt; values_of(all)?, mixed(300));
-    let all = tree.prefix_match_iter(probe(rt.alloc())?)?;
-    assert_eq!(rt; values_of(all)?, mixed(300));
+    let all = mixed(300);
+    for form in 0..2 {
+        assert_form(&rt, form, matched(&tree, form, probe(rt.alloc())?)?, all);
+    }
     for form in 0..3 {
         let value = longest(&tree, form, probe(rt.alloc())?)?;
-        assert_eq!(rt; value, Some(299), "form {form}");
+        assert_form(&rt, form, value.unwrap_or(0), 299);
     }
     Ok(())
 }

@@ -1,5 +1,5 @@
 //! What two versions have in common, and what they differ in.
-use crate::tests::trees::{Tree, chain, dense};
+use crate::tests::trees::{Tree, assert_form, chain, dense};
 use rart_versioned::{KeyTrait, LendingKeyView, Refusal, VectorKey, VisitControl, Work};
 use std::alloc::{AllocError, Global};
 use std::process::Abort;
@@ -101,12 +101,17 @@ fn told(tree: &Tree, other: &Tree, form: usize) -> Result<(u128, bool), AllocErr
 // A version beside itself, and beside one without a key.
 fn assert_pairs(rt: &impl Abort, alloc: Global, tree: &Tree, count: u64) -> Result<(), AllocError> {
     let empty = Tree::new(alloc);
-    assert_eq!(rt; views_met(tree, tree)?, count);
+    assert_form(rt, 0, views_met(tree, tree)?, count);
     for form in 0..2 {
-        assert_eq!(rt; met(tree, tree, form)?, count, "form {form}");
-        assert_eq!(rt; changed(&empty, tree, form)?, count, "form {form}");
-        assert_eq!(rt; viewed(&empty, tree, form)?, count, "form {form}");
-        assert_eq!(rt; tried(&empty, tree, form).ok(), Some(count), "form {form}");
+        assert_form(rt, form, met(tree, tree, form)?, count);
+        assert_form(rt, form, changed(&empty, tree, form)?, count);
+        assert_form(rt, form, viewed(&empty, tree, form)?, count);
+        assert_form(
+            rt,
+            form,
+            tried(&empty, tree, form).or(Err(AllocError))?,
+            count,
+        );
         let (differing, are_equal) = told(&empty, tree, form)?;
         assert!(rt; differing == u128::from(count) && !are_equal, "form {form}");
     }

@@ -5,7 +5,8 @@ ghost use Rattle.rart_maps.specs.Versions.{HasRoom};
 
 use crate::tests::trees::{Tree, four, has_room, key, tree_of};
 use rart_versioned::{KeyTrait, VectorKey, Work};
-use std::alloc::AllocError;
+use std::alloc::{AllocError, Global};
+use std::process::Abort;
 use std::test::Fail;
 
 fn kept(tree: &Tree, form: usize, prefix: VectorKey) -> Result<Tree, AllocError>
@@ -58,23 +59,37 @@ const PREFIXES: &[(&[u8], usize)] = &[
     (b"c", 0),
 ];
 
+// Two trees are the same, and have so many keys.
+fn assert_same(rt: &impl Abort, tree: &Tree, other: &Tree, many: usize) -> Result<(), AllocError> {
+    assert_eq!(rt; tree.intersect_count(tree), many);
+    assert!(rt; tree.equals(other)?);
+    Ok(())
+}
+
+// Takes what is under a prefix out of one tree and out of another, and keeps it.
+fn assert_cut(
+    rt: &impl Abort,
+    alloc: Global,
+    form: usize,
+    prefix: &[u8],
+    many: usize,
+) -> Result<(), AllocError> {
+    let mut tree = four(rt, alloc)?;
+    let mut giver = tree.clone()?;
+    assert!(rt; has_room(&tree) && has_room(&giver) && many <= 4);
+    let part = kept(&tree, form, key(alloc, prefix)?)?;
+    let taken = taken(&mut giver, form, key(alloc, prefix)?)?;
+    let was_there = removed(&mut tree, form, key(alloc, prefix)?)?;
+    assert!(rt; was_there == (many > 0));
+    assert_same(rt, &part, &taken, many)?;
+    assert_same(rt, &tree, &giver, 4 - many)
+}
+
 #[test]
 fn what_is_under_a_prefix_is_kept_and_taken_out(rt: HostRuntime) -> Result<(), Fail> {
     for (prefix, many) in PREFIXES {
         for form in 0..5 {
-            let mut tree = four(&rt, rt.alloc())?;
-            let mut giver = tree.clone()?;
-            assert!(rt; has_room(&tree) && has_room(&giver));
-            let part = kept(&tree, form, key(rt.alloc(), prefix)?)?;
-            let taken = taken(&mut giver, form, key(rt.alloc(), prefix)?)?;
-            assert_eq!(rt;
-                removed(&mut tree, form, key(rt.alloc(), prefix)?)?,
-                *many > 0
-            );
-            assert_eq!(rt; part.intersect_count(&part), *many);
-            assert!(rt; part.equals(&taken)?);
-            assert_eq!(rt; tree.intersect_count(&tree), 4 - many);
-            assert!(rt; tree.equals(&giver)?);
+            assert_cut(&rt, rt.alloc(), form, prefix, *many)?;
         }
     }
     Ok(())
@@ -116,17 +131,30 @@ const RESTORED: &[(&[u8], &[(&[u8], u64)])] = &[
     (b"abe", &[(b"a", 1), (b"abc", 2), (b"abd", 3), (b"b", 4)]),
 ];
 
+// Puts what a tree has under a prefix into another one, which then has these pairs.
+fn assert_restored(
+    rt: &impl Abort,
+    alloc: Global,
+    form: usize,
+    prefix: &[u8],
+    from: &Tree,
+    pairs: &[(&[u8], u64)],
+) -> Result<(), AllocError> {
+    let mut tree = four(rt, alloc)?;
+    assert!(rt; has_room_for(&tree, from));
+    restored(&mut tree, form, key(alloc, prefix)?, from)?;
+    assert_same(rt, &tree, &tree_of(rt, alloc, pairs)?, pairs.len())?;
+    assert_eq!(rt; tree.version(), 7);
+    Ok(())
+}
+
 #[test]
 fn what_is_under_a_prefix_is_put_in_its_place(rt: HostRuntime) -> Result<(), Fail> {
     let from = tree_of(&rt, rt.alloc(), &[(b"ab", 20), (b"abc", 30), (b"c", 40)])?;
     let whole = from.clone()?;
     for (prefix, pairs) in RESTORED {
         for form in 0..5 {
-            let mut tree = four(&rt, rt.alloc())?;
-            assert!(rt; has_room_for(&tree, &from));
-            restored(&mut tree, form, key(rt.alloc(), prefix)?, &from)?;
-            assert!(rt; tree.equals(&tree_of(&rt, rt.alloc(), pairs)?)?);
-            assert_eq!(rt; tree.version(), 7);
+            assert_restored(&rt, rt.alloc(), form, prefix, &from, pairs)?;
             assert!(rt; from.equals(&whole)?);
         }
     }

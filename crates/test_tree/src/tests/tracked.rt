@@ -53,17 +53,28 @@ fn touch_all(rt: &impl Abort, alloc: Global, tracked: &mut Tracked) -> Result<()
     Ok(())
 }
 
+fn assert_changes(rt: &impl Abort, tracked: &Tracked, many: usize) -> Result<(), AllocError> {
+    assert_eq!(rt; tracked.changes()?.len(), many);
+    Ok(())
+}
+
+// On a version without a key, each key that was taken out is as it was.
+fn assert_rebased(rt: &impl Abort, alloc: Global, tracked: &mut Tracked) -> Result<(), AllocError> {
+    let onto = Tree::new(alloc);
+    assert!(rt; has_room_for(&onto, tracked));
+    tracked.rebase(&onto)?;
+    assert_changes(rt, tracked, 200)?;
+    assert_eq!(rt; tracked.current().version(), 200);
+    Ok(())
+}
+
 #[test]
 fn all_of_many_keys_are_touched(rt: HostRuntime) -> Result<(), Fail> {
     let base = chain(&rt, rt.alloc())?;
     let mut tracked = Tracked::begin(rt.alloc(), &base)?;
     touch_all(&rt, rt.alloc(), &mut tracked)?;
     assert_eq!(rt; tracked.touched_count(), 300);
-    assert_eq!(rt; tracked.changes()?.len(), 300);
-    let onto = Tree::new(rt.alloc());
-    assert!(rt; has_room_for(&onto, &tracked));
-    tracked.rebase(&onto)?;
-    assert_eq!(rt; tracked.changes()?.len(), 200);
-    assert_eq!(rt; tracked.current().version(), 200);
+    assert_changes(&rt, &tracked, 300)?;
+    assert_rebased(&rt, rt.alloc(), &mut tracked)?;
     Ok(())
 }

@@ -65,6 +65,11 @@ pub fn dense(rt: &impl Abort, alloc: Global) -> Result<Tree, AllocError> {
     Ok(tree)
 }
 
+/// What a form of a call gives is what is wanted.
+pub fn assert_form(rt: &impl Abort, form: usize, given: u64, wanted: u64) {
+    assert_eq!(rt; given, wanted, "form {form}");
+}
+
 /// A number that tells which values came and in which order, once this one has come.
 pub fn mix(trace: u64, value: u64) -> u64 {
     trace.wrapping_mul(31).wrapping_add(value).wrapping_add(1)

@@ -1,5 +1,5 @@
 //! Visitors.
-use crate::tests::trees::{Tree, chain, dense, key, mix, mixed};
+use crate::tests::trees::{Tree, assert_form, chain, dense, key, mix, mixed};
 use rart_versioned::{KeyTrait, LendingKeyView, Refusal, VectorKey, VisitControl, Work};
 use std::alloc::{AllocError, Global};
 use std::ops::Bound;
@@ -62,16 +62,12 @@ fn assert_visits(
 ) -> Result<(), AllocError> {
     let all = mixed(count);
     for form in 0..7 {
-        assert_eq!(rt;
-            viewed(tree, form, key(alloc, prefix)?)?,
-            all,
-            "form {form}"
-        );
+        assert_form(rt, form, viewed(tree, form, key(alloc, prefix)?)?, all);
     }
     for form in 0..3 {
-        assert_eq!(rt; shown(tree, form, key(alloc, prefix)?)?, all, "form {form}");
-        let tried = tried(tree, form, key(alloc, prefix)?).ok();
-        assert_eq!(rt; tried, Some(all), "form {form}");
+        assert_form(rt, form, shown(tree, form, key(alloc, prefix)?)?, all);
+        let tried = tried(tree, form, key(alloc, prefix)?).or(Err(AllocError))?;
+        assert_form(rt, form, tried, all);
     }
     Ok(())
 }

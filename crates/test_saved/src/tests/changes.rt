@@ -1,4 +1,6 @@
 //! Lists of changes as bytes.
+ghost use Rattle.rart_maps.specs.Versions.{HasRoom};
+
 use crate::tests::broken::Broken;
 use rart_changes::{KeyChange, TrackedTree};
 use rart_saved::{
@@ -12,6 +14,8 @@ use std::process::Abort;
 use std::test::Fail;
 
 type Tree = VersionedAdaptiveRadixTree<VectorKey, u64>;
+
+type Tracked = TrackedTree<VectorKey, u64>;
 
 type Change = KeyChange<VectorKey, u64>;
 
@@ -60,18 +64,20 @@ fn files_are_those_of_another_program(rt: HostRuntime) -> Result<(), Fail> {
     Ok(())
 }
 
-/// Sets each key to what it has after its change.
+/// Sets a key to what it has after its change.
+fn make_one(replica: &mut Tree, change: Change) -> Result<bool, AllocError>
+    requires { HasRoom replica.old 1 }
+{
+    match change.after {
+        Some(value) => replica.insert(change.key, value),
+        None => replica.delete(change.key),
+    }
+}
+
 fn make(replica: &mut Tree, list: Vec<Change>) -> Result<(), AllocError> {
     for change in list {
         if replica.version() < u64::MAX {
-            match change.after {
-                Some(value) => {
-                    replica.insert(change.key, value)?;
-                }
-                None => {
-                    replica.delete(change.key)?;
-                }
-            }
+            make_one(replica, change)?;
         }
     }
     Ok(())
@@ -94,14 +100,21 @@ fn many(alloc: Global) -> Result<Tree, AllocError> {
 }
 
 /// Takes one key in three out, and sets the others.
-fn touch(alloc: Global, tracked: &mut TrackedTree<VectorKey, u64>) -> Result<(), AllocError> {
+fn touch_one(tracked: &mut Tracked, key: VectorKey, i: u64) -> Result<bool, AllocError>
+    requires { HasRoom tracked.old.current 1 }
+{
+    if i % 3 == 0 {
+        tracked.delete(key)
+    } else {
+        tracked.insert(key, i / 2)
+    }
+}
+
+fn touch(alloc: Global, tracked: &mut Tracked) -> Result<(), AllocError> {
     for i in 0..900_u64 {
+        let key = key(alloc, i)?;
         if tracked.current().version() < u64::MAX {
-            if i % 3 == 0 {
-                tracked.delete(key(alloc, i)?)?;
-            } else {
-                tracked.insert(key(alloc, i)?, i / 2)?;
-            }
+            touch_one(tracked, key, i)?;
         }
     }
     Ok(())
@@ -112,7 +125,7 @@ fn replica_makes_what_it_is_sent(rt: HostRuntime) -> Result<(), Fail> {
     let alloc = rt.alloc();
     let tree = many(alloc)?;
     let mut replica = tree.clone()?;
-    let mut tracked = TrackedTree::begin(alloc, &tree)?;
+    let mut tracked = Tracked::begin(alloc, &tree)?;
     touch(alloc, &mut tracked)?;
     let bytes = save_changes_slice(alloc, tracked.changes()?.as_slice())?;
     let list = load_changes_slice::<VectorKey, u64>(alloc, bytes.as_slice())?;

@@ -47,12 +47,28 @@ fn has_room_for(index: &TupleIndex, from: &TupleIndex) -> bool
     index.version() < u64::MAX - from.version()
 }
 
+// Adds a tuple that isn't there.
+fn add(rt: &impl Abort, index: &mut TupleIndex, tuple: Tuple) -> Result<(), AllocError> {
+    assert!(rt; has_room(index));
+    assert!(rt; !index.add(tuple)?);
+    Ok(())
+}
+
+fn assert_has(
+    rt: &impl Abort,
+    index: &TupleIndex,
+    tuple: Tuple,
+    is_there: bool,
+) -> Result<(), AllocError> {
+    assert!(rt; index.has(tuple)? == is_there);
+    Ok(())
+}
+
 // The index with all four.
 fn filled(rt: &impl Abort, alloc: Global) -> Result<TupleIndex, AllocError> {
     let mut index = TupleIndex::new(alloc);
     for tuple in [V, U, T, S] {
-        assert!(rt; has_room(&index));
-        assert!(rt; !index.add(tuple)?);
+        add(rt, &mut index, tuple)?;
     }
     Ok(index)
 }
@@ -75,8 +91,8 @@ fn taken(rt: &impl Abort, index: &mut TupleIndex, tuple: Tuple) -> Result<TupleI
     assert!(rt; has_room(index));
     let older = index.snapshot()?;
     assert!(rt; index.take(tuple)?);
-    assert!(rt; !index.has(tuple)?);
-    assert!(rt; older.has(tuple)?);
+    assert_has(rt, index, tuple, false)?;
+    assert_has(rt, &older, tuple, true)?;
     Ok(older)
 }
 
@@ -94,11 +110,10 @@ fn index_of_four_tuples_is_asked(rt: HostRuntime) -> Result<(), Fail> {
 fn index_of_many_tuples_is_asked(rt: HostRuntime) -> Result<(), Fail> {
     let mut index = TupleIndex::new(rt.alloc());
     for entity in 0..300 {
-        assert!(rt; has_room(&index));
-        assert!(rt; !index.add(Tuple { entity, ..S })?);
+        add(&rt, &mut index, Tuple { entity, ..S })?;
     }
     for entity in 0..300 {
-        assert!(rt; index.has(Tuple { entity, ..S })?);
+        assert_has(&rt, &index, Tuple { entity, ..S }, true)?;
     }
     assert_eq!(rt; index.query(&[1])?.len(), 300);
     assert_eq!(rt; index.query(&[1, 299])?.len(), 1);

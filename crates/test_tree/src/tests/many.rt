@@ -39,19 +39,22 @@ fn last_pair_of_a_key_is_put_in(rt: HostRuntime) -> Result<(), Fail> {
         &mut tree,
         &[(b"abd", 7), (b"c", 5), (b"abd", 8)],
     )?;
-    assert_eq!(rt; tree.version(), 7);
-    assert_eq!(rt; tree.count()?, 5);
-    assert_eq!(rt; tree.get_slice(b"a"), Some(&1));
-    assert_eq!(rt; tree.get_slice(b"abd"), Some(&8));
-    assert_eq!(rt; tree.get_slice(b"c"), Some(&5));
+    assert_counts(&rt, &tree, 5, 7)?;
+    for (bytes, value) in [(b"a".as_slice(), 1), (b"abd", 8), (b"c", 5)] {
+        assert_eq!(rt; tree.get_slice(bytes), Some(&value));
+    }
+    Ok(())
+}
+
+// A tree has so many keys and this number.
+fn assert_counts(rt: &impl Abort, tree: &Tree, count: u64, number: u64) -> Result<(), AllocError> {
+    assert_eq!(rt; (tree.count()?, tree.version()), (count, number));
     Ok(())
 }
 
 fn assert_halves(rt: &impl Abort, mut tree: Tree, count: u64) -> Result<(), AllocError> {
     assert_eq!(rt; keep_evens(rt, &mut tree)?, mixed(count));
-    assert_eq!(rt; tree.count()?, count / 2);
-    assert_eq!(rt; tree.version(), count.wrapping_add(count / 2));
-    Ok(())
+    assert_counts(rt, &tree, count / 2, count.wrapping_add(count / 2))
 }
 
 #[test]

@@ -2,7 +2,7 @@
 #include "boltcomfrey.h"
 #include <stdio.h>
 
-// Says where the longest route leads that begins the address 10.1.2.3.
+// Says where the longest route leads that is a prefix of the address 10.1.2.3.
 static void show(rart_tree *routes, const char *title) {
     static const uint8_t address[] = {10, 1, 2, 3};
     size_t length;
@@ -12,19 +12,29 @@ static void show(rart_tree *routes, const char *title) {
     }
 }
 
+// Sets a route. Where it is refused, the routes are as before.
+static bool set(rart_tree *routes, const uint8_t *route, size_t length, uint64_t hop) {
+    rart_answer answer = rart_insert(routes, route, length, hop, NULL);
+    if (!RART_OK(answer)) {
+        fprintf(stderr, "not set: %s\n", rart_answer_text(answer));
+    }
+    return RART_OK(answer);
+}
+
 int main(void) {
     static const uint8_t site[] = {10}, office[] = {10, 1};
     rart_tree routes = {0}, before = {0};
-    if (!RART_OK(rart_insert(&routes, site, sizeof site, 1, NULL)) ||
-        !RART_OK(rart_insert(&routes, office, sizeof office, 2, NULL)) ||
-        rart_snapshot(&routes, &before) != RART_DONE ||
-        !RART_OK(rart_insert(&routes, office, sizeof office, 7, NULL))) {
-        return 1; // (memory was refused)
+    bool is_done = set(&routes, site, 1, 1) && set(&routes, office, 2, 2) &&
+                   rart_snapshot(&routes, &before) == RART_DONE && set(&routes, office, 2, 7);
+    if (is_done) {
+        show(&routes, "on trial");
+        show(&before, "as before");
+        rart_clear(&routes);
+        routes = before; // (moved, so the old place is emptied)
+        before = (rart_tree){0};
+        show(&routes, "rolled back");
     }
-    show(&routes, "on trial");
-    show(&before, "as before");
-    rart_clear(&routes); // (`before` has all that it needs)
-    show(&before, "rolled back");
     rart_clear(&before);
-    return 0;
+    rart_clear(&routes);
+    return is_done ? 0 : 1;
 }

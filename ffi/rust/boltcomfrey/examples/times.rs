@@ -43,6 +43,15 @@ fn walked<E>(entries: impl Iterator<Item = E>) -> f64 {
     start.elapsed().as_nanos() as f64 / count as f64
 }
 
+/// Nanoseconds an entry of a whole walk that copies none.
+fn walked_lent(tree: &VersionedMap) -> f64 {
+    let start = Instant::now();
+    tree.iter().lent().for_each(|key, value| {
+        black_box((key, value));
+    });
+    start.elapsed().as_nanos() as f64 / tree.len() as f64
+}
+
 /// A name, the time of the library, that of std.
 type Row = (&'static str, f64, f64);
 
@@ -103,6 +112,7 @@ fn pass(count: usize, numbers: &mut Numbers) -> Vec<Row> {
             walked(tree.iter()),
             walked(map.iter().map(|(key, value)| (key.clone(), *value))),
         ),
+        ("walk, a lent entry", walked_lent(&tree), walked(map.iter())),
         row(
             "removal",
             &asked,

@@ -53,7 +53,7 @@ impl<'a, V: Value + Given<V>> Entry<'a, V> {
             return Ok(value);
         }
         let value = make(&self.key);
-        self.map.set(&self.key, value.clone())?;
+        V::set(&mut self.map.tree, &self.key, value.given())?;
         Ok(value)
     }
 
@@ -107,7 +107,7 @@ impl<'a, V: Value + Given<V>> Entry<'a, V> {
     pub fn and_modify(mut self, f: impl FnOnce(&mut V)) -> Result<Entry<'a, V>, Refusal> {
         if let Some(value) = &mut self.value {
             f(value);
-            self.map.set(&self.key, value.clone())?;
+            V::set(&mut self.map.tree, &self.key, value.given())?;
         }
         Ok(self)
     }

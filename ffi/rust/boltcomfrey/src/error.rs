@@ -1,3 +1,4 @@
+use std::collections::TryReserveError;
 use std::error::Error;
 use std::{fmt, io};
 
@@ -8,7 +9,7 @@ use std::{fmt, io};
 pub enum Refusal {
     /// The number would be past `u64::MAX`.
     LastNumber,
-    /// Memory was refused.
+    /// Memory was refused: the library, or a copy of a key, of a value or of a page.
     NoMemory,
     /// The key is longer than a key of the map may be, or keys may be longer in the map that is put
     /// back.
@@ -30,12 +31,20 @@ impl fmt::Display for Refusal {
 
 impl Error for Refusal {}
 
+/// So `?` behind `try_reserve` answers a refusal, as in what [`crate::Lent::try_for_each`] calls.
+impl From<TryReserveError> for Refusal {
+    fn from(_: TryReserveError) -> Refusal {
+        Refusal::NoMemory
+    }
+}
+
+/// It has the refusal in it, in a box; of `NoMemory` it has the kind alone, for which it needs none.
 impl From<Refusal> for io::Error {
     fn from(refusal: Refusal) -> io::Error {
         let kind = match refusal {
+            Refusal::NoMemory => return io::ErrorKind::OutOfMemory.into(),
             Refusal::LastNumber | Refusal::NotEmpty => io::ErrorKind::Other,
             Refusal::TooLong => io::ErrorKind::InvalidInput,
-            Refusal::NoMemory => io::ErrorKind::OutOfMemory,
         };
         io::Error::new(kind, refusal)
     }
@@ -81,10 +90,11 @@ impl fmt::Display for LoadError {
 
 impl Error for LoadError {}
 
+/// It has the error in it, in a box; of `NoMemory` it has the kind alone, for which it needs none.
 impl From<LoadError> for io::Error {
     fn from(error: LoadError) -> io::Error {
         let kind = match error {
-            LoadError::NoMemory => io::ErrorKind::OutOfMemory,
+            LoadError::NoMemory => return io::ErrorKind::OutOfMemory.into(),
             LoadError::Truncated => io::ErrorKind::UnexpectedEof,
             LoadError::Unsupported => io::ErrorKind::Unsupported,
             LoadError::Malformed { .. } | LoadError::TooLong { .. } | LoadError::WrongSum => {
@@ -95,7 +105,8 @@ impl From<LoadError> for io::Error {
     }
 }
 
-/// What was not refused. A refusal panics, as where std's maps lack memory.
+/// What was not refused. A refusal panics.
+#[inline]
 #[track_caller]
 pub(crate) fn unrefused<T>(result: Result<T, Refusal>) -> T {
     match result {

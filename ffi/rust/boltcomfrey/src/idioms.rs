@@ -78,7 +78,8 @@ impl<V: Value> IntoIterator for Map<V> {
     }
 }
 
-/// The same keys with the same values, whatever the numbers.
+/// The same keys with the same values, whatever the numbers: as [`Map::equals`], and where that is
+/// refused by a walk over both, whose pages take some memory of Rust's. It panics without.
 ///
 /// ```
 /// # use boltcomfrey::VersionedMap;
@@ -91,7 +92,8 @@ impl<V: Value> IntoIterator for Map<V> {
 /// ```
 impl<V: Value> PartialEq for Map<V> {
     fn eq(&self, other: &Map<V>) -> bool {
-        self.len() == other.len() && self.iter().eq(other)
+        let walked = || self.cmp(other).is_eq();
+        self.len() == other.len() && self.equals(other).unwrap_or_else(|_| walked())
     }
 }
 
@@ -106,14 +108,22 @@ impl<V: Value> PartialOrd for Map<V> {
 /// As std's maps: by the first pair that differs, whatever the numbers.
 impl<V: Value> Ord for Map<V> {
     fn cmp(&self, other: &Map<V>) -> Ordering {
-        self.iter().cmp(other)
+        let (mut left, mut right) = (self.iter().lent(), other.iter().lent());
+        loop {
+            match (left.next(), right.next()) {
+                (None, None) => return Ordering::Equal,
+                (pair, others) if pair != others => return pair.cmp(&others),
+                _ => (),
+            }
+        }
     }
 }
 
 impl<V: Value> Hash for Map<V> {
     fn hash<H: Hasher>(&self, state: &mut H) {
         state.write_usize(self.len());
-        self.iter().for_each(|pair| pair.hash(state));
+        let pairs = self.iter().lent();
+        pairs.for_each(|key, value| (key, value).hash(state));
     }
 }
 

@@ -18,8 +18,8 @@
 //! Proved is what the exports answer and leave, as `boltcomfrey.h` says it. Tested are this crate
 //! round them, and that memory is refused only where there is none.
 //!
-//! Memory that the library is refused is answered as a [`Refusal`]. Copies of keys, of byte strings
-//! and of pages are `Vec`s: where these get no memory Rust ends the process, in a `try_` call too.
+//! Where memory lacks, a call that answers a `Result` answers [`Refusal::NoMemory`], be it that the
+//! library is refused or a copy of a key, of a value or of a page. A call that answers none panics.
 //!
 //! A map and all that came from it stay on one thread, and maps that have nothing to do with each
 //! other may be on several. It runs on Linux on x86-64-v2, with Rust 1.85 or later.
@@ -34,6 +34,8 @@ mod iter;
 mod key_range;
 mod map;
 #[allow(unsafe_code)]
+mod memory;
+#[allow(unsafe_code)]
 mod raw;
 mod saving;
 #[allow(unsafe_code)]
@@ -44,7 +46,7 @@ mod walk;
 pub use both::{Common, Diff};
 pub use entry::Entry;
 pub use error::{LoadError, Refusal};
-pub use iter::{IntoIter, Iter, Keys, Range, Values};
+pub use iter::{IntoIter, Iter, Keys, Lent, Range, Values};
 pub use key_range::KeyRange;
 pub use map::{Map, VersionedBytes, VersionedMap};
 #[cfg(feature = "refusals")]

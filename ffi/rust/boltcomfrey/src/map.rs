@@ -1,8 +1,9 @@
 use crate::both::{Common, Diff};
 use crate::entry::Entry;
 use crate::error::{Refusal, unrefused};
-use crate::iter::{Iter, Keys, Range, Values};
+use crate::iter::{Iter, Keys, Lent, Range, Values};
 use crate::key_range::KeyRange;
+use crate::memory::{copied, push};
 use crate::raw::Tree;
 use crate::value::{Calls, Given, Value};
 use crate::walk::Walk;
@@ -161,7 +162,8 @@ impl<V: Value> Map<V> {
         self.len() == 0
     }
 
-    /// The value of a key. A number takes no memory, a byte string is copied.
+    /// The value of a key. A number takes no memory. A byte string is copied, and it panics where the
+    /// copy is refused; `try_get` answers.
     ///
     /// ```
     /// # use boltcomfrey::{VersionedBytes, VersionedMap};
@@ -173,6 +175,18 @@ impl<V: Value> Map<V> {
     /// ```
     #[must_use]
     pub fn get(&self, key: impl AsRef<[u8]>) -> Option<V> {
+        unrefused(self.try_get(key))
+    }
+
+    /// The value of a key. Refused where a byte string gets no memory.
+    ///
+    /// ```
+    /// # use boltcomfrey::VersionedBytes;
+    /// let names = VersionedBytes::from([("tea", "Tea")]);
+    /// assert_eq!(names.try_get("tea")?, Some(b"Tea".to_vec()));
+    /// # Ok::<(), boltcomfrey::Refusal>(())
+    /// ```
+    pub fn try_get(&self, key: impl AsRef<[u8]>) -> Result<Option<V>, Refusal> {
         V::get(&self.tree, key.as_ref())
     }
 
@@ -185,7 +199,7 @@ impl<V: Value> Map<V> {
     #[must_use]
     pub fn get_key_value(&self, key: impl AsRef<[u8]>) -> Option<(Vec<u8>, V)> {
         let value = self.get(&key)?;
-        Some((key.as_ref().to_vec(), value))
+        Some((unrefused(copied(key.as_ref())), value))
     }
 
     /// Whether a key is there. It takes no memory.
@@ -199,7 +213,8 @@ impl<V: Value> Map<V> {
         V::has(&self.tree, key.as_ref())
     }
 
-    /// The length of the longest key that begins the probe, and its value.
+    /// The length of the longest key that begins the probe, and its value. It panics where a byte
+    /// string is refused; `try_longest_prefix` answers.
     ///
     /// ```
     /// # use boltcomfrey::VersionedMap;
@@ -209,6 +224,15 @@ impl<V: Value> Map<V> {
     /// ```
     #[must_use]
     pub fn longest_prefix(&self, probe: impl AsRef<[u8]>) -> Option<(usize, V)> {
+        unrefused(self.try_longest_prefix(probe))
+    }
+
+    /// The length of the longest key that begins the probe, and its value. Refused where a byte
+    /// string gets no memory.
+    pub fn try_longest_prefix(
+        &self,
+        probe: impl AsRef<[u8]>,
+    ) -> Result<Option<(usize, V)>, Refusal> {
         V::longest_prefix(&self.tree, probe.as_ref())
     }
 
@@ -221,7 +245,7 @@ impl<V: Value> Map<V> {
     /// ```
     #[must_use]
     pub fn first_key_value(&self) -> Option<(Vec<u8>, V)> {
-        self.first(Bound::Unbounded)
+        unrefused(self.first(Bound::Unbounded))
     }
 
     /// The last pair, if there is one.
@@ -233,7 +257,7 @@ impl<V: Value> Map<V> {
     /// ```
     #[must_use]
     pub fn last_key_value(&self) -> Option<(Vec<u8>, V)> {
-        self.last(Bound::Unbounded)
+        unrefused(self.last(Bound::Unbounded))
     }
 
     /// The first pair whose key is this one or comes behind it.
@@ -245,7 +269,7 @@ impl<V: Value> Map<V> {
     /// ```
     #[must_use]
     pub fn first_from(&self, key: impl AsRef<[u8]>) -> Option<(Vec<u8>, V)> {
-        self.first(Bound::Included(key.as_ref()))
+        unrefused(self.first(Bound::Included(key.as_ref())))
     }
 
     /// The first pair whose key comes behind this one.
@@ -257,7 +281,7 @@ impl<V: Value> Map<V> {
     /// ```
     #[must_use]
     pub fn first_after(&self, key: impl AsRef<[u8]>) -> Option<(Vec<u8>, V)> {
-        self.first(Bound::Excluded(key.as_ref()))
+        unrefused(self.first(Bound::Excluded(key.as_ref())))
     }
 
     /// The last pair whose key is this one or comes before it: the newest record not after a time.
@@ -269,7 +293,7 @@ impl<V: Value> Map<V> {
     /// ```
     #[must_use]
     pub fn last_to(&self, key: impl AsRef<[u8]>) -> Option<(Vec<u8>, V)> {
-        self.last(Bound::Included(key.as_ref()))
+        unrefused(self.last(Bound::Included(key.as_ref())))
     }
 
     /// The last pair whose key comes before this one.
@@ -281,21 +305,21 @@ impl<V: Value> Map<V> {
     /// ```
     #[must_use]
     pub fn last_before(&self, key: impl AsRef<[u8]>) -> Option<(Vec<u8>, V)> {
-        self.last(Bound::Excluded(key.as_ref()))
+        unrefused(self.last(Bound::Excluded(key.as_ref())))
     }
 
-    fn first(&self, low: Bound<&[u8]>) -> Option<(Vec<u8>, V)> {
+    fn first(&self, low: Bound<&[u8]>) -> Result<Option<(Vec<u8>, V)>, Refusal> {
         let mut key = Vec::new();
-        let (len, value) = V::first(&self.tree, low, &mut key)?;
-        key.truncate(len);
-        Some((key, value))
+        let found = V::first(&self.tree, low, &mut key)?;
+        key.truncate(found.as_ref().map_or(0, |it| it.0));
+        Ok(found.map(|(_, value)| (key, value)))
     }
 
-    fn last(&self, high: Bound<&[u8]>) -> Option<(Vec<u8>, V)> {
+    fn last(&self, high: Bound<&[u8]>) -> Result<Option<(Vec<u8>, V)>, Refusal> {
         let mut key = Vec::new();
-        let (len, value) = V::last(&self.tree, high, &mut key)?;
-        key.truncate(len);
-        Some((key, value))
+        let found = V::last(&self.tree, high, &mut key)?;
+        key.truncate(found.as_ref().map_or(0, |it| it.0));
+        Ok(found.map(|(_, value)| (key, value)))
     }
 
     /// The pairs in the order of their keys, each key a copy.
@@ -361,7 +385,7 @@ impl<V: Value> Map<V> {
     }
 
     /// The pairs whose keys are in a range, in order. Bounds the other way round are no fault: no
-    /// key is between them.
+    /// key is between them. It keeps copies of both; where these are refused, so is its first step.
     ///
     /// ```
     /// # use boltcomfrey::VersionedMap;
@@ -374,10 +398,11 @@ impl<V: Value> Map<V> {
     /// ```
     #[must_use]
     pub fn range(&self, range: impl KeyRange) -> Range<'_, V> {
-        Range::new(self, Walk::within(range.bounds()))
+        Range::new(self, Walk::within(range.bounds(), self.len()))
     }
 
-    /// The pairs whose keys a prefix begins, in order.
+    /// The pairs whose keys a prefix begins, in order. It keeps a copy of the prefix, as `range` does
+    /// of its bounds.
     ///
     /// ```
     /// # use boltcomfrey::VersionedMap;
@@ -386,7 +411,7 @@ impl<V: Value> Map<V> {
     /// ```
     #[must_use]
     pub fn prefix(&self, prefix: impl AsRef<[u8]>) -> Range<'_, V> {
-        Range::new(self, Walk::under(prefix.as_ref()))
+        Range::new(self, Walk::under(prefix.as_ref(), self.len()))
     }
 
     /// What differs from this map to a later one: each key at which they do, in order, with what
@@ -434,8 +459,8 @@ impl<V: Value> Map<V> {
         self.tree.common_count(&other.tree)
     }
 
-    /// Whether both maps have the same keys with the same values, whatever their numbers. It is `==`
-    /// in one call, which takes memory.
+    /// Whether both maps have the same keys with the same values, whatever their numbers. It takes
+    /// memory. `==` asks this, and walks over both where it is refused.
     ///
     /// ```
     /// # use boltcomfrey::VersionedMap;
@@ -532,7 +557,7 @@ impl<V: Value> Map<V> {
         V::remove(&mut self.tree, key.as_ref())
     }
 
-    /// As `remove`, and gives the key too, copied.
+    /// As `remove`, and gives the key too, which is copied before.
     ///
     /// ```
     /// # use boltcomfrey::VersionedMap;
@@ -541,8 +566,8 @@ impl<V: Value> Map<V> {
     /// # Ok::<(), boltcomfrey::Refusal>(())
     /// ```
     pub fn remove_entry(&mut self, key: impl AsRef<[u8]>) -> Result<Option<(Vec<u8>, V)>, Refusal> {
-        let value = self.remove(&key)?;
-        Ok(value.map(|it| (key.as_ref().to_vec(), it)))
+        let copy = copied(key.as_ref())?;
+        Ok(self.remove(key)?.map(|value| (copy, value)))
     }
 
     /// As `remove`, and tells whether the key was there.
@@ -621,11 +646,11 @@ impl<V: Value> Map<V> {
     /// # Ok::<(), boltcomfrey::Refusal>(())
     /// ```
     pub fn try_pop_first(&mut self) -> Result<Option<(Vec<u8>, V)>, Refusal> {
-        let Some((key, value)) = self.first_key_value() else {
-            return Ok(None);
-        };
-        self.delete(&key)?;
-        Ok(Some((key, value)))
+        let pair = self.first(Bound::Unbounded)?;
+        if let Some((key, _)) = &pair {
+            self.delete(key)?;
+        }
+        Ok(pair)
     }
 
     /// Takes the last pair out, and gives it. It panics where it is refused; `try_pop_last` answers.
@@ -647,14 +672,15 @@ impl<V: Value> Map<V> {
     /// # Ok::<(), boltcomfrey::Refusal>(())
     /// ```
     pub fn try_pop_last(&mut self) -> Result<Option<(Vec<u8>, V)>, Refusal> {
-        let Some((key, value)) = self.last_key_value() else {
-            return Ok(None);
-        };
-        self.delete(&key)?;
-        Ok(Some((key, value)))
+        let pair = self.last(Bound::Unbounded)?;
+        if let Some((key, _)) = &pair {
+            self.delete(key)?;
+        }
+        Ok(pair)
     }
 
-    /// A key, there or not, to be set where it isn't or changed where it is.
+    /// A key, there or not, to be set where it isn't or changed where it is. The key is copied, and so
+    /// is a byte string: it panics where a copy is refused. [`Map::update`] answers.
     ///
     /// ```
     /// # use boltcomfrey::VersionedMap;
@@ -666,8 +692,8 @@ impl<V: Value> Map<V> {
     where
         V: Given<V>,
     {
-        let (key, value) = (key.as_ref().to_vec(), self.get(&key));
-        Entry::new(self, key, value)
+        let (copy, value) = (unrefused(copied(key.as_ref())), self.get(key));
+        Entry::new(self, copy, value)
     }
 
     /// The first key, to be changed or taken out, if there is one.
@@ -717,7 +743,7 @@ impl<V: Value> Map<V> {
         key: impl AsRef<[u8]>,
         f: impl FnOnce(Option<V>) -> Option<T>,
     ) -> Result<(), Refusal> {
-        match f(self.get(&key)) {
+        match f(self.try_get(&key)?) {
             Some(value) => self.set(key, value)?,
             None => self.delete(key)?,
         };
@@ -737,17 +763,17 @@ impl<V: Value> Map<V> {
         unrefused(self.try_retain(keeps));
     }
 
-    /// Takes out each pair that is not to be kept, in order. At a refusal those before it are out.
+    /// Takes out each pair that is not to be kept, in order, once all were asked about. Refused before
+    /// that, nothing has changed; at a later refusal those before it are out.
     pub fn try_retain(&mut self, mut keeps: impl FnMut(&[u8], &V) -> bool) -> Result<(), Refusal> {
-        let out: Vec<_> = self
-            .iter()
-            .filter(|(key, value)| !keeps(key, value))
-            .map(|(key, _)| key)
-            .collect();
-        for key in out {
-            self.delete(key)?;
-        }
-        Ok(())
+        let mut out = Vec::new();
+        self.iter().lent().try_for_each(|key, value| {
+            if keeps(key, &V::copied(value)?) {
+                return Ok(());
+            }
+            push(&mut out, copied(key)?)
+        })?;
+        out.iter().try_for_each(|key| self.delete(key).map(drop))
     }
 
     /// Takes all keys out. The map is then as `new` makes it, its number 0 and its longest key too:
@@ -785,7 +811,7 @@ impl<V: Value> Map<V> {
     where
         V: Given<V>,
     {
-        self.try_extend(other.iter())?;
+        self.set_each(other.iter().lent())?;
         other.clear();
         Ok(())
     }
@@ -813,9 +839,8 @@ impl<V: Value> Map<V> {
     where
         V: Given<V>,
     {
-        for (key, value) in other {
-            self.add(key, value)?;
-        }
+        let mut others = other.iter().lent();
+        others.try_for_each(|key, value| V::add(&mut self.tree, key, value).map(drop))?;
         Ok(self)
     }
 
@@ -841,11 +866,9 @@ impl<V: Value> Map<V> {
         V: Given<V>,
     {
         let mut behind = Map::with_longest_key(self.longest_key())?;
-        behind.try_extend(self.range(key.as_ref()..))?;
-        let mut front = self.try_clone()?;
-        for key in behind.keys() {
-            front.delete(key)?;
-        }
+        behind.set_each(self.range(key.as_ref()..).lent())?;
+        let (mut front, mut taken) = (self.try_clone()?, behind.iter().lent());
+        taken.try_for_each(|key, _| front.delete(key).map(drop))?;
         *self = front;
         Ok(behind)
     }
@@ -914,6 +937,11 @@ impl<V: Value> Map<V> {
         }
         Ok(())
     }
+
+    /// Sets each key that is lent to its value, in order.
+    fn set_each(&mut self, mut pairs: Lent<'_, V>) -> Result<(), Refusal> {
+        pairs.try_for_each(|key, value| V::set(&mut self.tree, key, value).map(drop))
+    }
 }
 
 impl Map<Vec<u8>> {
@@ -930,7 +958,8 @@ impl Map<Vec<u8>> {
     }
 
     /// Reads the value of a key into a vector, in place of its content, and tells whether the key is
-    /// there. If not, the vector stays.
+    /// there. If not, the vector stays. It panics where the vector can't be made longer;
+    /// `try_get_into` answers.
     ///
     /// ```
     /// # use boltcomfrey::VersionedBytes;
@@ -940,6 +969,18 @@ impl Map<Vec<u8>> {
     /// assert_eq!(name, b"Tea");
     /// ```
     pub fn get_into(&self, key: impl AsRef<[u8]>, into: &mut Vec<u8>) -> bool {
+        unrefused(self.try_get_into(key, into))
+    }
+
+    /// As `get_into`. Refused where the vector can't be made longer: it is as before then.
+    ///
+    /// ```
+    /// # use boltcomfrey::VersionedBytes;
+    /// let mut name = Vec::new();
+    /// assert!(!VersionedBytes::new().try_get_into("tea", &mut name)?);
+    /// # Ok::<(), boltcomfrey::Refusal>(())
+    /// ```
+    pub fn try_get_into(&self, key: impl AsRef<[u8]>, into: &mut Vec<u8>) -> Result<bool, Refusal> {
         self.tree.get_into(key.as_ref(), into)
     }
 }

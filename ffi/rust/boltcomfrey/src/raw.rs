@@ -1,5 +1,7 @@
-//! The proved calls as safe functions. All `unsafe` of this crate stands here and in `sys`.
+//! The proved calls as safe functions. All `unsafe` of this crate stands here, in `sys` and in
+//! `memory`.
 use crate::error::{LoadError, Refusal};
+use crate::memory::{copied, lengthen};
 use crate::sys::{
     self, ABSENT, DIFFERENT, DONE, EXCLUDED, INCLUDED, LAST_NUMBER, MALFORMED, NOT_EMPTY,
     RartBytes, RartBytesEntry, RartEntry, RartTree, TOO_LONG, TOO_SMALL, TRUNCATED, UNBOUNDED,
@@ -19,6 +21,16 @@ const PAIR_ROOM: usize = 64;
 pub enum Order {
     Ascending,
     Descending,
+}
+
+impl Order {
+    #[inline]
+    pub fn reversed(self) -> Order {
+        match self {
+            Order::Ascending => Order::Descending,
+            Order::Descending => Order::Ascending,
+        }
+    }
 }
 
 /// A tree as C holds it, and the calls that are the same whatever its values.
@@ -279,7 +291,11 @@ impl Tree<RartTree> {
     }
 
     /// The first key that meets a bound, written to the front of `room`: its length, and its value.
-    pub fn first(&self, low: Bound<&[u8]>, room: &mut Vec<u8>) -> Option<(usize, u64)> {
+    pub fn first(
+        &self,
+        low: Bound<&[u8]>,
+        room: &mut Vec<u8>,
+    ) -> Result<Option<(usize, u64)>, Refusal> {
         let (from, kind) = parts_of(low);
         let call = if kind == EXCLUDED {
             sys::rart_next
@@ -288,7 +304,7 @@ impl Tree<RartTree> {
         };
         let (mut len, mut value) = (KEY_ROOM, 0);
         loop {
-            make_room(room, len);
+            lengthen(room, len)?;
             let (tree, at, end) = (self.handle.get(), room.as_mut_ptr(), room.len());
             // SAFETY: the invariant; both numbers are this call's own, and `room` is borrowed to be
             // written.
@@ -303,19 +319,23 @@ impl Tree<RartTree> {
                     &mut value,
                 )
             } {
-                DONE => return Some((len, value)),
+                DONE => return Ok(Some((len, value))),
                 TOO_SMALL => (),
-                _ => return None,
+                _ => return Ok(None),
             }
         }
     }
 
     /// The last key that meets a bound, told as by `first`.
-    pub fn last(&self, high: Bound<&[u8]>, room: &mut Vec<u8>) -> Option<(usize, u64)> {
+    pub fn last(
+        &self,
+        high: Bound<&[u8]>,
+        room: &mut Vec<u8>,
+    ) -> Result<Option<(usize, u64)>, Refusal> {
         let (to, kind) = parts_of(high);
         let (key, size, mut len, mut value) = (to.as_ptr(), to.len(), KEY_ROOM, 0);
         loop {
-            make_room(room, len);
+            lengthen(room, len)?;
             let (tree, at, end) = (self.handle.get(), room.as_mut_ptr(), room.len());
             // SAFETY: the invariant; both numbers are this call's own, and `room` is borrowed to be
             // written.
@@ -326,9 +346,9 @@ impl Tree<RartTree> {
                     _ => sys::rart_last(tree, at, end, &mut len, &mut value),
                 }
             } {
-                DONE => return Some((len, value)),
+                DONE => return Ok(Some((len, value))),
                 TOO_SMALL => (),
-                _ => return None,
+                _ => return Ok(None),
             }
         }
     }
@@ -376,7 +396,7 @@ impl Tree<RartTree> {
         (low, high): (Bound<&[u8]>, Bound<&[u8]>),
         bytes: &mut Vec<u8>,
         entries: &mut [RartEntry],
-    ) -> usize {
+    ) -> Result<usize, Refusal> {
         let (low, low_kind) = parts_of(low);
         let (high, high_kind) = parts_of(high);
         let call = match order {
@@ -385,7 +405,7 @@ impl Tree<RartTree> {
         };
         let (mut count, mut needed) = (0, entries.len() * KEY_ROOM);
         loop {
-            make_room(bytes, needed);
+            lengthen(bytes, needed)?;
             let (from, to) = ((low.as_ptr(), low.len()), (high.as_ptr(), high.len()));
             let (at, end) = (bytes.as_mut_ptr(), bytes.len());
             // SAFETY: the invariant; both numbers are this call's own, and `bytes` and `entries`
@@ -408,7 +428,7 @@ impl Tree<RartTree> {
                 )
             };
             if answer != TOO_SMALL {
-                return count;
+                return Ok(count);
             }
         }
     }
@@ -422,19 +442,20 @@ impl Tree<RartBytes> {
         unsafe { sys::rart_bytes_get(self.handle.get(), key.as_ptr(), key.len(), at, room, len) }
     }
 
-    pub fn get(&self, key: &[u8]) -> Option<Vec<u8>> {
-        read_out(|into, len| self.read(key, into, len))
+    pub fn get(&self, key: &[u8]) -> Result<Option<Vec<u8>>, Refusal> {
+        read_out(|into, len| Ok(self.read(key, into, len)))
     }
 
     /// Reads a value into a vector, whose content it takes the place of. Without the key the vector
     /// stays.
-    pub fn get_into(&self, key: &[u8], into: &mut Vec<u8>) -> bool {
+    pub fn get_into(&self, key: &[u8], into: &mut Vec<u8>) -> Result<bool, Refusal> {
         let Some(mut len) = self.value_len(key) else {
-            return false;
+            return Ok(false);
         };
-        into.resize(len, 0);
+        lengthen(into, len)?;
+        into.truncate(len);
         self.read(key, into, &mut len);
-        true
+        Ok(true)
     }
 
     pub fn value_len(&self, key: &[u8]) -> Option<usize> {
@@ -442,7 +463,7 @@ impl Tree<RartBytes> {
         (self.read(key, &mut [], &mut len) != ABSENT).then_some(len)
     }
 
-    pub fn longest_prefix(&self, probe: &[u8]) -> Option<(usize, Vec<u8>)> {
+    pub fn longest_prefix(&self, probe: &[u8]) -> Result<Option<(usize, Vec<u8>)>, Refusal> {
         let mut key_len = 0;
         let (at, room) = (probe.as_ptr(), probe.len());
         let value = read_out(|into, len| {
@@ -450,20 +471,24 @@ impl Tree<RartBytes> {
             let tree = self.handle.get();
             // SAFETY: the invariant; `key_len` is this call's own, and `into` and `len` are
             // borrowed to be written, so no two overlap.
-            unsafe { sys::rart_bytes_longest(tree, at, room, &mut key_len, start, size, len) }
+            Ok(unsafe { sys::rart_bytes_longest(tree, at, room, &mut key_len, start, size, len) })
         })?;
-        Some((key_len, value))
+        Ok(value.map(|it| (key_len, it)))
     }
 
     /// The first key that meets a bound, written to the front of `room`: its length, and its value.
-    pub fn first(&self, low: Bound<&[u8]>, room: &mut Vec<u8>) -> Option<(usize, Vec<u8>)> {
+    pub fn first(
+        &self,
+        low: Bound<&[u8]>,
+        room: &mut Vec<u8>,
+    ) -> Result<Option<(usize, Vec<u8>)>, Refusal> {
         let (from, kind) = parts_of(low);
         let call = if kind == EXCLUDED {
             sys::rart_bytes_next
         } else {
             sys::rart_bytes_seek
         };
-        make_room(room, KEY_ROOM);
+        lengthen(room, KEY_ROOM)?;
         let (tree, key, mut key_len) = (self.handle.get(), (from.as_ptr(), from.len()), 0);
         let value = read_out(|into, len| {
             let (at, end) = (room.as_mut_ptr(), room.len());
@@ -472,10 +497,10 @@ impl Tree<RartBytes> {
             // borrowed to be written, so no two overlap.
             let answer =
                 unsafe { call(tree, key.0, key.1, at, end, &mut key_len, start, size, len) };
-            make_room(room, key_len); // (it fits when the call is made once more)
-            answer
+            lengthen(room, key_len)?; // (it fits when the call is made once more)
+            Ok(answer)
         })?;
-        Some((key_len, value))
+        Ok(value.map(|it| (key_len, it)))
     }
 
     /// Writes the first pairs within two bounds in an order, as many as there are entries: each value
@@ -487,7 +512,7 @@ impl Tree<RartBytes> {
         (low, high): (Bound<&[u8]>, Bound<&[u8]>),
         bytes: &mut Vec<u8>,
         entries: &mut [RartBytesEntry],
-    ) -> usize {
+    ) -> Result<usize, Refusal> {
         let (low, low_kind) = parts_of(low);
         let (high, high_kind) = parts_of(high);
         let call = match order {
@@ -496,7 +521,7 @@ impl Tree<RartBytes> {
         };
         let (mut count, mut key_len, mut len) = (0, entries.len() * PAIR_ROOM, 0);
         loop {
-            make_room(bytes, key_len + len);
+            lengthen(bytes, key_len + len)?;
             let (from, to) = ((low.as_ptr(), low.len()), (high.as_ptr(), high.len()));
             let (at, end) = (bytes.as_mut_ptr(), bytes.len());
             // SAFETY: the invariant; the numbers are this call's own, and `bytes` and `entries` are
@@ -520,15 +545,19 @@ impl Tree<RartBytes> {
                 )
             };
             if answer != TOO_SMALL {
-                return count;
+                return Ok(count);
             }
         }
     }
 
     /// The last key that meets a bound, told as by `first`.
-    pub fn last(&self, high: Bound<&[u8]>, room: &mut Vec<u8>) -> Option<(usize, Vec<u8>)> {
+    pub fn last(
+        &self,
+        high: Bound<&[u8]>,
+        room: &mut Vec<u8>,
+    ) -> Result<Option<(usize, Vec<u8>)>, Refusal> {
         let (to, kind) = parts_of(high);
-        make_room(room, KEY_ROOM);
+        lengthen(room, KEY_ROOM)?;
         let (tree, key, limit, mut key_len) = (self.handle.get(), to.as_ptr(), to.len(), 0);
         let value = read_out(|into, len| {
             let (at, end, key_len) = (room.as_mut_ptr(), room.len(), &mut key_len);
@@ -546,10 +575,10 @@ impl Tree<RartBytes> {
                     _ => sys::rart_bytes_last(tree, at, end, key_len, start, size, len),
                 }
             };
-            make_room(room, *key_len); // (it fits when the call is made once more)
-            answer
+            lengthen(room, *key_len)?; // (it fits when the call is made once more)
+            Ok(answer)
         })?;
-        Some((key_len, value))
+        Ok(value.map(|it| (key_len, it)))
     }
 
     pub fn insert(&mut self, key: &[u8], value: &[u8]) -> Result<bool, Refusal> {
@@ -585,13 +614,6 @@ impl Tree<RartBytes> {
     }
 }
 
-/// Lengthens a room to so many bytes. One that is longer stays as it is.
-fn make_room(room: &mut Vec<u8>, bytes: usize) {
-    if room.len() < bytes {
-        room.resize(bytes, 0);
-    }
-}
-
 /// The key of a bound, and of what kind it is.
 fn parts_of(bound: Bound<&[u8]>) -> (&[u8], u8) {
     match bound {
@@ -602,16 +624,19 @@ fn parts_of(bound: Bound<&[u8]>) -> (&[u8], u8) {
 }
 
 /// The value that a call writes out. It is made once more where the value, or its key, has no room.
-fn read_out(mut call: impl FnMut(&mut [u8], &mut usize) -> u8) -> Option<Vec<u8>> {
+fn read_out(
+    mut call: impl FnMut(&mut [u8], &mut usize) -> Result<u8, Refusal>,
+) -> Result<Option<Vec<u8>>, Refusal> {
     let (mut short, mut len) = ([0; 128], 0);
-    match call(&mut short, &mut len) {
-        DONE => Some(short[..len].to_vec()),
+    match call(&mut short, &mut len)? {
+        DONE => copied(&short[..len]).map(Some),
         TOO_SMALL => {
-            let mut value = vec![0; len];
-            call(&mut value, &mut len);
-            Some(value)
+            let mut value = Vec::new();
+            lengthen(&mut value, len)?;
+            call(&mut value, &mut len)?;
+            Ok(Some(value))
         }
-        _ => None,
+        _ => Ok(None),
     }
 }
 

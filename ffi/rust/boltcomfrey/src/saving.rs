@@ -28,14 +28,12 @@ impl<V: Value> Map<V> {
         unrefused(self.try_to_bytes())
     }
 
-    /// As [`Map::to_bytes`]. Refused for memory.
+    /// As [`Map::to_bytes`]. Refused for memory alone.
     pub fn try_to_bytes(&self) -> Result<Vec<u8>, Refusal> {
         let mut bytes = Vec::new();
         let mut len = self.len() * PAIR_ROOM + ROOM;
         loop {
-            let Ok(()) = bytes.try_reserve_exact(len) else {
-                return Err(Refusal::NoMemory);
-            };
+            bytes.try_reserve_exact(len)?;
             bytes.resize(len, 0);
             len = self.tree.save(&mut bytes)?;
             if len <= bytes.len() {
@@ -104,7 +102,7 @@ impl<V: Value> Map<V> {
     }
 
     /// Reads all that a reader gives, as [`Map::from_bytes`]. An error is the reader's, or has a
-    /// [`LoadError`] in it.
+    /// [`LoadError`] in it, or is of the kind `OutOfMemory`.
     pub fn load_from(mut reader: impl Read) -> io::Result<Map<V>> {
         let mut bytes = Vec::new();
         reader.read_to_end(&mut bytes)?;

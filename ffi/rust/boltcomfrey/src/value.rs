@@ -1,5 +1,6 @@
 //! What a map may have as values, and the calls of the library on such maps.
 use crate::error::Refusal;
+use crate::memory::copied;
 use crate::raw::{Handle, Order, Tree};
 use crate::sys::{RartBytes, RartBytesEntry, RartEntry, RartTree};
 use std::fmt::Debug;
@@ -47,27 +48,31 @@ impl<T: AsRef<[u8]>> Given<Vec<u8>> for T {
     }
 }
 
-/// The calls that differ by the type of the values. (Public, since `Value` names it, and in no
-/// public module, so that no other type can have it.)
+/// The calls that differ by the type of the values. A refused one has changed nothing, but for the
+/// rooms that it was to write to. (Public, since `Value` names it, and in no public module, so that
+/// no other type can have it.)
 pub trait Calls: Sized {
     type Handle: Handle;
 
     /// As which a change takes a value, and a page lends it.
-    type Lent: ?Sized + ToOwned<Owned = Self>;
+    type Lent: ?Sized + ToOwned<Owned = Self> + Ord + Hash;
 
     /// What a page has of each pair.
     type Entry: Clone + Default;
 
     /// As which a value is shown: a byte string as text.
-    type Shown: Debug;
+    fn shown(lent: &Self::Lent) -> impl Debug;
 
-    fn shown(self) -> Self::Shown;
+    fn copied(lent: &Self::Lent) -> Result<Self, Refusal>;
 
-    fn get(tree: &Tree<Self::Handle>, key: &[u8]) -> Option<Self>;
+    fn get(tree: &Tree<Self::Handle>, key: &[u8]) -> Result<Option<Self>, Refusal>;
 
     fn has(tree: &Tree<Self::Handle>, key: &[u8]) -> bool;
 
-    fn longest_prefix(tree: &Tree<Self::Handle>, probe: &[u8]) -> Option<(usize, Self)>;
+    fn longest_prefix(
+        tree: &Tree<Self::Handle>,
+        probe: &[u8],
+    ) -> Result<Option<(usize, Self)>, Refusal>;
 
     /// Sets a key, and gives the value before.
     fn insert(
@@ -101,14 +106,14 @@ pub trait Calls: Sized {
         tree: &Tree<Self::Handle>,
         low: Bound<&[u8]>,
         room: &mut Vec<u8>,
-    ) -> Option<(usize, Self)>;
+    ) -> Result<Option<(usize, Self)>, Refusal>;
 
     /// The last key that meets a bound, told as by `first`.
     fn last(
         tree: &Tree<Self::Handle>,
         high: Bound<&[u8]>,
         room: &mut Vec<u8>,
-    ) -> Option<(usize, Self)>;
+    ) -> Result<Option<(usize, Self)>, Refusal>;
 
     /// Writes the first pairs within two bounds in an order to the front of `bytes`, which is made
     /// longer where it has to be, and of `entries`: as many as there are entries, or fewer, one at
@@ -119,7 +124,7 @@ pub trait Calls: Sized {
         within: (Bound<&[u8]>, Bound<&[u8]>),
         bytes: &mut Vec<u8>,
         entries: &mut [Self::Entry],
-    ) -> usize;
+    ) -> Result<usize, Refusal>;
 
     /// Where the pair of an entry ends among the bytes of its page.
     fn end(entry: &Self::Entry) -> usize;
@@ -136,22 +141,31 @@ impl Calls for u64 {
     type Handle = RartTree;
     type Lent = u64;
     type Entry = RartEntry;
-    type Shown = u64;
 
-    fn shown(self) -> u64 {
-        self
+    fn shown(lent: &u64) -> impl Debug {
+        lent
     }
 
-    fn get(tree: &Tree<RartTree>, key: &[u8]) -> Option<u64> {
-        tree.get(key)
+    #[inline]
+    fn copied(lent: &u64) -> Result<u64, Refusal> {
+        Ok(*lent)
+    }
+
+    #[inline]
+    fn get(tree: &Tree<RartTree>, key: &[u8]) -> Result<Option<u64>, Refusal> {
+        Ok(tree.get(key))
     }
 
     fn has(tree: &Tree<RartTree>, key: &[u8]) -> bool {
         tree.get(key).is_some()
     }
 
-    fn longest_prefix(tree: &Tree<RartTree>, probe: &[u8]) -> Option<(usize, u64)> {
-        tree.longest_prefix(probe)
+    #[inline]
+    fn longest_prefix(
+        tree: &Tree<RartTree>,
+        probe: &[u8],
+    ) -> Result<Option<(usize, u64)>, Refusal> {
+        Ok(tree.longest_prefix(probe))
     }
 
     fn insert(tree: &mut Tree<RartTree>, key: &[u8], value: &u64) -> Result<Option<u64>, Refusal> {
@@ -178,11 +192,19 @@ impl Calls for u64 {
         Ok(tree.remove(key)?.is_some())
     }
 
-    fn first(tree: &Tree<RartTree>, low: Bound<&[u8]>, room: &mut Vec<u8>) -> Option<(usize, u64)> {
+    fn first(
+        tree: &Tree<RartTree>,
+        low: Bound<&[u8]>,
+        room: &mut Vec<u8>,
+    ) -> Result<Option<(usize, u64)>, Refusal> {
         tree.first(low, room)
     }
 
-    fn last(tree: &Tree<RartTree>, high: Bound<&[u8]>, room: &mut Vec<u8>) -> Option<(usize, u64)> {
+    fn last(
+        tree: &Tree<RartTree>,
+        high: Bound<&[u8]>,
+        room: &mut Vec<u8>,
+    ) -> Result<Option<(usize, u64)>, Refusal> {
         tree.last(high, room)
     }
 
@@ -192,7 +214,7 @@ impl Calls for u64 {
         within: (Bound<&[u8]>, Bound<&[u8]>),
         bytes: &mut Vec<u8>,
         entries: &mut [RartEntry],
-    ) -> usize {
+    ) -> Result<usize, Refusal> {
         tree.page(order, within, bytes, entries)
     }
 
@@ -211,13 +233,17 @@ impl Calls for Vec<u8> {
     type Handle = RartBytes;
     type Lent = [u8];
     type Entry = RartBytesEntry;
-    type Shown = Text;
 
-    fn shown(self) -> Text {
-        Text(self)
+    fn shown(lent: &[u8]) -> impl Debug {
+        Text(lent)
     }
 
-    fn get(tree: &Tree<RartBytes>, key: &[u8]) -> Option<Vec<u8>> {
+    #[inline]
+    fn copied(lent: &[u8]) -> Result<Vec<u8>, Refusal> {
+        copied(lent)
+    }
+
+    fn get(tree: &Tree<RartBytes>, key: &[u8]) -> Result<Option<Vec<u8>>, Refusal> {
         tree.get(key)
     }
 
@@ -225,7 +251,10 @@ impl Calls for Vec<u8> {
         tree.value_len(key).is_some()
     }
 
-    fn longest_prefix(tree: &Tree<RartBytes>, probe: &[u8]) -> Option<(usize, Vec<u8>)> {
+    fn longest_prefix(
+        tree: &Tree<RartBytes>,
+        probe: &[u8],
+    ) -> Result<Option<(usize, Vec<u8>)>, Refusal> {
         tree.longest_prefix(probe)
     }
 
@@ -234,7 +263,7 @@ impl Calls for Vec<u8> {
         key: &[u8],
         value: &[u8],
     ) -> Result<Option<Vec<u8>>, Refusal> {
-        let was = tree.get(key);
+        let was = tree.get(key)?;
         tree.insert(key, value)?;
         Ok(was)
     }
@@ -252,7 +281,7 @@ impl Calls for Vec<u8> {
     }
 
     fn remove(tree: &mut Tree<RartBytes>, key: &[u8]) -> Result<Option<Vec<u8>>, Refusal> {
-        let was = tree.get(key);
+        let was = tree.get(key)?;
         tree.remove(key)?;
         Ok(was)
     }
@@ -265,7 +294,7 @@ impl Calls for Vec<u8> {
         tree: &Tree<RartBytes>,
         low: Bound<&[u8]>,
         room: &mut Vec<u8>,
-    ) -> Option<(usize, Vec<u8>)> {
+    ) -> Result<Option<(usize, Vec<u8>)>, Refusal> {
         tree.first(low, room)
     }
 
@@ -273,7 +302,7 @@ impl Calls for Vec<u8> {
         tree: &Tree<RartBytes>,
         high: Bound<&[u8]>,
         room: &mut Vec<u8>,
-    ) -> Option<(usize, Vec<u8>)> {
+    ) -> Result<Option<(usize, Vec<u8>)>, Refusal> {
         tree.last(high, room)
     }
 
@@ -283,7 +312,7 @@ impl Calls for Vec<u8> {
         within: (Bound<&[u8]>, Bound<&[u8]>),
         bytes: &mut Vec<u8>,
         entries: &mut [RartBytesEntry],
-    ) -> usize {
+    ) -> Result<usize, Refusal> {
         tree.page(order, within, bytes, entries)
     }
 
@@ -300,9 +329,9 @@ impl Calls for Vec<u8> {
 }
 
 /// A byte string that is shown as text with escapes.
-pub struct Text(pub Vec<u8>);
+pub struct Text<'a>(pub &'a [u8]);
 
-impl Debug for Text {
+impl Debug for Text<'_> {
     fn fmt(&self, f: &mut std::fmt::Formatter<'_>) -> std::fmt::Result {
         write!(f, "\"{}\"", self.0.escape_ascii())
     }

@@ -1,14 +1,22 @@
 //! How far a walk over a map has come: from either end it takes the pairs by pages.
+use crate::error::Refusal;
+use crate::memory::{copied, lengthen};
 use crate::raw::{Order, Tree};
 use crate::value::{Calls, Value};
 use std::ops::{Bound, Range};
 
-// Many walks end at their first pairs. One over all begins with a page of so many, any other with
-// one pair, which a search finds, and then such a page. Each later one has room for so many times
-// as many.
+// Many walks end at their first pairs. The first page has so many, and each later one has room for
+// so many times as many. Before it a walk within bounds that copies has one pair, which a search
+// finds.
 const FIRST_PAIRS: usize = 8;
 const GROWTH: usize = 8;
 const MOST_PAIRS: usize = 256;
+
+/// A pair, as it stands in its page.
+pub type Pair<'a, V> = (&'a [u8], &'a <V as Calls>::Lent);
+
+/// A lower bound and an upper one.
+type Bounds<K> = (Bound<K>, Bound<K>);
 
 /// Pairs in an order of their keys, as the library writes them.
 #[derive(Clone)]
@@ -31,45 +39,58 @@ impl<V: Value> Page<V> {
         }
     }
 
-    /// Takes the first pairs within two bounds in an order in place of these, at most so many.
+    /// Takes the first pairs within two bounds in an order, at most so many, where none is left.
+    /// Gives a copy of the last key. Refused, none is left as before.
     fn fill(
         &mut self,
         tree: &Tree<<V as Calls>::Handle>,
         order: Order,
-        within: (Bound<&[u8]>, Bound<&[u8]>),
+        within: Bounds<&[u8]>,
         most: usize,
-    ) {
-        self.entries.resize(most, V::Entry::default());
-        let count = V::page(tree, order, within, &mut self.bytes, &mut self.entries);
+    ) -> Result<Option<Vec<u8>>, Refusal> {
+        lengthen(&mut self.entries, most)?;
+        let count = V::page(tree, order, within, &mut self.bytes, &mut self.entries)?;
+        let last = count.checked_sub(1).map(|at| copied(self.pair(at).0));
+        let last = last.transpose()?;
         (self.left, self.start) = (0..count, 0);
+        Ok(last)
     }
 
     #[inline]
-    fn next(&mut self) -> Option<(&[u8], &V::Lent)> {
+    fn next(&mut self) -> Option<Pair<'_, V>> {
         let entry = &self.entries[self.left.next()?];
         let start = self.start;
         self.start = V::end(entry);
         Some(V::pair(entry, &self.bytes, start))
     }
 
-    fn next_back(&mut self) -> Option<(&[u8], &V::Lent)> {
+    fn next_back(&mut self) -> Option<Pair<'_, V>> {
         let at = self.left.next_back()?;
         Some(self.pair(at))
     }
 
-    /// The last pair.
-    fn last(&self) -> Option<(&[u8], &V::Lent)> {
-        let at = self.left.clone().next_back()?;
+    /// Calls a function with each pair that is left, up to the first that it answers an error of.
+    #[inline]
+    fn try_for_each<E>(
+        &mut self,
+        mut f: impl FnMut(&[u8], &V::Lent) -> Result<(), E>,
+    ) -> Result<(), E> {
+        while let Some((key, value)) = self.next() {
+            f(key, value)?;
+        }
+        Ok(())
+    }
+
+    /// What `next` would give.
+    fn peek(&self) -> Option<Pair<'_, V>> {
+        let at = self.left.clone().next()?;
         Some(self.pair(at))
     }
 
-    /// The pair of an entry that is or was left.
-    fn pair(&self, at: usize) -> (&[u8], &V::Lent) {
-        let start = if at == self.left.start {
-            self.start
-        } else {
-            V::end(&self.entries[at - 1])
-        };
+    /// The pair of an entry.
+    fn pair(&self, at: usize) -> Pair<'_, V> {
+        let before = at.checked_sub(1);
+        let start = before.map_or(0, |it| V::end(&self.entries[it]));
         V::pair(&self.entries[at], &self.bytes, start)
     }
 }
@@ -99,100 +120,143 @@ struct End<V: Value> {
     size: usize,
 }
 
-impl<V: Value> End<V> {
-    fn new(size: usize) -> End<V> {
-        End {
-            page: Page::new(),
-            size,
-        }
-    }
-}
-
 /// A walk over the pairs within two bounds, and how far it has come from either end. The tree stands
-/// elsewhere, and doesn't change meanwhile.
+/// elsewhere, and doesn't change meanwhile. A step that is refused leaves it as it was.
 #[derive(Clone)]
 pub struct Walk<V: Value> {
-    // What is left between the pages, unless that is known to be nothing.
-    low: Bound<Vec<u8>>,
-    high: Bound<Vec<u8>>,
-    is_over: bool,
+    // What stands between the pages, or that memory for these bounds was refused.
+    between: Result<Bounds<Vec<u8>>, Refusal>,
+    // How many pairs are left at most. Where it is as many as the pages have, none is between them.
+    left: usize,
     front: End<V>,
     back: End<V>,
 }
 
 impl<V: Value> Walk<V> {
-    pub fn within((low, high): (Bound<&[u8]>, Bound<&[u8]>)) -> Walk<V> {
+    /// Over all pairs, which are so many.
+    pub fn over_all(len: usize) -> Walk<V> {
+        Walk::new(Ok((Bound::Unbounded, Bound::Unbounded)), len, FIRST_PAIRS)
+    }
+
+    /// Over the pairs within two bounds, of so many.
+    pub fn within((low, high): Bounds<&[u8]>, len: usize) -> Walk<V> {
+        let between = match (bound_copied(low), bound_copied(high)) {
+            (Ok(low), Ok(high)) => Ok((low, high)),
+            (Err(refusal), _) | (_, Err(refusal)) => Err(refusal),
+        };
+        Walk::new(between, len, 1)
+    }
+
+    /// Over the pairs whose keys a prefix begins, of so many.
+    pub fn under(prefix: &[u8], len: usize) -> Walk<V> {
+        let low = bound_copied(Bound::Included(prefix));
+        let between = low.and_then(|low| Ok((low, behind_all(prefix)?)));
+        Walk::new(between, len, 1)
+    }
+
+    fn new(between: Result<Bounds<Vec<u8>>, Refusal>, left: usize, size: usize) -> Walk<V> {
+        let end = || End {
+            page: Page::new(),
+            size,
+        };
         Walk {
-            low: low.map(<[u8]>::to_vec),
-            high: high.map(<[u8]>::to_vec),
-            is_over: false,
-            front: End::new(1),
-            back: End::new(1),
+            between,
+            left,
+            front: end(),
+            back: end(),
         }
     }
 
-    /// Over all pairs.
-    pub fn over_all() -> Walk<V> {
-        let mut walk = Walk::within((Bound::Unbounded, Bound::Unbounded));
-        (walk.front.size, walk.back.size) = (FIRST_PAIRS, FIRST_PAIRS);
-        walk
+    /// How many pairs are left at most: of a walk over all that is how many are left.
+    pub fn left(&self) -> usize {
+        self.left
     }
 
-    /// Over the pairs whose keys a prefix begins.
-    pub fn under(prefix: &[u8]) -> Walk<V> {
-        let end = behind_all(prefix);
-        let high = end.as_ref().map(Vec::as_slice);
-        Walk::within((Bound::Included(prefix), high))
-    }
-
-    /// The next pair, copied.
+    /// The next pair in an order, as it stands in its page.
     #[inline]
-    pub fn next(&mut self, tree: &Tree<<V as Calls>::Handle>) -> Option<(Vec<u8>, V)> {
-        if self.front.size == 1 {
-            if let Some(pair) = self.search(tree, Order::Ascending) {
-                return Some(pair);
-            }
-        }
-        self.next_lent(tree).map(copied::<V>)
-    }
-
-    /// The next pair, as it stands in its page.
-    #[inline]
-    pub fn next_lent(
+    pub fn next(
         &mut self,
         tree: &Tree<<V as Calls>::Handle>,
-    ) -> Option<(&[u8], &<V as Calls>::Lent)> {
-        if self.front.page.left.is_empty() && !self.turn(tree, Order::Ascending) {
-            return self.back.page.next_back();
+        order: Order,
+    ) -> Result<Option<Pair<'_, V>>, Refusal> {
+        if self.end(order).page.left.is_empty() && !self.turn(tree, order)? {
+            self.left = self.left.saturating_sub(1);
+            return Ok(self.end(order.reversed()).page.next_back());
         }
-        self.front.page.next()
+        self.left -= 1;
+        Ok(self.end(order).page.next())
     }
 
-    /// The last pair, copied.
-    pub fn next_back(&mut self, tree: &Tree<<V as Calls>::Handle>) -> Option<(Vec<u8>, V)> {
-        if self.back.size == 1 {
-            if let Some(pair) = self.search(tree, Order::Descending) {
-                return Some(pair);
+    /// What `next` would give, of a walk that goes in one order alone.
+    pub fn peek(
+        &mut self,
+        tree: &Tree<<V as Calls>::Handle>,
+        order: Order,
+    ) -> Result<Option<Pair<'_, V>>, Refusal> {
+        if self.end(order).page.left.is_empty() {
+            self.turn(tree, order)?;
+        }
+        Ok(self.end(order).page.peek())
+    }
+
+    /// Calls a function with each pair that is left in an order, up to the first that it answers an
+    /// error of, or that is refused.
+    pub fn try_for_each<E: From<Refusal>>(
+        &mut self,
+        tree: &Tree<<V as Calls>::Handle>,
+        order: Order,
+        mut f: impl FnMut(&[u8], &V::Lent) -> Result<(), E>,
+    ) -> Result<(), E> {
+        while let Some((key, value)) = self.next(tree, order)? {
+            f(key, value)?;
+            let page = &mut self.end(order).page;
+            let before = page.left.len();
+            let told = page.try_for_each(&mut f);
+            let passed = before - page.left.len();
+            self.left -= passed;
+            told?;
+        }
+        Ok(())
+    }
+
+    /// Passes over so many pairs in an order, or all that are left.
+    pub fn skip(
+        &mut self,
+        tree: &Tree<<V as Calls>::Handle>,
+        order: Order,
+        count: usize,
+    ) -> Result<(), Refusal> {
+        for _ in 0..count {
+            if self.next(tree, order)?.is_none() {
+                break;
             }
         }
-        if self.back.page.left.is_empty() && !self.turn(tree, Order::Descending) {
-            return self.front.page.next_back().map(copied::<V>);
+        Ok(())
+    }
+
+    /// Whether the first pair in an order is to be searched for, where it is to be copied.
+    #[inline]
+    pub fn begins(&self, order: Order) -> bool {
+        match order {
+            Order::Ascending => self.front.size == 1,
+            Order::Descending => self.back.size == 1,
         }
-        self.back.page.next().map(copied::<V>)
     }
 
     /// The first pair between the pages in an order, by a search. The next one stands in a page.
-    fn search(&mut self, tree: &Tree<<V as Calls>::Handle>, order: Order) -> Option<(Vec<u8>, V)> {
-        self.end(order).size = FIRST_PAIRS;
-        if self.is_over {
-            return None;
+    pub fn search(
+        &mut self,
+        tree: &Tree<<V as Calls>::Handle>,
+        order: Order,
+    ) -> Result<Option<(Vec<u8>, V)>, Refusal> {
+        if !self.has_between() {
+            return Ok(None);
         }
-        let low = self.low.as_ref().map(Vec::as_slice);
-        let high = self.high.as_ref().map(Vec::as_slice);
+        let (low, high) = lent(&self.between)?;
         let mut key = Vec::new();
         let found = match order {
-            Order::Ascending => V::first(tree, low, &mut key),
-            Order::Descending => V::last(tree, high, &mut key),
+            Order::Ascending => V::first(tree, low, &mut key)?,
+            Order::Descending => V::last(tree, high, &mut key)?,
         };
         key.truncate(found.as_ref().map_or(0, |it| it.0));
         let is_within = match order {
@@ -201,12 +265,15 @@ impl<V: Value> Walk<V> {
         };
         match found {
             Some((_, value)) if is_within => {
-                self.pass(order, key.clone());
-                Some((key, value))
+                let passed = copied(&key)?;
+                self.pass(order, passed);
+                self.end(order).size = FIRST_PAIRS;
+                self.left -= 1;
+                Ok(Some((key, value)))
             }
             _ => {
-                self.is_over = true;
-                None
+                self.left = self.in_pages();
+                Ok(None)
             }
         }
     }
@@ -214,26 +281,27 @@ impl<V: Value> Walk<V> {
     /// Takes the next page in an order, which begins behind the last key of the one before. Answers
     /// whether it has a pair.
     #[cold]
-    fn turn(&mut self, tree: &Tree<<V as Calls>::Handle>, order: Order) -> bool {
-        if self.is_over {
-            return false;
+    fn turn(&mut self, tree: &Tree<<V as Calls>::Handle>, order: Order) -> Result<bool, Refusal> {
+        if !self.has_between() {
+            return Ok(false);
         }
-        let low = self.low.as_ref().map(Vec::as_slice);
-        let high = self.high.as_ref().map(Vec::as_slice);
+        let within = lent(&self.between)?;
         let end = match order {
             Order::Ascending => &mut self.front,
             Order::Descending => &mut self.back,
         };
-        end.page.fill(tree, order, (low, high), end.size);
-        end.size = MOST_PAIRS.min(end.size * GROWTH);
-        match end.page.last().map(|(key, _)| key.to_vec()) {
-            Some(key) => self.pass(order, key),
-            None => self.is_over = true,
-        }
-        !self.is_over
+        let size = end.size.max(FIRST_PAIRS);
+        let Some(last) = end.page.fill(tree, order, within, size)? else {
+            self.left = self.in_pages();
+            return Ok(false);
+        };
+        end.size = MOST_PAIRS.min(size * GROWTH);
+        self.pass(order, last);
+        Ok(true)
     }
 
     /// The end from which an order begins.
+    #[inline]
     fn end(&mut self, order: Order) -> &mut End<V> {
         match order {
             Order::Ascending => &mut self.front,
@@ -241,28 +309,57 @@ impl<V: Value> Walk<V> {
         }
     }
 
+    /// How many pairs the pages have.
+    fn in_pages(&self) -> usize {
+        self.front.page.left.len() + self.back.page.left.len()
+    }
+
+    /// Whether there may be a pair between the pages.
+    fn has_between(&self) -> bool {
+        self.left > self.in_pages()
+    }
+
     /// Leaves between the pages what stands behind a key in an order.
+    #[inline]
     fn pass(&mut self, order: Order, key: Vec<u8>) {
-        match order {
-            Order::Ascending => self.low = Bound::Excluded(key),
-            Order::Descending => self.high = Bound::Excluded(key),
+        if let Ok((low, high)) = &mut self.between {
+            match order {
+                Order::Ascending => *low = Bound::Excluded(key),
+                Order::Descending => *high = Bound::Excluded(key),
+            }
         }
     }
 }
 
-// A pair, copied.
-fn copied<V: Value>((key, value): (&[u8], &<V as Calls>::Lent)) -> (Vec<u8>, V) {
-    (key.to_vec(), value.to_owned())
+/// A pair, copied.
+#[inline]
+pub fn pair_copied<V: Value>((key, value): Pair<'_, V>) -> Result<(Vec<u8>, V), Refusal> {
+    Ok((copied(key)?, V::copied(value)?))
+}
+
+#[inline]
+fn bound_copied(bound: Bound<&[u8]>) -> Result<Bound<Vec<u8>>, Refusal> {
+    Ok(match bound {
+        Bound::Included(key) => Bound::Included(copied(key)?),
+        Bound::Excluded(key) => Bound::Excluded(copied(key)?),
+        Bound::Unbounded => Bound::Unbounded,
+    })
+}
+
+fn lent(between: &Result<Bounds<Vec<u8>>, Refusal>) -> Result<Bounds<&[u8]>, Refusal> {
+    let (low, high) = between.as_ref().map_err(|refusal| *refusal)?;
+    Ok((
+        low.as_ref().map(Vec::as_slice),
+        high.as_ref().map(Vec::as_slice),
+    ))
 }
 
 // The upper bound of the keys that a prefix begins.
-fn behind_all(prefix: &[u8]) -> Bound<Vec<u8>> {
-    match prefix.iter().rposition(|it| *it != u8::MAX) {
-        None => Bound::Unbounded,
-        Some(last) => {
-            let mut behind = prefix[..=last].to_vec();
-            behind[last] += 1;
-            Bound::Excluded(behind)
-        }
-    }
+fn behind_all(prefix: &[u8]) -> Result<Bound<Vec<u8>>, Refusal> {
+    let Some(last) = prefix.iter().rposition(|it| *it != u8::MAX) else {
+        return Ok(Bound::Unbounded);
+    };
+    let mut behind = copied(&prefix[..=last])?;
+    behind[last] += 1;
+    Ok(Bound::Excluded(behind))
 }

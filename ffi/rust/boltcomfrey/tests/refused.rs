@@ -98,3 +98,17 @@ fn a_refused_split_leaves_its_map() {
     }
     assert!(refused > 0);
 }
+
+#[test]
+fn maps_are_compared_all_the_same() -> Result<(), Refusal> {
+    let mut map = VersionedBytes::from([("milk", "Milk"), ("tea", "Tea")]);
+    let (before, same) = (map.snapshot()?, map.snapshot()?);
+    map.insert("tea", "Green tea")?;
+    refusals::set(1);
+    let refused = map.equals(&before).and(before.equals(&same));
+    let told = (map == before, before == same);
+    refusals::set(0);
+    assert_eq!(refused, Err(Refusal::NoMemory));
+    assert_eq!(told, (false, true));
+    Ok(())
+}

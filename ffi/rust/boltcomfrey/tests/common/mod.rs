@@ -1,7 +1,8 @@
 //! Random calls on a few versions, beside a model of std's maps.
 #![allow(dead_code)] // (each test takes some of it)
 
-use boltcomfrey::{Given, LoadError, Map, Refusal, Value};
+use boltcomfrey::{Given, Lent, LoadError, Map, Refusal, Value};
+use std::borrow::Borrow;
 use std::collections::BTreeMap;
 use std::fmt::Debug;
 use std::ops::Bound::{self, Excluded, Included, Unbounded};
@@ -33,7 +34,7 @@ impl Random {
 }
 
 /// A value drawn at random.
-pub trait Drawn: Value + Given<Self> + Debug {
+pub trait Drawn: Value + Given<Self> + Debug + Borrow<Self::Lent> {
     fn drawn(random: &mut Random) -> Self;
 }
 
@@ -149,7 +150,11 @@ impl<V: Drawn> Compared<V> {
         let at = self.random.below(self.versions.len() as u64) as usize;
         match self.random.below(2000) {
             0..20 => self.copy(at),
-            20 => self.walk(at),
+            20 => {
+                self.walk(at);
+                self.walk_on(at);
+                self.walk_by(at);
+            }
             21 => {
                 self.compare_with_another(at);
                 self.unite(at);
@@ -309,6 +314,9 @@ impl<V: Drawn> Compared<V> {
                     model.number += others.number;
                 }
                 Err(Refusal::TooLong) => assert!(others.longest > model.longest),
+                Err(Refusal::LastNumber) => {
+                    assert_eq!(model.number.checked_add(others.number), None);
+                }
                 Err(refusal) => self.note(Err(refusal)),
             }
         }
@@ -442,6 +450,57 @@ impl<V: Drawn> Compared<V> {
         assert_eq!(map.range(within).count(), model.range(low..high).count());
     }
 
+    /// Walks over a version, of which some pairs are passed over or not copied.
+    fn walk_on(&mut self, at: usize) {
+        let (key, skipped) = (self.random.key(), self.random.below(20) as usize);
+        let (map, model) = &self.versions[at];
+        let (mut pairs, mut wanted) = (map.iter(), model.range(..));
+        assert_eq!(pairs.nth(skipped), wanted.nth(skipped));
+        assert_eq!(pairs.len(), wanted.count());
+        expect_lent(pairs.clone().lent(), model.range(..).skip(skipped + 1));
+        let backwards = model.range(..).rev();
+        let left = map.len().saturating_sub(skipped + 1);
+        expect_lent(pairs.clone().lent().rev(), backwards.take(left));
+        assert_eq!(pairs.count(), left);
+        assert_eq!(map.iter().last(), model.range(..).next_back());
+        assert_eq!(map.values().last(), map.last_key_value().map(|it| it.1));
+        assert_eq!(
+            map.keys().nth(skipped),
+            model.pairs.keys().nth(skipped).cloned()
+        );
+        let (mut behind, mut wanted) = (map.range(key.clone()..), model.range(key.clone()..));
+        assert_eq!(behind.next_back(), wanted.next_back());
+        assert_eq!(behind.nth(skipped), wanted.nth(skipped));
+        let wanted: Vec<_> = wanted.collect();
+        expect_lent(behind.clone().lent(), wanted.iter().cloned());
+        expect_lent(behind.clone().lent().rev(), wanted.iter().rev().cloned());
+        assert_eq!(behind.clone().count(), wanted.len());
+        assert_eq!(behind.last(), wanted.last().cloned());
+        expect_lent(map.prefix(&key).lent(), model.prefix(&key));
+    }
+
+    /// Walks over a version by a function, from either end, which ends the walk or does not.
+    fn walk_by(&mut self, at: usize) {
+        let most = self.random.below(20) as usize;
+        let (map, model) = &self.versions[at];
+        let (mut pairs, mut wanted) = (map.iter(), model.range(..));
+        assert_eq!(pairs.next_back(), wanted.next_back());
+        let mut given = Vec::new();
+        let mut lent = pairs.lent();
+        let told = lent.try_for_each(|key, value| {
+            given.push((key.to_vec(), value.to_owned()));
+            if given.len() > most {
+                return Err(Refusal::NotEmpty);
+            }
+            Ok(())
+        });
+        assert_eq!(told.is_err(), given.len() > most);
+        lent.rev().for_each(|key, value| {
+            assert_eq!(wanted.next_back(), Some((key.to_vec(), value.to_owned())));
+        });
+        assert!(wanted.eq(given));
+    }
+
     /// Compares two versions: what differs, what is common, and how they are ordered.
     fn compare_with_another(&mut self, at: usize) {
         let other = self.random.below(self.versions.len() as u64) as usize;
@@ -487,6 +546,16 @@ impl<V: Drawn> Compared<V> {
             self.refused += 1;
         }
     }
+}
+
+/// That pairs that are lent are the wanted ones.
+fn expect_lent<V: Drawn>(mut given: Lent<'_, V>, wanted: impl Iterator<Item = (Vec<u8>, V)>) {
+    let mut wanted = wanted.fuse();
+    while let Some((key, value)) = given.next() {
+        let (it, other) = wanted.next().expect("a pair");
+        assert!(key == it && value == other.borrow());
+    }
+    assert_eq!(wanted.next(), None);
 }
 
 /// That both give the same from whatever end.

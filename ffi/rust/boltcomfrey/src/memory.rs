@@ -24,6 +24,7 @@ pub fn copied(bytes: &[u8]) -> Result<Vec<u8>, Refusal> {
 }
 
 /// Lengthens a vector to so many. One that is longer stays as it is, and so does one that is refused.
+#[inline]
 pub fn lengthen<T: Clone + Default>(vector: &mut Vec<T>, len: usize) -> Result<(), Refusal> {
     if let Some(more) = len.checked_sub(vector.len()) {
         vector.try_reserve(more)?;

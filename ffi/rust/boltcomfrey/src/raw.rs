@@ -442,6 +442,7 @@ impl Tree<RartBytes> {
         unsafe { sys::rart_bytes_get(self.handle.get(), key.as_ptr(), key.len(), at, room, len) }
     }
 
+    #[inline]
     pub fn get(&self, key: &[u8]) -> Result<Option<Vec<u8>>, Refusal> {
         read_out(|into, len| Ok(self.read(key, into, len)))
     }
@@ -624,6 +625,7 @@ fn parts_of(bound: Bound<&[u8]>) -> (&[u8], u8) {
 }
 
 /// The value that a call writes out. It is made once more where the value, or its key, has no room.
+#[inline]
 fn read_out(
     mut call: impl FnMut(&mut [u8], &mut usize) -> Result<u8, Refusal>,
 ) -> Result<Option<Vec<u8>>, Refusal> {

@@ -243,6 +243,7 @@ impl Calls for Vec<u8> {
         copied(lent)
     }
 
+    #[inline]
     fn get(tree: &Tree<RartBytes>, key: &[u8]) -> Result<Option<Vec<u8>>, Refusal> {
         tree.get(key)
     }

@@ -8,18 +8,18 @@
 // what is freed is given back, and that a function that only reads stores nothing in its tree: for
 // such a function the const of a tree may be cast away.
 //
-// This is C11, and C++. Written by ffi/generate.
+// This is C99, and C++11. Written by ffi/generate.
 #ifndef BOLTCOMFREY_H
 #define BOLTCOMFREY_H
 
 #define RART_VERSION "0.2.0"
 
-#include <assert.h>
 #include <stdbool.h>
 #include <stddef.h>
 #include <stdint.h>
 
-static_assert(sizeof(size_t) == 8 && sizeof(void *) == 8, "the library is built for 64 bits");
+// The library is built for 64 bits: elsewhere this array has no length that it may have.
+typedef char rart_is_built_for_64_bits[sizeof(size_t) == 8 && sizeof(void *) == 8 ? 1 : -1];
 
 // What compilers are told of each call, so that they tell of mistakes: pointers that are null or
 // meet, answers that nobody looks at, buffers that are shorter than is said, or not yet written.
@@ -48,15 +48,26 @@ static_assert(sizeof(size_t) == 8 && sizeof(void *) == 8, "the library is built 
 extern "C" {
 #endif
 
-// One version. All zeros is the map without a key, its number 0: `rart_tree tree = {0};` makes one,
-// and `rart_clear` frees it. Never copy one by hand: `rart_snapshot` and `rart_clone` do.
+// One version. All zeros is the map without a key, its number 0: in C `rart_tree tree = {0};` makes
+// one, in C++ `rart_tree tree;`. `rart_clear` frees it. Never copy one by hand: `rart_snapshot` and
+// `rart_clone` do. In C++ a copy does not compile.
 typedef struct rart_tree {
     void *at;
+#ifdef __cplusplus
+    rart_tree() : at(nullptr) {}
+    rart_tree(const rart_tree &) = delete;
+    rart_tree &operator=(const rart_tree &) = delete;
+#endif
 } rart_tree;
 
-// The same of a map to byte strings: `rart_bytes tree = {0};`.
+// The same of a map to byte strings.
 typedef struct rart_bytes {
     void *at;
+#ifdef __cplusplus
+    rart_bytes() : at(nullptr) {}
+    rart_bytes(const rart_bytes &) = delete;
+    rart_bytes &operator=(const rart_bytes &) = delete;
+#endif
 } rart_bytes;
 
 // Where the key of an entry ends among the bytes of its page, and its value.
@@ -166,11 +177,13 @@ typedef struct rattle_block {
 // What the library asks for memory by: heap.c has it over malloc, and a program may have its own.
 // - rattle_alloc gives a block of size bytes, of some where size is 0, at a multiple of align,
 //   which is a power of two, 16 at most.
-// - rattle_realloc gives one in place of a block that has old_size bytes, which stand at its front,
-//   or as many of them as it has room for. Where it gives none the block stays.
-// - rattle_dealloc takes a block back.
+// - rattle_realloc gives such a block in place of another, which it takes back. The first kept bytes
+//   of the other stand at its front, or as many of these as it has room for. The other block may be
+//   longer than kept, which says how many bytes are in use: a heap that needs the length of a block
+//   keeps it itself. Where it gives no block, the other one stays as it is.
+// - rattle_dealloc takes a block back, whose length it isn't told.
 rattle_block rattle_alloc(size_t size, size_t align);
-rattle_block rattle_realloc(void *at, size_t old_size, size_t size, size_t align);
+rattle_block rattle_realloc(void *at, size_t kept, size_t size, size_t align);
 void rattle_dealloc(void *at);
 
 // Makes of a prefix the end of the keys that it begins, for the upper bound of a page, and gives

@@ -12,9 +12,9 @@ rattle_block rattle_alloc(size_t size, size_t align) {
     return block;
 }
 
-rattle_block rattle_realloc(void *at, size_t old_size, size_t size, size_t align) {
+rattle_block rattle_realloc(void *at, size_t kept, size_t size, size_t align) {
     rattle_block block = {true, realloc(at, size > 0 ? size : align)};
-    (void)old_size;
+    (void)kept;
     requests++;
     return block;
 }

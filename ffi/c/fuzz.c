@@ -34,8 +34,8 @@ rattle_block rattle_alloc(size_t size, size_t align) {
     return resized(NULL, size, align);
 }
 
-rattle_block rattle_realloc(void *at, size_t old_size, size_t size, size_t align) {
-    (void)old_size;
+rattle_block rattle_realloc(void *at, size_t kept, size_t size, size_t align) {
+    (void)kept;
     return resized(at, size, align);
 }
 

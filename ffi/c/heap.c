@@ -1,21 +1,23 @@
 // How the library asks for memory, over the C library.
 #include "boltcomfrey.h"
-#include <stdalign.h>
 #include <stdlib.h>
+
+// As much as malloc aligns by, and as is ever asked for.
+enum { MOST_ALIGN = 16 };
 
 static rattle_block block_of(void *at) {
     rattle_block block = {at != NULL, at};
     return block;
 }
 
-// (For no bytes malloc may give null. A greater alignment than its own is never asked for.)
+// (For no bytes malloc may give null.)
 rattle_block rattle_alloc(size_t size, size_t align) {
-    return block_of(align > alignof(max_align_t) ? NULL : malloc(size > 0 ? size : align));
+    return block_of(align > MOST_ALIGN ? NULL : malloc(size > 0 ? size : align));
 }
 
-rattle_block rattle_realloc(void *at, size_t old_size, size_t size, size_t align) {
-    (void)old_size;
-    return block_of(align > alignof(max_align_t) ? NULL : realloc(at, size > 0 ? size : align));
+rattle_block rattle_realloc(void *at, size_t kept, size_t size, size_t align) {
+    (void)kept;
+    return block_of(align > MOST_ALIGN ? NULL : realloc(at, size > 0 ? size : align));
 }
 
 void rattle_dealloc(void *at) {

@@ -418,7 +418,7 @@ extern "C" fn rattle_alloc(size: usize, align: usize) -> Block {
 #[unsafe(no_mangle)]
 unsafe extern "C" fn rattle_realloc(
     at: *mut c_void,
-    _old_size: usize,
+    _kept: usize,
     size: usize,
     align: usize,
 ) -> Block {

@@ -26,6 +26,9 @@
 #![warn(missing_docs)]
 #![deny(unsafe_code)]
 
+#[cfg(not(all(target_os = "linux", target_arch = "x86_64")))]
+compile_error!("the proved library that this crate links is built for Linux on x86-64 alone");
+
 mod both;
 mod entry;
 mod error;

@@ -78,6 +78,10 @@ class Room:
         shutil.rmtree(self.name, ignore_errors=True)
 
     def _end(self, number, _frame):
+        # (what threads say of the files that go is of no use)
+        nowhere = os.open(os.devnull, os.O_WRONLY)
+        os.dup2(nowhere, 1)
+        os.dup2(nowhere, 2)
         for _ in range(2):
             # (a thread may begin something, or write, between the first end and the removal)
             self.__exit__()

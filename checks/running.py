@@ -53,9 +53,10 @@ class Build:
             return it.read()
 
     def ended(self):
-        """The crates whose proofs have ended so far, each with whether it was proved, in order."""
+        """The crates whose proofs have ended so far, each with what came of it, in order: proved, kept
+        from an earlier run, or NOT PROVED."""
         told = re.findall(r"(?m)^rt: (\w+) (proved|is kept|NOT PROVED)\b", self.text())
-        return {name: how != "NOT PROVED" for name, how in told}
+        return {name: how.removeprefix("is ") for name, how in told}
 
     def functions(self, name):
         """The functions of a crate that the run proved, in the order in which it did; none of a crate
@@ -64,18 +65,19 @@ class Build:
         return functions_of(part[0] if part else "", name)
 
     def follow(self, then):
-        """Calls `then` with each crate as its proofs end, and whether it is proved."""
+        """Calls `then` with each crate as its proofs end, and what came of it."""
         told = {}
         while self.waiter.is_alive() or told != self.ended():
-            for name, is_proved in self.ended().items():
+            for name, how in self.ended().items():
                 if name not in told:
-                    told[name] = is_proved
-                    then(name, is_proved)
+                    told[name] = how
+                    then(name, how)
             time.sleep(1)
 
     def failed(self):
-        """What the run told of that failed: crates, tests and programs."""
-        return re.findall(r"(?m)^rt: (FAILED: .*|.* NOT PROVED.*)$", self.text())
+        """What the run told of that failed: crates and programs, and each test."""
+        told = re.findall(r"(?m)^(?:rt: )?(FAILED: .*|.* NOT PROVED.*|test \S+ \.\.\. FAILED)$", self.text())
+        return list(dict.fromkeys(told))
 
     def counts(self):
         """How many crates passed, and how many parts of them failed: one where the run did."""

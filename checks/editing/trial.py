@@ -54,6 +54,8 @@ class Edits:
 
     def __init__(self, chosen=EveryEdit()):
         self.chosen, self.results, self.known = chosen, [], []
+        # Of each crate whose edits can't be tried, how many they are.
+        self.left_out = []
         # The seconds of a processor that the edits of each crate took.
         self.seconds = collections.Counter()
 
@@ -96,9 +98,11 @@ class Edits:
             trial()
 
     def leave_out(self, crate):
-        """Tells of the edits of a crate that is not proved as it stands."""
-        for it in self._edits_of(crate):
-            self._end(Result(it.label, Outcome.UNTRIED, "its crate is not proved without it"))
+        """Tells that the edits of a crate that is not proved as it stands can't be tried."""
+        many = len(self._edits_of(crate))
+        if many:
+            self.left_out.append(f"{crate.name}: {many} edits NOT TRIED: it is not proved as it is")
+            say(self.left_out[-1])
 
     def of(self, crate):
         """The edits of a crate that are tried, and those that cannot be."""
@@ -118,7 +122,8 @@ class Edits:
 
     def unrefused(self):
         """Of each edit that was not refused what came of it."""
-        return [_told(it) for it in self.results if it.outcome is not Outcome.REFUSED]
+        bad = [_told(it) for it in self.results if it.outcome is not Outcome.REFUSED]
+        return [*bad, *self.left_out]
 
     def counts(self):
         """How many edits were refused, and how many not: one of which nothing came is one of them."""

@@ -70,7 +70,9 @@ class Room:
         os.mkdir(tempfile.tempdir)
         os.chmod(tempfile.tempdir, 0o1777)
         for it in (signal.SIGINT, signal.SIGTERM, signal.SIGHUP):
-            signal.signal(it, self._end)
+            # (nohup, and a shell that runs something in the background, have some ignored)
+            if signal.getsignal(it) is not signal.SIG_IGN:
+                signal.signal(it, self._end)
         return self.name
 
     def __exit__(self, *_):

@@ -1,6 +1,6 @@
-//! A store of versions: a family whose changes are in a log before they are answered, and are played
-//! again at the next start, behind the last checkpoint. That a killed process loses nothing is
-//! tested (`checks/store`), and so are power cuts, but for the names of files, which are synced.
+//! A store of versions: a family whose changes are in a log before they are answered, and are
+//! played again at the next start, behind the last checkpoint. That a killed process loses nothing
+//! is tested (`checks/store`), and so are power cuts, but for the names of files, which are synced.
 //!
 //! `example_store FOLDER` speaks the lines of `vtree`; here `rt run -- FOLDER` begins it. FOLDER is
 //! made where it isn't there. Each line that may change the family, and was not refused, is in

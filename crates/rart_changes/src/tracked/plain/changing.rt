@@ -113,8 +113,9 @@ impl<K: KeyTrait, V: Clone + Drop> TrackedTree<K, V> {
         self.delete_k(&key)
     }
 
-    /// Goes back to the base: it is the current version, with the base's number, which is lower than
-    /// it was where a key was changed. No key is touched then. Refused for memory, all is as before.
+    /// Goes back to the base: it is the current version, with the base's number, which is lower
+    /// than it was where a key was changed. No key is touched then. Refused for memory, all is as
+    /// before.
     pub fn undo(&mut self) -> Result<(), AllocError>
         ensures undone { OnOk result (self.new ≡ tracking_from self.old.base) }
         ensures refused { OnErr result (self.new ≡ self.old) }

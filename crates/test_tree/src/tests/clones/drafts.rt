@@ -42,8 +42,8 @@ fn make(
 // Of the base's keys: "a", "ab", "abc" and "abd" (the leaves of one node).
 const KEYS: &[&[u8]] = &[b"a", b"ab", b"abc", b"abd"];
 
-// The first copies "a" and "ab", a change of "abc" or "abd" that leaf too. An update clones the value
-// that it lends.
+// The first copies "a" and "ab", a change of "abc" or "abd" that leaf too. An update clones the
+// value that it lends.
 const ROWS: &[Row] = &[
     (Change::Set, b"abe", 2),
     (Change::Set, b"abf", 0),

@@ -1,5 +1,5 @@
 -- Blocks of bytes that are compared as numbers.
-use Rattle.std.proofs.Common.{◌≡◌, ℕ, suc, zero, ◌+◌, ◌<◌, ◌≤◌, List, [], ◌∷◌, ◌++◌, length, take, drop, get_or, sym, ap, ◌∙◌, arith, lit<}
+use Rattle.std.proofs.Common.{◌≡◌, ℕ, suc, zero, ◌+◌, ◌<◌, ◌≤◌, List, [], ◌∷◌, ◌++◌, length, take, drop, get_or, refl, sym, ap, ◌∙◌, arith, lit<, cond, eqb, eqb-true, true, false}
 use Rattle.std.specs.Int.{from_le_bytes, w32, w64}
 use Rattle.std.proofs.lemmas.List.{take-append-drop, drop-drop, length-drop, length-take-le}
 use Rattle.std.proofs.lemmas.Nat.{le_bytes_4, le_bytes_8}
@@ -71,6 +71,26 @@ longer_by count place left right has same le =
     let split = common_length-split left right place le in
     let past = past_block count place left right has same in
     omega (arith, split, past)
+
+-- A block of what two strings have in common at their start is the same in both.
+pub same_block : (count place : ℕ) (left right : List ℕ)
+    → place + count ≤ common_length left right
+    → take count (drop place left) ≡ take count (drop place right)
+same_block zero place left right le = refl
+same_block (suc count) place [] right le = absurd (omega (arith, le))
+same_block (suc count) place (b ∷ left) [] le = absurd (omega (arith, le))
+same_block (suc count) zero (b ∷ left) (c ∷ right) le =
+    elim (eqb b c) as (λ t. eqb b c ≡ t → 0 + suc count ≤ cond t (suc (common_length left right)) 0
+    → b ∷ take count left ≡ c ∷ take count right) [
+      | true ↦ λ e le. (λ i. eqb-true b c e i ∷ same_block count 0 left right (omega (arith, le)) i)
+      | false ↦ λ e le. absurd (omega (arith, le))
+    ] refl le
+same_block (suc count) (suc place) (b ∷ left) (c ∷ right) le =
+    elim (eqb b c) as (λ t. suc place + suc count ≤ cond t (suc (common_length left right)) 0
+    → take (suc count) (drop place left) ≡ take (suc count) (drop place right)) [
+      | true ↦ λ le. same_block (suc count) place left right (omega (arith, le))
+      | false ↦ λ le. absurd (omega (arith, le))
+    ] le
 
 module _ (place number : ℕ) (left right : List ℕ) where
   -- the same where the block of each is this number

@@ -8,9 +8,9 @@ ghost use Rattle.std.specs.Cmp.Rules.{comparing};
 ghost use Rattle.std.specs.Ordering.{as_partial_cmp, on};
 ghost use Rattle.rart_below.specs.Bytes.{byte_order};
 
+use crate::beginnings::{compare_bytes, prefix_length};
 use crate::key::KeyTrait;
 use crate::partial::Partial;
-use crate::prefix_length::{compare_bytes, prefix_length};
 use arrayvec::ArrayVec;
 use std::alloc::{AllocError, Global};
 use std::cmp::Ordering;

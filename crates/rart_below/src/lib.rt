@@ -4,24 +4,24 @@
 #![tactic(auto)]
 
 mod array;
+mod beginnings;
 mod byte_set;
 mod key;
 mod mapping;
 mod partial;
 mod plain;
-mod prefix_length;
 mod slot;
 mod vector;
 mod view;
 mod visit;
 
 pub use array::{ArrPartial, ArrayKey};
+pub use beginnings::{compare_bytes, does_begin, prefix_length};
 pub use byte_set::{ByteSet, BytesLeft};
 pub use key::KeyTrait;
 pub use mapping::{Clear, DirectMapping, IndexedMapping, NodeMapping, SortedKeyedMapping};
 pub use partial::Partial;
 pub use plain::{AdaptiveRadixTree, PlainIter};
-pub use prefix_length::compare_bytes;
 pub use slot::{Refusal, Slot, SlotUpdate};
 pub use vector::{VectorKey, VectorPartial};
 pub use view::LendingKeyView;

@@ -5,9 +5,9 @@ ghost use Rattle.std.proofs.lemmas.Slice.Eq.{bytes_eq-Decides};
 ghost use Rattle.rart_below.specs.VectorPartial.{bytes_of};
 
 use crate::array::inline_bytes;
+use crate::beginnings::prefix_length;
 use crate::key::KeyTrait;
 use crate::partial::Partial;
-use crate::prefix_length::prefix_length;
 use arrayvec::ArrayVec;
 use std::alloc::{AllocError, Global};
 

@@ -4,8 +4,8 @@ ghost use Rattle.std.specs.Prelude.{◌≡◌, ◌==◌, ◌≤◌, ℕ, List, l
 ghost use Rattle.rart_below.specs.Bytes.{byte_order, IsAdmitted};
 ghost use Rattle.rart_below.specs.LendingKeyView.{joined_bytes};
 
+use crate::beginnings::compare_bytes;
 use crate::key::KeyTrait;
-use crate::prefix_length::compare_bytes;
 use arrayvec::ArrayVec;
 use std::alloc::{AllocError, Global};
 use std::cmp::Ordering;

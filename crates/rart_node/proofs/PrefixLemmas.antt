@@ -3,9 +3,9 @@ use Rattle.std.proofs.Common.{◌≡◌, ℕ, suc, zero, ◌<◌, ◌≤◌, Lis
 use Rattle.std.specs.Prelude.{◌==◌, slice_index_or}
 use Rattle.std.specs.Option.{option_and_then}
 use Rattle.std.specs.Str.{bytes_eq}
-use Rattle.std.proofs.lemmas.Bool.{eqb-true, eqb-false, ne_eqb, eq-eqb}
+use Rattle.std.proofs.lemmas.Bool.{false≢true, eqb-true, eqb-false, ne_eqb, eq-eqb}
 use Rattle.std.proofs.lemmas.Option.{same_Some, none-some}
-use Rattle.rart_below.specs.Bytes.{common_length}
+use Rattle.rart_below.specs.Bytes.{begins, common_length}
 use Rattle.rart_node.specs.Trees.{strip_prefix, BeginsWith}
 
 pub eqb-sym : (a b : ℕ) → (a == b) ≡ (b == a)
@@ -44,6 +44,40 @@ strip_prefix-whole (b ∷ p) (c ∷ q) whole =
       | false ↦ (λ le. absurd (omega (arith, le)))
     ] in
     rw (eqb-sym c b) (both (b == c) whole)
+
+-- What is left of a string that begins with the prefix, and that none is of another.
+pub strip_prefix-begun : (p q : List ℕ) → begins p q ≡ true
+    → strip_prefix p q ≡ Some (drop (length p) q)
+strip_prefix-begun [] q begun = refl
+strip_prefix-begun (b ∷ p) [] begun = absurd (false≢true begun)
+strip_prefix-begun (b ∷ p) (c ∷ q) begun =
+    let P : Bool → Type 0 = λ t. (t && begins p q) ≡ true
+    → cond t (strip_prefix p q) None ≡ Some (drop (length p) q) in
+    let both : (t : Bool) → P t =
+    elim [ true ↦ strip_prefix-begun p q | false ↦ (λ never. absurd (false≢true never)) ] in
+    rw (eqb-sym c b) (both (b == c) begun)
+
+pub strip_prefix-other : (p q : List ℕ) → begins p q ≡ false → strip_prefix p q ≡ None
+strip_prefix-other [] q other = absurd (false≢true (sym other))
+strip_prefix-other (b ∷ p) [] other = refl
+strip_prefix-other (b ∷ p) (c ∷ q) other =
+    let P : Bool → Type 0 = λ t. (t && begins p q) ≡ false
+    → cond t (strip_prefix p q) None ≡ None in
+    let both : (t : Bool) → P t =
+    elim [ true ↦ strip_prefix-other p q | false ↦ (λ _. refl) ] in
+    rw (eqb-sym c b) (both (b == c) other)
+
+pub begins-within : (p q : List ℕ) → begins p q ≡ true → length p ≤ length q
+begins-within [] q begun = omega arith
+begins-within (b ∷ p) [] begun = absurd (false≢true begun)
+begins-within (b ∷ p) (c ∷ q) begun =
+    let P : Bool → Type 0 = λ t. (t && begins p q) ≡ true → suc (length p) ≤ suc (length q) in
+    let both : (t : Bool) → P t =
+    elim [
+      | true ↦ (λ rest. let later = begins-within p q rest in omega (arith, later))
+      | false ↦ (λ never. absurd (false≢true never))
+    ] in
+    both (b == c) begun
 
 pub strip_prefix-own : (p q : List ℕ) → strip_prefix p (p ++ q) ≡ Some q
 strip_prefix-own [] q = refl
@@ -186,11 +220,3 @@ first-parts (b ∷ w) byte first = (w, ap (λ z. z ∷ w) (same_Some b byte firs
 
 pub common_fits : (p key : List ℕ) → common_length p key ≤ length key
 common_fits p key = (common-within p key).1
-
--- A string that has the whole prefix goes on behind its length.
-pub strip_prefix-all : (p q : List ℕ) → length p ≤ common_length p q
-    → strip_prefix p q ≡ Some (drop (length p) q)
-strip_prefix-all p q whole =
-    let same : common_length p q ≡ length p = let within = (common-within p q).0 in
-    omega (arith, within, whole) in
-    strip_prefix-whole p q whole ∙ ap (λ n. Some (drop n q)) same

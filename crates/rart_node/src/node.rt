@@ -506,8 +506,9 @@ impl<P: Partial, V: Clone + Drop> VersionedNode<P, V> {
         child.copy_under(alloc, new_version, prefix)
     }
 
-    /// The same value, width and children with this prefix.
-    fn copy_under(
+    /// A node with this prefix and the same value, width and children, where clones of values equal
+    /// them. It is refused as `cow_clone_inner` is.
+    pub fn copy_under(
         &self,
         alloc: Global,
         new_version: u64,

@@ -133,7 +133,7 @@ pub(crate) fn cut<P: Partial, V: Clone + Drop>(
 {
     let prefix = node.prefix();
     let below = prefix.partial_after(alloc, at)?;
-    let lower = node.cow_clone_inner(alloc, version)?.with_prefix(below);
+    let lower = node.copy_under(alloc, version, below)?;
     let mut upper = VersionedNode::new_inner(alloc, prefix.partial_before(alloc, at)?, version)?;
     let lower = NodeRef::new(alloc, lower, work)?;
     upper.add_child(alloc, prefix.at(at), lower, work)?;

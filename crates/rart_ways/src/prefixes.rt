@@ -130,7 +130,7 @@ fn lift<P: Partial, V: Clone + Drop>(
 {
     let above: P = P::new_from_slice(alloc, above)?;
     let prefix = above.partial_extended_with(alloc, node.prefix())?;
-    Ok(node.cow_clone_inner(alloc, version)?.with_prefix(prefix))
+    node.copy_under(alloc, version, prefix)
 }
 
 /// Takes out all that stands under a prefix. Where nothing else stands there, the root stays as it

@@ -134,5 +134,5 @@ fn tail<P: Partial, V: Clone + Drop>(
     ensures tail { IfOk result (λ it. it.shape ≡ tail_of above node.now.shape) }
 {
     let prefix = node.prefix().partial_after(alloc, above)?;
-    Ok(node.cow_clone_inner(alloc, version)?.with_prefix(prefix))
+    node.copy_under(alloc, version, prefix)
 }

@@ -1,6 +1,6 @@
 use Rattle.std.proofs.Common.{arith, ◌-◌, ◌∙◌}
 use Rattle.rart_below.proofs.BlockLemmas.{longer_by_four, HasBlock}
-use Rattle.rart_below.proofs.prefix_length.equal_by_four.Goals as goal
+use Rattle.rart_below.proofs.beginnings.equal_by_four.Goals as goal
 
 pub returns-then-four_at-2-clause-equal : goal.returns-then-four_at-2-clause-equal
 returns-then-four_at-2-clause-equal c =

@@ -1,6 +1,6 @@
 use Rattle.std.proofs.Common.{arith}
 use Rattle.rart_below.proofs.CommonLengthLemmas.{common_length-split}
-use Rattle.rart_below.proofs.prefix_length.prefix_length.Goals as goal
+use Rattle.rart_below.proofs.beginnings.prefix_length.Goals as goal
 
 pub loop-matched-init : goal.loop-matched-init
 loop-matched-init c = (

@@ -1,6 +1,6 @@
 use Rattle.std.proofs.Common.{arith, ◌-◌, ◌∙◌}
 use Rattle.rart_below.proofs.BlockLemmas.{longer_by_eight, HasBlock}
-use Rattle.rart_below.proofs.prefix_length.equal_by_eight.Goals as goal
+use Rattle.rart_below.proofs.beginnings.equal_by_eight.Goals as goal
 
 pub loop-matched-preserved : goal.loop-matched-preserved
 loop-matched-preserved c =

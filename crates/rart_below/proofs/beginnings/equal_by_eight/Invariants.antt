@@ -1,6 +1,6 @@
 use Rattle.std.proofs.Common.{◌-◌, ◌≤◌}
 use Rattle.rart_below.specs.Bytes.{common_length}
-use Rattle.rart_below.proofs.prefix_length.equal_by_eight.Given as goal
+use Rattle.rart_below.proofs.beginnings.equal_by_eight.Given as goal
 
 abbrev pub invariant-loop-matched : goal.invariant-loop-matched
 invariant-loop-matched l =

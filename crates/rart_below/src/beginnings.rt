@@ -1,18 +1,19 @@
 // Ported from rart 0.11.0 (Apache-2.0), and rewritten.
-//! How many bytes two byte strings have in common at their start, and their order.
-ghost use Rattle.std.specs.Prelude.{◌≡◌, ◌+◌, ◌≤◌, length, take, drop};
+//! How many bytes two byte strings have in common at their start, whether one begins the other, and
+//! their order.
+ghost use Rattle.std.specs.Prelude.{◌≡◌, ◌↔◌, ◌+◌, ◌≤◌, IsTrue, length, take, drop};
 ghost use Rattle.std.specs.Int.{from_le_bytes, w32, w64};
-ghost use Rattle.rart_below.specs.Bytes.{byte_order, common_length};
+ghost use Rattle.rart_below.specs.Bytes.{begins, byte_order, common_length};
 
 use std::cmp::Ordering;
 
-/// The length of the longest common prefix.
+/// The length of the longest common prefix of two byte strings.
 ///
 /// Where both are long enough, blocks of eight or of four bytes are compared as numbers first, of
 /// which the last may overlap the one before. Only where a block differs are bytes compared one by
 /// one.
 #[tactic(auto, using(crate::proofs::CommonLengthLemmas::common_step, crate::proofs::CommonLengthLemmas::common_stop, crate::proofs::CommonLengthLemmas::common_stop_left, crate::proofs::CommonLengthLemmas::common_stop_right))]
-pub(crate) fn prefix_length(left: &[u8], right: &[u8]) -> usize
+pub fn prefix_length(left: &[u8], right: &[u8]) -> usize
     ensures { result ≡ common_length left.now right.now }
 {
     let shorter = left.len().min(right.len());
@@ -42,6 +43,74 @@ pub fn compare_bytes(left: &[u8], right: &[u8]) -> Ordering
     } else {
         left.len().cmp(&right.len())
     }
+}
+
+/// Whether a byte string begins another. It may be empty, or equal that one. In Rust this is
+/// `bytes.starts_with(beginning)`.
+///
+/// Blocks of eight or of four bytes are compared as numbers, of which the last may overlap the one
+/// before. Where the two part is not asked, so it takes less time than `prefix_length`.
+#[inline]
+pub fn does_begin(beginning: &[u8], bytes: &[u8]) -> bool
+    ensures { result ≡ begins beginning.now bytes.now }
+{
+    let count = beginning.len();
+    if bytes.len() < count {
+        return false;
+    }
+    if count >= 8 {
+        return begins_by_eight(beginning, bytes);
+    }
+    if count >= 4 {
+        return begins_by_four(beginning, bytes);
+    }
+    begins_by_bytes(beginning, bytes)
+}
+
+/// The same of at least eight bytes, by blocks of eight.
+fn begins_by_eight(beginning: &[u8], bytes: &[u8]) -> bool
+    requires long { 8 ≤ length beginning.now }
+    requires within { length beginning.now ≤ length bytes.now }
+    ensures { IsTrue result ↔ (length beginning.now ≤ common_length beginning.now bytes.now) }
+{
+    let last = beginning.len() - 8;
+    let mut place = 0;
+    while place < last {
+        if eight_at(beginning, place) != eight_at(bytes, place) {
+            return false;
+        }
+        place += 8;
+    }
+    eight_at(beginning, last) == eight_at(bytes, last)
+}
+
+/// The same of four to eight bytes, by two blocks of four.
+fn begins_by_four(beginning: &[u8], bytes: &[u8]) -> bool
+    requires long { 4 ≤ length beginning.now }
+    requires short { length beginning.now ≤ 8 }
+    requires within { length beginning.now ≤ length bytes.now }
+    ensures { IsTrue result ↔ (length beginning.now ≤ common_length beginning.now bytes.now) }
+{
+    let last = beginning.len() - 4;
+    four_at(beginning, 0) == four_at(bytes, 0) && four_at(beginning, last) == four_at(bytes, last)
+}
+
+/// The same byte by byte.
+#[inline]
+#[tactic(auto, using(crate::proofs::CommonLengthLemmas::common_step, crate::proofs::CommonLengthLemmas::common_stop))]
+fn begins_by_bytes(beginning: &[u8], bytes: &[u8]) -> bool
+    requires within { length beginning.now ≤ length bytes.now }
+    ensures { IsTrue result ↔ (length beginning.now ≤ common_length beginning.now bytes.now) }
+{
+    let count = beginning.len();
+    let mut matched = 0;
+    while matched < count {
+        if beginning[matched] != bytes[matched] {
+            return false;
+        }
+        matched += 1;
+    }
+    true
 }
 
 /// The length of a prefix that is the same in both: of all blocks before the first that differs,

@@ -1,4 +1,3 @@
-// Ported from rart 0.11.0 (Apache-2.0), and rewritten.
 //! A tree made of sorted pairs, each node of it once.
 //!
 //! Pairs are taken from the end of a list. Those from a place on begin alike for so many bytes, and
@@ -20,7 +19,8 @@ use rart_node::{NodeRef, VersionedNode, Work, rest_of};
 use std::alloc::{AllocError, Global};
 
 /// Makes a tree of the pairs from a place on, of which each key is taken from `depth` on, and takes
-/// them out of the list. Refused for memory, there is no tree, and some of the pairs are gone.
+/// them out of the list. No node is entered. Refused for memory, there is no tree, and some of the
+/// pairs are gone.
 ///
 /// It calls itself at most as deep as the longest key has bytes.
 pub fn tree_of<K: KeyTrait, V: Drop>(
@@ -43,6 +43,7 @@ pub fn tree_of<K: KeyTrait, V: Drop>(
         → BeginsWith byte (prefix_of root.shape)) }
     ensures left { OnOk result (pairs.new.items ≡ take from pairs.old.items) }
     ensures made { IfOk result (λ root. work.new.made ≡ work.old.made + nodes_of root.shape) }
+    ensures entered { work.new.entered ≡ work.old.entered }
 {
     let (prefix, at) = prefix_for(alloc, pairs.as_slice(), from, depth)?;
     let first = first_below(pairs.as_slice(), from, at);

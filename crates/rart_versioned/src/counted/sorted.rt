@@ -1,4 +1,3 @@
-// Ported from rart 0.11.0 (Apache-2.0), and rewritten.
 //! A tree made of pairs that ascend. rart has no such call.
 ghost use Rattle.std.specs.Prelude.{◌≡◌, ◌+◌, ◌<◌, ◌≤◌, ◌^◌, ℕ, All, Err, IfOk, IfNone, IfSome, IsTrue, Some, false, length, slice_get, true};
 ghost use Rattle.std.specs.FinSet as set;
@@ -42,6 +41,7 @@ impl<K: KeyTrait, V: Clone + Drop> VersionedAdaptiveRadixTree<K, V> {
     ghost use Rattle.rart_versioned.specs.declared.counted.sorted.SortedError.TheVariants.{NotAscending};
 
     /// As `from_sorted_at`, with the nodes made counted into `work`: one for each point of the map.
+    /// None is entered.
     pub fn from_sorted_counted(
         alloc: Global,
         pairs: Vec<(K, V)>,
@@ -56,6 +56,7 @@ impl<K: KeyTrait, V: Clone + Drop> VersionedAdaptiveRadixTree<K, V> {
             → IsDisorderAt K.bytes at pairs.items }
         ensures made { IfOk result (λ tree. work.new.made
             ≡ work.old.made + set.len (points tree.content)) }
+        ensures entered { work.new.entered ≡ work.old.entered }
     {
         let mut pairs = pairs;
         if let Some(at) = disorder_in(pairs.as_slice()) {

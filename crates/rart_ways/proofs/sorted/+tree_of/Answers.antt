@@ -1,4 +1,4 @@
-use Rattle.std.proofs.Common.{◌≡◌, ℕ, ◌+◌, ◌≤◌, ◌<◌, length, drop, take, None, arith, sym, ap, subst, ◌∙◌}
+use Rattle.std.proofs.Common.{◌≡◌, ℕ, ◌+◌, ◌≤◌, ◌<◌, length, drop, take, None, arith, refl, sym, ap, subst, ◌∙◌}
 use Rattle.std.specs.Prelude.{slice_get}
 use Rattle.std.proofs.Math.Nat.{le_refl}
 use Rattle.std.proofs.lemmas.Result.{IfOk-weaker}
@@ -61,16 +61,18 @@ building-init g t c =
     ∙ ap (λ xs. c.args.depth + length (shared (run_from bytes c.args.from c.args.depth xs)))
     c.as_slice.ensures.value) p.2
     (c.first_below-first.ensures p.0
-    (ap (λ xs. slice_get xs c.args.from) c.as_slice-2.ensures.value ∙ p.1)) in
-    building-none bytes c.args.from c.args.depth at first count whole p.0
-    (shared (run_from bytes c.args.from c.args.depth whole)) c.args.work.now.made
-    c.in_ok-node.node.shape s
-    (c.count_runs-count.ensures
-    ∙ ap (λ xs. runs (run_from bytes first at xs)) c.as_slice-3.ensures.value)
-    (c.in_ok-node.ensures
-    ∙ ap (λ q. node q None (width_for count) bare)
-    (c.in_ok-prefix.ensures.prefix
-    ∙ ap (λ xs. shared (run_from bytes c.args.from c.args.depth xs)) c.as_slice.ensures.value))
+    (ap (λ xs. slice_get xs c.args.from) c.as_slice-2.ensures.value ∙ p.1)) in (
+      building-none bytes c.args.from c.args.depth at first count whole p.0
+          (shared (run_from bytes c.args.from c.args.depth whole)) c.args.work.now.made
+          c.in_ok-node.node.shape s
+          (c.count_runs-count.ensures
+          ∙ ap (λ xs. runs (run_from bytes first at xs)) c.as_slice-3.ensures.value)
+          (c.in_ok-node.ensures
+          ∙ ap (λ q. node q None (width_for count) bare)
+          (c.in_ok-prefix.ensures.prefix
+          ∙ ap (λ xs. shared (run_from bytes c.args.from c.args.depth xs)) c.as_slice.ensures.value)),
+      refl,
+    )
 
 pub last_run-start-requires-clause-long : goal.last_run-start-requires-clause-long
 last_run-start-requires-clause-long g t c =
@@ -78,8 +80,8 @@ last_run-start-requires-clause-long g t c =
     let at = c.in_ok-prefix.at in
     let first = c.first_below-first.result in
     subst (λ xs. AllLong bytes (at + 1) (drop first xs)) (sym c.as_slice-in-building.ensures.value)
-    (long-under bytes c.building.invariant.forest first at c.building.pairs.items
-    c.building.invariant.under)
+    (long-under bytes c.building.invariant.0.forest first at c.building.pairs.items
+    c.building.invariant.0.under)
 
 pub tree_of-requires : goal.tree_of-requires
 tree_of-requires g t c κs within =
@@ -104,7 +106,7 @@ tree_of-requires g t c κs within =
     let less =
     falls bytes c.args.from c.args.depth at first c.count_runs-count.result whole items p.0
     (shared (run_from bytes c.args.from c.args.depth whole)) c.args.work.now.made
-    c.building.work.made c.building.node.shape s c.building.invariant start byte
+    c.building.work.made c.building.node.shape s c.building.invariant.0 start byte
     c.last_run-start.ensures.from inside
     (subst (λ xs. AllBegin byte (run_from bytes start at xs)) here
     c.last_run-start.ensures.alike) in (
@@ -118,10 +120,10 @@ tree_of-requires g t c κs within =
             (
               inside,
               (
-                long-child bytes first start at c.building.invariant.forest items
-                    c.last_run-start.ensures.from c.building.invariant.under,
+                long-child bytes first start at c.building.invariant.0.forest items
+                    c.last_run-start.ensures.from c.building.invariant.0.under,
                 run-sorted bytes first start at items c.last_run-start.ensures.from
-                    c.building.invariant.sorted,
+                    c.building.invariant.0.sorted,
               ),
             ),
           ),
@@ -141,15 +143,15 @@ add_child-requires-clause-absent g t c =
     let taken =
     taken-run bytes first at c.count_runs-count.result c.args.pairs.now.items
     (shared (run_from bytes c.args.from c.args.depth c.args.pairs.now.items))
-    c.args.work.now.made items c.building.node.shape c.building.work.made c.building.invariant
+    c.args.work.now.made items c.building.node.shape c.building.work.made c.building.invariant.0
     start byte c.last_run-start.ensures.from
     (subst (λ xs. start < length xs) here c.last_run-start.ensures.within)
     (subst (λ xs. AllBegin byte (run_from bytes start at xs)) here
     c.last_run-start.ensures.alike)
     (subst (λ xs. EndsBesides byte (run_from bytes first at (take start xs))) here
     c.last_run-start.ensures.apart) in
-    ap (λ shape. child_at byte (children_of shape)) c.building.invariant.is
-    ∙ child_at-below byte byte (entries_of c.building.invariant.forest) (le_refl byte) taken.below
+    ap (λ shape. child_at byte (children_of shape)) c.building.invariant.0.is
+    ∙ child_at-below byte byte (entries_of c.building.invariant.0.forest) (le_refl byte) taken.below
 
 pub building-preserved : goal.building-preserved
 building-preserved g t c =
@@ -170,17 +172,19 @@ building-preserved g t c =
     c.last_run-start.ensures.alike in
     let taken =
     taken-run bytes first at count whole q begun items c.building.node.shape
-    c.building.work.made c.building.invariant start byte c.last_run-start.ensures.from inside alike
+    c.building.work.made c.building.invariant.0 start byte c.last_run-start.ensures.from inside alike
     (subst (λ xs. EndsBesides byte (run_from bytes first at (take start xs))) here
-    c.last_run-start.ensures.apart) in
-    subst (λ xs. Building bytes first at count whole q begun xs c.add_child.new.self.shape
-    c.add_child.new.work.made) (sym c.in_ok-child.ensures.left)
-    (building-more bytes first at count whole q begun items c.building.node.shape
-    c.building.work.made c.building.invariant start byte c.last_run-start.ensures.from inside taken
-    c.in_ok-child.child.shape c.add_child.new.self.shape c.in_ok-child.ensures.tree
-    c.in_ok-child.ensures.pairs (c.in_ok-child.ensures.first byte alike)
-    c.in_ok-add_child.ensures.ok c.tree_of.new.work.made c.add_child.new.work.made
-    c.in_ok-child.ensures.made c.in_ok-add_child.ensures.made)
+    c.last_run-start.ensures.apart) in (
+      subst (λ xs. Building bytes first at count whole q begun xs c.add_child.new.self.shape
+          c.add_child.new.work.made) (sym c.in_ok-child.ensures.left)
+          (building-more bytes first at count whole q begun items c.building.node.shape
+          c.building.work.made c.building.invariant.0 start byte c.last_run-start.ensures.from inside taken
+          c.in_ok-child.child.shape c.add_child.new.self.shape c.in_ok-child.ensures.tree
+          c.in_ok-child.ensures.pairs (c.in_ok-child.ensures.first byte alike)
+          c.in_ok-add_child.ensures.ok c.tree_of.new.work.made c.add_child.new.work.made
+          c.in_ok-child.ensures.made c.in_ok-add_child.ensures.made),
+      c.add_child.ensures.entered ∙ c.tree_of.ensures.entered ∙ c.building.invariant.1,
+    )
 
 pub take_own-requires-clause-within : goal.take_own-requires-clause-within
 take_own-requires-clause-within g t c =
@@ -202,7 +206,7 @@ take_own-requires-clause-within g t c =
     let test = c.building-test.false in
     let long = c.len.ensures in
     let from_le = s.from_le in
-    let within = c.building.invariant.within in
+    let within = c.building.invariant.0.within in
     omega (arith, from_le, within)
 
 pub take_own-requires-clause-last : goal.take_own-requires-clause-last
@@ -248,7 +252,7 @@ returns-in-None-clause-tree g t c =
     let long = c.len.ensures in
     let done =
     done-none bytes c.args.from c.args.depth at first c.count_runs-count.result whole items p.0
-    c.args.work.now.made c.building.work.made c.building.node.shape s c.building.invariant
+    c.args.work.now.made c.building.work.made c.building.node.shape s c.building.invariant.0
     (omega (arith, test, long))
     (c.count_runs-count.ensures
     ∙ ap (λ xs. runs (run_from bytes first at xs)) c.as_slice-3.ensures.value)
@@ -277,7 +281,7 @@ returns-in-None-clause-pairs g t c =
     let long = c.len.ensures in
     let done =
     done-none bytes c.args.from c.args.depth at first c.count_runs-count.result whole items p.0
-    c.args.work.now.made c.building.work.made c.building.node.shape s c.building.invariant
+    c.args.work.now.made c.building.work.made c.building.node.shape s c.building.invariant.0
     (omega (arith, test, long))
     (c.count_runs-count.ensures
     ∙ ap (λ xs. runs (run_from bytes first at xs)) c.as_slice-3.ensures.value)
@@ -307,7 +311,7 @@ returns-in-None-clause-first g t c =
     let long = c.len.ensures in
     let done =
     done-none bytes c.args.from c.args.depth at first c.count_runs-count.result whole items p.0
-    c.args.work.now.made c.building.work.made c.building.node.shape s c.building.invariant
+    c.args.work.now.made c.building.work.made c.building.node.shape s c.building.invariant.0
     (omega (arith, test, long))
     (c.count_runs-count.ensures
     ∙ ap (λ xs. runs (run_from bytes first at xs)) c.as_slice-3.ensures.value)
@@ -342,12 +346,12 @@ returns-in-Some-clause-pairs g t c =
     let long = c.len.ensures in
     let done =
     done-some bytes c.args.from c.args.depth at first c.count_runs-count.result whole items p.0
-    c.args.work.now.made c.building.work.made c.building.node.shape s c.building.invariant
+    c.args.work.now.made c.building.work.made c.building.node.shape s c.building.invariant.0
     (omega (arith, test, long))
     (c.count_runs-count.ensures
     ∙ ap (λ xs. runs (run_from bytes first at xs)) c.as_slice-3.ensures.value)
     c.in-Some.ensures.value.0 c.in-Some.value c.set_value.new.self.shape
-    (c.in-Some.ensures.value.1 p.0 (ap (λ xs. slice_get xs c.args.from) c.building.invariant.taken
+    (c.in-Some.ensures.value.1 p.0 (ap (λ xs. slice_get xs c.args.from) c.building.invariant.0.taken
     ∙ front-at bytes (length items) c.args.from whole (let one = c.in-Some.ensures.value.0 in
     omega (arith, one)) ∙ p.1)) c.set_value.ensures.new in
     IfOk-weaker c.new-in-Some.result (λ root. root.shape ≡ c.set_value.new.self.shape)
@@ -375,12 +379,12 @@ returns-in-Some-clause-first g t c =
     let long = c.len.ensures in
     let done =
     done-some bytes c.args.from c.args.depth at first c.count_runs-count.result whole items p.0
-    c.args.work.now.made c.building.work.made c.building.node.shape s c.building.invariant
+    c.args.work.now.made c.building.work.made c.building.node.shape s c.building.invariant.0
     (omega (arith, test, long))
     (c.count_runs-count.ensures
     ∙ ap (λ xs. runs (run_from bytes first at xs)) c.as_slice-3.ensures.value)
     c.in-Some.ensures.value.0 c.in-Some.value c.set_value.new.self.shape
-    (c.in-Some.ensures.value.1 p.0 (ap (λ xs. slice_get xs c.args.from) c.building.invariant.taken
+    (c.in-Some.ensures.value.1 p.0 (ap (λ xs. slice_get xs c.args.from) c.building.invariant.0.taken
     ∙ front-at bytes (length items) c.args.from whole (let one = c.in-Some.ensures.value.0 in
     omega (arith, one)) ∙ p.1)) c.set_value.ensures.new in
     let run = run_from bytes c.args.from c.args.depth whole in

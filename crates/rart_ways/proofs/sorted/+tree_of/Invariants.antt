@@ -1,4 +1,4 @@
-use Rattle.std.proofs.Common.{◌-◌, length}
+use Rattle.std.proofs.Common.{◌-◌, ◌≡◌, length}
 use Rattle.rart_ways.specs.Runs.{run_from, shared}
 use Rattle.rart_ways.proofs.BuildingLemmas.{Building}
 use Rattle.rart_ways.proofs.sorted.+tree_of.Given as goal
@@ -11,6 +11,7 @@ invariant-building g l =
     Building g.K.KeyTrait.bytes l.first l.at l.count l.fn.pairs.items
     (shared (run_from g.K.KeyTrait.bytes l.fn.from l.fn.depth l.fn.pairs.items)) l.fn.work.made
     l.pairs.items l.node.shape l.work.made
+    × (l.work.entered ≡ l.fn.work.entered)
 
 abbrev pub decreases-building : goal.decreases-building
 decreases-building g l = length l.pairs.items

@@ -1,4 +1,3 @@
-// Ported from rart 0.11.0 (Apache-2.0), and rewritten.
 //! Sets of bytes. rart has no such type: there children in common are found one by one.
 ghost use Rattle.std.specs.Prelude.{◌≡◌, ◌<◌, ◌≤◌, ◌==◌, ◌||◌, ◌&&◌, ℕ, false, not, slice_index_or};
 ghost use Rattle.rart_below.specs.ByteSets.{has_byte, IsGreatestBelow, IsLeastFrom, TakesFirst};

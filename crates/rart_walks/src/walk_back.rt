@@ -1,4 +1,3 @@
-// Ported from rart 0.11.0 (Apache-2.0), and rewritten.
 //! The walk back: from the last key to the first. rart has none.
 ghost use Rattle.std.specs.Prelude.{◌≡◌, ◌++◌, ◌∷◌, ◌+◌, [], List, is_ok, None, length, if◌then◌else◌};
 ghost use Rattle.std.specs.List.{concat};

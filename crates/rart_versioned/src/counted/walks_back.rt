@@ -1,4 +1,3 @@
-// Ported from rart 0.11.0 (Apache-2.0), and rewritten.
 //! Walks back over a tree, for its iterators and visitors. rart has none.
 ghost use Rattle.std.specs.Range.Bound.{bound_map};
 ghost use Rattle.rart_versioned.specs.BackWalks.{WalksAllBack, WalksTo, WalksUnderBack};

@@ -1,4 +1,3 @@
-// Ported from rart 0.11.0 (Apache-2.0), and rewritten.
 //! Visitors over a tree from the last key to the first, with no count. rart has none.
 ghost use Rattle.std.specs.Prelude.{reverse};
 ghost use Rattle.rart_maps.specs.Pairs.{pairs};

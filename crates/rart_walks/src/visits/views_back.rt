@@ -1,4 +1,3 @@
-// Ported from rart 0.11.0 (Apache-2.0), and rewritten.
 //! Visits of pairs from the last to the first, their keys lent as views. rart has none.
 ghost use Rattle.std.specs.Prelude.{◌≡◌, ◌+◌, ◌^◌, ◌-◌, ◌≤◌, Some, OnOk, length};
 ghost use Rattle.rart_maps.specs.Visits.{ByView, Visitable, VisitableUntil, Visits, VisitsUntil};

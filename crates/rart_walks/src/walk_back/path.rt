@@ -1,4 +1,3 @@
-// Ported from rart 0.11.0 (Apache-2.0), and rewritten.
 //! The ways down to where a walk back starts.
 ghost use Rattle.std.specs.Prelude.{◌≡◌, ◌+◌, ◌++◌, [], None, OnOk, filter, length, if◌then◌else◌};
 ghost use Rattle.std.specs.Option.{option_copied};

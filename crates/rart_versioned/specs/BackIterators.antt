@@ -1,9 +1,7 @@
 -- What an iterator back over a tree has left, by the walk that it goes on with, or the lack of one.
-use Rattle.std.specs.Prelude.{ℕ, List, Option, None, map}
+use Rattle.std.specs.Prelude.{ℕ, List, Option, None}
 use Rattle.std.specs.Option.{option_map}
-use Rattle.std.specs.declared.ops.Bound.{Bound}
 use Rattle.rart_walks.specs.BackFields.{IsWalkBack, back_cursor}
-use Rattle.rart_walks.specs.Descending.{KeysDescend, pairs_down_to}
 use Rattle.rart_node.specs.KeyPaths.{HoldsBytes}
 use Rattle.rart_walks.specs.declared.walk_back.WalkBack.{WalkBack}
 use Rattle.rart_versioned.specs.TreeWalks.{AreAdmitted}
@@ -14,22 +12,7 @@ module _ {P V : Type 0} {partial : _} where
     abbrev pub pairs_back : Option (WalkBack P V T partial) → Option (List (List ℕ × V))
     pairs_back walk = option_map (λ walk. (back_cursor walk).pairs) walk
 
-    -- their values
-    abbrev pub values_back : Option (WalkBack P V T partial) → Option (List V)
-    values_back walk = option_map (λ pairs. map (λ pair. pair.1) pairs) (pairs_back walk)
-
-    -- the pairs that are still to come where they end with a lower bound
-    abbrev pub within_back :
-        Bound (List ℕ) → Option (WalkBack P V T partial) → Option (List (List ℕ × V))
-    within_back low walk = option_map (λ walk. pairs_down_to low (back_cursor walk).pairs) walk
-
   -- A walk back that keeps the bytes of its keys, of each of which a key can be made.
   pub record IsKeyWalkBack (most : Option ℕ) (walk : WalkBack P V (List ℕ) partial) : Type 0 where
     pub walks : IsWalkBack HoldsBytes None walk
     pub admitted : AreAdmitted most (back_cursor walk).pairs
-
-  -- Its keys descend too.
-  pub record IsRangeWalkBack (most : Option ℕ)
-      (walk : WalkBack P V (List ℕ) partial) : Type 0 where
-    pub keyed : IsKeyWalkBack most walk
-    pub descends : KeysDescend (back_cursor walk).pairs

@@ -1,13 +1,9 @@
 -- What an iterator over a tree has left, by the walk or the node that it goes on with, or the lack
 -- of one, and what one call gives of that.
-use Rattle.std.specs.Prelude.{◌≡◌, ◌≤◌, ℕ, List, [], ◌∷◌, Option, Some, None, IfSome, drop, filter, length, map, take, ⊤}
+use Rattle.std.specs.Prelude.{◌≡◌, ◌≤◌, ℕ, List, [], ◌∷◌, Option, Some, None, IfSome, drop, filter, length, take, ⊤}
 use Rattle.std.specs.Borrow.{Bor}
 use Rattle.std.specs.Option.{option_map}
-use Rattle.std.specs.declared.ops.Bound.{Bound}
-use Rattle.std.specs.Ordering.{as_partial_cmp}
-use Rattle.std.specs.Range.Bound.{is_up_to_end}
-use Rattle.rart_below.specs.Bytes.{IsAdmitted, begins, byte_order}
-use Rattle.rart_maps.specs.FoundLaws.{KeysAscend}
+use Rattle.rart_below.specs.Bytes.{IsAdmitted, begins}
 use Rattle.rart_node.specs.Shape.{Shape, height}
 use Rattle.rart_node.specs.Trees.{pairs_of}
 use Rattle.rart_walks.specs.Frames.{behind_path}
@@ -20,36 +16,13 @@ use Rattle.rart_versioned.specs.declared.plain.iterators.prefix_match.Way.{Way}
 use Rattle.rart_versioned.specs.Roots.{IsTreeIn}
 use Rattle.rart_versioned.specs.TreeWalks.{AreAdmitted}
 
--- of some pairs, those whose key meets an upper bound
-abbrev pub up_to : {V : Type 0} → Bound (List ℕ) → List (List ℕ × V) → List (List ℕ × V)
-up_to high pairs = filter (λ pair. is_up_to_end (as_partial_cmp byte_order) high pair.0) pairs
-
 -- ---- along a walk
 
 module _ {P V : Type 0} {partial : _} where
-  module _ {T : Type 0} where
-    -- the pairs that are still to come
-    abbrev pub pairs_left : Option (PairWalk P V T partial) → Option (List (List ℕ × V))
-    pairs_left walk = option_map (λ walk. (cursor walk).pairs) walk
-
-    -- their values
-    abbrev pub values_left : Option (PairWalk P V T partial) → Option (List V)
-    values_left walk = option_map (λ pairs. map (λ pair. pair.1) pairs) (pairs_left walk)
-
-    -- the pairs that are still to come where they end with an upper bound
-    abbrev pub within_left :
-        Bound (List ℕ) → Option (PairWalk P V T partial) → Option (List (List ℕ × V))
-    within_left high walk = option_map (λ walk. up_to high (cursor walk).pairs) walk
-
   -- A walk that keeps the bytes of its keys, of each of which a key can be made.
   pub record IsKeyWalk (most : Option ℕ) (walk : PairWalk P V (List ℕ) partial) : Type 0 where
     pub walks : IsWalk HoldsBytes extent_in_bytes None walk
     pub admitted : AreAdmitted most (cursor walk).pairs
-
-  -- Its keys ascend too.
-  pub record IsRangeWalk (most : Option ℕ) (walk : PairWalk P V (List ℕ) partial) : Type 0 where
-    pub keyed : IsKeyWalk most walk
-    pub ascends : KeysAscend (λ pair. pair.0) (cursor walk).pairs
 
 -- ---- over all pairs, or those under a prefix
 
@@ -111,12 +84,12 @@ module _ {P V : Type 0} where
 
 -- ---- what one call gives
 
-module _ {K V : Type 0} (bytes : K → List ℕ) where
-  -- The first pair was given, with a key of its own, or there was none.
+module _ {K V L : Type 0} (bytes : K → List ℕ) (value : L → V) where
+  -- The first pair was given, by a key of its own and what is lent of its value, or there was none.
   abbrev pub EntryGives :
-      List (List ℕ × V) → Option (K × Bor V) → List (List ℕ × V) → Type 0
+      List (List ℕ × V) → Option (K × L) → List (List ℕ × V) → Type 0
   EntryGives before None after = before ≡ []
-  EntryGives before (Some entry) after = before ≡ (bytes entry.0, entry.1.now) ∷ after
+  EntryGives before (Some entry) after = before ≡ (bytes entry.0, value entry.1) ∷ after
 
 -- ---- what `size_hint` tells
 

@@ -22,10 +22,11 @@ pub mod UpdateCounts
 pub mod UpdateLookups
 pub mod Updates
 pub mod VisitCounts
+pub mod Walkers
 pub use Rattle.rart_below.specs.Bytes
 pub use Rattle.rart_below.specs.Clones
+pub use Rattle.rart_below.specs.declared.slot.Refusal
 pub use Rattle.rart_below.specs.declared.slot.SlotUpdate
+pub use Rattle.rart_below.specs.declared.visit.VisitControl
 pub use Rattle.rart_node.specs.Counts
 pub use Rattle.rart_node.specs.contracts.work.Work
-pub use Rattle.rart_below.specs.declared.slot.Refusal
-pub use Rattle.rart_below.specs.declared.visit.VisitControl

@@ -8,7 +8,7 @@ use std::alloc::AllocError;
 
 /// A cursor that goes on from the first pair, or back from the last one.
 #[derive(Drop)]
-pub(crate) enum PageCursor<'a, V> {
+pub(crate) enum PageCursor<'a, V: Drop> {
     Onward(VersionedCursor<'a, VectorPartial, V>),
     Back(VersionedCursorRev<'a, VectorPartial, V>),
 }

@@ -143,7 +143,7 @@ fn next_match<'a, K: KeyTrait, P: Partial, V: Drop>(
 ) -> Result<Option<(K, &'a V)>, AllocError>
     requires { IsWay (K.bytes probe.now) way.old }
     ensures way { IsWay (K.bytes probe.now) way.new }
-    ensures gives { IfOk result (λ entry. EntryGives K.bytes
+    ensures gives { IfOk result (λ entry. EntryGives K.bytes (λ value. value.now)
         (matches_on (K.bytes probe.now) way.old) entry (matches_on (K.bytes probe.now) way.new)) }
 {
     let bytes = probe.as_ref();

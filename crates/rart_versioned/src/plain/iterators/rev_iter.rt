@@ -1,4 +1,3 @@
-// Ported from rart 0.11.0 (Apache-2.0), and rewritten.
 //! The pairs of a tree, from the last key to the first. rart has none.
 ghost use Rattle.std.specs.Prelude.{◌≡◌, ◌∷◌, Some, None, Err, IfOk, IfSome, length, reverse};
 ghost use Rattle.rart_below.specs.Bytes.{IsAdmitted};

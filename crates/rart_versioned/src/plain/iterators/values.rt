@@ -1,34 +1,41 @@
 // Ported from rart 0.11.0 (Apache-2.0), and rewritten.
-//! The values of a tree, in the order of their keys.
-ghost use Rattle.std.specs.Prelude.{◌≡◌, Some, map, IfOk, IfSome};
+//! The values of a tree, in the order of their keys, or from that of the last key to that of the
+//! first. rart has only the former.
+ghost use Rattle.std.specs.Prelude.{◌≡◌, Some, map, reverse, IfOk, IfSome};
 ghost use Rattle.rart_maps.specs.Pairs.{pairs};
 
+use super::walkers::Walker;
 use crate::counted::VersionedAdaptiveRadixTree;
-use rart_below::{KeyTrait, Partial};
+use rart_below::KeyTrait;
 use rart_node::Work;
-use rart_walks::{NoPath, Walk};
+use rart_walks::{NoPath, Walk, WalkBack};
 use std::alloc::AllocError;
-use std::marker::Model;
+use std::marker::{Model, PhantomData};
 
 /// The values of a tree, in the order of their keys.
+pub type VersionedValuesIter<'a, P, V> = ValuesOver<V, Walk<'a, P, V, NoPath>>;
+
+/// The values of a tree, from that of the last key to that of the first.
+pub type VersionedValuesRevIter<'a, P, V> = ValuesOver<V, WalkBack<'a, P, V, NoPath>>;
+
+/// The values of a tree, as a walk comes to them.
 ///
 /// Contracts see the values that are still to come, or `None` behind the end and behind a refusal.
 #[derive(Drop)]
-pub struct VersionedValuesIter<'a, P: Partial, V> {
-    walk: Option<Walk<'a, P, V, NoPath>>,
+pub struct ValuesOver<V, W: Walker<V>> {
+    walk: Option<W>,
+    lent: PhantomData<(V, W::Lent)>,
 }
 
-impl<'a, P: Partial, V> Model for VersionedValuesIter<'a, P, V> {
-    ghost use Rattle.std.specs.Prelude.{List, Option, IfSome, None};
-    ghost use Rattle.rart_walks.specs.WalkFields.{IsWalk};
-    ghost use Rattle.rart_node.specs.KeyPaths.{HoldsNothing, no_extent};
-    ghost use Rattle.rart_versioned.specs.Iterators.{values_left};
+impl<V, W: Walker<V>> Model for ValuesOver<V, W> {
+    ghost use Rattle.std.specs.Prelude.{List, Option, IfSome};
+    ghost use Rattle.rart_versioned.specs.Walkers.{values_left};
 
     ghost Value = { Option (List V) };
 
-    ghost view = { λ iter. values_left iter.walk };
+    ghost view = { λ iter. values_left W.left iter.walk };
 
-    ghost invariant = { λ iter. IfSome iter.walk (IsWalk HoldsNothing no_extent None) };
+    ghost invariant = { λ iter. IfSome iter.walk W.is_sound };
 }
 
 impl<K: KeyTrait, V: Clone + Drop> VersionedAdaptiveRadixTree<K, V> {
@@ -47,26 +54,54 @@ impl<K: KeyTrait, V: Clone + Drop> VersionedAdaptiveRadixTree<K, V> {
             ≡ Some (map (λ pair. pair.1) (pairs self.now.content))) }
     {
         let walk = self.whole_walk(&mut Work::new())?;
-        Ok(VersionedValuesIter { walk: Some(walk) })
+        Ok(ValuesOver {
+            walk: Some(walk),
+            lent: PhantomData,
+        })
+    }
+
+    /// All values, from that of the last key to that of the first. No key is made. In Rust this is
+    /// `values_iter().rev()`, which rart does not have.
+    ///
+    /// ```
+    /// for price in list.values_iter_rev()? {
+    ///     prices.push(*price?)?;
+    /// }
+    /// ```
+    ///
+    /// Refused for memory, there is no iterator. A later refusal is an item, which is the last: so
+    /// without one the values are all.
+    pub fn values_iter_rev(
+        &self,
+    ) -> Result<VersionedValuesRevIter<'_, K::PartialType, V>, AllocError>
+        ensures { IfOk result (λ iter. iter
+            ≡ Some (map (λ pair. pair.1) (reverse (pairs self.now.content)))) }
+    {
+        let walk = self.whole_walk_back(&mut Work::new())?;
+        Ok(ValuesOver {
+            walk: Some(walk),
+            lent: PhantomData,
+        })
     }
 }
 
-impl<'a, P: Partial, V: Drop> Iterator for VersionedValuesIter<'a, P, V> {
-    type Item = Result<&'a V, AllocError>;
+impl<V: Drop, W: Walker<V>> Iterator for ValuesOver<V, W> {
+    type Item = Result<W::Lent, AllocError>;
 
     ghost use Rattle.std.specs.Iterator.{UpTo};
     ghost use Rattle.std.specs.Iterator.SizeHint.{IsWithinCount};
-    ghost use Rattle.rart_maps.specs.Iterations.{ByReference, NextGives, items_left};
+    ghost use Rattle.rart_maps.specs.Iterations.{NextGives, items_left};
     ghost use Rattle.rart_versioned.specs.Iterators.{IsHintOf};
+    ghost use Rattle.rart_versioned.specs.Walkers.{ByLent};
 
-    ghost next_gives = { NextGives ByReference };
+    ghost next_gives = { NextGives (ByLent W.value) };
 
     ghost remaining = { items_left };
 
-    fn next(&mut self) -> Option<Result<&'a V, AllocError>> {
+    fn next(&mut self) -> Option<Result<W::Lent, AllocError>> {
         match &mut self.walk {
             None => None,
-            Some(walk) => match walk.next_value(&mut Work::new()) {
+            Some(walk) => match walk.next_lent() {
                 Ok(Some(value)) => Some(Ok(value)),
                 Ok(None) => {
                     self.walk = None;

@@ -2,8 +2,7 @@ use Rattle.std.proofs.Common.{Some, ℕ, List, sym, ap, subst, ◌∙◌}
 use Rattle.std.specs.Range.Bound.{bound_map}
 use Rattle.rart_maps.specs.FoundLaws.{KeysAscend}
 use Rattle.rart_maps.specs.Pairs.{pairs}
-use Rattle.rart_maps.proofs.RangeLemmas.{from, from-ascends, within-from}
-use Rattle.rart_versioned.specs.Iterators.{up_to}
+use Rattle.rart_maps.proofs.RangeLemmas.{from, from-ascends, up_to, within-from}
 use Rattle.rart_versioned.proofs.counted.tree.VersionedAdaptiveRadixTree.range.Goals as goal
 
 pub invariant_of-result : goal.invariant_of-result
@@ -11,10 +10,10 @@ invariant_of-result g c =
     let low = bound_map (λ bytes. bytes.now) c.bytes_of.result in
     record {
       keyed = record {
-        walks = c.in_ok-walk.ensures.walk;
+        sound = c.in_ok-walk.ensures.walk;
         admitted = c.in_ok-walk.ensures.admitted;
       };
-      ascends = subst (KeysAscend (λ (pair : List ℕ × g.row.V.Denot). pair.0))
+      ordered = subst (KeysAscend (λ (pair : List ℕ × g.row.V.Denot). pair.0))
           (sym c.in_ok-walk.ensures.pairs) (from-ascends c.args.self.now.content low);
     }
 

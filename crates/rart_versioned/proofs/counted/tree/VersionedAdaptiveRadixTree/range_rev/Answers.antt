@@ -12,10 +12,10 @@ invariant_of-result g c =
     let high = bound_map (λ bytes. bytes.now) c.bytes_of.result in
     record {
       keyed = record {
-        walks = c.in_ok-walk.ensures.walk;
+        sound = c.in_ok-walk.ensures.walk;
         admitted = c.in_ok-walk.ensures.admitted;
       };
-      descends = subst KeysDescend (sym c.in_ok-walk.ensures.pairs)
+      ordered = subst KeysDescend (sym c.in_ok-walk.ensures.pairs)
           (to-descends c.args.self.now.content low high);
     }
 

@@ -1,2 +1,1 @@
 pub mod SnapshotLemmas
-mod KeptUpdateLemmas

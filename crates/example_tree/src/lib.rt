@@ -4,7 +4,6 @@
 #![tactic(auto)]
 
 pub mod clients;
-pub mod counting;
 pub mod in_common;
 pub mod listing;
 pub mod prices;

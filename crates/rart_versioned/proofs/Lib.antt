@@ -1,7 +1,9 @@
 pub mod BackWalkLemmas
+pub mod CursorLawLemmas
 pub mod DiffEndLemmas
 pub mod EndPairLemmas
 pub mod ExtendLemmas
+pub mod KeptUpdateLemmas
 pub mod KeyLengthLemmas
 pub mod LendingLemmas
 pub mod MeetLemmas

@@ -2,6 +2,8 @@ pub mod Asks
 pub mod BackIterators
 pub mod BackWalks
 pub mod ChangeCounts
+pub mod CountingLaws
+pub mod CursorLaws
 pub mod Cursors
 pub mod ExtendLaws
 pub mod Extended

@@ -1,9 +1,11 @@
-// Ported from rart 0.11.0 (Apache-2.0), and rewritten.
 //! What the words on many changes at once mean: laws, each the contract of a function that does
-//! nothing.
+//! nothing. rart has none.
 ghost use Rattle.rart_maps.specs.Visits.{BySlice};
 ghost use Rattle.rart_versioned.specs.ExtendLaws.{LastPairStays, ListedPairsArePutIn, OtherKeysStay, PairsAreInsertions, PairsGoPartByPart, WorkedExtension};
 ghost use Rattle.rart_versioned.specs.RetainLaws.{AnswerableStepByStep, AsksInOrder, PairsAreFiltered, WorkedReplies};
+
+pub mod counting;
+pub mod cursors;
 
 use rart_below::KeyTrait;
 

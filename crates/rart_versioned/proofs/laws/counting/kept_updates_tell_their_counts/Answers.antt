@@ -1,7 +1,7 @@
 use Rattle.std.proofs.Common.{arith, ⊎_elim}
 use Rattle.rart_maps.specs.Versions.{value_at}
-use Rattle.example_tree.proofs.KeptUpdateLemmas.{kept-counts}
-use Rattle.example_tree.proofs.counting.kept_updates_tell_their_counts.Goals as goal
+use Rattle.rart_versioned.proofs.KeptUpdateLemmas.{kept-counts}
+use Rattle.rart_versioned.proofs.laws.counting.kept_updates_tell_their_counts.Goals as goal
 
 pub returns : goal.returns
 returns g c f v after w refused start now = (

@@ -1,6 +1,6 @@
 use Rattle.std.proofs.Common.{arith, refl, ⊎_elim}
-use Rattle.example_tree.proofs.KeptUpdateLemmas.{refused-makes, tried-rises}
-use Rattle.example_tree.proofs.counting.kept_tries_tell_their_counts.Goals as goal
+use Rattle.rart_versioned.proofs.KeptUpdateLemmas.{refused-makes, tried-rises}
+use Rattle.rart_versioned.proofs.laws.counting.kept_tries_tell_their_counts.Goals as goal
 
 pub returns : goal.returns
 returns g c f v after w refused start now = (

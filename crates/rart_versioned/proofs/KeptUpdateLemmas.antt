@@ -7,10 +7,10 @@ use Rattle.std.specs.Result.{result_unwrap_or}
 use Rattle.rart_maps.specs.Bounds.{lookup_bound}
 use Rattle.rart_maps.specs.Changes.{slot_attempt, slot_attempt_from, slot_update_from}
 use Rattle.rart_maps.specs.Versions.{Version, value_at}
-use Rattle.rart_versioned.specs.declared.Slot.{Slot}
-use Rattle.rart_versioned.specs.SlotUpdate.{SlotUpdate}
-use Rattle.rart_versioned.specs.SlotUpdate.TheVariants.{Keep, Insert, Remove}
-use Rattle.rart_versioned.specs.Counts.{Counts}
+use Rattle.rart_below.specs.declared.slot.Slot.{Slot}
+use Rattle.rart_below.specs.declared.slot.SlotUpdate.{SlotUpdate}
+use Rattle.rart_below.specs.declared.slot.SlotUpdate.TheVariants.{Keep, Insert, Remove}
+use Rattle.rart_node.specs.Counts.{Counts}
 use Rattle.rart_versioned.specs.UpdateCounts.{CountsAttempt, update_enters, update_makes}
 use Rattle.rart_versioned.specs.Updates.{TellsOrFails}
 

@@ -1,7 +1,7 @@
 use Rattle.std.proofs.Common.{arith, subst, ◌≤◌}
 use Rattle.std.specs.Prelude.{IfSome}
 use Rattle.rart_versioned.specs.Iterators.{members_left}
-use Rattle.example_tree.proofs.counting.ends_tell_their_counts.Goals as goal
+use Rattle.rart_versioned.proofs.laws.counting.ends_tell_their_counts.Goals as goal
 
 pub returns-clause-visits : goal.returns-clause-visits
 returns-clause-visits c p before after front last ends =

@@ -1,11 +1,11 @@
 //! What the counts of the tree's calls come to, in values found by hand: laws, each the contract of
 //! a function that does nothing.
-ghost use Rattle.example_tree.specs.Counting.{UpdatesEnter, UpdatesMake, EndedVisitsEnter, EndedDiffsEnter, MembersAreLeft};
-ghost use Rattle.example_tree.specs.Counting.{EndedVisitsTell, EndedDiffsTell, EqualMapsTell, UnequalMapsTell, HintsTell};
-ghost use Rattle.example_tree.specs.Counting.{EndsTell, FoundLengths};
-ghost use Rattle.example_tree.specs.Counting.{FailedUpdatesTell, KeptUpdatesTell, KeptTriesTell};
+ghost use Rattle.rart_versioned.specs.CountingLaws.{UpdatesEnter, UpdatesMake, EndedVisitsEnter, EndedDiffsEnter, MembersAreLeft};
+ghost use Rattle.rart_versioned.specs.CountingLaws.{EndedVisitsTell, EndedDiffsTell, EqualMapsTell, UnequalMapsTell, HintsTell};
+ghost use Rattle.rart_versioned.specs.CountingLaws.{EndsTell, FoundLengths};
+ghost use Rattle.rart_versioned.specs.CountingLaws.{FailedUpdatesTell, KeptUpdatesTell, KeptTriesTell};
 
-use rart_versioned::{Slot, SlotUpdate, VisitControl};
+use rart_below::{Slot, SlotUpdate, VisitControl};
 
 /// How many nodes an update of a key of two bytes enters and makes at most, by what its callback
 /// left and answered.

@@ -1,5 +1,5 @@
 use Rattle.std.proofs.Common.{arith}
-use Rattle.example_tree.proofs.counting.failed_updates_tell_their_counts.Goals as goal
+use Rattle.rart_versioned.proofs.laws.counting.failed_updates_tell_their_counts.Goals as goal
 
 pub returns : goal.returns
 returns g c f v after w e start now = (

@@ -8,17 +8,17 @@ use Rattle.rart_maps.specs.ChangeLists.{Change}
 use Rattle.rart_maps.specs.Versions.{Map, Version, value_at}
 use Rattle.rart_maps.specs.WorkedBounds.{map_of}
 use Rattle.rart_versioned.specs.ChangeCounts.{MakesToTryInsert}
-use Rattle.rart_versioned.specs.Refusal.TheVariants.{Callback, Memory}
-use Rattle.rart_versioned.specs.declared.Slot.{Slot}
-use Rattle.rart_versioned.specs.declared.Slot.TheVariants.{Vacant, Occupied}
-use Rattle.rart_versioned.specs.SlotUpdate.{SlotUpdate}
-use Rattle.rart_versioned.specs.SlotUpdate.TheVariants.{Keep, Insert, Remove}
+use Rattle.rart_below.specs.declared.slot.Refusal.TheVariants.{Callback, Memory}
+use Rattle.rart_below.specs.declared.slot.Slot.{Slot}
+use Rattle.rart_below.specs.declared.slot.Slot.TheVariants.{Vacant, Occupied}
+use Rattle.rart_below.specs.declared.slot.SlotUpdate.{SlotUpdate}
+use Rattle.rart_below.specs.declared.slot.SlotUpdate.TheVariants.{Keep, Insert, Remove}
 use Rattle.rart_versioned.specs.UpdateCounts.{CountsTry, CountsUpdate, update_enters, update_makes}
 use Rattle.rart_versioned.specs.Updates.{Tells, TellsOrFails}
 use Rattle.rart_versioned.specs.VisitCounts.{DiffEndsSoon, EndsAtFirst, EndsSoon, end_bound, node_count_to}
-use Rattle.rart_versioned.specs.Counts.{Counts}
+use Rattle.rart_node.specs.Counts.{Counts}
 use Rattle.rart_versioned.specs.Iterators.{IsHintOf, members_left}
-use Rattle.rart_versioned.specs.VisitControl.{VisitControl}
+use Rattle.rart_below.specs.declared.visit.VisitControl.{VisitControl}
 use Rattle.rart_walks.specs.Ends.{ByPairValue, Ends}
 use Rattle.rart_ways.specs.Firsts.{found_length}
 

@@ -1,5 +1,5 @@
 use Rattle.std.proofs.Common.{⊎_elim}
-use Rattle.example_tree.proofs.counting.ends_hold_what_they_say.Goals as goal
+use Rattle.rart_versioned.proofs.laws.counting.ends_hold_what_they_say.Goals as goal
 
 pub returns : goal.returns
 returns g c f f' members e = (

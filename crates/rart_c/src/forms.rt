@@ -49,7 +49,7 @@ pub(crate) fn load<V: SavedValue>(
         ≡ saved V.written V.KIND table.value.version) }
     ensures longest { IfOk result (λ table. table.value.longest ≡ longest) }
     ensures refused { IfErr result (ExplainsLoad V.written V.KIND longest bytes.now) }
-    ensures place { IfErr result (PointsInto bytes.now) }
+    ensures points { IfErr result (PointsInto bytes.now) }
 {
     let (tree, count) = load_slice_within(alloc, bytes, longest)?;
     let table = Table {

@@ -3,7 +3,7 @@ use Rattle.std.proofs.Common.{◌≡◌, ◌+◌, ◌%◌, ◌<◌, ◌≤◌, �
 use Rattle.std.specs.Prelude.{All, is_some, nat_le, ◌==◌}
 use Rattle.std.specs.Result.{IfOk}
 use Rattle.std.proofs.lemmas.Bool.{eqb-false, eqb-true, false≢true, leb-false, leb-true}
-use Rattle.std.proofs.lemmas.List.{append_cancel_left, length-map, length-take-le, map-append, take_all, take_more}
+use Rattle.std.proofs.lemmas.List.{append_cancel_left, length-map, map-append, take_all, take_more}
 use Rattle.std.proofs.lemmas.List.Elements.{All-cons}
 use Rattle.std.proofs.lemmas.List.Kept.{AllPairs-cons}
 use Rattle.sha2.specs.Sha256.{sha256}
@@ -342,14 +342,6 @@ module _ {K V : Type 0} (bytes_of : K → List ℕ) where
   taken-next list i d below =
       ap (shown_pairs bytes_of) (take_more list i d below)
       ∙ shown-next (take i list) (get_or list i d)
-
-  -- how many were taken
-  pub taken-long : (i : ℕ) (list : List (KeyChange K V)) → i < length list
-      → length (shown_pairs bytes_of (take i list)) ≡ i
-  taken-long i list below =
-      length-map (map (shown_change bytes_of) (take i list)) as_pair
-      ∙ length-map (take i list) (shown_change bytes_of)
-      ∙ length-take-le i list (omega (arith, below))
 
   -- The parts of a list's form, of which the changes were written one by one.
   pub changes-written : (written : V → List ℕ) (kind i : ℕ) (list : List (KeyChange K V))

@@ -178,6 +178,12 @@ module _ {V : Type 0} where
         ap (λ g. entry written before one ++ g) (entries-next one.0 done pair)
         ∙ sym (append_assoc (entry written before one) (entries written one.0 done) _)
 
+  -- The form of what shows a value is that of the value.
+  pub entry-shown : {W : Type 0} (shown : W → V) (written : V → List ℕ) (before key : List ℕ)
+      (w : W) → entry (λ x. written (shown x)) before (key, w) ≡ entry written before (key, shown w)
+  unfolding entry
+  entry-shown shown written before key w = refl
+
   -- The pairs that were taken, as bytes behind a start, their count, and the key of the last.
   pub record IsListed (written : V → List ℕ) (start bytes before : List ℕ) (count : ℕ)
       (taken : List (List ℕ × V)) : Type 0 where

@@ -1,17 +1,17 @@
 -- No form of a family begins another, or a version's or a list of changes'.
-use Rattle.std.proofs.Common.{◌≡◌, ◌≢◌, ◌+◌, ◌≤◌, ℕ, Bool, List, [], ◌∷◌, ◌++◌, length, map, take, drop, Option, refl, sym, ap, subst, ◌∙◌, append_assoc, append-nil, arith}
+use Rattle.std.proofs.Common.{◌≡◌, ◌≤◌, ℕ, Bool, List, [], ◌∷◌, ◌++◌, length, map, Option, refl, sym, ap, ◌∙◌, append_assoc, append-nil, arith}
 use Rattle.std.proofs.lemmas.List.{append_cancel_left, length-append, length-map}
 use Rattle.std.specs.FinMap as finite
 use Rattle.sha2.specs.Sha256.{sha256}
 use Rattle.rart_maps.specs.ChangeLaws.{Decides}
-use Rattle.rart_maps.specs.ChangeLists.{Change, changes}
+use Rattle.rart_maps.specs.ChangeLists.{changes}
 use Rattle.rart_maps.specs.Versions.{Map, Version}
 use Rattle.rart_maps.proofs.ChangeLawLemmas.{patches_give_the_new}
 use Rattle.rart_family.specs.Families.{Family}
-use Rattle.rart_saved.specs.ChangeForms.{changes_head, saved_changes}
+use Rattle.rart_saved.specs.ChangeForms.{changes_head}
 use Rattle.rart_saved.specs.FamilyFormLaws.{FamiliesAreNoChanges, FamiliesAreNoVersion, FamilyFormsAreOfOne, FamilyFormsStandApart}
 use Rattle.rart_saved.specs.FamilyForms.{as_setting, content_or, difference, family_body, family_head, optional, place, places, saved_family, version_behind}
-use Rattle.rart_saved.specs.Forms.{entries, head, saved}
+use Rattle.rart_saved.specs.Forms.{entries, head}
 use Rattle.rart_saved.specs.Laws.{leb-apart, same_first}
 use Rattle.rart_saved.specs.Numbers.{leb}
 use Rattle.rart_saved.proofs.ChangeFormLemmas.{changes-begin}

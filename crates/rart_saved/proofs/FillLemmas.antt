@@ -1,22 +1,12 @@
 -- Bytes that are written one behind the other over the first ones of a room.
-use Rattle.std.proofs.Common.{◌≡◌, ◌+◌, ◌<◌, ◌≤◌, ℕ, List, [], ◌∷◌, ◌++◌, length, take, drop, Result, Ok, Err, refl, sym, ap, subst, ◌∙◌, append_assoc, append-nil, arith}
-use Rattle.std.specs.FinMap as finite
+use Rattle.std.proofs.Common.{◌≡◌, ◌+◌, ◌<◌, ◌≤◌, ℕ, List, ◌++◌, length, take, drop, Result, Ok, Err, sym, ap, ◌∙◌, arith}
 use Rattle.std.specs.Prelude.{IfOk}
 use Rattle.std.specs.declared.alloc.AllocError.{AllocError}
 use Rattle.std.proofs.lemmas.List.{drop-drop, length-append, length-drop}
 use Rattle.sha2.specs.Sha256.{sha256}
 use Rattle.sha2.proofs.Facts256.{length-sha256}
-use Rattle.rart_maps.specs.Pairs.{pairs}
-use Rattle.rart_maps.specs.Versions.{Version}
 use Rattle.rart_saved.specs.Fills.{Fills}
-use Rattle.rart_saved.specs.Forms.{body, entry, entries, head, saved}
-use Rattle.rart_saved.specs.Numbers.{leb}
-use Rattle.rart_saved.proofs.EntryLemmas.{last_key, entries-next}
 use Rattle.std.proofs.Math.Seq.{drop-append_seam, take-append_seam}
-
--- Nothing is written yet.
-pub fills-none : (room : List ℕ) → Fills room [] room 0
-fills-none room = record { ends = refl; long = refl; front = λ fits. refl }
 
 module _ (before done part room : List ℕ) (at end : ℕ) (is : Fills before done room at)
     (ends : end ≡ at + length part) where
@@ -105,50 +95,3 @@ summed-if_ok (Ok end) sum room after at long sums told =
     λ before done is.
     fills-summed before done sum room after at end is long sums (told before done is)
 summed-if_ok (Err refused) sum room after at long sums told = tt
-
-module _ {V : Type 0} (written : V → List ℕ) where
-  -- These pairs were written behind what a room had, the last with this key.
-  abbrev pub AreFilled : List ℕ → ℕ → List (List ℕ × V) → List ℕ → ℕ → Type 0
-  AreFilled was at taken room end = (before done : List ℕ) → Fills before done was at
-      → Fills before (done ++ entries written [] taken) room end
-
-  pub filled-none : (room : List ℕ) (at : ℕ) → AreFilled room at [] room at
-  unfolding entries
-  filled-none room at before done is =
-      subst (λ d. Fills before d room at) (sym (append-nil done)) is
-
-  pub filled-next : (was room after form key : List ℕ) (at end end' : ℕ)
-      (taken : List (List ℕ × V)) (pair : List ℕ × V) → AreFilled was at taken room end
-      → key ≡ last_key [] taken → form ≡ entry written key pair
-      → ((before done : List ℕ) → Fills before done room end
-      → Fills before (done ++ form) after end')
-      → AreFilled was at (taken ++ pair ∷ []) after end'
-  filled-next was room after form key at end end' taken pair are last form_is more before done is =
-      subst (λ d. Fills before d after end')
-      (append_assoc done (entries written [] taken) form
-      ∙ ap (λ e. done ++ e) (ap (λ f. entries written [] taken ++ f)
-      (form_is ∙ ap (λ k. entry written k pair) last)
-      ∙ sym (entries-next written [] taken pair)))
-      (more before (done ++ entries written [] taken) (are before done is))
-
-  -- The parts of a version's form, written one behind the other.
-  pub saved-filled : (r : Result ℕ AllocError) (kind count number : ℕ) (v : Version V)
-      (start room one two three : List ℕ) (first second : ℕ) → start ≡ head kind ++ leb number ++ leb count
-      → number ≡ v.number → count ≡ finite.len v.content
-      → ((before done : List ℕ) → Fills before done room 0 → Fills before (done ++ start) one first)
-      → ((before done : List ℕ) → Fills before done one first
-      → Fills before (done ++ entries written [] (pairs v.content)) two second)
-      → IfOk r (λ third. (before done : List ℕ) → Fills before done two second
-      → Fills before (done ++ sha256 done) three third)
-      → IfOk r (Fills room (saved written kind v) three)
-  unfolding saved body
-  saved-filled (Err refused) kind count number v start room one two three first second starts
-      numbers counts front list sum = tt
-  saved-filled (Ok third) kind count number v start room one two three first second starts
-      numbers counts front list sum =
-      let whole : start ++ entries written [] (pairs v.content) ≡ body written kind v =
-      ap (λ s. s ++ entries written [] (pairs v.content))
-      (starts ∙ (λ i. head kind ++ leb (numbers i) ++ leb (counts i))) in
-      sum room (body written kind v)
-      (subst (λ b. Fills room b two second) whole
-      (list room start (front room [] (fills-none room))))

@@ -1,10 +1,9 @@
 -- How many keys there are once one is set or taken out.
-use Rattle.std.proofs.Common.{◌≡◌, ◌+◌, ◌-◌, ◌≤◌, ℕ, Bool, true, false, not, cond, List, [], ◌∷◌, length, Option, Some, None, is_some, refl, sym, ap, ◌∙◌, arith}
+use Rattle.std.proofs.Common.{◌≡◌, ◌+◌, ◌-◌, ◌≤◌, ℕ, Bool, true, false, not, cond, List, [], ◌∷◌, length, Option, Some, None, is_some, sym, ap, ◌∙◌, arith}
 use Rattle.std.specs.Int.{from_bool}
 use Rattle.std.specs.Prelude.{Contains}
 use Rattle.std.specs.FinMap as finite
 use Rattle.std.proofs.lemmas.Cmp.{nat_list_cmp_total}
-use Rattle.rart_changes.specs.Setting.{IsSetTo}
 use Rattle.rart_changes.proofs.SettingLemmas.{set-by-deletion}
 use Rattle.rart_maps.specs.Changes.{after_removal}
 use Rattle.rart_maps.specs.Lookups.{with_value}

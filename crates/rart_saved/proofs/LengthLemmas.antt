@@ -1,5 +1,5 @@
 -- Forms have bytes: a part ends behind its place, and so many pairs have as many.
-use Rattle.std.proofs.Common.{◌≡◌, ◌+◌, ◌-◌, ◌≤◌, ◌/◌, ◌%◌, ℕ, zero, suc, true, false, List, [], ◌∷◌, ◌++◌, length, drop, ap, ◌∙◌, arith}
+use Rattle.std.proofs.Common.{◌≡◌, ◌+◌, ◌-◌, ◌<◌, ◌≤◌, ◌/◌, ◌%◌, ℕ, zero, suc, true, false, List, [], ◌∷◌, ◌++◌, length, drop, ap, arith}
 use Rattle.std.specs.Prelude.{nat_lt, if◌then◌else◌}
 use Rattle.std.proofs.lemmas.List.{length-append, length-drop}
 use Rattle.rart_below.specs.Bytes.{common_length}
@@ -67,6 +67,12 @@ part-end bytes part at to within is =
       length-drop at bytes,
       length-drop to bytes,
     )
+
+-- So a part that has a byte begins at one of the bytes.
+pub part-inside : (bytes part : List ℕ) (at to : ℕ) → at ≤ length bytes → 1 ≤ length part
+    → HasPart bytes at part to → at < length bytes
+part-inside bytes part at to inside long is =
+    omega (arith, long, is.within, part-end bytes part at to inside is)
 
 -- What begins a rest of some bytes is no longer than these.
 pub front-within : (bytes part rest : List ℕ) (at : ℕ) → drop at bytes ≡ part ++ rest

@@ -17,6 +17,7 @@ pub mod SavedLemmas
 pub mod SettingLemmas
 pub mod SettingListLemmas
 pub mod SettingReadLemmas
+pub mod SinkLemmas
 pub mod ValueLemmas
 pub mod WorkedFamilyLemmas
 pub mod WorkedFormLemmas

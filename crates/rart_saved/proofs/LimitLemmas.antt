@@ -10,7 +10,7 @@ use Rattle.rart_saved.specs.Forms.{IsVersionOf, saved}
 use Rattle.rart_saved.specs.Keys.{narrowed}
 use Rattle.rart_saved.specs.Loads.{GivesBackWithin, HasKeysWithin, LacksVersion}
 use Rattle.rart_saved.specs.Refusals.{IsTooLong, OnErrWithin, limit_of}
-use Rattle.rart_saved.proofs.KeyLemmas.{both-narrowed, narrowed-both}
+use Rattle.rart_saved.proofs.KeyLemmas.{both-narrowed}
 use Rattle.rart_saved.proofs.SavedLemmas.{forms-of_one, memory_alone, too_long-other}
 
 -- What is so of the one of the keys' type and of the lesser is so of it, whatever the error.
@@ -27,13 +27,6 @@ limit-each longest most P one other (Unsupported format) = one
 -- Where none was given, it is that of the keys' type.
 pub limit-none : (most : Option ℕ) (e : LoadError) → limit_of None most e ≡ most
 limit-none most = limit-each None most (λ m. m ≡ most) refl refl
-
--- It is never more than that.
-pub limit-most : (longest most : Option ℕ) (e : LoadError) (n : ℕ)
-    → IsKeyLength (limit_of longest most e) n → IsKeyLength most n
-limit-most longest most e n =
-    limit-each longest most (λ m. IsKeyLength m n → IsKeyLength most n) (λ is. is)
-    (λ is. ((narrowed-both longest most n is.0).1, is.1)) e
 
 -- What is within both is within it.
 pub limit-least : (longest most : Option ℕ) (e : LoadError) (n : ℕ) → IsAdmitted longest n

@@ -1,11 +1,10 @@
 -- A version as bytes: its parts, and what they fix.
-use Rattle.std.proofs.Common.{◌≡◌, ◌+◌, ◌<◌, ◌≤◌, ◌^◌, ℕ, List, [], ◌∷◌, ◌++◌, length, take, drop, Option, refl, sym, ap, subst, ◌∙◌, append_assoc, append-nil, arith, ◌≢◌, Bool, true, false, Result, Ok, Err, inl}
+use Rattle.std.proofs.Common.{◌≡◌, ℕ, List, [], ◌∷◌, ◌++◌, length, take, drop, Option, refl, sym, ap, subst, ◌∙◌, append_assoc, append-nil, arith, ◌≢◌, Bool, true, false, Result, Ok, Err, inl}
 use Rattle.std.proofs.lemmas.List.{append_cancel_left, length-append}
 use Rattle.std.proofs.lemmas.Bool.{false≢true}
 use Rattle.std.specs.Result.{IfOk}
 use Rattle.std.specs.FinMap as finite
 use Rattle.sha2.specs.Sha256.{sha256}
-use Rattle.rart_maps.specs.Iterations.{IsTakenFrom}
 use Rattle.rart_maps.specs.Pairs.{pairs}
 use Rattle.rart_maps.specs.Versions.{Version}
 use Rattle.rart_saved.specs.Forms.{head, entries, body, saved}
@@ -25,25 +24,17 @@ no_pair [] is = refl
 no_pair (x ∷ xs) is = absurd (omega (arith, is))
 
 module _ {V : Type 0} (written : V → List ℕ) where
-  -- The parts of a version's form, written one by one.
-  pub saved-written : (kind count number : ℕ) (v : Version V)
-      (none one two three four all made listed : List ℕ) → none ≡ [] → made ≡ head kind
-      → number ≡ v.number → count ≡ length (pairs v.content)
-      → listed ≡ entries written [] (pairs v.content)
-      → one ≡ none ++ made → two ≡ one ++ leb number → three ≡ two ++ leb count
-      → four ≡ three ++ listed → all ≡ four ++ sha256 four
-      → all ≡ saved written kind v
+  -- The parts of a version's form, written one behind the other.
+  pub saved-made : (kind count number : ℕ) (v : Version V) (front : List ℕ)
+      → front ≡ head kind ++ leb number ++ leb count → number ≡ v.number
+      → count ≡ finite.len v.content
+      → (front ++ entries written [] (pairs v.content))
+      ++ sha256 (front ++ entries written [] (pairs v.content)) ≡ saved written kind v
   unfolding saved body
-  saved-written kind count number v none one two three four all made listed nothing heads numbers
-      counts lists first second third fourth fifth =
-      let few : count ≡ finite.len v.content = counts ∙ sym (finite.len-entries v.content) in
-      let one_is : one ≡ head kind = first ∙ (λ i. nothing i ++ heads i) in
-      let two_is : two ≡ head kind ++ leb v.number =
-      second ∙ (λ i. one_is i ++ leb (numbers i)) in
-      let three_is : three ≡ head kind ++ leb v.number ++ leb (finite.len v.content) =
-      third ∙ (λ i. two_is i ++ leb (few i)) in
-      let four_is : four ≡ body written kind v = fourth ∙ (λ i. three_is i ++ lists i) in
-      fifth ∙ ap (λ b. b ++ sha256 b) four_is
+  saved-made kind count number v front fronts numbers counts =
+      ap (λ s. (s ++ entries written [] (pairs v.content))
+      ++ sha256 (s ++ entries written [] (pairs v.content)))
+      (fronts ∙ (λ i. head kind ++ leb (numbers i) ++ leb (counts i)))
 
   -- all but the sum, and what stands behind it
   body-then : (kind : ℕ) (v : Version V) (rest : List ℕ) → body written kind v ++ rest
@@ -257,18 +248,3 @@ module _ {V : Type 0} (written : V → List ℕ)
       → GivesBack written kind most r bytes → GivesBackUnlessIo written kind most r bytes
   given-io (Ok tree) bytes back v is stands = back v is stands
   given-io (Err e) bytes back v is stands = inl (back v is stands)
-
--- Where a member is still to come, fewer were taken than there are.
-pub room-left : {X : Type 0} (members taken : List X) (x : X) (after : Option (List X))
-    (count number : ℕ) → IsTakenFrom members (taken ++ x ∷ []) after → count ≡ length taken
-    → length members ≤ number → number < 2 ^ 64 → count + 1 < 2 ^ 64
-room-left members taken x after count number from counted few fits =
-    omega (
-      arith,
-      counted,
-      few,
-      fits,
-      ap length from.2,
-      length-append (taken ++ x ∷ []) from.0,
-      length-append taken (x ∷ []),
-    )

@@ -1,7 +1,8 @@
 -- What is not there where bytes were refused as a family, and what is given back where they are
 -- not.
-use Rattle.std.specs.Prelude.{◌≡◌, ◌≢◌, ◌⊎◌, ℕ, Bool, List, [], ◌++◌, Option, Result, Contains, IfSome, IsTrue, MatchResult, length, map}
+use Rattle.std.specs.Prelude.{◌≡◌, ◌≢◌, ◌⊎◌, ℕ, Bool, List, [], ◌∷◌, ◌++◌, Option, Result, Contains, IfSome, IsTrue, MatchResult, length, map}
 use Rattle.std.specs.FinMap as finite
+use Rattle.std.specs.Int.{from_bool}
 use Rattle.rart_maps.specs.ChangeLists.{changes, differ}
 use Rattle.rart_maps.specs.Versions.{Map, Version}
 use Rattle.rart_family.specs.Families.{Family}
@@ -13,6 +14,10 @@ use Rattle.rart_saved.specs.FamilyForms.{IsFamilyOf, as_setting, optional, place
 use Rattle.rart_saved.specs.Keys.{IsNext}
 use Rattle.rart_saved.specs.Loads.{HasKeysWithin}
 use Rattle.rart_saved.specs.Refusals.{IsTooLong}
+
+-- Neither the byte that tells of nothing behind it nor the one that tells of something is there.
+abbrev pub LacksMark : List ℕ → Type 0
+LacksMark bytes = (is_there : Bool) (rest : List ℕ) → bytes ≢ from_bool is_there ∷ rest
 
 -- Each key of each version of the family is within this limit.
 abbrev pub HasVersionsWithin : {V : Type 0} → Option ℕ → Family V → Type 0

@@ -37,7 +37,7 @@ pub(crate) fn family_head_of(kind: u8) -> [u8; 9]
 pub(crate) fn take_head(bytes: &[u8], head: &[u8; 9]) -> Result<usize, LoadError>
     ensures read { IfOk result (λ end. HasPart bytes.now 0 head.now end) }
     ensures refused { IfErr result (λ _. (rest : List ℕ) → bytes.now ≢ head.now ++ rest) }
-    ensures place { IfErr result (PointsInto bytes.now) }
+    ensures points { IfErr result (PointsInto bytes.now) }
 {
     let shared = shared_length(head, bytes);
     if shared == 9 {

@@ -41,21 +41,50 @@ pub(crate) fn put_key(out: &mut Vec<u8>, before: &[u8], key: &[u8]) -> Result<()
 }
 
 /// Reads the key whose form begins at an offset into the one before, and gives the offset behind
-/// it. Refused for another reason than memory, no key behind that one has its form there.
-pub(crate) fn take_key(
+/// it. This key type admits it, and it is no longer than a limit, if one is given. Refused for
+/// another reason than memory, no such key behind that one has its form there.
+pub(crate) fn take_key<K: KeyTrait>(
+    bytes: &[u8],
+    at: usize,
+    longest: Option<usize>,
+    is_first: bool,
+    key: &mut Vec<u8>,
+) -> Result<usize, LoadError>
+    requires inside { at ≤ length bytes.now }
+    requires first { is_first ≡ true → key.old.items ≡ [] }
+    ensures read { IfOk result (λ end. HasPart bytes.now at
+        (key_form key.old.items key.new.items) end) }
+    ensures next { OnOk result (IsNext is_first key.old.items key.new.items) }
+    ensures admitted { OnOk result (IsAdmitted K.MAXIMUM_SIZE (length key.new.items)) }
+    ensures short { OnOk result (IsAdmitted longest (length key.new.items)) }
+    ensures refused { OnErrWithin longest K.MAXIMUM_SIZE result
+        (λ most. LacksAdmittedKey most is_first key.old.items (drop at bytes.now)) }
+    ensures points { IfErr result (PointsInto bytes.now) }
+{
+    let end = take_any_key(bytes, at, is_first, key)?;
+    if !is_within(K::MAXIMUM_SIZE, key) {
+        return Err(LoadError::Malformed { at });
+    }
+    if !is_within(longest, key) {
+        return Err(LoadError::TooLong { at });
+    }
+    Ok(end)
+}
+
+/// The same of a key of any length.
+fn take_any_key(
     bytes: &[u8],
     at: usize,
     is_first: bool,
     key: &mut Vec<u8>,
 ) -> Result<usize, LoadError>
-    requires place { at ≤ length bytes.now }
+    requires inside { at ≤ length bytes.now }
     requires first { is_first ≡ true → key.old.items ≡ [] }
     ensures read { IfOk result (λ end. HasPart bytes.now at
         (key_form key.old.items key.new.items) end) }
     ensures next { OnOk result (IsNext is_first key.old.items key.new.items) }
     ensures refused { OnOtherErr result (LacksKey is_first key.old.items (drop at bytes.now)) }
-    ensures place { IfErr result (PointsInto bytes.now) }
-    ensures moves { IfOk result (λ end. at < end) }
+    ensures points { IfErr result (PointsInto bytes.now) }
 {
     let (shared, from) = number_at(bytes, at)?;
     let (count, from) = number_at(bytes, from)?;
@@ -68,58 +97,6 @@ pub(crate) fn take_key(
     }
     key.truncate(shared as usize);
     key.extend_from_slice(&bytes[from..end])?;
-    Ok(end)
-}
-
-/// As `take_key`, of a key that this key type admits.
-pub(crate) fn take_admitted_key<K: KeyTrait>(
-    bytes: &[u8],
-    at: usize,
-    is_first: bool,
-    key: &mut Vec<u8>,
-) -> Result<usize, LoadError>
-    requires place { at ≤ length bytes.now }
-    requires first { is_first ≡ true → key.old.items ≡ [] }
-    ensures read { IfOk result (λ end. HasPart bytes.now at
-        (key_form key.old.items key.new.items) end) }
-    ensures next { OnOk result (IsNext is_first key.old.items key.new.items) }
-    ensures admitted { OnOk result (IsAdmitted K.MAXIMUM_SIZE (length key.new.items)) }
-    ensures refused { OnOtherErr result
-        (LacksAdmittedKey K.MAXIMUM_SIZE is_first key.old.items (drop at bytes.now)) }
-    ensures place { IfErr result (PointsInto bytes.now) }
-    ensures moves { IfOk result (λ end. at < end) }
-{
-    let end = take_key(bytes, at, is_first, key)?;
-    if !is_within(K::MAXIMUM_SIZE, key) {
-        return Err(LoadError::Malformed { at });
-    }
-    Ok(end)
-}
-
-/// As `take_admitted_key`, where there is a limit too.
-pub(crate) fn take_key_within<K: KeyTrait>(
-    bytes: &[u8],
-    at: usize,
-    longest: Option<usize>,
-    is_first: bool,
-    key: &mut Vec<u8>,
-) -> Result<usize, LoadError>
-    requires place { at ≤ length bytes.now }
-    requires first { is_first ≡ true → key.old.items ≡ [] }
-    ensures read { IfOk result (λ end. HasPart bytes.now at
-        (key_form key.old.items key.new.items) end) }
-    ensures next { OnOk result (IsNext is_first key.old.items key.new.items) }
-    ensures admitted { OnOk result (IsAdmitted K.MAXIMUM_SIZE (length key.new.items)) }
-    ensures short { OnOk result (IsAdmitted longest (length key.new.items)) }
-    ensures refused { OnErrWithin longest K.MAXIMUM_SIZE result
-        (λ most. LacksAdmittedKey most is_first key.old.items (drop at bytes.now)) }
-    ensures place { IfErr result (PointsInto bytes.now) }
-    ensures moves { IfOk result (λ end. at < end) }
-{
-    let end = take_admitted_key::<K>(bytes, at, is_first, key)?;
-    if !is_within(longest, key) {
-        return Err(LoadError::TooLong { at });
-    }
     Ok(end)
 }
 

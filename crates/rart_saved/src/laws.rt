@@ -1,6 +1,6 @@
 //! What the forms of versions and of changes fix, and worked forms: laws, each the contract of a
 //! function.
-ghost use Rattle.std.specs.Prelude.{◌≡◌, ◌⊎◌, IfErr, IfOk, map};
+ghost use Rattle.std.specs.Prelude.{◌≡◌, ◌≢◌, ◌<◌, ◌⊎◌, IfErr, IfOk, map};
 ghost use Rattle.rart_below.specs.Clones.{ClonesEqual};
 ghost use Rattle.rart_changes.specs.Shown.{shown_change};
 ghost use Rattle.rart_saved.specs.ChangeForms.{IsChangeList};
@@ -18,7 +18,7 @@ use crate::error::LoadError;
 use crate::loading::load_slice;
 use crate::saving::save_slice;
 use crate::streams::{load, load_changes};
-use crate::value::SavedValue;
+use crate::value::{ByteString, SavedValue};
 pub use families::{
     families_are_given_back, families_are_given_back_by_streams, families_are_of_trees,
     family_forms_stand_apart, worked_family_forms,
@@ -61,6 +61,21 @@ pub fn worked_forms()
     ensures keys_in_keys { KeysInKeys }
     ensures sum_behind { SumBehind }
 {}
+
+/// The kinds of this crate's own values differ, and are below 128, as those of yours aren't.
+pub fn own_kinds_are_apart()
+    ensures apart { ⟦<u64 as SavedValue>⟧.KIND ≢ ⟦<ByteString as SavedValue>⟧.KIND }
+    ensures numbers { ⟦<u64 as SavedValue>⟧.KIND < 128 }
+    ensures byte_strings { ⟦<ByteString as SavedValue>⟧.KIND < 128 }
+{}
+
+/// Each kind is a byte, so that a file names it whole.
+pub fn kinds_are_bytes<V: SavedValue>() -> u8
+    ensures kind { result ≡ V.KIND }
+    ensures byte { V.KIND < 256 }
+{
+    V::KIND
+}
 
 /// Every tree is a version that its form gives back.
 pub fn trees_are_versions<K: KeyTrait, V: SavedValue>(tree: &VersionedAdaptiveRadixTree<K, V>)

@@ -12,9 +12,9 @@ ghost use Rattle.rart_saved.specs.Loads.{GivesBack, GivesBackWithin, HasKeysWith
 ghost use Rattle.rart_saved.specs.Parts.{HasPart};
 ghost use Rattle.rart_saved.specs.Refusals.{OnErrWithin, PointsInto};
 
+use crate::entries::take_entry;
 use crate::error::LoadError;
 use crate::head::{head_of, take_head};
-use crate::keys::take_key_within;
 use crate::numbers::number_at;
 use crate::value::SavedValue;
 use rart_versioned::{KeyTrait, VersionedAdaptiveRadixTree};
@@ -37,7 +37,7 @@ pub fn load_slice<K: KeyTrait, V: SavedValue>(
     requires clones { ClonesEqual V.is_clone }
     ensures read { IfOk result (λ tree. bytes.now ≡ saved V.written V.KIND tree) }
     ensures gives_back { GivesBack V.written V.KIND K.MAXIMUM_SIZE result bytes.now }
-    ensures place { IfErr result (PointsInto bytes.now) }
+    ensures points { IfErr result (PointsInto bytes.now) }
 {
     match read_version(alloc, bytes, None) {
         Ok((tree, _count)) => Ok(tree),
@@ -64,7 +64,7 @@ pub fn load_slice_within<K: KeyTrait, V: SavedValue>(
     ensures short { IfOk result (λ found. HasKeysWithin (Some longest) found.0) }
     ensures gives_back { GivesBackWithin V.written V.KIND (Some longest) K.MAXIMUM_SIZE result
         bytes.now }
-    ensures place { IfErr result (PointsInto bytes.now) }
+    ensures points { IfErr result (PointsInto bytes.now) }
 {
     read_version(alloc, bytes, Some(longest))
 }
@@ -82,7 +82,7 @@ fn read_version<K: KeyTrait, V: SavedValue>(
     ensures short { IfOk result (λ found. HasKeysWithin longest found.0) }
     ensures refused { OnErrWithin longest K.MAXIMUM_SIZE result
         (λ most. LacksVersion V.written V.KIND most bytes.now) }
-    ensures place { IfErr result (PointsInto bytes.now) }
+    ensures points { IfErr result (PointsInto bytes.now) }
 {
     let at = take_head(bytes, &head_of(V::KIND))?;
     let (number, at) = number_at(bytes, at)?;
@@ -107,7 +107,7 @@ fn take_pairs<K: KeyTrait, V: SavedValue>(
     tree: &mut VersionedAdaptiveRadixTree<K, V>,
 ) -> Result<usize, LoadError>
     requires clones { ClonesEqual V.is_clone }
-    requires place { at ≤ length bytes.now }
+    requires inside { at ≤ length bytes.now }
     requires room { HasRoom tree.old count }
     requires empty { tree.old.content ≡ finite.empty }
     ensures read { IfOk result (λ end. HasPart bytes.now at
@@ -117,7 +117,7 @@ fn take_pairs<K: KeyTrait, V: SavedValue>(
     ensures short { OnOk result (HasKeysWithin longest tree.new) }
     ensures refused { OnErrWithin longest K.MAXIMUM_SIZE result
         (λ most. LacksPairs V.written most count (drop at bytes.now)) }
-    ensures place { IfErr result (PointsInto bytes.now) }
+    ensures points { IfErr result (PointsInto bytes.now) }
 {
     let mut key = Vec::new(alloc);
     let mut end = at;
@@ -138,7 +138,7 @@ fn take_pair<K: KeyTrait, V: SavedValue>(
     tree: &mut VersionedAdaptiveRadixTree<K, V>,
 ) -> Result<usize, LoadError>
     requires clones { ClonesEqual V.is_clone }
-    requires place { at ≤ length bytes.now }
+    requires inside { at ≤ length bytes.now }
     requires room { HasRoom tree.old 1 }
     requires first { has_no_key tree.old ≡ true → key.old.items ≡ [] }
     ensures read { IfOk result (λ end. (x : V)
@@ -149,10 +149,9 @@ fn take_pair<K: KeyTrait, V: SavedValue>(
     ensures refused { OnErrWithin longest K.MAXIMUM_SIZE result
         (λ most. LacksPair V.written most (has_no_key tree.old) key.old.items
         (drop at bytes.now)) }
-    ensures place { IfErr result (PointsInto bytes.now) }
+    ensures points { IfErr result (PointsInto bytes.now) }
 {
-    let from = take_key_within::<K>(bytes, at, longest, tree.is_empty(), key)?;
-    let (value, end) = V::read(alloc, bytes, from)?;
+    let (value, end) = take_entry::<K, V>(alloc, bytes, at, longest, tree.is_empty(), key)?;
     tree.insert_slice(key.as_slice(), value)?;
     Ok(end)
 }
@@ -170,7 +169,7 @@ pub(crate) fn check_sum(bytes: &[u8], at: usize) -> Result<(), LoadError>
     requires { at ≤ length bytes.now }
     ensures read { OnOk result (drop at bytes.now ≡ sha256 (take at bytes.now)) }
     ensures refused { OnErr result (drop at bytes.now ≢ sha256 (take at bytes.now)) }
-    ensures place { IfErr result (PointsInto bytes.now) }
+    ensures points { IfErr result (PointsInto bytes.now) }
 {
     let rest = &bytes[at..];
     if is_sum(rest, &bytes[..at]) {

@@ -25,7 +25,7 @@ pub(crate) fn number_at(bytes: &[u8], at: usize) -> Result<(u64, usize), LoadErr
     requires { at ≤ length bytes.now }
     ensures read { IfOk result (λ found. HasPart bytes.now at (leb found.0) found.1) }
     ensures refused { IfErr result (λ _. LacksNumber (drop at bytes.now)) }
-    ensures place { IfErr result (PointsInto bytes.now) }
+    ensures points { IfErr result (PointsInto bytes.now) }
     ensures moves { IfOk result (λ found. at < found.1) }
 {
     groups_at(bytes, at, 9)
@@ -36,7 +36,7 @@ fn groups_at(bytes: &[u8], at: usize, more: u32) -> Result<(u64, usize), LoadErr
     requires { at ≤ length bytes.now }
     ensures read { IfOk result (λ found. HasPart bytes.now at (groups more found.0) found.1) }
     ensures refused { IfErr result (λ _. LacksGroups more (drop at bytes.now)) }
-    ensures place { IfErr result (PointsInto bytes.now) }
+    ensures points { IfErr result (PointsInto bytes.now) }
     ensures moves { IfOk result (λ found. at < found.1) }
 {
     let Some(byte) = bytes.get(at) else {

@@ -1,16 +1,19 @@
 //! A version is written as bytes.
-ghost use Rattle.std.specs.Prelude.{◌≡◌, ◌+◌, ◌<◌, ◌^◌, ◌++◌, [], length, IfOk, OnOk};
-ghost use Rattle.sha2.specs.Sha256.{sha256};
+ghost use Rattle.std.specs.Prelude.{◌≡◌, ◌++◌, ℕ, List, [], length, IfOk, OnOk};
+ghost use Rattle.std.specs.FinMap as finite;
 ghost use Rattle.rart_maps.specs.Pairs.{pairs};
-ghost use Rattle.rart_saved.specs.Forms.{entry, entries, key_form, saved};
+ghost use Rattle.rart_saved.specs.Fills.{Fills};
+ghost use Rattle.rart_saved.specs.Forms.{entries, head, saved};
+ghost use Rattle.rart_saved.specs.Numbers.{leb};
 
+use crate::entries::put_entry;
 use crate::head::head_of;
-use crate::keys::put_key;
 use crate::numbers::put_number;
+use crate::sink::{Room, Sink};
 use crate::value::SavedValue;
 use rart_versioned::{KeyTrait, VersionedAdaptiveRadixTree};
-use sha2::{Digest, Sha256};
 use std::alloc::{AllocError, Global};
+use std::ops::Bound;
 
 /// A version as bytes. They are of its map and its number alone, so equal versions have equal
 /// bytes, whatever their trees' keys are kept in.
@@ -24,92 +27,108 @@ pub fn save_slice<K: KeyTrait, V: SavedValue>(
 ) -> Result<Vec<u8>, AllocError>
     ensures { IfOk result (λ bytes. bytes.items ≡ saved V.written V.KIND tree.now) }
 {
-    let listed = list_pairs(alloc, tree)?;
-    let mut bytes = Vec::new(alloc);
-    bytes.extend_from_slice(&head_of(V::KIND))?;
-    put_number(&mut bytes, tree.version())?;
-    put_number(&mut bytes, listed.count)?;
-    bytes.extend_from_slice(listed.bytes.as_slice())?;
-    put_sum(&mut bytes)?;
+    // (to count the keys first takes longer than to copy the pairs behind their count)
+    let mut listed = Vec::new(alloc);
+    let count = put_pairs(alloc, tree, &mut listed)?;
+    let mut bytes = front_of(alloc, V::KIND, tree.version(), count)?;
+    bytes.put(listed.as_slice())?;
+    bytes.put_sum()?;
     Ok(bytes)
 }
 
-/// Puts the sum of what is there behind it.
-pub(crate) fn put_sum(bytes: &mut Vec<u8>) -> Result<(), AllocError>
-    ensures { OnOk result (bytes.new.items ≡ bytes.old.items ++ sha256 bytes.old.items) }
-{
-    let sum = Sha256::digest(bytes.as_slice());
-    bytes.extend_from_slice(&sum)?;
-    Ok(())
-}
-
-/// Pairs as bytes, behind what was there, how many they are, and the key of the last.
-#[derive(Drop)]
-pub(crate) struct Listed {
-    pub(crate) bytes: Vec<u8>,
-    pub(crate) count: u64,
-    pub(crate) before: Vec<u8>,
-}
-
-impl Listed {
-    /// No pair.
-    pub(crate) fn new(alloc: Global) -> Listed
-        ensures bytes { result.bytes.items ≡ [] }
-        ensures count { result.count ≡ 0 }
-        ensures before { result.before.items ≡ [] }
-    {
-        Listed {
-            bytes: Vec::new(alloc),
-            count: 0,
-            before: Vec::new(alloc),
-        }
-    }
-
-    /// The key of one more pair. Refused for memory, some of its bytes may be there.
-    pub(crate) fn put_key(&mut self, key: &[u8]) -> Result<(), AllocError>
-        requires room { self.old.count + 1 < 2 ^ 64 }
-        ensures bytes { OnOk result (self.new.bytes.items ≡ self.old.bytes.items
-            ++ key_form self.old.before.items key.now) }
-        ensures count { OnOk result (self.new.count ≡ self.old.count + 1) }
-        ensures before { OnOk result (self.new.before.items ≡ key.now) }
-    {
-        put_key(&mut self.bytes, self.before.as_slice(), key)?;
-        self.before.clear();
-        self.before.extend_from_slice(key)?;
-        self.count += 1;
-        Ok(())
-    }
-}
-
-/// The pairs of a version, each behind the one before it.
-fn list_pairs<K: KeyTrait, V: SavedValue>(
+/// Writes a version's bytes, as `save_slice` gives them, over the first of `room`, and gives how
+/// many they are. The tree has `count` keys.
+///
+/// ```
+/// let mut room = [0; 1024];
+/// let len = save_into(alloc, &prices, count, &mut room)?;
+/// let is_there = len <= room.len();
+/// ```
+///
+/// Where `room` has fewer it still gives how many; what `room` then has is unspecified, as where
+/// memory is refused. It goes once through the pairs, and takes memory for that walk and for one
+/// pair, none for all. More bytes than a `usize` tells are refused too.
+pub fn save_into<K: KeyTrait, V: SavedValue>(
     alloc: Global,
     tree: &VersionedAdaptiveRadixTree<K, V>,
-) -> Result<Listed, AllocError>
-    ensures bytes { IfOk result (λ listed. listed.bytes.items
-        ≡ entries V.written [] (pairs tree.now.content)) }
-    ensures count { IfOk result (λ listed. listed.count ≡ length (pairs tree.now.content)) }
+    count: u64,
+    room: &mut [u8],
+) -> Result<usize, AllocError>
+    requires { count ≡ finite.len tree.now.content }
+    ensures { IfOk result (Fills room.old (saved V.written V.KIND tree.now) room.new) }
 {
-    tree.know_keys_for_proof();
-    let mut listed = Listed::new(alloc);
-    let mut items = tree.iter()?;
-    // (a `for` over an iterator of keys of any type gets no proof)
-    'listing: while let Some(item) = items.next() {
-        let (key, value) = item?;
-        put_pair(&mut listed, key.as_ref(), value)?;
-    }
-    Ok(listed)
+    let mut sink = Room::new(room);
+    put_version(alloc, tree, count, &mut sink)?;
+    Ok(sink.end)
 }
 
-/// One more pair. Refused for memory, some of its bytes may be there.
-fn put_pair<V: SavedValue>(listed: &mut Listed, key: &[u8], value: &V) -> Result<(), AllocError>
-    requires room { listed.old.count + 1 < 2 ^ 64 }
-    ensures bytes { OnOk result (listed.new.bytes.items ≡ listed.old.bytes.items
-        ++ entry V.written listed.old.before.items (key.now, value.now)) }
-    ensures count { OnOk result (listed.new.count ≡ listed.old.count + 1) }
-    ensures before { OnOk result (listed.new.before.items ≡ key.now) }
+/// How many bytes `save_into` writes. The tree has `count` keys.
+///
+/// ```
+/// let len = saved_len(alloc, &prices, count)?;
+/// ```
+///
+/// It goes once through the pairs, and is refused as `save_into` is.
+pub fn saved_len<K: KeyTrait, V: SavedValue>(
+    alloc: Global,
+    tree: &VersionedAdaptiveRadixTree<K, V>,
+    count: u64,
+) -> Result<usize, AllocError>
+    requires { count ≡ finite.len tree.now.content }
+    ensures { IfOk result (λ len. len ≡ length (saved V.written V.KIND tree.now)) }
 {
-    listed.put_key(key)?;
-    value.write(&mut listed.bytes)?;
+    save_into(alloc, tree, count, &mut [])
+}
+
+/// Writes a version of `count` keys into an empty sink.
+fn put_version<K: KeyTrait, V: SavedValue, S: Sink>(
+    alloc: Global,
+    tree: &VersionedAdaptiveRadixTree<K, V>,
+    count: u64,
+    sink: &mut S,
+) -> Result<(), AllocError>
+    requires { count ≡ finite.len tree.now.content }
+    ensures { OnOk result ((start : S) → S.holds start [] sink.old
+        → S.holds start (saved V.written V.KIND tree.now) sink.new) }
+{
+    let front = front_of(alloc, V::KIND, tree.version(), count)?;
+    sink.put(front.as_slice())?;
+    let _count = put_pairs(alloc, tree, sink)?;
+    sink.put_sum()?;
     Ok(())
+}
+
+/// What stands before the pairs of a version.
+fn front_of(alloc: Global, kind: u8, number: u64, count: u64) -> Result<Vec<u8>, AllocError>
+    ensures { IfOk result (λ front. front.items ≡ head kind ++ leb number ++ leb count) }
+{
+    let mut front = Vec::new(alloc);
+    front.extend_from_slice(&head_of(kind))?;
+    put_number(&mut front, number)?;
+    put_number(&mut front, count)?;
+    Ok(front)
+}
+
+/// Writes the pairs, each behind the one before it, and gives how many they are.
+fn put_pairs<K: KeyTrait, V: SavedValue, S: Sink>(
+    alloc: Global,
+    tree: &VersionedAdaptiveRadixTree<K, V>,
+    sink: &mut S,
+) -> Result<u64, AllocError>
+    ensures listed { OnOk result ((start : S) (done : List ℕ) → S.holds start done sink.old
+        → S.holds start (done ++ entries V.written [] (pairs tree.now.content)) sink.new) }
+    ensures count { IfOk result (λ count. count ≡ length (pairs tree.now.content)) }
+{
+    tree.know_keys_for_proof();
+    let mut count = 0;
+    let mut cursor = tree.cursor_from(Bound::Unbounded)?;
+    let mut before = Vec::new(alloc);
+    let mut form = Vec::new(alloc);
+    'listing: while let Some(value) = cursor.next_value()? {
+        form.clear();
+        put_entry(&mut form, &mut before, cursor.key(), value)?;
+        sink.put(form.as_slice())?;
+        count += 1;
+    }
+    Ok(count)
 }

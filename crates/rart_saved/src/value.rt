@@ -30,7 +30,7 @@ pub trait SavedValue: Clone + Drop {
         requires { at ≤ length bytes.now }
         ensures read { IfOk result (λ found. HasPart bytes.now at (written found.0) found.1) }
         ensures refused { OnOtherErr result (LacksValue written (drop at bytes.now)) }
-        ensures place { IfErr result (PointsInto bytes.now) };
+        ensures points { IfErr result (PointsInto bytes.now) };
 
     ghost apart: { (x y : Self) (r s : List ℕ) → written x ++ r ≡ written y ++ s → x ≡ y };
 }
@@ -161,7 +161,7 @@ pub fn sized_at(bytes: &[u8], at: usize) -> Result<(&[u8], usize), LoadError>
     requires { at ≤ length bytes.now }
     ensures read { IfOk result (λ found. HasPart bytes.now at (sized found.0.now) found.1) }
     ensures refused { IfErr result (λ _. LacksValue sized (drop at bytes.now)) }
-    ensures place { IfErr result (PointsInto bytes.now) }
+    ensures points { IfErr result (PointsInto bytes.now) }
 {
     let (count, from) = number_at(bytes, at)?;
     if count > (bytes.len() - from) as u64 {

@@ -10,10 +10,9 @@ ghost use Rattle.rart_saved.specs.Loads.{LacksPair};
 ghost use Rattle.rart_saved.specs.Parts.{HasPart};
 ghost use Rattle.rart_saved.specs.Refusals.{OnOtherErr, PointsInto};
 
-use crate::changes::values::read_values;
+use crate::entries::take_entry;
 use crate::error::LoadError;
 use crate::head::{changes_head_of, take_head};
-use crate::keys::take_admitted_key;
 use crate::loading::{check_sum, push_one};
 use crate::numbers::number_at;
 use crate::value::SavedValue;
@@ -39,7 +38,7 @@ pub fn load_changes_slice<K: KeyTrait, V: SavedValue>(
         (λ list. KeysAscend (λ change. change.0) (map (shown_change K.bytes) list.items)) }
     ensures gives_back { GivesBackChanges V.written V.KIND K.MAXIMUM_SIZE result
         (λ list. map (shown_change K.bytes) list.items) bytes.now }
-    ensures place { IfErr result (PointsInto bytes.now) }
+    ensures points { IfErr result (PointsInto bytes.now) }
 {
     read_changes(alloc, bytes)
 }
@@ -55,7 +54,7 @@ fn read_changes<K: KeyTrait, V: SavedValue>(
         (λ list. KeysAscend (λ change. change.0) (map (shown_change K.bytes) list.items)) }
     ensures refused { OnOtherErr result
         (LacksChanges V.written V.KIND K.MAXIMUM_SIZE bytes.now) }
-    ensures place { IfErr result (PointsInto bytes.now) }
+    ensures points { IfErr result (PointsInto bytes.now) }
 {
     let at = take_head(bytes, &changes_head_of(V::KIND))?;
     let (count, from) = number_at(bytes, at)?;
@@ -79,7 +78,7 @@ fn take_changes<K: KeyTrait, V: SavedValue>(
         (λ found. KeysAscend (λ change. change.0) (map (shown_change K.bytes) found.0.items)) }
     ensures refused { OnOtherErr result
         (LacksEntries (both_written V.written) K.MAXIMUM_SIZE count (drop at bytes.now)) }
-    ensures place { IfErr result (PointsInto bytes.now) }
+    ensures points { IfErr result (PointsInto bytes.now) }
 {
     let mut key = Vec::new(alloc);
     let mut list = Vec::new(alloc);
@@ -101,7 +100,7 @@ fn take_change<K: KeyTrait, V: SavedValue>(
     is_first: bool,
     key: &mut Vec<u8>,
 ) -> Result<(KeyChange<K, V>, usize), LoadError>
-    requires place { at ≤ length bytes.now }
+    requires inside { at ≤ length bytes.now }
     requires first { is_first ≡ true → key.old.items ≡ [] }
     ensures read { IfOk result (λ found. HasPart bytes.now at (entry (both_written V.written)
         key.old.items (as_pair (shown_change K.bytes found.0))) found.1) }
@@ -109,10 +108,11 @@ fn take_change<K: KeyTrait, V: SavedValue>(
     ensures next { OnOk result (IsNext is_first key.old.items key.new.items) }
     ensures refused { OnOtherErr result (LacksPair (both_written V.written) K.MAXIMUM_SIZE
         is_first key.old.items (drop at bytes.now)) }
-    ensures place { IfErr result (PointsInto bytes.now) }
+    ensures points { IfErr result (PointsInto bytes.now) }
 {
-    let from = take_admitted_key::<K>(bytes, at, is_first, key)?;
-    let (before, after, end) = read_values(alloc, bytes, from)?;
+    let ((before, after), end) = take_entry::<K, (Option<V>, Option<V>)>(
+        alloc, bytes, at, None, is_first, key,
+    )?;
     let key = K::new_from_slice(alloc, key.as_slice())?;
     Ok((KeyChange { key, before, after }, end))
 }

@@ -6,23 +6,21 @@ ghost use Rattle.rart_saved.specs.Parts.{HasPart};
 ghost use Rattle.rart_saved.specs.Refusals.{OnOtherErr, PointsInto};
 ghost use Rattle.rart_saved.specs.Values.{LacksValue};
 
+use crate::entries::{Form, LentForm};
 use crate::error::LoadError;
 use crate::value::SavedValue;
 use std::alloc::{AllocError, Global};
 
-/// Writes both values behind what is there. Refused for memory, some of their bytes may be there.
-pub(crate) fn put_values<V: SavedValue>(
-    out: &mut Vec<u8>,
-    before: &Option<V>,
-    after: &Option<V>,
-) -> Result<(), AllocError>
-    ensures { OnOk result (out.new.items ≡ out.old.items
-        ++ both_written V.written (before.now, after.now)) }
-{
-    out.push(deed_of(before, after))?;
-    put_value(out, before)?;
-    put_value(out, after)?;
-    Ok(())
+impl<'a, V: SavedValue> LentForm for (&'a Option<V>, &'a Option<V>) {
+    ghost written = { λ values. both_written V.written (values.0.now, values.1.now) };
+
+    fn put(self, out: &mut Vec<u8>) -> Result<(), AllocError> {
+        let (before, after) = self;
+        out.push(deed_of(before, after))?;
+        put_value(out, before)?;
+        put_value(out, after)?;
+        Ok(())
+    }
 }
 
 /// What a change with these values does, as a byte.
@@ -48,34 +46,29 @@ fn put_value<V: SavedValue>(out: &mut Vec<u8>, value: &Option<V>) -> Result<(), 
     Ok(())
 }
 
-/// Both values whose form begins at an offset, and the offset behind it. Refused for another reason
-/// than memory, no values' form begins there.
-pub(crate) fn read_values<V: SavedValue>(
-    alloc: Global,
-    bytes: &[u8],
-    at: usize,
-) -> Result<(Option<V>, Option<V>, usize), LoadError>
-    requires { at ≤ length bytes.now }
-    ensures read { IfOk result (λ found. HasPart bytes.now at
-        (both_written V.written (found.0, found.1)) found.2) }
-    ensures refused { OnOtherErr result
-        (LacksValue (both_written V.written) (drop at bytes.now)) }
-    ensures place { IfErr result (PointsInto bytes.now) }
-{
-    let Some(byte) = bytes.get(at) else {
-        return Err(LoadError::Truncated);
-    };
-    let deed = *byte;
-    if deed > 3 {
-        return Err(LoadError::Malformed { at });
+impl<V: SavedValue> Form for (Option<V>, Option<V>) {
+    ghost written = { both_written V.written };
+
+    fn take(
+        alloc: Global,
+        bytes: &[u8],
+        at: usize,
+    ) -> Result<((Option<V>, Option<V>), usize), LoadError> {
+        let Some(byte) = bytes.get(at) else {
+            return Err(LoadError::Truncated);
+        };
+        let deed = *byte;
+        if deed > 3 {
+            return Err(LoadError::Malformed { at });
+        }
+        let (before, from) = take_value(alloc, bytes, at + 1, deed >= 2)?;
+        let (after, end) = take_value(alloc, bytes, from, deed % 2 == 1)?;
+        Ok(((before, after), end))
     }
-    let (before, from) = read_value(alloc, bytes, at + 1, deed >= 2)?;
-    let (after, end) = read_value(alloc, bytes, from, deed % 2 == 1)?;
-    Ok((before, after, end))
 }
 
 /// The value whose form begins at an offset, if one is there, and the offset behind it.
-fn read_value<V: SavedValue>(
+fn take_value<V: SavedValue>(
     alloc: Global,
     bytes: &[u8],
     at: usize,
@@ -86,7 +79,7 @@ fn read_value<V: SavedValue>(
         (if_there V.written found.0) found.1) }
     ensures there { IfOk result (λ found. is_some found.0 ≡ is_there) }
     ensures refused { OnOtherErr result (LacksOne V.written is_there (drop at bytes.now)) }
-    ensures place { IfErr result (PointsInto bytes.now) }
+    ensures points { IfErr result (PointsInto bytes.now) }
 {
     if !is_there {
         return Ok((None, at));

@@ -15,10 +15,9 @@ ghost use Rattle.rart_saved.specs.Loads.{HasKeysWithin};
 ghost use Rattle.rart_saved.specs.Parts.{HasPart};
 ghost use Rattle.rart_saved.specs.Refusals.{OnErrWithin, PointsInto};
 
+use crate::entries::take_entry;
 use crate::error::LoadError;
 use crate::families::latest::Latest;
-use crate::families::optional::read_optional;
-use crate::keys::take_key_within;
 use crate::value::SavedValue;
 use rart_maps::do_differ;
 use rart_versioned::{KeyTrait, VersionedAdaptiveRadixTree};
@@ -37,7 +36,7 @@ pub(crate) fn take_settings<K: KeyTrait, V: SavedValue + Eq>(
 ) -> Result<usize, LoadError>
     requires clones { ClonesEqual V.is_clone }
     requires decides { Decides V.eq }
-    requires place { at ≤ length bytes.now }
+    requires inside { at ≤ length bytes.now }
     requires begins { latest.old.tree.content ≡ before.now.content }
     requires short { HasKeysWithin longest before.now }
     requires counted { latest.old.keys ≡ finite.len latest.old.tree.content }
@@ -51,7 +50,7 @@ pub(crate) fn take_settings<K: KeyTrait, V: SavedValue + Eq>(
     ensures short { OnOk result (HasKeysWithin longest latest.new.tree) }
     ensures refused { OnErrWithin longest K.MAXIMUM_SIZE result
         (λ most. LacksSettings V.written V.eq most before.now.content count (drop at bytes.now)) }
-    ensures place { IfErr result (PointsInto bytes.now) }
+    ensures points { IfErr result (PointsInto bytes.now) }
 {
     before.know_keys_for_proof();
     let mut key = Vec::new(alloc);
@@ -84,7 +83,7 @@ fn take_setting<K: KeyTrait, V: SavedValue + Eq>(
     latest: &mut Latest<K, V>,
 ) -> Result<usize, LoadError>
     requires clones { ClonesEqual V.is_clone }
-    requires place { at ≤ length bytes.now }
+    requires inside { at ≤ length bytes.now }
     requires first { is_first ≡ true → key.old.items ≡ [] }
     requires counted { latest.old.keys ≡ finite.len latest.old.tree.content }
     requires room { latest.old.keys ≤ at }
@@ -100,10 +99,9 @@ fn take_setting<K: KeyTrait, V: SavedValue + Eq>(
     ensures refused { OnErrWithin longest K.MAXIMUM_SIZE result
         (λ most. LacksSetting V.written V.eq most before.now.content is_first key.old.items
         (drop at bytes.now)) }
-    ensures place { IfErr result (PointsInto bytes.now) }
+    ensures points { IfErr result (PointsInto bytes.now) }
 {
-    let from = take_key_within::<K>(bytes, at, longest, is_first, key)?;
-    let (now, end) = read_optional(alloc, bytes, from)?;
+    let (now, end) = take_entry::<K, Option<V>>(alloc, bytes, at, longest, is_first, key)?;
     if !do_differ(before.get_slice(key.as_slice()), now.as_ref()) {
         return Err(LoadError::Malformed { at });
     }

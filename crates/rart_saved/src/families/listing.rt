@@ -1,19 +1,54 @@
 //! What changed from one version to another, as bytes.
-ghost use Rattle.std.specs.Prelude.{◌≡◌, ◌+◌, ◌<◌, ◌≤◌, ◌^◌, ◌++◌, [], length, map, IfOk, IsOk, OnOk};
+ghost use Rattle.std.specs.Prelude.{◌≡◌, ◌+◌, ◌≤◌, ◌++◌, [], length, map, IfOk, IsOk, OnOk};
 ghost use Rattle.std.specs.Option.{option_copied};
 ghost use Rattle.rart_maps.specs.ChangeLists.{changes};
 ghost use Rattle.rart_maps.specs.Versions.{value_at};
 ghost use Rattle.rart_saved.specs.FamilyForms.{as_setting, optional};
 ghost use Rattle.rart_saved.specs.Forms.{entries, entry};
 
-use crate::families::optional::put_optional;
-use crate::saving::Listed;
+use crate::entries::put_entry;
 use crate::value::SavedValue;
 use rart_versioned::{KeyTrait, VersionedAdaptiveRadixTree};
 use std::alloc::{AllocError, Global};
 
-/// Changed keys, each with what it has now; or that memory for one of them was refused: then
-/// nothing more is put there.
+/// Changed keys as bytes, each with what it has now, how many they are, and the last of them.
+#[derive(Drop)]
+pub(crate) struct Listed {
+    pub(crate) bytes: Vec<u8>,
+    pub(crate) count: u64,
+    before: Vec<u8>,
+}
+
+impl Listed {
+    /// No key.
+    fn new(alloc: Global) -> Listed
+        ensures bytes { result.bytes.items ≡ [] }
+        ensures count { result.count ≡ 0 }
+        ensures before { result.before.items ≡ [] }
+    {
+        Listed {
+            bytes: Vec::new(alloc),
+            count: 0,
+            before: Vec::new(alloc),
+        }
+    }
+
+    /// One more key, with a value or none. Refused for memory, some of its bytes may be there.
+    fn put<V: SavedValue>(&mut self, key: &[u8], value: Option<&V>) -> Result<(), AllocError>
+        requires room { self.old.count ≤ length self.old.bytes.items }
+        ensures bytes { OnOk result (self.new.bytes.items ≡ self.old.bytes.items
+            ++ entry (optional V.written) self.old.before.items
+            (key.now, option_copied value.entry)) }
+        ensures count { OnOk result (self.new.count ≡ self.old.count + 1) }
+        ensures before { OnOk result (self.new.before.items ≡ key.now) }
+    {
+        put_entry(&mut self.bytes, &mut self.before, key, value)?;
+        self.count += 1;
+        Ok(())
+    }
+}
+
+/// A list of them; or that memory for one of them was refused: then nothing more is put there.
 #[derive(Drop)]
 struct Settings {
     listed: Listed,
@@ -47,27 +82,9 @@ impl Settings {
     {
         if self.made.is_ok() {
             let value = new.get_k(&key);
-            self.made = put_setting(&mut self.listed, key.as_ref(), value);
+            self.made = self.listed.put(key.as_ref(), value);
         }
     }
-}
-
-/// One more key, with a value or none. Refused for memory, some of its bytes may be there.
-fn put_setting<V: SavedValue>(
-    listed: &mut Listed,
-    key: &[u8],
-    value: Option<&V>,
-) -> Result<(), AllocError>
-    requires room { listed.old.count ≤ length listed.old.bytes.items }
-    ensures bytes { OnOk result (listed.new.bytes.items ≡ listed.old.bytes.items
-        ++ entry (optional V.written) listed.old.before.items
-        (key.now, option_copied value.entry)) }
-    ensures count { OnOk result (listed.new.count ≡ listed.old.count + 1) }
-    ensures before { OnOk result (listed.new.before.items ≡ key.now) }
-{
-    listed.put_key(key)?;
-    put_optional(&mut listed.bytes, value)?;
-    Ok(())
 }
 
 /// The keys at which two versions differ, each with what it has in the new one.

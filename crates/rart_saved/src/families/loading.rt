@@ -12,6 +12,7 @@ ghost use Rattle.rart_saved.specs.Refusals.{OnErrWithin, PointsInto};
 use crate::error::LoadError;
 use crate::families::changing::take_settings;
 use crate::families::latest::Latest;
+use crate::families::optional::is_there_at;
 use crate::head::{family_head_of, take_head};
 use crate::loading::{check_sum, push_one};
 use crate::numbers::number_at;
@@ -37,7 +38,7 @@ pub fn load_family_slice<K: KeyTrait, V: SavedValue + Eq>(
     ensures read { IfOk result (λ family. bytes.now
         ≡ saved_family V.written V.eq V.KIND family) }
     ensures gives_back { GivesBackFamily V.written V.eq K.MAXIMUM_SIZE V.KIND result bytes.now }
-    ensures place { IfErr result (PointsInto bytes.now) }
+    ensures points { IfErr result (PointsInto bytes.now) }
 {
     read_family(alloc, bytes, None)
 }
@@ -62,7 +63,7 @@ pub fn load_family_slice_within<K: KeyTrait, V: SavedValue + Eq>(
     ensures short { IfOk result (HasVersionsWithin (Some longest)) }
     ensures gives_back { GivesBackFamilyWithin V.written V.eq K.MAXIMUM_SIZE V.KIND (Some longest)
         result bytes.now }
-    ensures place { IfErr result (PointsInto bytes.now) }
+    ensures points { IfErr result (PointsInto bytes.now) }
 {
     read_family(alloc, bytes, Some(longest))
 }
@@ -81,7 +82,7 @@ fn read_family<K: KeyTrait, V: SavedValue + Eq>(
     ensures short { IfOk result (HasVersionsWithin longest) }
     ensures refused { OnErrWithin longest K.MAXIMUM_SIZE result
         (λ most. LacksFamily V.written V.eq most V.KIND bytes.now) }
-    ensures place { IfErr result (PointsInto bytes.now) }
+    ensures points { IfErr result (PointsInto bytes.now) }
 {
     let at = take_head(bytes, &family_head_of(V::KIND))?;
     let (count, from) = number_at(bytes, at)?;
@@ -100,14 +101,14 @@ fn take_places<K: KeyTrait, V: SavedValue + Eq>(
 ) -> Result<(Vec<Option<VersionedAdaptiveRadixTree<K, V>>>, usize), LoadError>
     requires clones { ClonesEqual V.is_clone }
     requires decides { Decides V.eq }
-    requires place { at ≤ length bytes.now }
+    requires inside { at ≤ length bytes.now }
     ensures read { IfOk result (λ found. HasPart bytes.now at
         (places V.written V.eq finite.empty found.0.items) found.1) }
     ensures count { IfOk result (λ found. length found.0.items ≡ count) }
     ensures short { IfOk result (λ found. HasVersionsWithin longest found.0.items) }
     ensures refused { OnErrWithin longest K.MAXIMUM_SIZE result
         (λ most. LacksPlaces V.written V.eq most count (drop at bytes.now)) }
-    ensures place { IfErr result (PointsInto bytes.now) }
+    ensures points { IfErr result (PointsInto bytes.now) }
 {
     let mut latest = Latest::new(alloc);
     let mut versions = Vec::new(alloc);
@@ -130,7 +131,7 @@ fn take_place<K: KeyTrait, V: SavedValue + Eq>(
 ) -> Result<(Option<VersionedAdaptiveRadixTree<K, V>>, usize), LoadError>
     requires clones { ClonesEqual V.is_clone }
     requires decides { Decides V.eq }
-    requires place { at ≤ length bytes.now }
+    requires inside { at ≤ length bytes.now }
     requires counted { latest.old.keys ≡ finite.len latest.old.tree.content }
     requires room { latest.old.keys ≤ at }
     requires short { HasKeysWithin longest latest.old.tree }
@@ -144,17 +145,11 @@ fn take_place<K: KeyTrait, V: SavedValue + Eq>(
     ensures within { OnOk result (HasKeysWithin longest latest.new.tree) }
     ensures refused { OnErrWithin longest K.MAXIMUM_SIZE result
         (λ most. LacksPlace V.written V.eq most latest.old.tree.content (drop at bytes.now)) }
-    ensures place { IfErr result (PointsInto bytes.now) }
+    ensures points { IfErr result (PointsInto bytes.now) }
 {
-    let Some(byte) = bytes.get(at) else {
-        return Err(LoadError::Truncated);
-    };
-    let mark = *byte;
-    if mark == 0 {
+    let is_there = is_there_at(bytes, at)?;
+    if !is_there {
         return Ok((None, at + 1));
-    }
-    if mark > 1 {
-        return Err(LoadError::Malformed { at });
     }
     let end = take_version(alloc, bytes, at + 1, longest, latest)?;
     let version = latest.tree.clone()?;
@@ -172,7 +167,7 @@ fn take_version<K: KeyTrait, V: SavedValue + Eq>(
 ) -> Result<usize, LoadError>
     requires clones { ClonesEqual V.is_clone }
     requires decides { Decides V.eq }
-    requires place { at ≤ length bytes.now }
+    requires inside { at ≤ length bytes.now }
     requires counted { latest.old.keys ≡ finite.len latest.old.tree.content }
     requires room { latest.old.keys ≤ at }
     requires short { HasKeysWithin longest latest.old.tree }
@@ -184,7 +179,7 @@ fn take_version<K: KeyTrait, V: SavedValue + Eq>(
     ensures refused { OnErrWithin longest K.MAXIMUM_SIZE result
         (λ most. LacksVersionBehind V.written V.eq most latest.old.tree.content
         (drop at bytes.now)) }
-    ensures place { IfErr result (PointsInto bytes.now) }
+    ensures points { IfErr result (PointsInto bytes.now) }
 {
     let (number, from) = number_at(bytes, at)?;
     let (count, from) = number_at(bytes, from)?;

@@ -6,7 +6,7 @@ ghost use Rattle.rart_saved.specs.FamilyForms.{place, saved_family, version_behi
 use crate::families::listing::list_settings;
 use crate::head::family_head_of;
 use crate::numbers::put_number;
-use crate::saving::put_sum;
+use crate::sink::Sink;
 use crate::value::SavedValue;
 use rart_family::Family;
 use rart_versioned::{KeyTrait, VersionedAdaptiveRadixTree};
@@ -38,7 +38,7 @@ pub fn save_family_slice<K: KeyTrait, V: SavedValue + Eq>(
         put_place(alloc, &mut bytes, before, version)?;
         before = version.unwrap_or(before);
     }
-    put_sum(&mut bytes)?;
+    bytes.put_sum()?;
     Ok(bytes)
 }
 

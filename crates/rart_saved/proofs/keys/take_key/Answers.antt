@@ -1,56 +1,65 @@
-use Rattle.std.proofs.Common.{◌≡◌, ◌≢◌, ◌<◌, ◌≤◌, ◌^◌, ◌+◌, ◌-◌, ◌++◌, ℕ, List, drop, take, length, subst, ap, ◌∙◌, rules, arith}
-use Rattle.rart_below.specs.Bytes.{common_length}
-use Rattle.rart_saved.specs.Keys.{Follows, IsNext, LacksKey}
-use Rattle.rart_saved.proofs.KeyLemmas.{lacks-shared, lacks-count, lacks-bytes, lacks-next, key-read}
-use Rattle.rart_saved.proofs.PartLemmas.{other_error, part-counted, long-counted}
+use Rattle.std.proofs.Common.{drop, length, sym, subst, ◌∙◌}
+use Rattle.std.proofs.lemmas.Bool.{false≢true}
+use Rattle.rart_below.specs.Bytes.{IsAdmitted}
+use Rattle.rart_saved.specs.Forms.{key_form}
+use Rattle.rart_saved.specs.Keys.{LacksAdmittedKey}
+use Rattle.rart_saved.proofs.KeyLemmas.{key_form-apart, narrowed-both}
+use Rattle.rart_saved.proofs.LengthLemmas.{key_form-long, part-inside}
+use Rattle.rart_saved.proofs.LimitLemmas.{within_passed}
 use Rattle.rart_saved.proofs.keys.take_key.Goals as goal
 
-pub returns-in_err-shared-clause-refused : goal.returns-in_err-shared-clause-refused
-returns-in_err-shared-clause-refused c =
-    let fits : length c.args.key.now.items < 2 ^ 64 = search rules in
-    other_error _ (LacksKey c.args.is_first c.args.key.now.items (drop c.args.at c.args.bytes.now))
-    (lacks-shared c.args.bytes.now c.args.key.now.items c.args.at c.args.is_first fits
-    c.in_err-shared.ensures.refused)
+pub returns-in_err-end-clause-refused : goal.returns-in_err-end-clause-refused
+returns-in_err-end-clause-refused g c =
+    within_passed c.args.longest g.K.KeyTrait.MAXIMUM_SIZE _ c.in_err-end.field-0.0
+    (λ most. LacksAdmittedKey most c.args.is_first c.args.key.now.items
+    (drop c.args.at c.args.bytes.now))
+    c.from_residual.ensures.1
+    (λ other key rest next long. c.in_err-end.ensures.refused other key rest next)
 
-pub returns-in_err-count-clause-refused : goal.returns-in_err-count-clause-refused
-returns-in_err-count-clause-refused c =
-    let fits : length c.args.bytes.now < 2 ^ 64 = search rules in
-    other_error _ (LacksKey c.args.is_first c.args.key.now.items (drop c.args.at c.args.bytes.now))
-    (lacks-count c.args.bytes.now c.args.key.now.items c.args.at _ _ c.args.is_first fits
-    c.in_ok-shared.ensures.read c.in_err-count.ensures.refused)
+pub returns-then-not-is_within-clause-refused : goal.returns-then-not-is_within-clause-refused
+returns-then-not-is_within-clause-refused g c _ key rest next long stands =
+    let same =
+    (key_form-apart c.args.key.now.items c.take_any_key.new.key.items key
+    (drop c.in_ok-end.end c.args.bytes.now) rest
+    (sym c.in_ok-end.ensures.read.stands ∙ stands)).0 in
+    let admitted : IsAdmitted c.MAXIMUM_SIZE.result (length c.deref.result.now) =
+    subst (λ m. IsAdmitted m (length c.deref.result.now)) (sym c.MAXIMUM_SIZE.ensures)
+    (subst (λ k. IsAdmitted g.K.KeyTrait.MAXIMUM_SIZE (length k))
+    (sym (c.deref.ensures.value ∙ same)) long.0) in
+    false≢true (sym c.if-not-is_within.true ∙ c.is_within.ensures.1 admitted)
 
-pub returns-then-count-bytes-clause-refused : goal.returns-then-count-bytes-clause-refused
-returns-then-count-bytes-clause-refused c _ =
-    lacks-bytes c.args.bytes.now c.args.key.now.items c.args.at _ _ _ _ c.args.is_first
-    c.in_ok-shared.ensures.read c.in_ok-count.ensures.read c.if-count-bytes.true
+pub returns-then-not-is_within-clause-points : goal.returns-then-not-is_within-clause-points
+returns-then-not-is_within-clause-points g c =
+    part-inside c.args.bytes.now
+    (key_form c.args.key.now.items c.take_any_key.new.key.items) c.args.at c.in_ok-end.end
+    c.requires.inside (key_form-long c.args.key.now.items c.take_any_key.new.key.items)
+    c.in_ok-end.ensures.read
 
-pub returns-then-not-does_follow-clause-refused : goal.returns-then-not-does_follow-clause-refused
-returns-then-not-does_follow-clause-refused c _ =
-    let inside : c.in_ok-count.from + c.in_ok-count.count ≤ length c.args.bytes.now =
-    omega (arith, c.if-count-bytes.false, c.in_ok-count.ensures.read.within) in
-    let part = take (c.in_ok-count.from + c.in_ok-count.count - c.in_ok-count.from)
-    (drop c.in_ok-count.from c.args.bytes.now) in
-    lacks-next c.args.bytes.now c.args.key.now.items part c.args.at _ c.in_ok-count.from
-    c.in_ok-shared.shared c.in_ok-count.count c.args.is_first
-    c.in_ok-shared.ensures.read c.in_ok-count.ensures.read
-    (part-counted c.args.bytes.now c.in_ok-count.from c.in_ok-count.count inside)
-    (long-counted c.args.bytes.now c.in_ok-count.from c.in_ok-count.count inside)
-    (subst (λ before. (key : List ℕ) → IsNext c.args.is_first before key
-    → c.in_ok-shared.shared ≡ common_length before key → part ≢ drop c.in_ok-shared.shared key)
-    c.deref.ensures.value (c.does_follow.ensures.no c.if-not-does_follow.true))
+pub returns-then-not-is_within-2-clause-refused : goal.returns-then-not-is_within-2-clause-refused
+returns-then-not-is_within-2-clause-refused g c _ key rest next long stands =
+    let same =
+    (key_form-apart c.args.key.now.items c.take_any_key.new.key.items key
+    (drop c.in_ok-end.end c.args.bytes.now) rest
+    (sym c.in_ok-end.ensures.read.stands ∙ stands)).0 in
+    let admitted : IsAdmitted c.args.longest (length c.deref-2.result.now) =
+    subst (λ k. IsAdmitted c.args.longest (length k)) (sym (c.deref-2.ensures.value ∙ same))
+    (narrowed-both c.args.longest g.K.KeyTrait.MAXIMUM_SIZE (length key) long.0).0 in
+    false≢true (sym c.if-not-is_within-2.true ∙ c.is_within-2.ensures.1 admitted)
 
-pub returns-clause-read : goal.returns-clause-read
-returns-clause-read c =
-    let inside : c.in_ok-count.from + c.in_ok-count.count ≤ length c.args.bytes.now =
-    omega (arith, c.if-count-bytes.false, c.in_ok-count.ensures.read.within) in
-    let part = take (c.in_ok-count.from + c.in_ok-count.count - c.in_ok-count.from)
-    (drop c.in_ok-count.from c.args.bytes.now) in
-    key-read c.args.bytes.now c.args.key.now.items c.extend_from_slice.new.self.items part
-    c.args.at _ c.in_ok-count.from
-    c.in_ok-shared.shared c.in_ok-count.count c.args.is_first
-    c.in_ok-shared.ensures.read c.in_ok-count.ensures.read
-    (part-counted c.args.bytes.now c.in_ok-count.from c.in_ok-count.count inside)
-    (long-counted c.args.bytes.now c.in_ok-count.from c.in_ok-count.count inside)
-    (subst (λ before. Follows c.args.is_first before c.in_ok-shared.shared part)
-    c.deref.ensures.value (c.does_follow.ensures.yes c.if-not-does_follow.false))
-    (c.in_ok-extend_from_slice.ensures.items ∙ ap (λ g. g ++ part) c.truncate.ensures.items)
+pub returns-then-not-is_within-2-clause-points : goal.returns-then-not-is_within-2-clause-points
+returns-then-not-is_within-2-clause-points g c =
+    part-inside c.args.bytes.now
+    (key_form c.args.key.now.items c.take_any_key.new.key.items) c.args.at c.in_ok-end.end
+    c.requires.inside (key_form-long c.args.key.now.items c.take_any_key.new.key.items)
+    c.in_ok-end.ensures.read
+
+pub returns-clause-admitted : goal.returns-clause-admitted
+returns-clause-admitted g c =
+    subst (λ k. IsAdmitted g.K.KeyTrait.MAXIMUM_SIZE (length k)) c.deref.ensures.value
+    (subst (λ m. IsAdmitted m (length c.deref.result.now)) c.MAXIMUM_SIZE.ensures
+    (c.is_within.ensures.0 c.if-not-is_within.false))
+
+pub returns-clause-short : goal.returns-clause-short
+returns-clause-short g c =
+    subst (λ k. IsAdmitted c.args.longest (length k)) c.deref-2.ensures.value
+    (c.is_within-2.ensures.0 c.if-not-is_within-2.false)

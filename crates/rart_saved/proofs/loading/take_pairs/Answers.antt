@@ -12,7 +12,7 @@ taking-init g c = (
   subst (λ key. IsTaken g.V.SavedValue.written c.args.bytes.now c.args.at c.args.at
       c.args.tree.now.number 0 key c.args.tree.now) (sym c.new-key.ensures.items)
       (taken-none g.V.SavedValue.written c.args.bytes.now c.args.at c.args.tree.now
-      c.requires.place c.requires.empty),
+      c.requires.inside c.requires.empty),
   within-none c.args.longest c.args.tree.now c.requires.empty,
 )
 

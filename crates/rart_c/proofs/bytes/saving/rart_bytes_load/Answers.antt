@@ -37,4 +37,4 @@ returns-in-Err-clause-gives_back c =
 pub returns-in-Err-clause-tells : goal.returns-in-Err-clause-tells
 returns-in-Err-clause-tells c =
     load-told c.in-Err.error c.args.bytes.now c.tell_unread.result c.args.offset.now
-    c.tell_unread.new.at c.in-Err.ensures.place c.tell_unread.ensures
+    c.tell_unread.new.at c.in-Err.ensures.points c.tell_unread.ensures

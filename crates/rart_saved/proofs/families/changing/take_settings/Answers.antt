@@ -17,7 +17,7 @@ taking-init g c = (
       c.args.latest.now.keys []) (sym c.new-key.ensures.items)
       (made-none g.V.SavedValue.written g.V.PartialEq.eq c.args.before.now.content
       c.args.bytes.now c.args.at c.args.latest.now.tree.content c.args.latest.now.keys
-      c.requires.place c.requires.begins c.requires.counted c.requires.room),
+      c.requires.inside c.requires.begins c.requires.counted c.requires.room),
   within-same c.args.longest c.args.before.now c.args.latest.now.tree (sym c.requires.begins)
       c.requires.short,
 )

@@ -1,4 +1,4 @@
-use Rattle.std.proofs.Common.{◌≡◌, refl, sym, ap, ◌∙◌, rules, of_calls}
+use Rattle.std.proofs.Common.{◌≡◌, refl, ap, rules, of_calls}
 use Rattle.rart_maps.proofs.VisitLemmas.{answers-keep}
 use Rattle.rart_saved.proofs.SettingListLemmas.{settings-listed, settings-room}
 use Rattle.rart_saved.proofs.families.listing.list_settings.Goals as goal

@@ -12,15 +12,15 @@ placing-init g c = record {
       c.args.at c.args.at 0 list c.new-latest.result.tree.content c.new-latest.result.keys)
       (sym c.new-versions.ensures.items)
       (placed-none g.V.SavedValue.written g.V.PartialEq.eq c.args.bytes.now c.args.at
-      c.new-latest.result.tree.content c.new-latest.result.keys c.requires.place
+      c.new-latest.result.tree.content c.new-latest.result.keys c.requires.inside
       c.new-latest.ensures.empty c.new-latest.ensures.counted);
   latest = within-none c.args.longest c.new-latest.result.tree c.new-latest.ensures.empty;
   versions = subst (HasVersionsWithin c.args.longest) (sym c.new-versions.ensures.items)
       (versions-none c.args.longest);
 }
 
-pub take_place-requires-clause-place : goal.take_place-requires-clause-place
-take_place-requires-clause-place g c = c.placing.invariant.placed.part.within
+pub take_place-requires-clause-inside : goal.take_place-requires-clause-inside
+take_place-requires-clause-inside g c = c.placing.invariant.placed.part.within
 
 pub take_place-requires-clause-counted : goal.take_place-requires-clause-counted
 take_place-requires-clause-counted g c = c.placing.invariant.placed.counted

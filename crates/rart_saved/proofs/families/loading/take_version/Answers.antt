@@ -46,7 +46,7 @@ take_settings-requires-clause-room g c =
       c.requires.room,
       c.in_ok-number.ensures.read.within,
       part-end c.args.bytes.now (leb c.in_ok-number.number) c.args.at c.in_ok-number.from
-          c.requires.place c.in_ok-number.ensures.read,
+          c.requires.inside c.in_ok-number.ensures.read,
       part-end c.args.bytes.now (leb c.in_ok-count.count) c.in_ok-number.from c.in_ok-count.from
           c.in_ok-number.ensures.read.within c.in_ok-count.ensures.read,
     )

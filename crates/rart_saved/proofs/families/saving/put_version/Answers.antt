@@ -1,4 +1,4 @@
-use Rattle.std.proofs.Common.{sym, ◌∙◌}
+use Rattle.std.proofs.Common.{◌∙◌}
 use Rattle.rart_saved.proofs.PlaceLemmas.{version_behind-written}
 use Rattle.rart_saved.proofs.families.saving.put_version.Goals as goal
 

@@ -1,4 +1,4 @@
-use Rattle.std.proofs.Common.{◌≡◌, ◌≤◌, [], ◌∷◌, ◌++◌, length, take, subst, sym, ap, ◌∙◌, arith}
+use Rattle.std.proofs.Common.{[], ◌∷◌, ◌++◌, length, take, refl, subst, sym, ap, ◌∙◌, arith}
 use Rattle.std.proofs.lemmas.List.{take_all}
 use Rattle.std.specs.Option.{option_copied}
 use Rattle.rart_maps.specs.Versions.{Version}
@@ -39,10 +39,10 @@ pub returns : goal.returns
 returns g c =
     let start = family_head g.V.SavedValue.KIND ++ leb (length c.args.family.now) in
     family-written g.V.SavedValue.written g.V.PartialEq.eq g.V.SavedValue.KIND
-    c.placing.bytes.items c.put_sum.new.bytes.items c.args.family.now
+    c.placing.bytes.items c.put_sum.new.self.items c.args.family.now
     c.placing.before.now.content
     (subst (λ (ps : Family g.row.V.Denot). IsWritten g.V.SavedValue.written g.V.PartialEq.eq
     start c.placing.bytes.items ps c.placing.before.now.content)
     (take_all c.placing.place c.args.family.now
     (omega (arith, c.placing-test.false, c.len-place-end.ensures))) c.placing.invariant)
-    c.in_ok-put_sum.ensures
+    (c.in_ok-put_sum.ensures c.placing.bytes c.placing.bytes.items refl)

@@ -1,4 +1,4 @@
-use Rattle.std.proofs.Common.{arith, take, subst}
+use Rattle.std.proofs.Common.{arith, subst}
 use Rattle.std.proofs.lemmas.List.{take_all}
 use Rattle.std.specs.Prelude.{IfSome}
 use Rattle.rart_family.specs.Families.{Family}

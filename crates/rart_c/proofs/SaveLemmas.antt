@@ -1,17 +1,18 @@
 -- Trees as bytes: what is told of them, and which tree bytes are.
-use Rattle.std.proofs.Common.{◌≡◌, ◌≢◌, ◌≤◌, ◌⊎◌, ℕ, List, ◌++◌, Ok, Err, drop, inl, inr, length, take, refl, sym, subst, ◌∙◌, ⊎_elim, Result, arith}
+use Rattle.std.proofs.Common.{◌≡◌, ◌≢◌, ◌≤◌, ◌⊎◌, ℕ, List, ◌++◌, Some, Ok, Err, drop, inl, inr, length, take, refl, sym, subst, ◌∙◌, ⊎_elim, Result, arith}
 use Rattle.std.proofs.Math.Seq.{take-append_seam, drop-append_seam}
 use Rattle.std.specs.Prelude.{IfOk}
 use Rattle.std.specs.declared.alloc.AllocError.{AllocError}
-use Rattle.rart_c.specs.AnswerLaws.{LoadsTell, SavesTell, UnreadTells}
+use Rattle.rart_c.specs.AnswerLaws.{LengthsTell, LoadsGiveBack, LoadsTell, SavesTell, UnreadTells}
 use Rattle.rart_c.specs.Answers.{TellsFound, TellsUnread, TellsWritten}
 use Rattle.rart_c.specs.Saves.{ExplainsLoad, GivesBack, Saves, TellsLength, TellsLoad, TellsNoByte}
-use Rattle.rart_c.specs.declared.answer.TheConstants.{DONE, MALFORMED, TOO_LONG, WRONG_SUM}
+use Rattle.rart_c.specs.declared.answer.TheConstants.{DONE, MALFORMED, NO_MEMORY, TOO_LONG, WRONG_SUM}
 use Rattle.rart_maps.specs.Versions.{Version}
 use Rattle.rart_saved.specs.declared.error.LoadError.{LoadError}
 use Rattle.rart_saved.specs.declared.error.LoadError.TheVariants.{Io, Memory, Truncated, Malformed, TooLong, Checksum, Unsupported}
 use Rattle.rart_saved.specs.Fills.{Fills}
 use Rattle.rart_saved.specs.Forms.{saved}
+use Rattle.rart_saved.specs.Loads.{HasKeysWithin}
 use Rattle.rart_saved.specs.Refusals.{PointsInto}
 use Rattle.rart_saved.proofs.SavedLemmas.{forms-of_one}
 
@@ -103,6 +104,35 @@ loads_tell bytes answer before after (inl byte) = (
 loads_tell bytes answer before after (inr none) =
     let apart = no_byte answer none.0 in
     (λ form. absurd (apart.0 form), λ long. absurd (apart.1 long), λ _ _. none.1, apart.2)
+
+pub lengths_tell : LengthsTell
+lengths_tell bytes answer before after (inl done) =
+    (λ _. done.1, λ memory. absurd (omega (arith, done.0, memory)), inl done.0)
+lengths_tell bytes answer before after (inr refused) =
+    (λ done. absurd (omega (arith, refused.0, done)), λ _. refused.1, inr refused.0)
+
+-- By each of the three answers that a load of a version's bytes has.
+told-back : {V : Type 0} (longest answer : ℕ) (v found : Version V)
+    → ((answer ≡ DONE) × (found ≡ v))
+    ⊎ ((answer ≡ NO_MEMORY) ⊎ ((answer ≡ TOO_LONG) × ¬ (HasKeysWithin (Some longest) v)))
+    → (answer ≡ DONE → found ≡ v) × (HasKeysWithin (Some longest) v → answer ≢ TOO_LONG)
+    × ((answer ≡ DONE) ⊎ ((answer ≡ NO_MEMORY) ⊎ (answer ≡ TOO_LONG)))
+told-back longest answer v found (inl done) =
+    (λ _. done.1, λ _ long. absurd (omega (arith, done.0, long)), inl done.0)
+told-back longest answer v found (inr (inl memory)) = (
+  λ done. absurd (omega (arith, memory, done)),
+  λ _ long. absurd (omega (arith, memory, long)),
+  inr (inl memory),
+)
+told-back longest answer v found (inr (inr long)) = (
+  λ done. absurd (omega (arith, long.0, done)),
+  λ within _. long.1 within,
+  inr (inr long.0),
+)
+
+pub loads_give_back : (V : Type 0) → LoadsGiveBack V
+loads_give_back V written kind longest answer v found is back =
+    told-back longest answer v found (back v is refl)
 
 pub load-told : (error : LoadError) (bytes : List ℕ) (answer before after : ℕ)
     → PointsInto bytes error → TellsUnread error answer before after

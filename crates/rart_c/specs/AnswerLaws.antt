@@ -6,12 +6,14 @@ use Rattle.rart_c.specs.Equality.{TellsEqual}
 use Rattle.rart_c.specs.Firsts.{ReadsFirst, TellsFirst}
 use Rattle.rart_c.specs.Pages.{TellsPage, WritesPage, first_length, keys_of}
 use Rattle.rart_c.specs.Reads.{Reads}
-use Rattle.rart_c.specs.Saves.{Saves, TellsLoad}
+use Rattle.rart_c.specs.Saves.{GivesBack, Saves, TellsLength, TellsLoad}
 use Rattle.rart_c.specs.declared.answer.TheConstants.{DONE, ABSENT, DIFFERENT, LAST_NUMBER, MALFORMED, NO_MEMORY, NO_ENTRIES, TOO_LONG, TOO_SMALL, WRONG_SUM}
 use Rattle.rart_c.specs.declared.paging.RartEntry.{RartEntry}
-use Rattle.rart_maps.specs.Versions.{Map}
+use Rattle.rart_maps.specs.Versions.{Map, Version}
 use Rattle.rart_saved.specs.declared.error.LoadError.{LoadError}
 use Rattle.rart_saved.specs.declared.error.LoadError.TheVariants.{Io, Memory}
+use Rattle.rart_saved.specs.Forms.{IsVersionOf, saved}
+use Rattle.rart_saved.specs.Loads.{HasKeysWithin}
 
 -- The value is what is written, and there is none where nothing is. No other answer is told.
 abbrev pub AnswersTell : Type 0 → Type 0
@@ -128,3 +130,17 @@ abbrev pub LoadsTell : Type 0
 LoadsTell = (bytes : List ℕ) (answer before after : ℕ) → TellsLoad bytes answer before after
     → (answer ≡ MALFORMED → after < length bytes) × (answer ≡ TOO_LONG → after < length bytes)
     × (answer ≢ MALFORMED → answer ≢ TOO_LONG → after ≡ before) × (answer ≤ WRONG_SUM)
+
+-- How many bytes a version has is told, or nothing is, for memory alone.
+abbrev pub LengthsTell : Type 0
+LengthsTell = (bytes : List ℕ) (answer before after : ℕ) → TellsLength bytes answer before after
+    → (answer ≡ DONE → after ≡ length bytes) × (answer ≡ NO_MEMORY → after ≡ before)
+    × ((answer ≡ DONE) ⊎ (answer ≡ NO_MEMORY))
+
+-- A load of a version's bytes makes that version, where it answers so. It tells that a key is too
+-- long only where one is, and else no other answer than that memory was refused.
+abbrev pub LoadsGiveBack : Type 0 → Type 0
+LoadsGiveBack V = (written : V → List ℕ) (kind longest answer : ℕ) (v found : Version V)
+    → IsVersionOf None v → GivesBack written kind longest (saved written kind v) answer found
+    → (answer ≡ DONE → found ≡ v) × (HasKeysWithin (Some longest) v → answer ≢ TOO_LONG)
+    × ((answer ≡ DONE) ⊎ ((answer ≡ NO_MEMORY) ⊎ (answer ≡ TOO_LONG)))

@@ -1,6 +1,6 @@
 //! What the numbers that C reads are, and what they tell.
 ghost use Rattle.std.specs.Prelude.{◌≡◌, [], ◌∷◌};
-ghost use Rattle.rart_c.specs.AnswerLaws.{AnswersTell, ReadsTell, FirstsTell, FirstStringsTell, RefusalsTell, PagesTell, PageAnswersTell, EqualityTells, LoadsTell, SavesTell, UnreadTells};
+ghost use Rattle.rart_c.specs.AnswerLaws.{AnswersTell, ReadsTell, FirstsTell, FirstStringsTell, RefusalsTell, PagesTell, PageAnswersTell, EqualityTells, LengthsTell, LoadsGiveBack, LoadsTell, SavesTell, UnreadTells};
 ghost use Rattle.rart_c.specs.Differences.{DifferenceIsOfPairs, IntersectionIsOfKeys};
 ghost use Rattle.rart_c.specs.WorkedWords.{WorkedAdditions, WorkedBounds, WorkedComparisons, WorkedStrings, CountIsTold, LongestIsTold};
 ghost use Rattle.rart_c.specs.declared.answer.TheConstants.{DONE, ABSENT, LAST_NUMBER, NO_MEMORY, TOO_SMALL, NO_ENTRIES, TOO_LONG, NOT_EMPTY, DIFFERENT, TRUNCATED, UNSUPPORTED, MALFORMED, WRONG_SUM};
@@ -18,7 +18,7 @@ pub fn numbers_are_those_of_the_header()
 {}
 
 /// By an answer and what is written a caller knows what was found, whether trees are equal, what a
-/// version's bytes are, and why bytes were not read.
+/// version's bytes are and how many, which version bytes are, and why bytes were not read.
 pub fn answers_tell<X>()
     ensures values { AnswersTell X }
     ensures strings { ReadsTell }
@@ -31,6 +31,8 @@ pub fn answers_tell<X>()
     ensures saved { SavesTell }
     ensures unread { UnreadTells }
     ensures loads { LoadsTell }
+    ensures lengths { LengthsTell }
+    ensures given_back { LoadsGiveBack X }
 {}
 
 /// The difference of two maps has the pairs that the one has and the other hasn't, where equal

@@ -21,3 +21,4 @@ pub mod SinkLemmas
 pub mod ValueLemmas
 pub mod WorkedFamilyLemmas
 pub mod WorkedFormLemmas
+pub mod ChangeListLemmas

@@ -16,3 +16,4 @@ pub mod SavedLaws
 pub mod Values
 pub mod WorkedFamilies
 pub mod WorkedForms
+pub mod ChangeListLaws

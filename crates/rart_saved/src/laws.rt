@@ -10,6 +10,7 @@ ghost use Rattle.rart_saved.specs.SavedLaws.{FormsAreOfOne, FormsStandApart};
 ghost use Rattle.rart_saved.specs.declared.error.LoadError.TheVariants.{Io, Memory};
 ghost use Rattle.rart_saved.specs.WorkedForms.{NumberOfOneByte, NumberOfTwoBytes, GreatestNumber, NumberAsValue, EmptyVersion, GreatestVersion, EmptyKey, KeysInKeys, SumBehind};
 
+pub mod change_lists;
 mod families;
 
 use crate::changes::loading::load_changes_slice;

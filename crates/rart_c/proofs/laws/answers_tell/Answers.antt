@@ -1,5 +1,5 @@
 use Rattle.rart_c.proofs.AnswerLawLemmas.{answers_tell, reads_tell, firsts_tell, first_strings_tell, page_answers_tell, pages_tell, refusals_tell, equality_tells}
-use Rattle.rart_c.proofs.SaveLemmas.{loads_tell, saves_tell, unread_tells}
+use Rattle.rart_c.proofs.SaveLemmas.{lengths_tell, loads_give_back, loads_tell, saves_tell, unread_tells}
 use Rattle.rart_c.proofs.laws.answers_tell.Goals as goal
 
 pub returns-clause-values : goal.returns-clause-values
@@ -34,3 +34,9 @@ returns-clause-unread g c = unread_tells
 
 pub returns-clause-loads : goal.returns-clause-loads
 returns-clause-loads g c = loads_tell
+
+pub returns-clause-lengths : goal.returns-clause-lengths
+returns-clause-lengths g c = lengths_tell
+
+pub returns-clause-given_back : goal.returns-clause-given_back
+returns-clause-given_back g c = loads_give_back _

@@ -22,7 +22,7 @@
 //! library is refused or a copy of a key, of a value or of a page. A call that answers none panics.
 //!
 //! A map and all that came from it stay on one thread, and maps that have nothing to do with each
-//! other may be on several. It runs on Linux on x86-64-v2, with Rust 1.85 or later.
+//! other may be on several. An [`Unshared`] map goes to other threads, and several can read it. It runs on Linux on x86-64-v2, with Rust 1.85 or later.
 #![warn(missing_docs)]
 #![deny(unsafe_code)]
 
@@ -43,6 +43,7 @@ mod raw;
 mod saving;
 #[allow(unsafe_code)]
 mod sys;
+mod unshared;
 mod value;
 mod walk;
 
@@ -54,4 +55,5 @@ pub use key_range::KeyRange;
 pub use map::{Map, VersionedBytes, VersionedMap};
 #[cfg(feature = "refusals")]
 pub use sys::refusals;
+pub use unshared::Unshared;
 pub use value::{Given, Value};

@@ -13,7 +13,8 @@ use std::ops::Bound;
 /// An ordered map from byte strings to values, of which snapshots change independently: a
 /// [`VersionedMap`] or a [`VersionedBytes`].
 ///
-/// Reads take `&self` and change nothing. Neither `Send` nor `Sync`: maps share nodes.
+/// Reads take `&self` and change nothing. Neither `Send` nor `Sync`, since maps share nodes: for
+/// threads there is [`Unshared`](crate::Unshared).
 ///
 /// ```compile_fail
 /// fn sends<T: Send>(_: T) {}

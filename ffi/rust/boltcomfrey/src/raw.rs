@@ -1,5 +1,5 @@
 //! The proved calls as safe functions. All `unsafe` of this crate stands here, in `sys` and in
-//! `memory`.
+//! `memory`; `unshared` has two promises to the compiler.
 use crate::error::{LoadError, Refusal};
 use crate::memory::{copied, lengthen};
 use crate::sys::{

@@ -18,7 +18,7 @@ use std::ops::Bound;
 /// }
 /// assert_eq!(keys(&VersionedMap::new()) + keys(&VersionedBytes::new()), 0);
 /// ```
-pub trait Value: Calls + Clone + Ord + Hash {}
+pub trait Value: Calls + Clone + Ord + Hash + 'static {}
 
 impl Value for u64 {}
 

@@ -17,6 +17,7 @@
 #include <stdbool.h>
 #include <stddef.h>
 #include <stdint.h>
+#include <string.h>
 
 // The library is built for 64 bits: elsewhere this array has no length that it may have.
 typedef char rart_is_built_for_64_bits[sizeof(size_t) == 8 && sizeof(void *) == 8 ? 1 : -1];
@@ -1266,6 +1267,237 @@ static inline rart_answer rart_bytes_load_any(rart_bytes *RART_ALONE tree,
         bytes_len, offset);
 }
 #define rart_bytes_load(...) rart_bytes_load_any(__VA_ARGS__)
+
+// The bounds of a walk, the kind of each, and in which order it goes: copies that the walk has of its
+// own. Keys and prefixes of up to so many bytes have room.
+#ifndef RART_WALK_ROOM
+#define RART_WALK_ROOM 2048
+#endif
+typedef struct rart_walk_bounds {
+    size_t low_len, high_len;
+    uint8_t low_kind, high_kind;
+    bool goes_back;
+    uint8_t low[RART_WALK_ROOM], high[RART_WALK_ROOM];
+} rart_walk_bounds;
+
+// Sets bounds from low on, or from the first key on where it has no byte, up to high, which isn't
+// met, or to the last key where it has no byte. Answers RART_TOO_LONG where one has no room.
+static inline rart_answer rart_walk_bound(rart_walk_bounds *bounds, const void *low, size_t low_len,
+                                          const void *high, size_t high_len) {
+    if (low_len > RART_WALK_ROOM || high_len > RART_WALK_ROOM) {
+        return RART_TOO_LONG;
+    }
+    if (low_len > 0) {
+        memcpy(bounds->low, low, low_len);
+    }
+    if (high_len > 0) {
+        memcpy(bounds->high, high, high_len);
+    }
+    bounds->low_len = low_len;
+    bounds->low_kind = RART_INCLUDED;
+    bounds->high_len = high_len;
+    bounds->high_kind = high_len > 0 ? RART_EXCLUDED : RART_UNBOUNDED;
+    bounds->goes_back = false;
+    return RART_DONE;
+}
+
+// Sets bounds to the keys that a prefix begins.
+static inline rart_answer rart_walk_bound_prefix(rart_walk_bounds *bounds, const void *prefix,
+                                                 size_t len) {
+    rart_answer answer = rart_walk_bound(bounds, prefix, len, prefix, len);
+    if (answer == RART_DONE) {
+        bounds->high_len = rart_prefix_end(bounds->high, len);
+        bounds->high_kind = bounds->high_len > 0 ? RART_EXCLUDED : RART_UNBOUNDED;
+    }
+    return answer;
+}
+
+// Sets the bound that comes next to a key, which was given last.
+static inline void rart_walk_bound_past(rart_walk_bounds *bounds, const uint8_t *key, size_t len) {
+    memcpy(bounds->goes_back ? bounds->high : bounds->low, key, len);
+    if (bounds->goes_back) {
+        bounds->high_len = len;
+        bounds->high_kind = RART_EXCLUDED;
+    } else {
+        bounds->low_len = len;
+        bounds->low_kind = RART_EXCLUDED;
+    }
+}
+
+// A walk over pairs of a tree of numbers, by pages:
+//
+//     rart_walk walk;
+//     rart_walk_prefix(&walk, &tree, "te", 2);
+//     while (rart_walk_next(&walk)) {
+//         use(walk.key, walk.key_len, walk.value);
+//     }
+//
+// The key stands in the walk until the next step. The walk ends in any case, and then answer says
+// why: RART_ABSENT that all pairs were given, RART_TOO_LONG that a bound has more bytes than
+// RART_WALK_ROOM, RART_TOO_SMALL that the next key has, whose length is needed; a program may define
+// RART_WALK_ROOM before it includes this header. It is never refused for memory. The tree may be
+// changed meanwhile: each pair that is there all the time is given once, and one that is set or taken
+// out meanwhile may be given as it was. A walk is tested, and not proved; the pages under it are
+// proved.
+typedef struct rart_walk {
+    const uint8_t *key;
+    size_t key_len;
+    uint64_t value;
+    rart_answer answer;
+    size_t needed;
+    // how far it has come
+    rart_tree *tree;
+    size_t at, count, start;
+    rart_walk_bounds bounds;
+    uint8_t bytes[RART_WALK_ROOM];
+    rart_entry entries[64];
+} rart_walk;
+
+// Over the pairs from low on, up to high, which isn't met. Without bytes the one is the first key,
+// the other the end.
+static inline void rart_walk_range(rart_walk *walk, rart_tree *tree, const void *low,
+                                   size_t low_len, const void *high, size_t high_len) {
+    walk->tree = tree;
+    walk->at = walk->count = 0;
+    walk->answer = rart_walk_bound(&walk->bounds, low, low_len, high, high_len);
+}
+
+// Over the pairs whose key the prefix begins.
+static inline void rart_walk_prefix(rart_walk *walk, rart_tree *tree, const void *prefix,
+                                    size_t len) {
+    walk->tree = tree;
+    walk->at = walk->count = 0;
+    walk->answer = rart_walk_bound_prefix(&walk->bounds, prefix, len);
+}
+
+// Over all pairs.
+static inline void rart_walk_all(rart_walk *walk, rart_tree *tree) {
+    rart_walk_range(walk, tree, NULL, 0, NULL, 0);
+}
+
+// Has a walk that has given no pair yet go from the last one back.
+static inline void rart_walk_back(rart_walk *walk) {
+    walk->bounds.goes_back = true;
+}
+
+// Goes on to the next pair, and tells whether there is one.
+static inline bool rart_walk_next(rart_walk *walk) {
+    rart_walk_bounds *bounds = &walk->bounds;
+    if (walk->at == walk->count) {
+        if (walk->answer != RART_DONE) {
+            return false;
+        }
+        if (walk->count > 0) {
+            rart_walk_bound_past(bounds, walk->key, walk->key_len);
+        }
+        walk->answer = (bounds->goes_back ? (rart_page_back) : (rart_page))(
+            walk->tree, bounds->low, bounds->low_len, bounds->low_kind, bounds->high,
+            bounds->high_len, bounds->high_kind, walk->bytes, sizeof walk->bytes, walk->entries,
+            sizeof walk->entries / sizeof *walk->entries, &walk->count, &walk->needed);
+        walk->at = walk->start = 0;
+        if (walk->answer != RART_DONE) {
+            walk->count = 0;
+            return false;
+        }
+    }
+    const rart_entry *entry = &walk->entries[walk->at++];
+    walk->key = walk->bytes + walk->start;
+    walk->key_len = entry->end - walk->start;
+    walk->value = entry->value;
+    walk->start = entry->end;
+    return true;
+}
+
+// As rart_walk, over a tree of byte strings. The program hands in a room, which has the keys and
+// values of a page. RART_TOO_SMALL says that the next key, of needed bytes, and its value, of
+// value_needed bytes, are longer than the room: rart_bytes_walk_room gives the walk another one, and
+// it goes on with that pair.
+typedef struct rart_bytes_walk {
+    const uint8_t *key;
+    size_t key_len;
+    const uint8_t *value;
+    size_t value_len;
+    rart_answer answer;
+    size_t needed, value_needed;
+    // how far it has come
+    rart_bytes *tree;
+    uint8_t *room;
+    size_t room_len, at, count, start;
+    rart_walk_bounds bounds;
+    rart_bytes_entry entries[64];
+} rart_bytes_walk;
+
+static inline void rart_bytes_walk_begin(rart_bytes_walk *walk, rart_bytes *tree, void *room,
+                                         size_t room_len) {
+    walk->tree = tree;
+    walk->room = room_len > 0 ? (uint8_t *)room : (uint8_t *)&rart_nowhere;
+    walk->room_len = room_len;
+    walk->at = walk->count = 0;
+}
+
+static inline void rart_bytes_walk_range(rart_bytes_walk *walk, rart_bytes *tree, void *room,
+                                         size_t room_len, const void *low, size_t low_len,
+                                         const void *high, size_t high_len) {
+    rart_bytes_walk_begin(walk, tree, room, room_len);
+    walk->answer = rart_walk_bound(&walk->bounds, low, low_len, high, high_len);
+}
+
+static inline void rart_bytes_walk_prefix(rart_bytes_walk *walk, rart_bytes *tree, void *room,
+                                          size_t room_len, const void *prefix, size_t len) {
+    rart_bytes_walk_begin(walk, tree, room, room_len);
+    walk->answer = rart_walk_bound_prefix(&walk->bounds, prefix, len);
+}
+
+static inline void rart_bytes_walk_all(rart_bytes_walk *walk, rart_bytes *tree, void *room,
+                                       size_t room_len) {
+    rart_bytes_walk_range(walk, tree, room, room_len, NULL, 0, NULL, 0);
+}
+
+static inline void rart_bytes_walk_back(rart_bytes_walk *walk) {
+    walk->bounds.goes_back = true;
+}
+
+// Gives a walk that has ended for want of room another one, of which it goes on.
+static inline void rart_bytes_walk_room(rart_bytes_walk *walk, void *room, size_t room_len) {
+    walk->room = room_len > 0 ? (uint8_t *)room : (uint8_t *)&rart_nowhere;
+    walk->room_len = room_len;
+    if (walk->answer == RART_TOO_SMALL) {
+        walk->answer = RART_DONE;
+    }
+}
+
+static inline bool rart_bytes_walk_next(rart_bytes_walk *walk) {
+    rart_walk_bounds *bounds = &walk->bounds;
+    if (walk->at == walk->count) {
+        if (walk->answer != RART_DONE) {
+            return false;
+        }
+        if (walk->count > 0 && walk->key_len > RART_WALK_ROOM) {
+            walk->answer = RART_TOO_LONG;
+            return false;
+        }
+        if (walk->count > 0) {
+            rart_walk_bound_past(bounds, walk->key, walk->key_len);
+        }
+        walk->answer = (bounds->goes_back ? (rart_bytes_page_back) : (rart_bytes_page))(
+            walk->tree, bounds->low, bounds->low_len, bounds->low_kind, bounds->high,
+            bounds->high_len, bounds->high_kind, walk->room, walk->room_len, walk->entries,
+            sizeof walk->entries / sizeof *walk->entries, &walk->count, &walk->needed,
+            &walk->value_needed);
+        walk->at = walk->start = 0;
+        if (walk->answer != RART_DONE) {
+            walk->count = 0;
+            return false;
+        }
+    }
+    const rart_bytes_entry *entry = &walk->entries[walk->at++];
+    walk->key = walk->room + walk->start;
+    walk->key_len = entry->key_end - walk->start;
+    walk->value = walk->room + entry->key_end;
+    walk->value_len = entry->end - entry->key_end;
+    walk->start = entry->end;
+    return true;
+}
 
 #ifdef __cplusplus
 }

@@ -38,29 +38,13 @@ static void undo(struct prices *prices) {
     }
 }
 
-// Shows the prices of names that a prefix begins, by pages. Each has room for a name, as main set how
-// long one may be.
+// Shows the prices of names that a prefix begins.
 static void show_under(struct prices *prices, const char *prefix) {
-    uint8_t low[MOST_BYTES], high[MOST_BYTES], names[256];
-    rart_entry entries[16];
-    size_t low_len = strlen(prefix), count, needed;
-    uint8_t low_kind = RART_INCLUDED;
-    if (low_len > MOST_BYTES) {
-        return;
-    }
-    memcpy(low, prefix, low_len);
-    memcpy(high, prefix, low_len);
-    size_t high_len = rart_prefix_end(high, low_len);
-    uint8_t high_kind = high_len > 0 ? RART_EXCLUDED : RART_UNBOUNDED;
-    while (rart_page(&prices->now, low, low_len, low_kind, high, high_len, high_kind, names,
-                     sizeof names, entries, 16, &count, &needed) == RART_DONE) {
-        for (size_t at = 0, start = 0; at < count; start = entries[at++].end) {
-            low_len = entries[at].end - start;
-            memcpy(low, names + start, low_len);
-            printf("%.*s is %llu\n", (int)low_len, (const char *)low,
-                   (unsigned long long)entries[at].value);
-        }
-        low_kind = RART_EXCLUDED; // (the next page begins behind the last name)
+    rart_walk walk;
+    rart_walk_prefix(&walk, &prices->now, prefix, strlen(prefix));
+    while (rart_walk_next(&walk)) {
+        printf("%.*s is %llu\n", (int)walk.key_len, (const char *)walk.key,
+               (unsigned long long)walk.value);
     }
 }
 

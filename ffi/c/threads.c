@@ -1,5 +1,6 @@
 // That a read stores nothing in a tree, nor in what it leads to: several threads read two trees at
-// once. (They are only read so here: what comes from one tree stays on one thread.) And that trees
+// once, by each call that reads. (They are only read so here, and by the Rust crate's `Unshared`: what
+// comes from one tree stays on one thread.) And that trees
 // that have nothing to do with each other may be on several: each thread changes two of its own.
 #include "boltcomfrey.h"
 #include "expect.h"
@@ -14,7 +15,7 @@ struct trees {
     rart_bytes strings;
 };
 
-static struct trees common;
+static struct trees common, twin; // of the same pairs
 
 // (no two pointers of one call are one)
 static const uint8_t none[1];
@@ -107,9 +108,44 @@ static size_t pairs_of_strings(rart_bytes *tree) {
     return pairs;
 }
 
+// The reads that go through all pairs.
+static void read_wholly(struct trees *trees) {
+    uint8_t room[PAGE * KEY];
+    size_t numbers = 0, strings = 0, len, told;
+    rart_walk walk;
+    rart_bytes_walk texts;
+    rart_walk_all(&walk, &trees->numbers);
+    for (rart_walk_back(&walk); rart_walk_next(&walk);) {
+        numbers++;
+    }
+    rart_bytes_walk_all(&texts, &trees->strings, room, sizeof room);
+    for (rart_bytes_walk_back(&texts); rart_bytes_walk_next(&texts);) {
+        strings++;
+    }
+    EXPECT(numbers == KEYS && strings == KEYS);
+    EXPECT(rart_common(&trees->numbers, &twin.numbers) == KEYS);
+    EXPECT(rart_bytes_common(&trees->strings, &twin.strings) == KEYS);
+    EXPECT(rart_equals(&trees->numbers, &twin.numbers) == RART_DONE);
+    EXPECT(rart_bytes_equals(&trees->strings, &twin.strings) == RART_DONE);
+    EXPECT(rart_saved_len(&trees->numbers, &len) == RART_DONE);
+    uint8_t *file = (uint8_t *)malloc(len);
+    EXPECT(file != NULL && rart_save(&trees->numbers, file, len, &told) == RART_DONE);
+    EXPECT(told == len);
+    free(file);
+    EXPECT(rart_bytes_saved_len(&trees->strings, &len) == RART_DONE);
+    file = (uint8_t *)malloc(len);
+    EXPECT(file != NULL && rart_bytes_save(&trees->strings, file, len, &told) == RART_DONE);
+    EXPECT(told == len);
+    free(file);
+}
+
 static void read_all(struct trees *trees) {
     EXPECT(rart_version(&trees->numbers) == KEYS && rart_bytes_version(&trees->strings) == KEYS);
     EXPECT(rart_len(&trees->numbers) == KEYS && rart_bytes_len(&trees->strings) == KEYS);
+    EXPECT(!rart_is_empty(&trees->numbers) && !rart_bytes_is_empty(&trees->strings));
+    EXPECT(rart_longest_key(&trees->numbers) == RART_LONGEST_KEY);
+    EXPECT(rart_bytes_longest_key(&trees->strings) == RART_LONGEST_KEY);
+    read_wholly(trees);
     for (size_t number = 0; number < KEYS; number++) {
         read_number(&trees->numbers, number);
         read_string(&trees->strings, number);
@@ -139,6 +175,7 @@ static void *run(void *unused) {
 int main(void) {
     pthread_t threads[THREADS];
     fill(&common);
+    fill(&twin);
     for (size_t at = 0; at < THREADS; at++) {
         EXPECT(pthread_create(&threads[at], NULL, run, NULL) == 0);
     }
@@ -146,6 +183,7 @@ int main(void) {
         EXPECT(pthread_join(threads[at], NULL) == 0);
     }
     clear(&common);
+    clear(&twin);
     puts("threads read trees at once, and change others");
     return 0;
 }

@@ -184,7 +184,8 @@ fn next_within<K: KeyTrait, V: Drop, W: RangeWalker<V>>(
     end: Bound<&[u8]>,
 ) -> Result<Option<(K, W::Lent)>, AllocError>
     requires { IsRangeWalk W.left W.is_sound W.comes_before K.MAXIMUM_SIZE walk.old }
-    ensures walk { OnOk result (IsRangeWalk W.left W.is_sound W.comes_before K.MAXIMUM_SIZE walk.new) }
+    ensures walk { OnOk result
+        (IsRangeWalk W.left W.is_sound W.comes_before K.MAXIMUM_SIZE walk.new) }
     ensures gives { let end = bound_map (λ end. end.now) end.entry in IfOk result (λ entry.
         EntryGives K.bytes W.value (pairs_within (W.is_within end) (W.left walk.old)) entry
         (pairs_within (W.is_within end) (W.left walk.new))) }

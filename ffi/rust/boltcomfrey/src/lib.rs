@@ -48,7 +48,7 @@ mod value;
 mod walk;
 
 pub use both::{Common, Diff};
-pub use entry::Entry;
+pub use entry::{Entry, InsertError, OccupiedEntry, VacantEntry};
 pub use error::{LoadError, Refusal};
 pub use iter::{IntoIter, Iter, Keys, Lent, Range, Values};
 pub use key_range::KeyRange;

@@ -1,4 +1,5 @@
 //! A map that shares nothing, for programs with threads.
+use crate::entry::{Entry, InsertError, OccupiedEntry};
 use crate::error::{LoadError, Refusal, unrefused};
 use crate::iter::{Iter, Keys, Range, Values};
 use crate::key_range::KeyRange;
@@ -175,6 +176,21 @@ impl<V: Value> Unshared<V> {
         add(key: impl AsRef<[u8]>, value: impl Given<V>) -> Result<bool, Refusal>;
         replace(key: impl AsRef<[u8]>, value: impl Given<V>) -> Result<bool, Refusal>;
         try_retain(keeps: impl FnMut(&[u8], &V) -> bool) -> Result<(), Refusal>;
+        entry(key: impl AsRef<[u8]>) -> Entry<'_, V>;
+        try_entry(key: impl AsRef<[u8]>) -> Result<Entry<'_, V>, Refusal>;
+        first_entry() -> Option<OccupiedEntry<'_, V>>;
+        try_first_entry() -> Result<Option<OccupiedEntry<'_, V>>, Refusal>;
+        last_entry() -> Option<OccupiedEntry<'_, V>>;
+        try_last_entry() -> Result<Option<OccupiedEntry<'_, V>>, Refusal>;
+    }
+
+    /// As [`Map::try_insert`].
+    pub fn try_insert<T: Given<V>>(
+        &mut self,
+        key: impl AsRef<[u8]>,
+        value: T,
+    ) -> Result<(), InsertError<'_, V, T>> {
+        self.map.try_insert(key, value)
     }
 
     /// As [`Map::try_extend`].

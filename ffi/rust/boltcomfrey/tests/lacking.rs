@@ -1,7 +1,7 @@
 //! Every call that answers a `Result`, with each request for Rust's memory refused in turn: it
 //! answers that memory lacks, and the map is as before. (The library's own requests go past Rust's
 //! allocator; tests/refused.rs refuses those.)
-use boltcomfrey::{Given, Lent, LoadError, Map, Refusal, Value};
+use boltcomfrey::{Given, InsertError, Lent, LoadError, Map, Refusal, Value};
 use std::alloc::{GlobalAlloc, Layout, System};
 use std::borrow::Borrow;
 use std::cell::Cell;
@@ -224,12 +224,44 @@ fn try_entries<V: Sample + Default>() {
         });
         takes_none::<V, _>(|map, lack| {
             let entry = map.entry(key);
+            lack.of(|| entry.insert_entry(V::default()).map(drop))
+        });
+        takes_none::<V, _>(|map, lack| {
+            let entry = map.entry(key);
             lack.of(|| entry.remove())
         });
         takes_none::<V, _>(|map, lack| {
             let entry = map.entry(key);
-            lack.of(|| entry.and_modify(|value| *value = V::default()).map(drop))
+            lack.of(|| entry.and_modify(|value| *value = V::default()).finish())
         });
+    }
+}
+
+fn try_keys<V: Sample + Default>() {
+    let (long, new) = (&key(99), "new");
+    for key in [new.as_bytes(), long] {
+        copies::<V, _>(|map, lack| lack.of(|| Ok(map.try_entry(key)?.get().is_some())));
+    }
+    copies::<V, _>(|map, lack| lack.of(|| Ok(map.try_first_entry()?.is_some())));
+    copies::<V, _>(|map, lack| lack.of(|| Ok(map.try_last_entry()?.is_some())));
+    takes_none::<V, _>(|map, lack| {
+        let mut entry = map.last_entry().expect("a pair");
+        lack.of(|| entry.insert(V::default()).map(drop))
+    });
+    takes_none::<V, _>(|map, lack| {
+        let entry = map.last_entry().expect("a pair");
+        lack.of(|| entry.remove_entry())
+    });
+    takes_none::<V, _>(|map, lack| lack.of(|| is_new(map.try_insert(new, V::LONG))));
+    copies::<V, _>(|map, lack| lack.of(|| is_new(map.try_insert(long, V::LONG))));
+}
+
+/// Whether a key was set that had to be new.
+fn is_new<V: Value, T>(told: Result<(), InsertError<'_, V, T>>) -> Result<bool, Refusal> {
+    match told {
+        Ok(()) => Ok(true),
+        Err(InsertError::Occupied { .. }) => Ok(false),
+        Err(InsertError::Refused(refusal)) => Err(refusal),
     }
 }
 
@@ -282,6 +314,7 @@ fn refused_calls_change_nothing() {
     try_reads::<u64>();
     try_changes::<u64>();
     try_entries::<u64>();
+    try_keys::<u64>();
     try_many::<u64>();
     try_bytes::<u64>();
     try_walks::<u64>();
@@ -292,6 +325,7 @@ fn nor_do_those_on_byte_strings() {
     try_reads::<Vec<u8>>();
     try_changes::<Vec<u8>>();
     try_entries::<Vec<u8>>();
+    try_keys::<Vec<u8>>();
     try_many::<Vec<u8>>();
     try_bytes::<Vec<u8>>();
     try_walks::<Vec<u8>>();

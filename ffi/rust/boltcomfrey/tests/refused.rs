@@ -112,3 +112,16 @@ fn maps_are_compared_all_the_same() -> Result<(), Refusal> {
     assert_eq!(told, (false, true));
     Ok(())
 }
+
+#[test]
+fn a_refused_entry_answers_so_from_then_on() -> Result<(), Refusal> {
+    let mut map = VersionedMap::from([("milk", 100), ("tea", 300)]);
+    let before = map.snapshot()?; // (so that a change takes memory)
+    refusals::set(1);
+    let modified = map.entry("tea").and_modify(|price| *price += 50);
+    refusals::set(0);
+    assert_eq!(modified.finish(), Err(Refusal::NoMemory));
+    assert_eq!(modified.or_insert(350), Err(Refusal::NoMemory));
+    assert_eq!((map.version(), &map), (2, &before));
+    Ok(())
+}

@@ -1,6 +1,8 @@
 //! Random calls on a few versions, beside a model of std's maps.
 #![allow(dead_code)] // (each test takes some of it)
 
+mod entries;
+
 use boltcomfrey::{Given, Lent, LoadError, Map, Refusal, Value};
 use std::borrow::Borrow;
 use std::collections::BTreeMap;
@@ -170,6 +172,9 @@ impl<V: Drawn> Compared<V> {
             1392..1395 => self.remove_prefix(at),
             1395..1397 => self.keep_prefix(at),
             1397..1400 => self.restore_prefix(at),
+            1402..1450 => self.enter(at),
+            1450..1475 => self.try_insert(at),
+            1475..1480 => self.enter_at_an_end(at),
             _ => self.insert(at),
         }
         let (map, model) = &self.versions[at];

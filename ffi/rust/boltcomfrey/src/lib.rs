@@ -32,6 +32,7 @@ compile_error!("the proved library that this crate links is built for Linux on x
 mod both;
 mod entry;
 mod error;
+mod extract;
 mod idioms;
 mod iter;
 mod key_range;
@@ -50,6 +51,7 @@ mod walk;
 pub use both::{Common, Diff};
 pub use entry::{Entry, InsertError, OccupiedEntry, VacantEntry};
 pub use error::{LoadError, Refusal};
+pub use extract::ExtractIf;
 pub use iter::{IntoIter, Iter, Keys, Lent, Range, Values};
 pub use key_range::KeyRange;
 pub use map::{Map, VersionedBytes, VersionedMap};

@@ -1,6 +1,7 @@
 //! A map that shares nothing, for programs with threads.
 use crate::entry::{Entry, InsertError, OccupiedEntry};
 use crate::error::{LoadError, Refusal, unrefused};
+use crate::extract::ExtractIf;
 use crate::iter::{Iter, Keys, Range, Values};
 use crate::key_range::KeyRange;
 use crate::map::Map;
@@ -191,6 +192,15 @@ impl<V: Value> Unshared<V> {
         value: T,
     ) -> Result<(), InsertError<'_, V, T>> {
         self.map.try_insert(key, value)
+    }
+
+    /// As [`Map::extract_if`].
+    pub fn extract_if<F: FnMut(&[u8], &V) -> bool>(
+        &mut self,
+        range: impl KeyRange,
+        chooses: F,
+    ) -> ExtractIf<'_, V, F> {
+        self.map.extract_if(range, chooses)
     }
 
     /// As [`Map::try_extend`].

@@ -307,6 +307,7 @@ fn try_walks<V: Sample>() {
         lack.of(|| map.range(&low..&high).lent().try_for_each(|_, _| Ok(())))
     });
     copies::<V, _>(|map, lack| lack.of(|| map.prefix([7]).lent().try_for_each(|_, _| Ok(()))));
+    copies::<V, _>(|map, lack| lack.of(|| map.extract_if(.., |_, _| true).try_next()));
 }
 
 #[test]
@@ -407,6 +408,41 @@ fn try_all_steps<V: Sample>() {
 fn refused_steps_pass_no_pair_over() {
     try_all_steps::<u64>();
     try_all_steps::<Vec<u8>>();
+}
+
+/// That pairs are taken out once, and asked about once, whichever request is refused.
+fn try_extracting<V: Sample>() {
+    for number in 0.. {
+        let (mut map, lack) = (whole::<V>(), Lack(number..number + 1));
+        let (mut given, mut asked, mut refused) = (Vec::with_capacity(100), 0, 0);
+        let mut chosen = map.extract_if(key(7)..key(90), |key, _| {
+            asked += 1;
+            key[0] % 3 == 0
+        });
+        lack.of(|| {
+            loop {
+                match chosen.try_next() {
+                    Err(_) => refused += 1,
+                    Ok(None) => break,
+                    Ok(Some(pair)) => given.push(pair),
+                }
+            }
+        });
+        assert_eq!((asked, refused), (83, u64::from(lack.was_met())));
+        let (out, kept): (Vec<_>, _) = whole::<V>()
+            .into_iter()
+            .partition(|(key, _)| key[0] % 3 == 0 && (7..90).contains(&key[0]));
+        assert!(given == out && map.iter().eq::<Vec<_>>(kept));
+        if !lack.was_met() {
+            return assert!(number > 3);
+        }
+    }
+}
+
+#[test]
+fn refused_extractions_pass_no_pair_over() {
+    try_extracting::<u64>();
+    try_extracting::<Vec<u8>>();
 }
 
 /// That steps give what is wanted, whichever of their requests is refused.

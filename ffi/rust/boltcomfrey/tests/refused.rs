@@ -125,3 +125,26 @@ fn a_refused_entry_answers_so_from_then_on() -> Result<(), Refusal> {
     assert_eq!((map.version(), &map), (2, &before));
     Ok(())
 }
+
+#[test]
+fn pairs_that_are_taken_out_are_asked_about_once() -> Result<(), Refusal> {
+    let mut map: VersionedMap = (0..100).map(|at: u8| ([at], u64::from(at))).collect();
+    let (before, mut asked, mut refused) = (map.snapshot()?, 0, 0);
+    let mut chosen = map.extract_if(.., |_, value| {
+        asked += 1;
+        value % 2 == 0
+    });
+    let mut given = Vec::new();
+    refusals::set(10); // (one step asks for fewer)
+    loop {
+        match chosen.try_next() {
+            Ok(Some((_, value))) => given.push(value),
+            Ok(None) => break,
+            Err(_) => refused += 1,
+        }
+    }
+    refusals::set(0);
+    assert!(given.into_iter().eq((0..100).step_by(2)));
+    assert!(asked == 100 && refused > 0 && before.len() == 100);
+    Ok(())
+}

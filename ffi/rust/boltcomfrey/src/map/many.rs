@@ -1,9 +1,12 @@
 //! Changes of many pairs.
 use crate::error::{Refusal, unrefused};
+use crate::extract::ExtractIf;
 use crate::iter::Lent;
+use crate::key_range::KeyRange;
 use crate::map::Map;
 use crate::memory::{copied, push};
 use crate::value::{Given, Value};
+use crate::walk::Walk;
 
 impl<V: Value> Map<V> {
     /// Sets each key to its value, in order. At a refusal those before it are set, and no other.
@@ -50,6 +53,27 @@ impl<V: Value> Map<V> {
             push(&mut out, copied(key)?)
         })?;
         out.iter().try_for_each(|key| self.delete(key).map(drop))
+    }
+
+    /// Those pairs of a range that a function chooses, in order, each taken out as it is given; those
+    /// that aren't asked for stay. The function is lent each value to be read, where std's may write
+    /// it. A range keeps copies of its bounds, as `range` does. It panics where it is refused;
+    /// [`ExtractIf::try_next`] answers.
+    ///
+    /// ```
+    /// # use boltcomfrey::VersionedMap;
+    /// let mut prices = VersionedMap::from([("milk", 100), ("salt", 50), ("tea", 300)]);
+    /// let cheap: VersionedMap = prices.extract_if("n".., |_, price| *price < 200).collect();
+    /// assert_eq!(cheap, VersionedMap::from([("salt", 50)]));
+    /// assert_eq!(prices, VersionedMap::from([("milk", 100), ("tea", 300)]));
+    /// ```
+    pub fn extract_if<F: FnMut(&[u8], &V) -> bool>(
+        &mut self,
+        range: impl KeyRange,
+        chooses: F,
+    ) -> ExtractIf<'_, V, F> {
+        let walk = Walk::within(range.bounds(), self.len());
+        ExtractIf::new(self, walk, chooses)
     }
 
     /// Moves all pairs of another map here, where they take the place of what had their keys. The

@@ -2,6 +2,7 @@
 #![allow(dead_code)] // (each test takes some of it)
 
 mod entries;
+mod extracting;
 
 use boltcomfrey::{Given, Lent, LoadError, Map, Refusal, Value};
 use std::borrow::Borrow;
@@ -172,6 +173,7 @@ impl<V: Drawn> Compared<V> {
             1392..1395 => self.remove_prefix(at),
             1395..1397 => self.keep_prefix(at),
             1397..1400 => self.restore_prefix(at),
+            1400..1402 => self.extract(at),
             1402..1450 => self.enter(at),
             1450..1475 => self.try_insert(at),
             1475..1480 => self.enter_at_an_end(at),

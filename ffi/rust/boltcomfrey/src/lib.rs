@@ -30,6 +30,7 @@
 compile_error!("the proved library that this crate links is built for Linux on x86-64 alone");
 
 mod both;
+mod cursor;
 mod entry;
 mod error;
 mod extract;
@@ -49,6 +50,7 @@ mod value;
 mod walk;
 
 pub use both::{Common, Diff};
+pub use cursor::{Cursor, CursorMut};
 pub use entry::{Entry, InsertError, OccupiedEntry, VacantEntry};
 pub use error::{LoadError, Refusal};
 pub use extract::ExtractIf;

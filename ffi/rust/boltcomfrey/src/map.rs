@@ -4,6 +4,7 @@ use crate::value::{Calls, Given, Value};
 
 mod changing;
 mod comparing;
+mod cursors;
 mod entries;
 mod many;
 mod prefixes;

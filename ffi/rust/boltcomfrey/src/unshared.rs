@@ -1,4 +1,5 @@
 //! A map that shares nothing, for programs with threads.
+use crate::cursor::{Cursor, CursorMut};
 use crate::entry::{Entry, InsertError, OccupiedEntry};
 use crate::error::{LoadError, Refusal, unrefused};
 use crate::extract::ExtractIf;
@@ -7,6 +8,7 @@ use crate::key_range::KeyRange;
 use crate::map::Map;
 use crate::value::{Calls, Given, Value};
 use std::fmt;
+use std::ops::Bound;
 
 /// A map of which nothing outside shares a node: it can go to another thread, and several threads
 /// can read it.
@@ -160,6 +162,8 @@ impl<V: Value> Unshared<V> {
         #[must_use] values() -> Values<'_, V>;
         #[must_use] range(range: impl KeyRange) -> Range<'_, V>;
         #[must_use] prefix(prefix: impl AsRef<[u8]>) -> Range<'_, V>;
+        #[must_use] lower_bound(bound: Bound<impl AsRef<[u8]>>) -> Cursor<'_, V>;
+        #[must_use] upper_bound(bound: Bound<impl AsRef<[u8]>>) -> Cursor<'_, V>;
         #[must_use] to_bytes() -> Vec<u8>;
         try_to_bytes() -> Result<Vec<u8>, Refusal>;
         saved_len() -> Result<usize, Refusal>;
@@ -183,6 +187,8 @@ impl<V: Value> Unshared<V> {
         try_first_entry() -> Result<Option<OccupiedEntry<'_, V>>, Refusal>;
         last_entry() -> Option<OccupiedEntry<'_, V>>;
         try_last_entry() -> Result<Option<OccupiedEntry<'_, V>>, Refusal>;
+        lower_bound_mut(bound: Bound<impl AsRef<[u8]>>) -> CursorMut<'_, V>;
+        upper_bound_mut(bound: Bound<impl AsRef<[u8]>>) -> CursorMut<'_, V>;
     }
 
     /// As [`Map::try_insert`].

@@ -7,7 +7,7 @@ use std::borrow::Borrow;
 use std::cell::Cell;
 use std::fmt::Debug;
 use std::io;
-use std::ops::{ControlFlow, Range};
+use std::ops::{Bound, ControlFlow, Range};
 use std::panic::{AssertUnwindSafe, catch_unwind};
 use std::ptr::null_mut;
 
@@ -265,6 +265,44 @@ fn is_new<V: Value, T>(told: Result<(), InsertError<'_, V, T>>) -> Result<bool, 
     }
 }
 
+fn try_cursors<V: Sample>() {
+    let (key, new) = (&key(70), [70, 71]);
+    let middle = Bound::Included(key);
+    copies::<V, _>(|map, lack| {
+        let cursor = map.lower_bound(middle);
+        lack.of(|| Ok((cursor.try_peek_prev()?, cursor.try_peek_next()?)))
+    });
+    copies::<V, _>(|map, lack| lack.of(|| map.lower_bound(middle).try_next()));
+    copies::<V, _>(|map, lack| lack.of(|| map.upper_bound(middle).try_prev()));
+    copies::<V, _>(|map, lack| lack.of(|| map.lower_bound_mut(middle).remove_next()));
+    copies::<V, _>(|map, lack| lack.of(|| map.upper_bound_mut(middle).remove_prev()));
+    for value in [V::SHORT, V::LONG] {
+        copies::<V, _>(|map, lack| {
+            let mut cursor = map.upper_bound_mut(Bound::Included(new));
+            lack.of(|| cursor.insert_before(new, value))
+        });
+        copies::<V, _>(|map, lack| {
+            let mut cursor = map.upper_bound_mut(Bound::Included(new));
+            lack.of(|| cursor.insert_after(new, value))
+        });
+    }
+}
+
+#[test]
+fn refused_cursors_stay() {
+    let map = whole::<u64>();
+    for number in 0.. {
+        let lack = Lack(number..number + 1);
+        let mut cursor = map.lower_bound(Bound::Included(key(7)));
+        let told = lack.of(|| cursor.try_next());
+        if !lack.was_met() {
+            return assert_eq!(told, Ok(Some((key(7), u64::SHORT))));
+        }
+        assert_eq!(told, Err(Refusal::NoMemory));
+        assert_eq!(cursor.try_next(), Ok(Some((key(7), u64::SHORT))));
+    }
+}
+
 fn try_many<V: Sample>() {
     copies::<V, _>(|map, lack| lack.of(|| map.try_pop_first()));
     copies::<V, _>(|map, lack| lack.of(|| map.try_pop_last()));
@@ -316,6 +354,7 @@ fn refused_calls_change_nothing() {
     try_changes::<u64>();
     try_entries::<u64>();
     try_keys::<u64>();
+    try_cursors::<u64>();
     try_many::<u64>();
     try_bytes::<u64>();
     try_walks::<u64>();
@@ -327,6 +366,7 @@ fn nor_do_those_on_byte_strings() {
     try_changes::<Vec<u8>>();
     try_entries::<Vec<u8>>();
     try_keys::<Vec<u8>>();
+    try_cursors::<Vec<u8>>();
     try_many::<Vec<u8>>();
     try_bytes::<Vec<u8>>();
     try_walks::<Vec<u8>>();
@@ -501,6 +541,9 @@ fn without_memory_for_bounds_no_step_is_taken() {
         assert_eq!(pairs.try_next(), Err(Refusal::NoMemory));
         assert_eq!(pairs.try_next(), Err(Refusal::NoMemory));
     }
+    let mut cursor = Lack(0..1).of(|| map.lower_bound(Bound::Included(&low)));
+    assert_eq!(cursor.try_next(), Err(Refusal::NoMemory));
+    assert_eq!(cursor.try_prev(), Err(Refusal::NoMemory));
 }
 
 /// That a call which answers no `Result` panics, whichever of its requests is refused.
@@ -530,6 +573,8 @@ fn calls_without_an_answer_panic() {
     panics::<u64, _>(|map| map.prefix(long).for_each(drop));
     panics::<u64, _>(|map| map.keys().for_each(drop));
     panics::<u64, _>(|map| map.iter().lent().for_each(|_, _| ()));
+    panics::<u64, _>(|map| map.lower_bound(Bound::Included(long)).next());
+    panics::<u64, _>(|map| map.lower_bound(Bound::Included("")).peek_next());
     panics::<u64, _>(|map| map.cmp(&other));
 }
 

@@ -152,14 +152,16 @@ impl<V: Value> Map<V> {
         unrefused(self.last(Bound::Excluded(key.as_ref())))
     }
 
-    pub(super) fn first(&self, low: Bound<&[u8]>) -> Result<Option<(Vec<u8>, V)>, Refusal> {
+    /// The first pair whose key meets a bound.
+    pub(crate) fn first(&self, low: Bound<&[u8]>) -> Result<Option<(Vec<u8>, V)>, Refusal> {
         let mut key = Vec::new();
         let found = V::first(&self.tree, low, &mut key)?;
         key.truncate(found.as_ref().map_or(0, |it| it.0));
         Ok(found.map(|(_, value)| (key, value)))
     }
 
-    pub(super) fn last(&self, high: Bound<&[u8]>) -> Result<Option<(Vec<u8>, V)>, Refusal> {
+    /// The last pair whose key meets a bound.
+    pub(crate) fn last(&self, high: Bound<&[u8]>) -> Result<Option<(Vec<u8>, V)>, Refusal> {
         let mut key = Vec::new();
         let found = V::last(&self.tree, high, &mut key)?;
         key.truncate(found.as_ref().map_or(0, |it| it.0));

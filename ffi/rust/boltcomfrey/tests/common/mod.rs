@@ -1,6 +1,7 @@
 //! Random calls on a few versions, beside a model of std's maps.
 #![allow(dead_code)] // (each test takes some of it)
 
+mod cursors;
 mod entries;
 mod extracting;
 
@@ -157,6 +158,8 @@ impl<V: Drawn> Compared<V> {
                 self.walk(at);
                 self.walk_on(at);
                 self.walk_by(at);
+                self.go_either_way(at);
+                self.change_either_way(at);
             }
             21 => {
                 self.compare_with_another(at);

@@ -47,6 +47,19 @@ impl<V: Value, K: AsRef<[u8]>, T: Given<V>> Extend<(K, T)> for Map<V> {
 /// let squares: VersionedMap = (0_u64..9).map(|it| (it.to_be_bytes(), it * it)).collect();
 /// assert_eq!(squares.get(8_u64.to_be_bytes()), Some(64));
 /// ```
+///
+/// Pairs that may be errors are collected into a `Result`, as std has it; [`Map::try_from_results`]
+/// answers where it is refused.
+///
+/// ```
+/// # use boltcomfrey::VersionedMap;
+/// # use std::num::ParseIntError;
+/// fn sizes(words: &str) -> Result<VersionedMap, ParseIntError> {
+///     let sizes = words.split(' ').map(|it| Ok((it, it.parse::<u64>()?)));
+///     sizes.collect()
+/// }
+/// assert!(sizes("7 12").is_ok() && sizes("7 a dozen").is_err());
+/// ```
 impl<V: Value, K: AsRef<[u8]>, T: Given<V>> FromIterator<(K, T)> for Map<V> {
     fn from_iter<I: IntoIterator<Item = (K, T)>>(pairs: I) -> Map<V> {
         unrefused(Map::try_from_iter(pairs))

@@ -123,6 +123,32 @@ impl<V: Value> Map<V> {
         Ok(map)
     }
 
+    /// As `try_from_iter`, of pairs that may be errors, up to the first that is one or is refused. To
+    /// `collect` them into a `Result` does the same, and panics where it is refused.
+    ///
+    /// ```
+    /// # use boltcomfrey::VersionedMap;
+    /// # use std::error::Error;
+    /// fn read(line: &str) -> Result<(&str, u64), Box<dyn Error>> {
+    ///     let (name, price) = line.split_once(' ').ok_or("no price")?;
+    ///     Ok((name, price.parse()?))
+    /// }
+    /// let prices = VersionedMap::try_from_results("tea 300\nmilk 100".lines().map(read))?;
+    /// assert_eq!(prices.get("milk"), Some(100));
+    /// assert!(VersionedMap::try_from_results("tea".lines().map(read)).is_err());
+    /// # Ok::<(), Box<dyn Error>>(())
+    /// ```
+    pub fn try_from_results<K: AsRef<[u8]>, T: Given<V>, E: From<Refusal>>(
+        pairs: impl IntoIterator<Item = Result<(K, T), E>>,
+    ) -> Result<Map<V>, E> {
+        let mut map = Map::new();
+        for pair in pairs {
+            let (key, value) = pair?;
+            map.set(key, value)?;
+        }
+        Ok(map)
+    }
+
     /// The number, at first 0 or that of `with_number`. An insertion raises it by one, and so does
     /// the removal of a key that is there; `restore_prefix` adds the other map's. A snapshot's is
     /// one greater, and this one stays then. So two maps with one number may differ.

@@ -313,6 +313,10 @@ fn try_many<V: Sample>() {
         lack.of(|| one.try_union(another))
     });
     takes_none::<V, _>(|_, lack| lack.of(|| Map::<V>::try_from_iter([("new", V::LONG)])));
+    takes_none::<V, _>(|_, lack| {
+        let pairs = [Ok::<_, Refusal>(("new", V::LONG))];
+        lack.of(|| Map::<V>::try_from_results(pairs))
+    });
     takes_none::<V, _>(|_, lack| lack.of(|| Map::<V>::with_number(7)));
     takes_none::<V, _>(|_, lack| lack.of(|| Map::<V>::with_longest_key(7)));
     takes_none::<V, _>(|_, lack| {

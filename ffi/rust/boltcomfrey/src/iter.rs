@@ -89,6 +89,7 @@ impl<V: Value> Iterator for Range<'_, V> {
 }
 
 impl<V: Value> DoubleEndedIterator for Range<'_, V> {
+    #[inline]
     fn next_back(&mut self) -> Option<(Vec<u8>, V)> {
         self.step(Order::Descending)
     }
@@ -334,6 +335,7 @@ macro_rules! walks_over_all {
         }
 
         impl<V: Value> DoubleEndedIterator for $walker {
+            #[inline]
             fn next_back(&mut self) -> Option<$item> {
                 step(&mut self$(.$field)?.walk, &self$(.$field)?.map.tree, Order::Descending, $make)
             }

@@ -205,8 +205,9 @@ static inline size_t rart_prefix_end(uint8_t *prefix, size_t len) {
 // What a caller owes to each call:
 // - a tree is all zeros, or as a call left it, and is copied nowhere; one that is moved leaves its
 //   old place all zeros;
-// - no pointer is null, but of bytes or entries that are none; rart_clear takes a null tree, and
-//   what sets or takes out a key takes null for a value before that isn't wanted;
+// - no pointer is null, but of bytes or entries that are none (which rests on how the toolchain
+//   compiles a call: it is tried with each archive, and no page promises it); rart_clear takes a
+//   null tree, and what sets or takes out a key takes null for a value before that isn't wanted;
 // - no pointer that a call writes to overlaps another: two trees of it are two, and no key that is
 //   handed in lies in the room that the call writes to;
 // - a buffer for keys is as long as rart_longest_key, which rart_clear and rart_new_at set back and
@@ -261,7 +262,7 @@ RART_NONNULL RART_MUST_USE RART_CHANGES(1)
 bool rart_is_empty(rart_tree *tree);
 
 // Answers RART_DONE and writes the value of a key, or answers RART_ABSENT. It takes no memory.
-RART_NONNULL RART_MUST_USE RART_CHANGES(1) RART_READS(2, 3) RART_WRITES(4)
+RART_NONNULL_AT(1, 4) RART_MUST_USE RART_CHANGES(1) RART_READS(2, 3) RART_WRITES(4)
 rart_answer rart_get(
     rart_tree *RART_ALONE tree,
     const uint8_t *RART_ALONE key,
@@ -271,7 +272,8 @@ rart_answer rart_get(
 
 // Answers RART_DONE and writes how long the longest key is that begins the probe, and its value, or
 // answers RART_ABSENT. It takes no memory.
-RART_NONNULL RART_MUST_USE RART_CHANGES(1) RART_READS(2, 3) RART_WRITES(4) RART_WRITES(5)
+RART_NONNULL_AT(1, 4, 5) RART_MUST_USE RART_CHANGES(1) RART_READS(2, 3) RART_WRITES(4)
+RART_WRITES(5)
 rart_answer rart_longest(
     rart_tree *RART_ALONE tree,
     const uint8_t *RART_ALONE probe,
@@ -288,8 +290,8 @@ size_t rart_common(rart_tree *RART_ALONE tree, rart_tree *RART_ALONE other);
 // length and its value; behind the key room is as before. Where room is shorter than that key it
 // answers RART_TOO_SMALL and writes its length and no value; what room has then is unspecified.
 // Where there is none it answers RART_ABSENT and writes nothing. It takes no memory.
-RART_NONNULL RART_MUST_USE RART_CHANGES(1) RART_READS(2, 3) RART_WRITES(4, 5) RART_WRITES(6)
-RART_WRITES(7)
+RART_NONNULL_AT(1, 6, 7) RART_MUST_USE RART_CHANGES(1) RART_READS(2, 3) RART_WRITES(4, 5)
+RART_WRITES(6) RART_WRITES(7)
 rart_answer rart_seek(
     rart_tree *RART_ALONE tree,
     const uint8_t *RART_ALONE from,
@@ -301,8 +303,8 @@ rart_answer rart_seek(
 );
 
 // As rart_seek, of the keys behind this one.
-RART_NONNULL RART_MUST_USE RART_CHANGES(1) RART_READS(2, 3) RART_WRITES(4, 5) RART_WRITES(6)
-RART_WRITES(7)
+RART_NONNULL_AT(1, 6, 7) RART_MUST_USE RART_CHANGES(1) RART_READS(2, 3) RART_WRITES(4, 5)
+RART_WRITES(6) RART_WRITES(7)
 rart_answer rart_next(
     rart_tree *RART_ALONE tree,
     const uint8_t *RART_ALONE after,
@@ -314,8 +316,8 @@ rart_answer rart_next(
 );
 
 // As rart_seek, of the last key that is not behind this one.
-RART_NONNULL RART_MUST_USE RART_CHANGES(1) RART_READS(2, 3) RART_WRITES(4, 5) RART_WRITES(6)
-RART_WRITES(7)
+RART_NONNULL_AT(1, 6, 7) RART_MUST_USE RART_CHANGES(1) RART_READS(2, 3) RART_WRITES(4, 5)
+RART_WRITES(6) RART_WRITES(7)
 rart_answer rart_seek_back(
     rart_tree *RART_ALONE tree,
     const uint8_t *RART_ALONE from,
@@ -327,8 +329,8 @@ rart_answer rart_seek_back(
 );
 
 // As rart_seek_back, of the keys before this one.
-RART_NONNULL RART_MUST_USE RART_CHANGES(1) RART_READS(2, 3) RART_WRITES(4, 5) RART_WRITES(6)
-RART_WRITES(7)
+RART_NONNULL_AT(1, 6, 7) RART_MUST_USE RART_CHANGES(1) RART_READS(2, 3) RART_WRITES(4, 5)
+RART_WRITES(6) RART_WRITES(7)
 rart_answer rart_prev(
     rart_tree *RART_ALONE tree,
     const uint8_t *RART_ALONE before,
@@ -340,7 +342,8 @@ rart_answer rart_prev(
 );
 
 // As rart_seek, of the last key of all.
-RART_NONNULL RART_MUST_USE RART_CHANGES(1) RART_WRITES(2, 3) RART_WRITES(4) RART_WRITES(5)
+RART_NONNULL_AT(1, 4, 5) RART_MUST_USE RART_CHANGES(1) RART_WRITES(2, 3) RART_WRITES(4)
+RART_WRITES(5)
 rart_answer rart_last(
     rart_tree *RART_ALONE tree,
     uint8_t *RART_ALONE room,
@@ -358,7 +361,7 @@ void rart_clear(rart_tree *tree);
 // was replaced, or answers RART_ABSENT where the key is new. RART_TOO_LONG says that the key is
 // longer than a key may be, RART_LAST_NUMBER that the number can't be raised, RART_NO_MEMORY that
 // memory was refused: nothing changed then.
-RART_NONNULL RART_MUST_USE RART_CHANGES(1) RART_READS(2, 3) RART_WRITES(5)
+RART_NONNULL_AT(1, 5) RART_MUST_USE RART_CHANGES(1) RART_READS(2, 3) RART_WRITES(5)
 rart_answer rart_insert(
     rart_tree *RART_ALONE tree,
     const uint8_t *RART_ALONE key,
@@ -370,7 +373,7 @@ rart_answer rart_insert(
 // Takes a key out, the number then one greater. Answers RART_DONE and writes its value, or answers
 // RART_ABSENT, and then nothing changed. RART_LAST_NUMBER says that the key is there and the number
 // can't be raised, RART_NO_MEMORY that it is there and memory was refused: nothing changed then.
-RART_NONNULL RART_MUST_USE RART_CHANGES(1) RART_READS(2, 3) RART_WRITES(4)
+RART_NONNULL_AT(1, 4) RART_MUST_USE RART_CHANGES(1) RART_READS(2, 3) RART_WRITES(4)
 rart_answer rart_remove(
     rart_tree *RART_ALONE tree,
     const uint8_t *RART_ALONE key,
@@ -383,7 +386,7 @@ rart_answer rart_remove(
 // that is there. RART_TOO_LONG says that the key is longer than a key may be, RART_LAST_NUMBER that
 // it is not there and the number can't be raised, RART_NO_MEMORY that it is not there and memory
 // was refused: nothing changed then.
-RART_NONNULL RART_MUST_USE RART_CHANGES(1) RART_READS(2, 3) RART_WRITES(5)
+RART_NONNULL_AT(1, 5) RART_MUST_USE RART_CHANGES(1) RART_READS(2, 3) RART_WRITES(5)
 rart_answer rart_add(
     rart_tree *RART_ALONE tree,
     const uint8_t *RART_ALONE key,
@@ -396,7 +399,7 @@ rart_answer rart_add(
 // writes the value that was replaced. Where it is not there nothing changes, and it answers
 // RART_ABSENT. RART_LAST_NUMBER says that the key is there and the number can't be raised,
 // RART_NO_MEMORY that it is there and memory was refused: nothing changed then.
-RART_NONNULL RART_MUST_USE RART_CHANGES(1) RART_READS(2, 3) RART_WRITES(5)
+RART_NONNULL_AT(1, 5) RART_MUST_USE RART_CHANGES(1) RART_READS(2, 3) RART_WRITES(5)
 rart_answer rart_replace(
     rart_tree *RART_ALONE tree,
     const uint8_t *RART_ALONE key,
@@ -414,8 +417,8 @@ rart_answer rart_replace(
 // first key is longer than bytes, and writes its length to needed. A bound is of the kind
 // RART_INCLUDED, RART_EXCLUDED or RART_UNBOUNDED. Memory that it takes to walk it gives back, and
 // where it lacks some it searches from key to key: it is never refused.
-RART_NONNULL RART_MUST_USE RART_CHANGES(1) RART_READS(2, 3) RART_READS(5, 6) RART_WRITES(8, 9)
-RART_WRITES(10, 11) RART_WRITES(12) RART_WRITES(13)
+RART_NONNULL_AT(1, 12, 13) RART_MUST_USE RART_CHANGES(1) RART_READS(2, 3) RART_READS(5, 6)
+RART_WRITES(8, 9) RART_WRITES(10, 11) RART_WRITES(12) RART_WRITES(13)
 rart_answer rart_page(
     rart_tree *RART_ALONE tree,
     const uint8_t *RART_ALONE low,
@@ -435,8 +438,8 @@ rart_answer rart_page(
 // As rart_page, from the last pair back: the last pairs within two bounds, descending, as many as
 // there is room for. The next page has a copy of the key that was written last for its high, which
 // is RART_EXCLUDED then.
-RART_NONNULL RART_MUST_USE RART_CHANGES(1) RART_READS(2, 3) RART_READS(5, 6) RART_WRITES(8, 9)
-RART_WRITES(10, 11) RART_WRITES(12) RART_WRITES(13)
+RART_NONNULL_AT(1, 12, 13) RART_MUST_USE RART_CHANGES(1) RART_READS(2, 3) RART_READS(5, 6)
+RART_WRITES(8, 9) RART_WRITES(10, 11) RART_WRITES(12) RART_WRITES(13)
 rart_answer rart_page_back(
     rart_tree *RART_ALONE tree,
     const uint8_t *RART_ALONE low,
@@ -495,7 +498,8 @@ bool rart_bytes_is_empty(rart_bytes *tree);
 // Answers RART_DONE, writes the value of a key to the first bytes of into, and its length to len.
 // RART_TOO_SMALL says that into has fewer bytes than the value: len is written then and nothing
 // else. Answers RART_ABSENT where there is no such key. It takes no memory.
-RART_NONNULL RART_MUST_USE RART_CHANGES(1) RART_READS(2, 3) RART_WRITES(4, 5) RART_WRITES(6)
+RART_NONNULL_AT(1, 6) RART_MUST_USE RART_CHANGES(1) RART_READS(2, 3) RART_WRITES(4, 5)
+RART_WRITES(6)
 rart_answer rart_bytes_get(
     rart_bytes *RART_ALONE tree,
     const uint8_t *RART_ALONE key,
@@ -507,8 +511,8 @@ rart_answer rart_bytes_get(
 
 // Of the longest key that begins the probe: answers as rart_bytes_get of that key does, and where
 // there is one writes how long it is to key_len, also where into is too small. It takes no memory.
-RART_NONNULL RART_MUST_USE RART_CHANGES(1) RART_READS(2, 3) RART_WRITES(4) RART_WRITES(5, 6)
-RART_WRITES(7)
+RART_NONNULL_AT(1, 4, 7) RART_MUST_USE RART_CHANGES(1) RART_READS(2, 3) RART_WRITES(4)
+RART_WRITES(5, 6) RART_WRITES(7)
 rart_answer rart_bytes_longest(
     rart_bytes *RART_ALONE tree,
     const uint8_t *RART_ALONE probe,
@@ -528,8 +532,8 @@ size_t rart_bytes_common(rart_bytes *RART_ALONE tree, rart_bytes *RART_ALONE oth
 // Where the key is longer than room, or the value than into, it answers RART_TOO_SMALL and writes
 // both lengths, the key where room has the bytes for it, and no value; what room has else is
 // unspecified. Where there is none it answers RART_ABSENT and writes nothing. It takes no memory.
-RART_NONNULL RART_MUST_USE RART_CHANGES(1) RART_READS(2, 3) RART_WRITES(4, 5) RART_WRITES(6)
-RART_WRITES(7, 8) RART_WRITES(9)
+RART_NONNULL_AT(1, 6, 9) RART_MUST_USE RART_CHANGES(1) RART_READS(2, 3) RART_WRITES(4, 5)
+RART_WRITES(6) RART_WRITES(7, 8) RART_WRITES(9)
 rart_answer rart_bytes_seek(
     rart_bytes *RART_ALONE tree,
     const uint8_t *RART_ALONE from,
@@ -543,8 +547,8 @@ rart_answer rart_bytes_seek(
 );
 
 // As rart_bytes_seek, of the keys behind this one.
-RART_NONNULL RART_MUST_USE RART_CHANGES(1) RART_READS(2, 3) RART_WRITES(4, 5) RART_WRITES(6)
-RART_WRITES(7, 8) RART_WRITES(9)
+RART_NONNULL_AT(1, 6, 9) RART_MUST_USE RART_CHANGES(1) RART_READS(2, 3) RART_WRITES(4, 5)
+RART_WRITES(6) RART_WRITES(7, 8) RART_WRITES(9)
 rart_answer rart_bytes_next(
     rart_bytes *RART_ALONE tree,
     const uint8_t *RART_ALONE after,
@@ -558,8 +562,8 @@ rart_answer rart_bytes_next(
 );
 
 // As rart_bytes_seek, of the last key that is not behind this one.
-RART_NONNULL RART_MUST_USE RART_CHANGES(1) RART_READS(2, 3) RART_WRITES(4, 5) RART_WRITES(6)
-RART_WRITES(7, 8) RART_WRITES(9)
+RART_NONNULL_AT(1, 6, 9) RART_MUST_USE RART_CHANGES(1) RART_READS(2, 3) RART_WRITES(4, 5)
+RART_WRITES(6) RART_WRITES(7, 8) RART_WRITES(9)
 rart_answer rart_bytes_seek_back(
     rart_bytes *RART_ALONE tree,
     const uint8_t *RART_ALONE from,
@@ -573,8 +577,8 @@ rart_answer rart_bytes_seek_back(
 );
 
 // As rart_bytes_seek_back, of the keys before this one.
-RART_NONNULL RART_MUST_USE RART_CHANGES(1) RART_READS(2, 3) RART_WRITES(4, 5) RART_WRITES(6)
-RART_WRITES(7, 8) RART_WRITES(9)
+RART_NONNULL_AT(1, 6, 9) RART_MUST_USE RART_CHANGES(1) RART_READS(2, 3) RART_WRITES(4, 5)
+RART_WRITES(6) RART_WRITES(7, 8) RART_WRITES(9)
 rart_answer rart_bytes_prev(
     rart_bytes *RART_ALONE tree,
     const uint8_t *RART_ALONE before,
@@ -588,8 +592,8 @@ rart_answer rart_bytes_prev(
 );
 
 // As rart_bytes_seek, of the last key of all.
-RART_NONNULL RART_MUST_USE RART_CHANGES(1) RART_WRITES(2, 3) RART_WRITES(4) RART_WRITES(5, 6)
-RART_WRITES(7)
+RART_NONNULL_AT(1, 4, 7) RART_MUST_USE RART_CHANGES(1) RART_WRITES(2, 3) RART_WRITES(4)
+RART_WRITES(5, 6) RART_WRITES(7)
 rart_answer rart_bytes_last(
     rart_bytes *RART_ALONE tree,
     uint8_t *RART_ALONE room,
@@ -609,7 +613,7 @@ void rart_bytes_clear(rart_bytes *tree);
 // was replaced, RART_ABSENT where the key is new. RART_TOO_LONG says that the key is longer than a
 // key may be, RART_LAST_NUMBER that the number can't be raised, RART_NO_MEMORY that memory was
 // refused: nothing changed then.
-RART_NONNULL RART_MUST_USE RART_CHANGES(1) RART_READS(2, 3) RART_READS(4, 5)
+RART_NONNULL_AT(1) RART_MUST_USE RART_CHANGES(1) RART_READS(2, 3) RART_READS(4, 5)
 rart_answer rart_bytes_insert(
     rart_bytes *RART_ALONE tree,
     const uint8_t *RART_ALONE key,
@@ -621,7 +625,7 @@ rart_answer rart_bytes_insert(
 // Takes a key out, the number then one greater. Answers RART_DONE, or RART_ABSENT where there is no
 // such key, and then nothing changed. RART_LAST_NUMBER says that the key is there and the number
 // can't be raised, RART_NO_MEMORY that it is there and memory was refused: nothing changed then.
-RART_NONNULL RART_MUST_USE RART_CHANGES(1) RART_READS(2, 3)
+RART_NONNULL_AT(1) RART_MUST_USE RART_CHANGES(1) RART_READS(2, 3)
 rart_answer rart_bytes_remove(
     rart_bytes *RART_ALONE tree,
     const uint8_t *RART_ALONE key,
@@ -661,7 +665,7 @@ rart_answer rart_intersection(
 // RART_ABSENT. Where it is there nothing changes, and it answers RART_DONE. RART_TOO_LONG says that
 // the key is longer than a key may be, RART_LAST_NUMBER that it is not there and the number can't
 // be raised, RART_NO_MEMORY that it is not there and memory was refused: nothing changed then.
-RART_NONNULL RART_MUST_USE RART_CHANGES(1) RART_READS(2, 3) RART_READS(4, 5)
+RART_NONNULL_AT(1) RART_MUST_USE RART_CHANGES(1) RART_READS(2, 3) RART_READS(4, 5)
 rart_answer rart_bytes_add(
     rart_bytes *RART_ALONE tree,
     const uint8_t *RART_ALONE key,
@@ -674,7 +678,7 @@ rart_answer rart_bytes_add(
 // RART_DONE. Where it is not there nothing changes, and it answers RART_ABSENT. RART_LAST_NUMBER
 // says that the key is there and the number can't be raised, RART_NO_MEMORY that it is there and
 // memory was refused: nothing changed then.
-RART_NONNULL RART_MUST_USE RART_CHANGES(1) RART_READS(2, 3) RART_READS(4, 5)
+RART_NONNULL_AT(1) RART_MUST_USE RART_CHANGES(1) RART_READS(2, 3) RART_READS(4, 5)
 rart_answer rart_bytes_replace(
     rart_bytes *RART_ALONE tree,
     const uint8_t *RART_ALONE key,
@@ -717,8 +721,8 @@ rart_answer rart_bytes_intersection(
 // they are to count. What bytes has behind them is unspecified; entries is as before there. Answers
 // as rart_page, but where RART_TOO_SMALL says that the first key and its value are longer than
 // bytes: then it writes both lengths.
-RART_NONNULL RART_MUST_USE RART_CHANGES(1) RART_READS(2, 3) RART_READS(5, 6) RART_WRITES(8, 9)
-RART_WRITES(10, 11) RART_WRITES(12) RART_WRITES(13) RART_WRITES(14)
+RART_NONNULL_AT(1, 12, 13, 14) RART_MUST_USE RART_CHANGES(1) RART_READS(2, 3) RART_READS(5, 6)
+RART_WRITES(8, 9) RART_WRITES(10, 11) RART_WRITES(12) RART_WRITES(13) RART_WRITES(14)
 rart_answer rart_bytes_page(
     rart_bytes *RART_ALONE tree,
     const uint8_t *RART_ALONE low,
@@ -738,8 +742,8 @@ rart_answer rart_bytes_page(
 
 // As rart_bytes_page, from the last pair back: the last pairs within two bounds, descending, as
 // rart_page_back has them.
-RART_NONNULL RART_MUST_USE RART_CHANGES(1) RART_READS(2, 3) RART_READS(5, 6) RART_WRITES(8, 9)
-RART_WRITES(10, 11) RART_WRITES(12) RART_WRITES(13) RART_WRITES(14)
+RART_NONNULL_AT(1, 12, 13, 14) RART_MUST_USE RART_CHANGES(1) RART_READS(2, 3) RART_READS(5, 6)
+RART_WRITES(8, 9) RART_WRITES(10, 11) RART_WRITES(12) RART_WRITES(13) RART_WRITES(14)
 rart_answer rart_bytes_page_back(
     rart_bytes *RART_ALONE tree,
     const uint8_t *RART_ALONE low,
@@ -762,7 +766,7 @@ rart_answer rart_bytes_page_back(
 // changed. RART_LAST_NUMBER says that there is one and the number can't be raised, RART_NO_MEMORY
 // that there is one and memory was refused: nothing changed then. It counts them, so it takes time
 // by their number.
-RART_NONNULL RART_MUST_USE RART_CHANGES(1) RART_READS(2, 3) RART_WRITES(4)
+RART_NONNULL_AT(1, 4) RART_MUST_USE RART_CHANGES(1) RART_READS(2, 3) RART_WRITES(4)
 rart_answer rart_remove_prefix(
     rart_tree *RART_ALONE tree,
     const uint8_t *RART_ALONE prefix,
@@ -774,7 +778,7 @@ rart_answer rart_remove_prefix(
 // frees what part was. Keys may be as long in it. What stands below the prefix both share.
 // RART_LAST_NUMBER says that the number can't be raised, RART_NO_MEMORY that memory was refused:
 // part is as before then. It counts them, so it takes time by their number.
-RART_NONNULL RART_MUST_USE RART_CHANGES(1) RART_READS(2, 3) RART_CHANGES(4)
+RART_NONNULL_AT(1, 4) RART_MUST_USE RART_CHANGES(1) RART_READS(2, 3) RART_CHANGES(4)
 rart_answer rart_prefix_snapshot(
     rart_tree *RART_ALONE tree,
     const uint8_t *RART_ALONE prefix,
@@ -788,7 +792,7 @@ rart_answer rart_prefix_snapshot(
 // RART_NO_MEMORY that memory was refused: nothing changed then. Put back from its own snapshots, a
 // tree about doubles its number each time. It counts the pairs that go and come, so it takes time
 // by their number.
-RART_NONNULL RART_MUST_USE RART_CHANGES(1) RART_READS(2, 3) RART_CHANGES(4)
+RART_NONNULL_AT(1, 4) RART_MUST_USE RART_CHANGES(1) RART_READS(2, 3) RART_CHANGES(4)
 rart_answer rart_restore_prefix(
     rart_tree *RART_ALONE tree,
     const uint8_t *RART_ALONE prefix,
@@ -801,7 +805,7 @@ rart_answer rart_restore_prefix(
 // changed. RART_LAST_NUMBER says that there is one and the number can't be raised, RART_NO_MEMORY
 // that there is one and memory was refused: nothing changed then. It counts them, so it takes time
 // by their number.
-RART_NONNULL RART_MUST_USE RART_CHANGES(1) RART_READS(2, 3) RART_WRITES(4)
+RART_NONNULL_AT(1, 4) RART_MUST_USE RART_CHANGES(1) RART_READS(2, 3) RART_WRITES(4)
 rart_answer rart_bytes_remove_prefix(
     rart_bytes *RART_ALONE tree,
     const uint8_t *RART_ALONE prefix,
@@ -813,7 +817,7 @@ rart_answer rart_bytes_remove_prefix(
 // frees what part was. Keys may be as long in it. What stands below the prefix both share.
 // RART_LAST_NUMBER says that the number can't be raised, RART_NO_MEMORY that memory was refused:
 // part is as before then. It counts them, so it takes time by their number.
-RART_NONNULL RART_MUST_USE RART_CHANGES(1) RART_READS(2, 3) RART_CHANGES(4)
+RART_NONNULL_AT(1, 4) RART_MUST_USE RART_CHANGES(1) RART_READS(2, 3) RART_CHANGES(4)
 rart_answer rart_bytes_prefix_snapshot(
     rart_bytes *RART_ALONE tree,
     const uint8_t *RART_ALONE prefix,
@@ -827,7 +831,7 @@ rart_answer rart_bytes_prefix_snapshot(
 // RART_NO_MEMORY that memory was refused: nothing changed then. Put back from its own snapshots, a
 // tree about doubles its number each time. It counts the pairs that go and come, so it takes time
 // by their number.
-RART_NONNULL RART_MUST_USE RART_CHANGES(1) RART_READS(2, 3) RART_CHANGES(4)
+RART_NONNULL_AT(1, 4) RART_MUST_USE RART_CHANGES(1) RART_READS(2, 3) RART_CHANGES(4)
 rart_answer rart_bytes_restore_prefix(
     rart_bytes *RART_ALONE tree,
     const uint8_t *RART_ALONE prefix,
@@ -846,7 +850,7 @@ rart_answer rart_saved_len(rart_tree *RART_ALONE tree, size_t *RART_ALONE len);
 // into are as before. RART_TOO_SMALL says that into has fewer, and len is written too;
 // RART_NO_MEMORY that memory was refused, of which it takes what rart_saved_len does. What into has
 // after these two answers is unspecified.
-RART_NONNULL RART_MUST_USE RART_CHANGES(1) RART_WRITES(2, 3) RART_WRITES(4)
+RART_NONNULL_AT(1, 4) RART_MUST_USE RART_CHANGES(1) RART_WRITES(2, 3) RART_WRITES(4)
 rart_answer rart_save(
     rart_tree *RART_ALONE tree,
     uint8_t *RART_ALONE into,
@@ -864,7 +868,7 @@ rart_answer rart_save(
 // than the length of bytes then. What rart_save wrote has no answers but RART_DONE, RART_TOO_LONG
 // and RART_NO_MEMORY; which other one comes of other bytes, and that offset is the byte to look at,
 // is tested alone.
-RART_NONNULL RART_MUST_USE RART_CHANGES(1) RART_READS(2, 3) RART_WRITES(4)
+RART_NONNULL_AT(1, 4) RART_MUST_USE RART_CHANGES(1) RART_READS(2, 3) RART_WRITES(4)
 rart_answer rart_load(
     rart_tree *RART_ALONE tree,
     const uint8_t *RART_ALONE bytes,
@@ -883,7 +887,7 @@ rart_answer rart_bytes_saved_len(rart_bytes *RART_ALONE tree, size_t *RART_ALONE
 // into are as before. RART_TOO_SMALL says that into has fewer, and len is written too;
 // RART_NO_MEMORY that memory was refused, of which it takes what rart_bytes_saved_len does. What
 // into has after these two answers is unspecified.
-RART_NONNULL RART_MUST_USE RART_CHANGES(1) RART_WRITES(2, 3) RART_WRITES(4)
+RART_NONNULL_AT(1, 4) RART_MUST_USE RART_CHANGES(1) RART_WRITES(2, 3) RART_WRITES(4)
 rart_answer rart_bytes_save(
     rart_bytes *RART_ALONE tree,
     uint8_t *RART_ALONE into,
@@ -901,7 +905,7 @@ rart_answer rart_bytes_save(
 // than the length of bytes then. What rart_bytes_save wrote has no answers but RART_DONE,
 // RART_TOO_LONG and RART_NO_MEMORY; which other one comes of other bytes, and that offset is the
 // byte to look at, is tested alone.
-RART_NONNULL RART_MUST_USE RART_CHANGES(1) RART_READS(2, 3) RART_WRITES(4)
+RART_NONNULL_AT(1, 4) RART_MUST_USE RART_CHANGES(1) RART_READS(2, 3) RART_WRITES(4)
 rart_answer rart_bytes_load(
     rart_bytes *RART_ALONE tree,
     const uint8_t *RART_ALONE bytes,
@@ -909,74 +913,9 @@ rart_answer rart_bytes_load(
     size_t *RART_ALONE offset
 );
 
-// The calls that take null: of these names the library's own functions, which don't, are written in
-// brackets, as (rart_clear)(tree). For bytes or entries that are none they are given this place.
-static uint64_t rart_nowhere;
-
-RART_NONNULL_AT(1, 4) RART_MUST_USE RART_CHANGES(1) RART_READS(2, 3) RART_WRITES(4)
-static inline rart_answer rart_get_any(rart_tree *RART_ALONE tree, const uint8_t *RART_ALONE key,
-    size_t key_len, uint64_t *RART_ALONE value) {
-    return (rart_get)(tree, key_len > 0 ? key : (const uint8_t *)&rart_nowhere, key_len, value);
-}
-#define rart_get(...) rart_get_any(__VA_ARGS__)
-
-RART_NONNULL_AT(1, 4, 5) RART_MUST_USE RART_CHANGES(1) RART_READS(2, 3) RART_WRITES(4)
-RART_WRITES(5)
-static inline rart_answer rart_longest_any(rart_tree *RART_ALONE tree,
-    const uint8_t *RART_ALONE probe, size_t probe_len, size_t *RART_ALONE len,
-    uint64_t *RART_ALONE value) {
-    return (rart_longest)(tree, probe_len > 0 ? probe : (const uint8_t *)&rart_nowhere, probe_len,
-        len, value);
-}
-#define rart_longest(...) rart_longest_any(__VA_ARGS__)
-
-RART_NONNULL_AT(1, 6, 7) RART_MUST_USE RART_CHANGES(1) RART_READS(2, 3) RART_WRITES(4, 5)
-RART_WRITES(6) RART_WRITES(7)
-static inline rart_answer rart_seek_any(rart_tree *RART_ALONE tree, const uint8_t *RART_ALONE from,
-    size_t from_len, uint8_t *RART_ALONE room, size_t room_len, size_t *RART_ALONE len,
-    uint64_t *RART_ALONE value) {
-    return (rart_seek)(tree, from_len > 0 ? from : (const uint8_t *)&rart_nowhere, from_len,
-        room_len > 0 ? room : (uint8_t *)&rart_nowhere, room_len, len, value);
-}
-#define rart_seek(...) rart_seek_any(__VA_ARGS__)
-
-RART_NONNULL_AT(1, 6, 7) RART_MUST_USE RART_CHANGES(1) RART_READS(2, 3) RART_WRITES(4, 5)
-RART_WRITES(6) RART_WRITES(7)
-static inline rart_answer rart_next_any(rart_tree *RART_ALONE tree, const uint8_t *RART_ALONE after,
-    size_t after_len, uint8_t *RART_ALONE room, size_t room_len, size_t *RART_ALONE len,
-    uint64_t *RART_ALONE value) {
-    return (rart_next)(tree, after_len > 0 ? after : (const uint8_t *)&rart_nowhere, after_len,
-        room_len > 0 ? room : (uint8_t *)&rart_nowhere, room_len, len, value);
-}
-#define rart_next(...) rart_next_any(__VA_ARGS__)
-
-RART_NONNULL_AT(1, 6, 7) RART_MUST_USE RART_CHANGES(1) RART_READS(2, 3) RART_WRITES(4, 5)
-RART_WRITES(6) RART_WRITES(7)
-static inline rart_answer rart_seek_back_any(rart_tree *RART_ALONE tree,
-    const uint8_t *RART_ALONE from, size_t from_len, uint8_t *RART_ALONE room, size_t room_len,
-    size_t *RART_ALONE len, uint64_t *RART_ALONE value) {
-    return (rart_seek_back)(tree, from_len > 0 ? from : (const uint8_t *)&rart_nowhere, from_len,
-        room_len > 0 ? room : (uint8_t *)&rart_nowhere, room_len, len, value);
-}
-#define rart_seek_back(...) rart_seek_back_any(__VA_ARGS__)
-
-RART_NONNULL_AT(1, 6, 7) RART_MUST_USE RART_CHANGES(1) RART_READS(2, 3) RART_WRITES(4, 5)
-RART_WRITES(6) RART_WRITES(7)
-static inline rart_answer rart_prev_any(rart_tree *RART_ALONE tree,
-    const uint8_t *RART_ALONE before, size_t before_len, uint8_t *RART_ALONE room, size_t room_len,
-    size_t *RART_ALONE len, uint64_t *RART_ALONE value) {
-    return (rart_prev)(tree, before_len > 0 ? before : (const uint8_t *)&rart_nowhere, before_len,
-        room_len > 0 ? room : (uint8_t *)&rart_nowhere, room_len, len, value);
-}
-#define rart_prev(...) rart_prev_any(__VA_ARGS__)
-
-RART_NONNULL_AT(1, 4, 5) RART_MUST_USE RART_CHANGES(1) RART_WRITES(2, 3) RART_WRITES(4)
-RART_WRITES(5)
-static inline rart_answer rart_last_any(rart_tree *RART_ALONE tree, uint8_t *RART_ALONE room,
-    size_t room_len, size_t *RART_ALONE len, uint64_t *RART_ALONE value) {
-    return (rart_last)(tree, room_len > 0 ? room : (uint8_t *)&rart_nowhere, room_len, len, value);
-}
-#define rart_last(...) rart_last_any(__VA_ARGS__)
+// The calls that take null for a tree that is cleared, or for a value before that isn't wanted: of
+// these names the library's own functions, which don't, are written in brackets, as
+// (rart_clear)(tree).
 
 static inline void rart_clear_any(rart_tree *tree) {
     if (tree != NULL) {
@@ -989,8 +928,7 @@ RART_NONNULL_AT(1) RART_MUST_USE RART_CHANGES(1) RART_READS(2, 3) RART_WRITES(5)
 static inline rart_answer rart_insert_any(rart_tree *RART_ALONE tree, const uint8_t *RART_ALONE key,
     size_t key_len, uint64_t value, uint64_t *RART_ALONE replaced) {
     uint64_t unwanted;
-    return (rart_insert)(tree, key_len > 0 ? key : (const uint8_t *)&rart_nowhere, key_len, value,
-        replaced != NULL ? replaced : &unwanted);
+    return (rart_insert)(tree, key, key_len, value, replaced != NULL ? replaced : &unwanted);
 }
 #define rart_insert(...) rart_insert_any(__VA_ARGS__)
 
@@ -998,8 +936,7 @@ RART_NONNULL_AT(1) RART_MUST_USE RART_CHANGES(1) RART_READS(2, 3) RART_WRITES(4)
 static inline rart_answer rart_remove_any(rart_tree *RART_ALONE tree, const uint8_t *RART_ALONE key,
     size_t key_len, uint64_t *RART_ALONE value) {
     uint64_t unwanted;
-    return (rart_remove)(tree, key_len > 0 ? key : (const uint8_t *)&rart_nowhere, key_len,
-        value != NULL ? value : &unwanted);
+    return (rart_remove)(tree, key, key_len, value != NULL ? value : &unwanted);
 }
 #define rart_remove(...) rart_remove_any(__VA_ARGS__)
 
@@ -1007,8 +944,7 @@ RART_NONNULL_AT(1) RART_MUST_USE RART_CHANGES(1) RART_READS(2, 3) RART_WRITES(5)
 static inline rart_answer rart_add_any(rart_tree *RART_ALONE tree, const uint8_t *RART_ALONE key,
     size_t key_len, uint64_t value, uint64_t *RART_ALONE found) {
     uint64_t unwanted;
-    return (rart_add)(tree, key_len > 0 ? key : (const uint8_t *)&rart_nowhere, key_len, value,
-        found != NULL ? found : &unwanted);
+    return (rart_add)(tree, key, key_len, value, found != NULL ? found : &unwanted);
 }
 #define rart_add(...) rart_add_any(__VA_ARGS__)
 
@@ -1016,111 +952,9 @@ RART_NONNULL_AT(1) RART_MUST_USE RART_CHANGES(1) RART_READS(2, 3) RART_WRITES(5)
 static inline rart_answer rart_replace_any(rart_tree *RART_ALONE tree,
     const uint8_t *RART_ALONE key, size_t key_len, uint64_t value, uint64_t *RART_ALONE replaced) {
     uint64_t unwanted;
-    return (rart_replace)(tree, key_len > 0 ? key : (const uint8_t *)&rart_nowhere, key_len, value,
-        replaced != NULL ? replaced : &unwanted);
+    return (rart_replace)(tree, key, key_len, value, replaced != NULL ? replaced : &unwanted);
 }
 #define rart_replace(...) rart_replace_any(__VA_ARGS__)
-
-RART_NONNULL_AT(1, 12, 13) RART_MUST_USE RART_CHANGES(1) RART_READS(2, 3) RART_READS(5, 6)
-RART_WRITES(8, 9) RART_WRITES(10, 11) RART_WRITES(12) RART_WRITES(13)
-static inline rart_answer rart_page_any(rart_tree *RART_ALONE tree, const uint8_t *RART_ALONE low,
-    size_t low_len, uint8_t low_kind, const uint8_t *RART_ALONE high, size_t high_len,
-    uint8_t high_kind, uint8_t *RART_ALONE bytes, size_t bytes_len, rart_entry *RART_ALONE entries,
-    size_t entries_len, size_t *RART_ALONE count, size_t *RART_ALONE needed) {
-    return (rart_page)(tree, low_len > 0 ? low : (const uint8_t *)&rart_nowhere, low_len, low_kind,
-        high_len > 0 ? high : (const uint8_t *)&rart_nowhere, high_len, high_kind,
-        bytes_len > 0 ? bytes : (uint8_t *)&rart_nowhere, bytes_len,
-        entries_len > 0 ? entries : (rart_entry *)&rart_nowhere, entries_len, count, needed);
-}
-#define rart_page(...) rart_page_any(__VA_ARGS__)
-
-RART_NONNULL_AT(1, 12, 13) RART_MUST_USE RART_CHANGES(1) RART_READS(2, 3) RART_READS(5, 6)
-RART_WRITES(8, 9) RART_WRITES(10, 11) RART_WRITES(12) RART_WRITES(13)
-static inline rart_answer rart_page_back_any(rart_tree *RART_ALONE tree,
-    const uint8_t *RART_ALONE low, size_t low_len, uint8_t low_kind, const uint8_t *RART_ALONE high,
-    size_t high_len, uint8_t high_kind, uint8_t *RART_ALONE bytes, size_t bytes_len,
-    rart_entry *RART_ALONE entries, size_t entries_len, size_t *RART_ALONE count,
-    size_t *RART_ALONE needed) {
-    return (rart_page_back)(tree, low_len > 0 ? low : (const uint8_t *)&rart_nowhere, low_len,
-        low_kind, high_len > 0 ? high : (const uint8_t *)&rart_nowhere, high_len, high_kind,
-        bytes_len > 0 ? bytes : (uint8_t *)&rart_nowhere, bytes_len,
-        entries_len > 0 ? entries : (rart_entry *)&rart_nowhere, entries_len, count, needed);
-}
-#define rart_page_back(...) rart_page_back_any(__VA_ARGS__)
-
-RART_NONNULL_AT(1, 6) RART_MUST_USE RART_CHANGES(1) RART_READS(2, 3) RART_WRITES(4, 5)
-RART_WRITES(6)
-static inline rart_answer rart_bytes_get_any(rart_bytes *RART_ALONE tree,
-    const uint8_t *RART_ALONE key, size_t key_len, uint8_t *RART_ALONE into, size_t into_len,
-    size_t *RART_ALONE len) {
-    return (rart_bytes_get)(tree, key_len > 0 ? key : (const uint8_t *)&rart_nowhere, key_len,
-        into_len > 0 ? into : (uint8_t *)&rart_nowhere, into_len, len);
-}
-#define rart_bytes_get(...) rart_bytes_get_any(__VA_ARGS__)
-
-RART_NONNULL_AT(1, 4, 7) RART_MUST_USE RART_CHANGES(1) RART_READS(2, 3) RART_WRITES(4)
-RART_WRITES(5, 6) RART_WRITES(7)
-static inline rart_answer rart_bytes_longest_any(rart_bytes *RART_ALONE tree,
-    const uint8_t *RART_ALONE probe, size_t probe_len, size_t *RART_ALONE key_len,
-    uint8_t *RART_ALONE into, size_t into_len, size_t *RART_ALONE len) {
-    return (rart_bytes_longest)(tree, probe_len > 0 ? probe : (const uint8_t *)&rart_nowhere,
-        probe_len, key_len, into_len > 0 ? into : (uint8_t *)&rart_nowhere, into_len, len);
-}
-#define rart_bytes_longest(...) rart_bytes_longest_any(__VA_ARGS__)
-
-RART_NONNULL_AT(1, 6, 9) RART_MUST_USE RART_CHANGES(1) RART_READS(2, 3) RART_WRITES(4, 5)
-RART_WRITES(6) RART_WRITES(7, 8) RART_WRITES(9)
-static inline rart_answer rart_bytes_seek_any(rart_bytes *RART_ALONE tree,
-    const uint8_t *RART_ALONE from, size_t from_len, uint8_t *RART_ALONE room, size_t room_len,
-    size_t *RART_ALONE key_len, uint8_t *RART_ALONE into, size_t into_len, size_t *RART_ALONE len) {
-    return (rart_bytes_seek)(tree, from_len > 0 ? from : (const uint8_t *)&rart_nowhere, from_len,
-        room_len > 0 ? room : (uint8_t *)&rart_nowhere, room_len, key_len,
-        into_len > 0 ? into : (uint8_t *)&rart_nowhere, into_len, len);
-}
-#define rart_bytes_seek(...) rart_bytes_seek_any(__VA_ARGS__)
-
-RART_NONNULL_AT(1, 6, 9) RART_MUST_USE RART_CHANGES(1) RART_READS(2, 3) RART_WRITES(4, 5)
-RART_WRITES(6) RART_WRITES(7, 8) RART_WRITES(9)
-static inline rart_answer rart_bytes_next_any(rart_bytes *RART_ALONE tree,
-    const uint8_t *RART_ALONE after, size_t after_len, uint8_t *RART_ALONE room, size_t room_len,
-    size_t *RART_ALONE key_len, uint8_t *RART_ALONE into, size_t into_len, size_t *RART_ALONE len) {
-    return (rart_bytes_next)(tree, after_len > 0 ? after : (const uint8_t *)&rart_nowhere,
-        after_len, room_len > 0 ? room : (uint8_t *)&rart_nowhere, room_len, key_len,
-        into_len > 0 ? into : (uint8_t *)&rart_nowhere, into_len, len);
-}
-#define rart_bytes_next(...) rart_bytes_next_any(__VA_ARGS__)
-
-RART_NONNULL_AT(1, 6, 9) RART_MUST_USE RART_CHANGES(1) RART_READS(2, 3) RART_WRITES(4, 5)
-RART_WRITES(6) RART_WRITES(7, 8) RART_WRITES(9)
-static inline rart_answer rart_bytes_seek_back_any(rart_bytes *RART_ALONE tree,
-    const uint8_t *RART_ALONE from, size_t from_len, uint8_t *RART_ALONE room, size_t room_len,
-    size_t *RART_ALONE key_len, uint8_t *RART_ALONE into, size_t into_len, size_t *RART_ALONE len) {
-    return (rart_bytes_seek_back)(tree, from_len > 0 ? from : (const uint8_t *)&rart_nowhere,
-        from_len, room_len > 0 ? room : (uint8_t *)&rart_nowhere, room_len, key_len,
-        into_len > 0 ? into : (uint8_t *)&rart_nowhere, into_len, len);
-}
-#define rart_bytes_seek_back(...) rart_bytes_seek_back_any(__VA_ARGS__)
-
-RART_NONNULL_AT(1, 6, 9) RART_MUST_USE RART_CHANGES(1) RART_READS(2, 3) RART_WRITES(4, 5)
-RART_WRITES(6) RART_WRITES(7, 8) RART_WRITES(9)
-static inline rart_answer rart_bytes_prev_any(rart_bytes *RART_ALONE tree,
-    const uint8_t *RART_ALONE before, size_t before_len, uint8_t *RART_ALONE room, size_t room_len,
-    size_t *RART_ALONE key_len, uint8_t *RART_ALONE into, size_t into_len, size_t *RART_ALONE len) {
-    return (rart_bytes_prev)(tree, before_len > 0 ? before : (const uint8_t *)&rart_nowhere,
-        before_len, room_len > 0 ? room : (uint8_t *)&rart_nowhere, room_len, key_len,
-        into_len > 0 ? into : (uint8_t *)&rart_nowhere, into_len, len);
-}
-#define rart_bytes_prev(...) rart_bytes_prev_any(__VA_ARGS__)
-
-RART_NONNULL_AT(1, 4, 7) RART_MUST_USE RART_CHANGES(1) RART_WRITES(2, 3) RART_WRITES(4)
-RART_WRITES(5, 6) RART_WRITES(7)
-static inline rart_answer rart_bytes_last_any(rart_bytes *RART_ALONE tree, uint8_t *RART_ALONE room,
-    size_t room_len, size_t *RART_ALONE key_len, uint8_t *RART_ALONE into, size_t into_len,
-    size_t *RART_ALONE len) {
-    return (rart_bytes_last)(tree, room_len > 0 ? room : (uint8_t *)&rart_nowhere, room_len,
-        key_len, into_len > 0 ? into : (uint8_t *)&rart_nowhere, into_len, len);
-}
-#define rart_bytes_last(...) rart_bytes_last_any(__VA_ARGS__)
 
 static inline void rart_bytes_clear_any(rart_bytes *tree) {
     if (tree != NULL) {
@@ -1128,148 +962,6 @@ static inline void rart_bytes_clear_any(rart_bytes *tree) {
     }
 }
 #define rart_bytes_clear(...) rart_bytes_clear_any(__VA_ARGS__)
-
-RART_NONNULL_AT(1) RART_MUST_USE RART_CHANGES(1) RART_READS(2, 3) RART_READS(4, 5)
-static inline rart_answer rart_bytes_insert_any(rart_bytes *RART_ALONE tree,
-    const uint8_t *RART_ALONE key, size_t key_len, const uint8_t *RART_ALONE value,
-    size_t value_len) {
-    return (rart_bytes_insert)(tree, key_len > 0 ? key : (const uint8_t *)&rart_nowhere, key_len,
-        value_len > 0 ? value : (const uint8_t *)&rart_nowhere, value_len);
-}
-#define rart_bytes_insert(...) rart_bytes_insert_any(__VA_ARGS__)
-
-RART_NONNULL_AT(1) RART_MUST_USE RART_CHANGES(1) RART_READS(2, 3)
-static inline rart_answer rart_bytes_remove_any(rart_bytes *RART_ALONE tree,
-    const uint8_t *RART_ALONE key, size_t key_len) {
-    return (rart_bytes_remove)(tree, key_len > 0 ? key : (const uint8_t *)&rart_nowhere, key_len);
-}
-#define rart_bytes_remove(...) rart_bytes_remove_any(__VA_ARGS__)
-
-RART_NONNULL_AT(1) RART_MUST_USE RART_CHANGES(1) RART_READS(2, 3) RART_READS(4, 5)
-static inline rart_answer rart_bytes_add_any(rart_bytes *RART_ALONE tree,
-    const uint8_t *RART_ALONE key, size_t key_len, const uint8_t *RART_ALONE value,
-    size_t value_len) {
-    return (rart_bytes_add)(tree, key_len > 0 ? key : (const uint8_t *)&rart_nowhere, key_len,
-        value_len > 0 ? value : (const uint8_t *)&rart_nowhere, value_len);
-}
-#define rart_bytes_add(...) rart_bytes_add_any(__VA_ARGS__)
-
-RART_NONNULL_AT(1) RART_MUST_USE RART_CHANGES(1) RART_READS(2, 3) RART_READS(4, 5)
-static inline rart_answer rart_bytes_replace_any(rart_bytes *RART_ALONE tree,
-    const uint8_t *RART_ALONE key, size_t key_len, const uint8_t *RART_ALONE value,
-    size_t value_len) {
-    return (rart_bytes_replace)(tree, key_len > 0 ? key : (const uint8_t *)&rart_nowhere, key_len,
-        value_len > 0 ? value : (const uint8_t *)&rart_nowhere, value_len);
-}
-#define rart_bytes_replace(...) rart_bytes_replace_any(__VA_ARGS__)
-
-RART_NONNULL_AT(1, 12, 13, 14) RART_MUST_USE RART_CHANGES(1) RART_READS(2, 3) RART_READS(5, 6)
-RART_WRITES(8, 9) RART_WRITES(10, 11) RART_WRITES(12) RART_WRITES(13) RART_WRITES(14)
-static inline rart_answer rart_bytes_page_any(rart_bytes *RART_ALONE tree,
-    const uint8_t *RART_ALONE low, size_t low_len, uint8_t low_kind, const uint8_t *RART_ALONE high,
-    size_t high_len, uint8_t high_kind, uint8_t *RART_ALONE bytes, size_t bytes_len,
-    rart_bytes_entry *RART_ALONE entries, size_t entries_len, size_t *RART_ALONE count,
-    size_t *RART_ALONE key_len, size_t *RART_ALONE len) {
-    return (rart_bytes_page)(tree, low_len > 0 ? low : (const uint8_t *)&rart_nowhere, low_len,
-        low_kind, high_len > 0 ? high : (const uint8_t *)&rart_nowhere, high_len, high_kind,
-        bytes_len > 0 ? bytes : (uint8_t *)&rart_nowhere, bytes_len,
-        entries_len > 0 ? entries : (rart_bytes_entry *)&rart_nowhere, entries_len, count, key_len,
-        len);
-}
-#define rart_bytes_page(...) rart_bytes_page_any(__VA_ARGS__)
-
-RART_NONNULL_AT(1, 12, 13, 14) RART_MUST_USE RART_CHANGES(1) RART_READS(2, 3) RART_READS(5, 6)
-RART_WRITES(8, 9) RART_WRITES(10, 11) RART_WRITES(12) RART_WRITES(13) RART_WRITES(14)
-static inline rart_answer rart_bytes_page_back_any(rart_bytes *RART_ALONE tree,
-    const uint8_t *RART_ALONE low, size_t low_len, uint8_t low_kind, const uint8_t *RART_ALONE high,
-    size_t high_len, uint8_t high_kind, uint8_t *RART_ALONE bytes, size_t bytes_len,
-    rart_bytes_entry *RART_ALONE entries, size_t entries_len, size_t *RART_ALONE count,
-    size_t *RART_ALONE key_len, size_t *RART_ALONE len) {
-    return (rart_bytes_page_back)(tree, low_len > 0 ? low : (const uint8_t *)&rart_nowhere, low_len,
-        low_kind, high_len > 0 ? high : (const uint8_t *)&rart_nowhere, high_len, high_kind,
-        bytes_len > 0 ? bytes : (uint8_t *)&rart_nowhere, bytes_len,
-        entries_len > 0 ? entries : (rart_bytes_entry *)&rart_nowhere, entries_len, count, key_len,
-        len);
-}
-#define rart_bytes_page_back(...) rart_bytes_page_back_any(__VA_ARGS__)
-
-RART_NONNULL_AT(1, 4) RART_MUST_USE RART_CHANGES(1) RART_READS(2, 3) RART_WRITES(4)
-static inline rart_answer rart_remove_prefix_any(rart_tree *RART_ALONE tree,
-    const uint8_t *RART_ALONE prefix, size_t prefix_len, size_t *RART_ALONE removed) {
-    return (rart_remove_prefix)(tree, prefix_len > 0 ? prefix : (const uint8_t *)&rart_nowhere,
-        prefix_len, removed);
-}
-#define rart_remove_prefix(...) rart_remove_prefix_any(__VA_ARGS__)
-
-RART_NONNULL_AT(1, 4) RART_MUST_USE RART_CHANGES(1) RART_READS(2, 3) RART_CHANGES(4)
-static inline rart_answer rart_prefix_snapshot_any(rart_tree *RART_ALONE tree,
-    const uint8_t *RART_ALONE prefix, size_t prefix_len, rart_tree *RART_ALONE part) {
-    return (rart_prefix_snapshot)(tree, prefix_len > 0 ? prefix : (const uint8_t *)&rart_nowhere,
-        prefix_len, part);
-}
-#define rart_prefix_snapshot(...) rart_prefix_snapshot_any(__VA_ARGS__)
-
-RART_NONNULL_AT(1, 4) RART_MUST_USE RART_CHANGES(1) RART_READS(2, 3) RART_CHANGES(4)
-static inline rart_answer rart_restore_prefix_any(rart_tree *RART_ALONE tree,
-    const uint8_t *RART_ALONE prefix, size_t prefix_len, rart_tree *RART_ALONE from) {
-    return (rart_restore_prefix)(tree, prefix_len > 0 ? prefix : (const uint8_t *)&rart_nowhere,
-        prefix_len, from);
-}
-#define rart_restore_prefix(...) rart_restore_prefix_any(__VA_ARGS__)
-
-RART_NONNULL_AT(1, 4) RART_MUST_USE RART_CHANGES(1) RART_READS(2, 3) RART_WRITES(4)
-static inline rart_answer rart_bytes_remove_prefix_any(rart_bytes *RART_ALONE tree,
-    const uint8_t *RART_ALONE prefix, size_t prefix_len, size_t *RART_ALONE removed) {
-    return (rart_bytes_remove_prefix)(tree,
-        prefix_len > 0 ? prefix : (const uint8_t *)&rart_nowhere, prefix_len, removed);
-}
-#define rart_bytes_remove_prefix(...) rart_bytes_remove_prefix_any(__VA_ARGS__)
-
-RART_NONNULL_AT(1, 4) RART_MUST_USE RART_CHANGES(1) RART_READS(2, 3) RART_CHANGES(4)
-static inline rart_answer rart_bytes_prefix_snapshot_any(rart_bytes *RART_ALONE tree,
-    const uint8_t *RART_ALONE prefix, size_t prefix_len, rart_bytes *RART_ALONE part) {
-    return (rart_bytes_prefix_snapshot)(tree,
-        prefix_len > 0 ? prefix : (const uint8_t *)&rart_nowhere, prefix_len, part);
-}
-#define rart_bytes_prefix_snapshot(...) rart_bytes_prefix_snapshot_any(__VA_ARGS__)
-
-RART_NONNULL_AT(1, 4) RART_MUST_USE RART_CHANGES(1) RART_READS(2, 3) RART_CHANGES(4)
-static inline rart_answer rart_bytes_restore_prefix_any(rart_bytes *RART_ALONE tree,
-    const uint8_t *RART_ALONE prefix, size_t prefix_len, rart_bytes *RART_ALONE from) {
-    return (rart_bytes_restore_prefix)(tree,
-        prefix_len > 0 ? prefix : (const uint8_t *)&rart_nowhere, prefix_len, from);
-}
-#define rart_bytes_restore_prefix(...) rart_bytes_restore_prefix_any(__VA_ARGS__)
-
-RART_NONNULL_AT(1, 4) RART_MUST_USE RART_CHANGES(1) RART_WRITES(2, 3) RART_WRITES(4)
-static inline rart_answer rart_save_any(rart_tree *RART_ALONE tree, uint8_t *RART_ALONE into,
-    size_t into_len, size_t *RART_ALONE len) {
-    return (rart_save)(tree, into_len > 0 ? into : (uint8_t *)&rart_nowhere, into_len, len);
-}
-#define rart_save(...) rart_save_any(__VA_ARGS__)
-
-RART_NONNULL_AT(1, 4) RART_MUST_USE RART_CHANGES(1) RART_READS(2, 3) RART_WRITES(4)
-static inline rart_answer rart_load_any(rart_tree *RART_ALONE tree, const uint8_t *RART_ALONE bytes,
-    size_t bytes_len, size_t *RART_ALONE offset) {
-    return (rart_load)(tree, bytes_len > 0 ? bytes : (const uint8_t *)&rart_nowhere, bytes_len,
-        offset);
-}
-#define rart_load(...) rart_load_any(__VA_ARGS__)
-
-RART_NONNULL_AT(1, 4) RART_MUST_USE RART_CHANGES(1) RART_WRITES(2, 3) RART_WRITES(4)
-static inline rart_answer rart_bytes_save_any(rart_bytes *RART_ALONE tree, uint8_t *RART_ALONE into,
-    size_t into_len, size_t *RART_ALONE len) {
-    return (rart_bytes_save)(tree, into_len > 0 ? into : (uint8_t *)&rart_nowhere, into_len, len);
-}
-#define rart_bytes_save(...) rart_bytes_save_any(__VA_ARGS__)
-
-RART_NONNULL_AT(1, 4) RART_MUST_USE RART_CHANGES(1) RART_READS(2, 3) RART_WRITES(4)
-static inline rart_answer rart_bytes_load_any(rart_bytes *RART_ALONE tree,
-    const uint8_t *RART_ALONE bytes, size_t bytes_len, size_t *RART_ALONE offset) {
-    return (rart_bytes_load)(tree, bytes_len > 0 ? bytes : (const uint8_t *)&rart_nowhere,
-        bytes_len, offset);
-}
-#define rart_bytes_load(...) rart_bytes_load_any(__VA_ARGS__)
 
 // The bounds of a walk, the kind of each, and in which order it goes: copies that the walk has of its
 // own. Keys and prefixes of up to so many bytes have room.
@@ -1393,7 +1085,7 @@ static inline bool rart_walk_next(rart_walk *walk) {
         if (walk->count > 0) {
             rart_walk_bound_past(bounds, walk->key, walk->key_len);
         }
-        walk->answer = (bounds->goes_back ? (rart_page_back) : (rart_page))(
+        walk->answer = (bounds->goes_back ? rart_page_back : rart_page)(
             walk->tree, bounds->low, bounds->low_len, bounds->low_kind, bounds->high,
             bounds->high_len, bounds->high_kind, walk->bytes, sizeof walk->bytes, walk->entries,
             sizeof walk->entries / sizeof *walk->entries, &walk->count, &walk->needed);
@@ -1433,7 +1125,7 @@ typedef struct rart_bytes_walk {
 static inline void rart_bytes_walk_begin(rart_bytes_walk *walk, rart_bytes *tree, void *room,
                                          size_t room_len) {
     walk->tree = tree;
-    walk->room = room_len > 0 ? (uint8_t *)room : (uint8_t *)&rart_nowhere;
+    walk->room = (uint8_t *)room;
     walk->room_len = room_len;
     walk->at = walk->count = 0;
 }
@@ -1462,7 +1154,7 @@ static inline void rart_bytes_walk_back(rart_bytes_walk *walk) {
 
 // Gives a walk that has ended for want of room another one, of which it goes on.
 static inline void rart_bytes_walk_room(rart_bytes_walk *walk, void *room, size_t room_len) {
-    walk->room = room_len > 0 ? (uint8_t *)room : (uint8_t *)&rart_nowhere;
+    walk->room = (uint8_t *)room;
     walk->room_len = room_len;
     if (walk->answer == RART_TOO_SMALL) {
         walk->answer = RART_DONE;
@@ -1482,7 +1174,7 @@ static inline bool rart_bytes_walk_next(rart_bytes_walk *walk) {
         if (walk->count > 0) {
             rart_walk_bound_past(bounds, walk->key, walk->key_len);
         }
-        walk->answer = (bounds->goes_back ? (rart_bytes_page_back) : (rart_bytes_page))(
+        walk->answer = (bounds->goes_back ? rart_bytes_page_back : rart_bytes_page)(
             walk->tree, bounds->low, bounds->low_len, bounds->low_kind, bounds->high,
             bounds->high_len, bounds->high_kind, walk->room, walk->room_len, walk->entries,
             sizeof walk->entries / sizeof *walk->entries, &walk->count, &walk->needed,

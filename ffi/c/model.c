@@ -147,7 +147,7 @@ static bool read_page(size_t at, struct range *range) {
                         .needed = NO_NUMBER};
     memset(page.bytes, NO_BYTE, MOST_PAGE);
     unsigned long long before = requests_refused();
-    rart_answer answer = (range->descends ? rart_page_back_any : rart_page_any)(
+    rart_answer answer = (range->descends ? rart_page_back : rart_page)(
         &trees[at], BYTES_OF(&range->low.key), range->low.kind, BYTES_OF(&range->high.key),
         range->high.kind, page.room > 0 ? page.bytes : NULL, page.room,
         page.most > 0 ? page.entries : NULL, page.most, &page.count, &page.needed);

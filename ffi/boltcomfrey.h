@@ -203,8 +203,8 @@ static inline size_t rart_prefix_end(uint8_t *prefix, size_t len) {
 }
 
 // What a caller owes to each call:
-// - a tree is all zeros, or as a call left it, and is copied nowhere; one that is moved leaves its
-//   old place all zeros;
+// - a tree is all zeros, or as a call left it, but where a call with _new makes it; it is copied
+//   nowhere, and one that is moved leaves its old place all zeros;
 // - no pointer is null, but of bytes or entries that are none (which rests on how the toolchain
 //   compiles a call: it is tried with each archive, and no page promises it); rart_clear takes a
 //   null tree, and what sets or takes out a key takes null for a value before that isn't wanted;
@@ -962,6 +962,109 @@ static inline void rart_bytes_clear_any(rart_bytes *tree) {
     }
 }
 #define rart_bytes_clear(...) rart_bytes_clear_any(__VA_ARGS__)
+
+// The calls that make a tree, for a place that holds none: as those without _new, but that what
+// stands there isn't looked at. So it need not be all zeros, and a tree that stood there is lost.
+// Where such a call is refused, the place is the map without a key.
+
+RART_NONNULL RART_MUST_USE RART_CHANGES(1) RART_WRITES(2)
+static inline rart_answer rart_snapshot_new(rart_tree *RART_ALONE tree,
+    rart_tree *RART_ALONE copy) {
+    rart_tree made;
+    made.at = NULL;
+    rart_answer answer = rart_snapshot(tree, &made);
+    copy->at = made.at;
+    return answer;
+}
+
+RART_NONNULL RART_MUST_USE RART_CHANGES(1) RART_WRITES(2)
+static inline rart_answer rart_clone_new(rart_tree *RART_ALONE tree, rart_tree *RART_ALONE copy) {
+    rart_tree made;
+    made.at = NULL;
+    rart_answer answer = rart_clone(tree, &made);
+    copy->at = made.at;
+    return answer;
+}
+
+RART_NONNULL RART_MUST_USE RART_CHANGES(1) RART_WRITES(2)
+static inline rart_answer rart_bytes_snapshot_new(rart_bytes *RART_ALONE tree,
+    rart_bytes *RART_ALONE copy) {
+    rart_bytes made;
+    made.at = NULL;
+    rart_answer answer = rart_bytes_snapshot(tree, &made);
+    copy->at = made.at;
+    return answer;
+}
+
+RART_NONNULL RART_MUST_USE RART_CHANGES(1) RART_WRITES(2)
+static inline rart_answer rart_bytes_clone_new(rart_bytes *RART_ALONE tree,
+    rart_bytes *RART_ALONE copy) {
+    rart_bytes made;
+    made.at = NULL;
+    rart_answer answer = rart_bytes_clone(tree, &made);
+    copy->at = made.at;
+    return answer;
+}
+
+RART_NONNULL RART_MUST_USE RART_CHANGES(1) RART_CHANGES(2) RART_WRITES(3)
+static inline rart_answer rart_difference_new(rart_tree *RART_ALONE tree,
+    rart_tree *RART_ALONE other, rart_tree *RART_ALONE part) {
+    rart_tree made;
+    made.at = NULL;
+    rart_answer answer = rart_difference(tree, other, &made);
+    part->at = made.at;
+    return answer;
+}
+
+RART_NONNULL RART_MUST_USE RART_CHANGES(1) RART_CHANGES(2) RART_WRITES(3)
+static inline rart_answer rart_intersection_new(rart_tree *RART_ALONE tree,
+    rart_tree *RART_ALONE other, rart_tree *RART_ALONE part) {
+    rart_tree made;
+    made.at = NULL;
+    rart_answer answer = rart_intersection(tree, other, &made);
+    part->at = made.at;
+    return answer;
+}
+
+RART_NONNULL RART_MUST_USE RART_CHANGES(1) RART_CHANGES(2) RART_WRITES(3)
+static inline rart_answer rart_bytes_difference_new(rart_bytes *RART_ALONE tree,
+    rart_bytes *RART_ALONE other, rart_bytes *RART_ALONE part) {
+    rart_bytes made;
+    made.at = NULL;
+    rart_answer answer = rart_bytes_difference(tree, other, &made);
+    part->at = made.at;
+    return answer;
+}
+
+RART_NONNULL RART_MUST_USE RART_CHANGES(1) RART_CHANGES(2) RART_WRITES(3)
+static inline rart_answer rart_bytes_intersection_new(rart_bytes *RART_ALONE tree,
+    rart_bytes *RART_ALONE other, rart_bytes *RART_ALONE part) {
+    rart_bytes made;
+    made.at = NULL;
+    rart_answer answer = rart_bytes_intersection(tree, other, &made);
+    part->at = made.at;
+    return answer;
+}
+
+RART_NONNULL_AT(1, 4) RART_MUST_USE RART_CHANGES(1) RART_READS(2, 3) RART_WRITES(4)
+static inline rart_answer rart_prefix_snapshot_new(rart_tree *RART_ALONE tree,
+    const uint8_t *RART_ALONE prefix, size_t prefix_len, rart_tree *RART_ALONE part) {
+    rart_tree made;
+    made.at = NULL;
+    rart_answer answer = rart_prefix_snapshot(tree, prefix, prefix_len, &made);
+    part->at = made.at;
+    return answer;
+}
+
+RART_NONNULL_AT(1, 4) RART_MUST_USE RART_CHANGES(1) RART_READS(2, 3) RART_WRITES(4)
+static inline rart_answer rart_bytes_prefix_snapshot_new(rart_bytes *RART_ALONE tree,
+    const uint8_t *RART_ALONE prefix, size_t prefix_len, rart_bytes *RART_ALONE part) {
+    rart_bytes made;
+    made.at = NULL;
+    rart_answer answer = rart_bytes_prefix_snapshot(tree, prefix, prefix_len, &made);
+    part->at = made.at;
+    return answer;
+}
 
 // The bounds of a walk, the kind of each, and in which order it goes: copies that the walk has of its
 // own. Keys and prefixes of up to so many bytes have room.

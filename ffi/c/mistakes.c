@@ -8,6 +8,10 @@ rart_answer call(rart_tree *tree, uint8_t room[8]) {
     uint64_t value;
     size_t len;
 #if MISTAKE == 0
+    rart_tree made; // (which holds no tree, and need not be all zeros)
+    if (rart_clone_new(tree, &made) == RART_DONE) {
+        rart_clear(&made);
+    }
     return rart_get(tree, NULL, 0, &value) == RART_DONE
                ? rart_next(tree, tea, sizeof tea, room, 8, &len, &value)
                : rart_seek(tree, NULL, 0, NULL, 0, &len, &value);
@@ -42,5 +46,7 @@ rart_answer call(rart_tree *tree, uint8_t room[8]) {
     return rart_get(tree, NULL, 3, &value);
 #elif MISTAKE == 13 // a null tree
     return rart_get(NULL, tea, 3, &value);
+#elif MISTAKE == 14 // a new snapshot in its own tree, which would be lost
+    return rart_snapshot_new(tree, tree);
 #endif
 }

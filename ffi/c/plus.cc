@@ -19,7 +19,7 @@ int main() {
     rart_tree prices, yesterday;
     uint64_t was = 0, is = 0;
     bool is_right = RART_OK(rart_insert(&prices, tea, sizeof tea, 300, nullptr)) &&
-                    rart_snapshot(&prices, &yesterday) == RART_DONE &&
+                    rart_snapshot_new(&prices, &yesterday) == RART_DONE &&
                     RART_OK(rart_insert(&prices, tea, sizeof tea, 350, nullptr)) &&
                     rart_get(&yesterday, tea, sizeof tea, &was) == RART_DONE &&
                     rart_get(&prices, tea, sizeof tea, &is) == RART_DONE && was == 300 && is == 350;

@@ -272,11 +272,38 @@ static void expect_take_out(size_t at, const struct key *key) {
     expect_state(at, key);
 }
 
+// A place that holds no tree, for the calls that only make one: what stands there leads nowhere.
+static TREE no_tree(void) {
+    TREE place;
+    memset(&place, 0xA5, sizeof place);
+    return place;
+}
+
+// Puts a tree that was made elsewhere in place of another, or sees that none was made.
+static rart_answer keep_made(rart_answer answer, const TREE *made, size_t to) {
+    if (answer != RART_DONE) {
+        EXPECT(made->at == NULL);
+        return answer;
+    }
+    CALL(clear)(&trees[to]);
+    trees[to] = *made;
+    return answer;
+}
+
+static rart_answer copy(size_t at, size_t to, bool is_snapshot) {
+    TREE *tree = &trees[at], made = no_tree();
+    if (random_below(2) == 0) {
+        return is_snapshot ? CALL(snapshot)(tree, &trees[to]) : CALL(clone)(tree, &trees[to]);
+    }
+    rart_answer answer =
+        is_snapshot ? CALL(snapshot_new)(tree, &made) : CALL(clone_new)(tree, &made);
+    return keep_made(answer, &made, to);
+}
+
 static void expect_copy(size_t at, size_t to, bool is_snapshot) {
     struct key key = random_key();
     bool has_room = !is_snapshot || tables[at].number < UINT64_MAX;
-    rart_answer answer =
-        is_snapshot ? CALL(snapshot)(&trees[at], &trees[to]) : CALL(clone)(&trees[at], &trees[to]);
+    rart_answer answer = copy(at, to, is_snapshot);
     if (!is_refused(answer, has_room ? RART_DONE : RART_LAST_NUMBER) && has_room) {
         tables[to] = tables[at];
         tables[to].number += is_snapshot;
@@ -329,10 +356,17 @@ static void expect_remove_prefix(size_t at, const struct key *prefix) {
     expect_state(at, prefix);
 }
 
+static rart_answer copy_prefix(size_t at, size_t to, const struct key *prefix) {
+    TREE made = no_tree();
+    if (random_below(2) == 0) {
+        return CALL(prefix_snapshot)(&trees[at], BYTES_OF(prefix), &trees[to]);
+    }
+    return keep_made(CALL(prefix_snapshot_new)(&trees[at], BYTES_OF(prefix), &made), &made, to);
+}
+
 static void expect_prefix_snapshot(size_t at, size_t to, const struct key *prefix) {
     bool has_room = tables[at].number < UINT64_MAX;
-    rart_answer answer =
-        CALL(prefix_snapshot)(&trees[at], BYTES_OF(prefix), &trees[to]);
+    rart_answer answer = copy_prefix(at, to, prefix);
     if (!is_refused(answer, has_room ? RART_DONE : RART_LAST_NUMBER) && has_room) {
         tables[to] = tables[at];
         cut_table(to, prefix, true);
@@ -449,13 +483,23 @@ static void expect_equals(size_t at, size_t other) {
     is_refused(CALL(equals)(&trees[at], &trees[other]), wanted);
 }
 
+static rart_answer combine(size_t at, size_t other, size_t to, bool is_common) {
+    TREE *tree = &trees[at], *others = &trees[other], made = no_tree();
+    if (random_below(2) == 0) {
+        return is_common ? CALL(intersection)(tree, others, &trees[to])
+                         : CALL(difference)(tree, others, &trees[to]);
+    }
+    rart_answer answer = is_common ? CALL(intersection_new)(tree, others, &made)
+                                   : CALL(difference_new)(tree, others, &made);
+    return keep_made(answer, &made, to);
+}
+
 // The pairs of a tree alone whose key another one has too; or lacks, or has with another value. (Of
 // a visit that was refused memory more may be refused, until it ends.)
 static void expect_part(size_t at, size_t other, size_t to, bool is_common) {
     struct key key = random_key();
     unsigned long long before = requests_refused();
-    rart_answer answer = is_common ? CALL(intersection)(&trees[at], &trees[other], &trees[to])
-                                   : CALL(difference)(&trees[at], &trees[other], &trees[to]);
+    rart_answer answer = combine(at, other, to, is_common);
     if (is_refused(answer, RART_DONE)) {
         unheeded += requests_refused() - before - 1;
     } else {

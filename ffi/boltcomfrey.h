@@ -213,6 +213,8 @@ static inline size_t rart_prefix_end(uint8_t *prefix, size_t len) {
 // - a buffer for keys is as long as rart_longest_key, which rart_clear and rart_new_at set back and
 //   a copy has from its tree, or RART_TOO_SMALL is looked for: pages have told all where one
 //   answers RART_ABSENT;
+// - a loop over pages sets each next bound behind the last key, and ends at any other answer than
+//   RART_DONE: rart_walk does so, and pages are for programs that keep their own buffers;
 // - trees that come from one tree, or have had pairs of another put back, also through others, stay
 //   on one thread, as their nodes count who shares them; trees that have nothing to do with each
 //   other may be on two;

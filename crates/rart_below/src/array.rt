@@ -14,6 +14,7 @@ use crate::partial::Partial;
 use arrayvec::ArrayVec;
 use std::alloc::{AllocError, Global};
 use std::cmp::Ordering;
+use std::convert::AsSlice;
 
 /// At most `N` bytes, held inline. No call takes memory, so none is refused.
 #[derive(Drop)]
@@ -148,6 +149,16 @@ impl<const N: usize> Ord for ArrayKey<N> {
 
     fn cmp(&self, other: &ArrayKey<N>) -> Ordering {
         compare_bytes(self.bytes.as_slice(), other.bytes.as_slice())
+    }
+}
+
+/// Its bytes, so that a call which takes whatever lends bytes takes a key too. In Rust this is
+/// `AsRef<[u8]>`.
+impl<const N: usize> AsSlice<u8> for ArrayKey<N> {
+    ghost items = { λ key. key.bytes.items };
+
+    fn as_slice(&self) -> &[u8] {
+        self.bytes.as_slice()
     }
 }
 

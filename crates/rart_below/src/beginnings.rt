@@ -14,7 +14,9 @@ use std::cmp::Ordering;
 /// one.
 #[tactic(auto, using(crate::proofs::CommonLengthLemmas::common_step, crate::proofs::CommonLengthLemmas::common_stop, crate::proofs::CommonLengthLemmas::common_stop_left, crate::proofs::CommonLengthLemmas::common_stop_right))]
 pub fn prefix_length(left: &[u8], right: &[u8]) -> usize
-    ensures { result ≡ common_length left.now right.now }
+    ensures common { result ≡ common_length left.now right.now }
+    ensures within_left { result ≤ length left.now }
+    ensures within_right { result ≤ length right.now }
 {
     let shorter = left.len().min(right.len());
     let mut matched = equal_blocks(left, right, shorter);

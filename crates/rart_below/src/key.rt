@@ -59,3 +59,18 @@ pub trait KeyTrait: Eq + Ord + Drop {
 
     ghost ordered_by_bytes: { (a b : Self) → Self.cmp a b ≡ byte_order (bytes a) (bytes b) };
 }
+
+/// Whether a type of keys or prefixes admits a length. `most` is its greatest one, as
+/// `K::MAXIMUM_SIZE`, or `None` where it has none.
+///
+/// ```
+/// let is_short = is_admitted(VectorKey::MAXIMUM_SIZE, buffer.len());
+/// ```
+pub fn is_admitted(most: Option<usize>, length: usize) -> bool
+    ensures { IsTrue result ↔ IsAdmitted most length }
+{
+    match most {
+        None => true,
+        Some(most) => length <= most,
+    }
+}

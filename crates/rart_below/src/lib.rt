@@ -18,7 +18,7 @@ mod visit;
 pub use array::{ArrPartial, ArrayKey};
 pub use beginnings::{compare_bytes, does_begin, prefix_length};
 pub use byte_set::{ByteSet, BytesLeft};
-pub use key::KeyTrait;
+pub use key::{KeyTrait, is_admitted};
 pub use mapping::{Clear, DirectMapping, IndexedMapping, NodeMapping, SortedKeyedMapping};
 pub use partial::Partial;
 pub use plain::{AdaptiveRadixTree, PlainIter};

@@ -10,6 +10,7 @@ use crate::key::KeyTrait;
 use crate::partial::Partial;
 use arrayvec::ArrayVec;
 use std::alloc::{AllocError, Global};
+use std::convert::AsSlice;
 
 /// So many bytes fit in place. With more, a leaf would take a greater block of memory.
 const FEW: usize = 16;
@@ -122,6 +123,16 @@ impl Partial for VectorPartial {
 #[derive(PartialEq, Eq, PartialOrd, Ord, Drop)]
 pub struct VectorKey {
     bytes: Vec<u8>,
+}
+
+/// Its bytes, so that a call which takes whatever lends bytes takes a key too. In Rust this is
+/// `AsRef<[u8]>`.
+impl AsSlice<u8> for VectorKey {
+    ghost items = { λ key. key.bytes.items };
+
+    fn as_slice(&self) -> &[u8] {
+        self.bytes.as_slice()
+    }
 }
 
 impl KeyTrait for VectorKey {

@@ -7,7 +7,7 @@ ghost use Rattle.rart_saved.specs.Parts.{HasPart};
 ghost use Rattle.rart_saved.specs.Refusals.{PointsInto};
 
 use crate::error::LoadError;
-use crate::keys::shared_length;
+use rart_below::prefix_length;
 
 /// The number of this format.
 const FORMAT: u8 = 1;
@@ -39,7 +39,7 @@ pub(crate) fn take_head(bytes: &[u8], head: &[u8; 9]) -> Result<usize, LoadError
     ensures refused { IfErr result (λ _. (rest : List ℕ) → bytes.now ≢ head.now ++ rest) }
     ensures points { IfErr result (PointsInto bytes.now) }
 {
-    let shared = shared_length(head, bytes);
+    let shared = prefix_length(head, bytes);
     if shared == 9 {
         return Ok(9);
     }

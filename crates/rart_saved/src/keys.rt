@@ -1,5 +1,5 @@
 //! Keys as bytes: each by what it has in common with the one before.
-ghost use Rattle.std.specs.Prelude.{◌≡◌, ◌≢◌, ◌↔◌, ◌≤◌, ◌++◌, ◌<◌, ℕ, List, [], true, false, drop, length, IfErr, IfOk, IsTrue, OnOk};
+ghost use Rattle.std.specs.Prelude.{◌≡◌, ◌≢◌, ◌≤◌, ◌++◌, ◌<◌, ℕ, List, [], true, false, drop, length, IfErr, IfOk, OnOk};
 ghost use Rattle.rart_below.specs.Bytes.{IsAdmitted, common_length};
 ghost use Rattle.rart_saved.specs.Forms.{key_form};
 ghost use Rattle.rart_saved.specs.Keys.{Follows, IsNext, LacksAdmittedKey, LacksKey};
@@ -8,32 +8,15 @@ ghost use Rattle.rart_saved.specs.Refusals.{OnErrWithin, OnOtherErr, PointsInto}
 
 use crate::error::LoadError;
 use crate::numbers::{number_at, put_number};
+use rart_below::{is_admitted, prefix_length};
 use rart_versioned::KeyTrait;
 use std::alloc::AllocError;
-
-/// How many bytes two strings have in common at their start.
-#[tactic(auto, using(rart_below::proofs::CommonLengthLemmas::common_step, rart_below::proofs::CommonLengthLemmas::common_stop, rart_below::proofs::CommonLengthLemmas::common_stop_left, rart_below::proofs::CommonLengthLemmas::common_stop_right))]
-pub(crate) fn shared_length(left: &[u8], right: &[u8]) -> usize
-    ensures shared { result ≡ common_length left.now right.now }
-    ensures left { result ≤ length left.now }
-    ensures right { result ≤ length right.now }
-{
-    let shorter = left.len().min(right.len());
-    let mut matched = 0;
-    while matched < shorter {
-        if left[matched] != right[matched] {
-            return matched;
-        }
-        matched += 1;
-    }
-    matched
-}
 
 /// Writes a key behind the one before. Refused for memory, some of its bytes may be there.
 pub(crate) fn put_key(out: &mut Vec<u8>, before: &[u8], key: &[u8]) -> Result<(), AllocError>
     ensures { OnOk result (out.new.items ≡ out.old.items ++ key_form before.now key.now) }
 {
-    let shared = shared_length(before, key);
+    let shared = prefix_length(before, key);
     put_number(out, shared as u64)?;
     put_number(out, (key.len() - shared) as u64)?;
     out.extend_from_slice(&key[shared..])?;
@@ -62,10 +45,11 @@ pub(crate) fn take_key<K: KeyTrait>(
     ensures points { IfErr result (PointsInto bytes.now) }
 {
     let end = take_any_key(bytes, at, is_first, key)?;
-    if !is_within(K::MAXIMUM_SIZE, key) {
+    let count = key.as_slice().len();
+    if !is_admitted(K::MAXIMUM_SIZE, count) {
         return Err(LoadError::Malformed { at });
     }
-    if !is_within(longest, key) {
+    if !is_admitted(longest, count) {
         return Err(LoadError::TooLong { at });
     }
     Ok(end)
@@ -98,16 +82,6 @@ fn take_any_key(
     key.truncate(shared as usize);
     key.extend_from_slice(&bytes[from..end])?;
     Ok(end)
-}
-
-/// Whether a key is no longer than a limit, if there is one.
-fn is_within(longest: Option<usize>, key: &[u8]) -> bool
-    ensures { IsTrue result ↔ IsAdmitted longest (length key.now) }
-{
-    match longest {
-        None => true,
-        Some(longest) => key.len() <= longest,
-    }
 }
 
 /// Whether a key that has just so many bytes in common with the one before, and then these, comes

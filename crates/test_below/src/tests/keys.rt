@@ -1,24 +1,11 @@
 //! The calls that make a key or a prefix, for any type of them.
-ghost use Rattle.std.specs.Prelude.{IsTrue};
-ghost use Rattle.rart_below.specs.Bytes.{IsAdmitted};
-
-use rart_below::{KeyTrait, Partial};
+use rart_below::{KeyTrait, Partial, is_admitted};
 use std::alloc::{AllocError, Global};
 use std::process::Abort;
 
-// Whether so many bytes are admitted where these are the most.
-fn admits(most: Option<usize>, length: usize) -> bool
-    ensures { IsTrue result → IsAdmitted most length }
-{
-    match most {
-        Some(most) => length <= most,
-        None => true,
-    }
-}
-
 /// A key of `wxyz`, its prefix of all bytes, and the key made of that.
 pub fn assert_keys<K: KeyTrait>(rt: &impl Abort, alloc: Global) -> Result<(), AllocError> {
-    assert!(rt; admits(K::MAXIMUM_SIZE, 4));
+    assert!(rt; is_admitted(K::MAXIMUM_SIZE, 4));
     let key = K::new_from_slice(alloc, b"wxyz")?;
     let prefix = key.to_partial(alloc, 0)?;
     let again = K::new_from_partial(alloc, &prefix)?;
@@ -29,7 +16,7 @@ pub fn assert_keys<K: KeyTrait>(rt: &impl Abort, alloc: Global) -> Result<(), Al
 
 /// The prefix `wxyz` parted, joined again and copied.
 pub fn assert_prefixes<P: Partial>(rt: &impl Abort, alloc: Global) -> Result<(), AllocError> {
-    assert!(rt; admits(P::MAXIMUM_SIZE, 4));
+    assert!(rt; is_admitted(P::MAXIMUM_SIZE, 4));
     let whole = P::new_from_slice(alloc, b"wxyz")?;
     let first = whole.partial_before(alloc, 1)?;
     let rest = whole.partial_after(alloc, 1)?;

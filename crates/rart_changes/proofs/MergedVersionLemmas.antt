@@ -7,14 +7,15 @@ use Rattle.std.specs.List.{filter_map}
 use Rattle.std.specs.Option.{unwrap_or}
 use Rattle.std.proofs.lemmas.Bool.{and_parts, and_from, false≢true}
 use Rattle.rart_maps.specs.Versions.{Map}
-use Rattle.rart_maps.specs.Visits.{CallableOn, CalledOn}
 use Rattle.rart_maps.proofs.ElementLemmas.{Contains-filter_map}
 use Rattle.rart_maps.proofs.FoundLemmas.{ascending_lists_are_fixed}
 use Rattle.rart_maps.specs.ChangeLists.{Change, changes, differ, patched}
 use Rattle.rart_maps.specs.Merges.{Answers, Conflict, answered, conflicts, in_conflict}
 use Rattle.rart_maps.proofs.ChangeLemmas.{KeysAscend-kept, changes-ascend, changes-from, changes-to}
 use Rattle.rart_maps.proofs.MergeLemmas.{conflicts_are_found, conflicts_ascend}
-use Rattle.rart_changes.specs.Merging.{AnswersAreKept, KeepsReplies, Answerable, AnswerableStepByStep, AnswersAreMerged, AnswersBy, AsksInOrder, KeepsAsked, Replies, RepliesUpTo, Reply, change_for}
+use Rattle.rart_versioned.specs.Replies.{Replies}
+use Rattle.rart_versioned.proofs.ReplyLemmas.{asked-up_to, replies-asked}
+use Rattle.rart_changes.specs.Merging.{AnswersAreKept, AnswersAreMerged, AnswersBy, AsksInOrder, KeepsReplies, Reply, change_for}
 
 module _ {V : Type 0} (same : V → V → Bool) (ours : Map V) where
   -- what the three have at a key that theirs changed
@@ -79,14 +80,6 @@ module _ {V : Type 0} (same : V → V → Bool) (ours : Map V) where
         (changes same base theirs) (changes-ascend same base theirs))
         (λ k. (there-in k, in-there k))
 
-abbrev head-or : {A : Type 0} → A → List A → A
-head-or x [] = x
-head-or x (y ∷ ys) = y
-
-abbrev tail-of : {A : Type 0} → List A → List A
-tail-of [] = []
-tail-of (x ∷ xs) = xs
-
 module _ {F A V : Type 0} (g : Mut F A (Option V)) (Shows : A → Conflict V → Type 0) where
   replies-by : (answers : Answers V) → AnswersBy g Shows answers → (replies : List (Reply V))
       → (f f' : F) → Replies g Shows f replies f'
@@ -103,26 +96,12 @@ module _ {F A V : Type 0} (g : Mut F A (Option V)) (Shows : A → Conflict V →
       (replies-by answers by merges.replies f f' merges.calls
       ∙ ap (map (answered answers)) merges.asked)
 
-  replies-asked : (asked : F → List (Conflict V)) → KeepsAsked g Shows asked
-      → (replies : List (Reply V)) (f f' : F) → Replies g Shows f replies f'
-      → asked f' ≡ asked f ++ map (λ reply. reply.0) replies
-  replies-asked asked keeps [] f f' calls = ap asked (sym calls) ∙ sym (append-nil (asked f))
-  replies-asked asked keeps (reply ∷ replies) f f' calls =
-      replies-asked asked keeps replies calls.0 f' calls.2
-      ∙ ap (λ list. list ++ map (λ reply. reply.0) replies) (keeps f reply.0 reply.1 calls.0 calls.1)
-      ∙ append_assoc (asked f) (reply.0 ∷ []) (map (λ reply. reply.0) replies)
-
   pub asks_in_order : (same : V → V → Bool) → AsksInOrder g Shows same
   asks_in_order same asked keeps f f' = (
-    λ base ours theirs after merges. replies-asked asked keeps merges.replies f f' merges.calls
+    λ base ours theirs after merges.
+        replies-asked g Shows asked keeps merges.replies f f' merges.calls
         ∙ ap (λ list. asked f ++ list) merges.asked,
-    λ all up_to. (
-      up_to.1,
-      ap (λ list. asked f ++ list) up_to.2.asked
-          ∙ sym (append_assoc (asked f) (map (λ reply. reply.0) up_to.0) up_to.1)
-          ∙ ap (λ list. list ++ up_to.1)
-          (sym (replies-asked asked keeps up_to.0 f f' up_to.2.calls)),
-    ),
+    asked-up_to g Shows asked keeps f f',
   )
 
   replies-kept : (kept : F → List (Reply V)) → KeepsReplies g Shows kept
@@ -139,41 +118,4 @@ module _ {F A V : Type 0} (g : Mut F A (Option V)) (Shows : A → Conflict V →
     merges.replies,
     replies-kept kept keeps merges.replies f f' merges.calls,
     merges.content,
-  )
-
-  callable-first : (f : F) (conflict c : Conflict V) (rest left : List (Conflict V)) (f' : F)
-      → conflict ∷ rest ≡ c ∷ left → f ≡ f' → CallableOn g Shows f conflict
-      → CallableOn g Shows f' c
-  callable-first f conflict c rest left f' asked same callable =
-      subst (λ state. CallableOn g Shows state c) same
-      (subst (CallableOn g Shows f) (ap (head-or conflict) asked) callable)
-
-  callable-at : (f : F) (conflict : Conflict V) (rest : List (Conflict V))
-      → CallableOn g Shows f conflict
-      → ((answer : Option V) (j : F) → CalledOn g Shows f conflict answer j
-      → Answerable g Shows j rest)
-      → (replies : List (Reply V)) (c : Conflict V) (left : List (Conflict V)) (f' : F)
-      → RepliesUpTo g Shows f (conflict ∷ rest) replies (c ∷ left) f' → CallableOn g Shows f' c
-  callable-at f conflict rest callable later [] c left f' up_to =
-      callable-first f conflict c rest left f' up_to.asked up_to.calls callable
-  callable-at f conflict rest callable later (reply ∷ replies) c left f' up_to =
-      let calls = up_to.calls in
-      (later reply.1 calls.0
-      (subst (λ k. CalledOn g Shows f k reply.1 calls.0)
-      (sym (ap (head-or conflict) up_to.asked)) calls.1)).at
-      replies c left f' (record { asked = ap tail-of up_to.asked; calls = calls.2 })
-
-  pub answerable_step_by_step : AnswerableStepByStep g Shows
-  answerable_step_by_step f conflict rest = (
-    λ answerable. (
-      answerable.at [] conflict rest f (record { asked = refl; calls = refl }),
-      λ answer f' called. record {
-        at = λ replies c left last up_to.
-            answerable.at ((conflict, answer) ∷ replies) c left last (record {
-              asked = ap (λ list. conflict ∷ list) up_to.asked;
-              calls = (f', called, up_to.calls);
-            });
-      },
-    ),
-    λ both. record { at = callable-at f conflict rest both.0 both.1 },
   )

@@ -22,7 +22,8 @@ use Rattle.rart_maps.specs.ChangeLists.{Change, changes, patched}
 use Rattle.rart_maps.specs.ChangeVisits.{ByKeyChange}
 use Rattle.rart_maps.specs.Merges.{Conflict, conflicts, in_conflict}
 use Rattle.rart_maps.proofs.ChangeLemmas.{changes-ascend, patched-elsewhere}
-use Rattle.rart_changes.specs.Merging.{Answerable, IsAskedUpTo, MergesTo, Replies, Reply, change_for, held_in_either}
+use Rattle.rart_changes.specs.Merging.{MergesTo, Reply, change_for, held_in_either}
+use Rattle.rart_versioned.specs.Replies.{Answerable, IsAskedUpTo, Replies}
 use Rattle.rart_changes.specs.Setting.{IsSetTo}
 use Rattle.rart_changes.specs.Settling.{Askable, AskableIn, Settles, SettlesIn}
 use Rattle.rart_changes.proofs.CallLemmas.{holds-of_all, holds-up_to}

@@ -3,12 +3,13 @@ use Rattle.std.specs.Prelude.{◌≡◌, ◌↔◌, ℕ, List, [], ◌∷◌, �
 use Rattle.std.specs.Borrow.{Bor}
 use Rattle.std.specs.Fn.{Mut}
 use Rattle.std.specs.FinMap as finite
-use Rattle.std.specs.List.{FoldsTo, count_by}
+use Rattle.std.specs.List.{count_by}
 use Rattle.std.specs.Option.{option_copied}
 use Rattle.rart_maps.specs.Versions.{Map}
-use Rattle.rart_maps.specs.Visits.{CalledOn, CallableOn}
+use Rattle.rart_maps.specs.Visits.{CalledOn}
 use Rattle.rart_maps.specs.ChangeLists.{Change, changes, patched}
 use Rattle.rart_maps.specs.Merges.{Conflict, Answers, conflicts, merged}
+use Rattle.rart_versioned.specs.Replies.{IsAskedUpTo, KeepsAsked, Replies}
 use Rattle.rart_changes.specs.ConflictVisits.{ByConflict}
 
 -- a conflict, as `ByConflict` shows it, by a reference to the key
@@ -44,34 +45,13 @@ module _ {V : Type 0} where
       changes
 
 module _ {F A V : Type 0} (g : Mut F A (Option V)) (Shows : A → Conflict V → Type 0) where
-  -- f is called on the conflicts of these replies in order, once each, and on nothing else, and
-  -- gives these answers.
-  abbrev pub Replies : F → List (Reply V) → F → Type 0
-  Replies f replies f' = FoldsTo (λ j reply j'. CalledOn g Shows j reply.0 reply.1 j') f replies f'
-
-  -- It replies so to the conflicts before the rest.
-  pub record RepliesUpTo (f : F) (all : List (Conflict V)) (replies : List (Reply V))
-      (rest : List (Conflict V)) (f' : F) : Type 0 where
-    pub asked : all ≡ map (λ reply. reply.0) replies ++ rest
-    pub calls : Replies f replies f'
-
-  -- It may be called on each conflict, in every state that calls on those before it may leave.
-  pub record Answerable (f : F) (all : List (Conflict V)) : Type 0 where
-    pub at : (replies : List (Reply V)) (conflict : Conflict V) (rest : List (Conflict V)) (f' : F)
-        → RepliesUpTo f all replies (conflict ∷ rest) f' → CallableOn g Shows f' conflict
-
-  -- It is called on the conflicts of a prefix, which is what a refusal leaves.
-  abbrev pub IsAskedUpTo : F → List (Conflict V) → F → Type 0
-  IsAskedUpTo f all f' =
-      (replies : List (Reply V)) × (rest : List (Conflict V)) × RepliesUpTo f all replies rest f'
-
-  -- It replies to each conflict in turn. Ours has then the changes of theirs, and at each conflict
-  -- the answer.
+  -- A merge: the closure f replies to each conflict in turn. Ours has then the changes of theirs, and
+  -- at each conflict the answer.
   pub record MergesTo (same : V → V → Bool) (f : F) (base ours theirs : Map V) (f' : F)
       (after : Map V) : Type 0 where
     pub replies : List (Reply V)
     pub asked : map (λ reply. reply.0) replies ≡ conflicts same base ours theirs
-    pub calls : Replies f replies f'
+    pub calls : Replies g Shows f replies f'
     pub content : after ≡ patched (patched ours (changes same base theirs)) (map change_for replies)
 
   -- Each answer of the closure is that of a function of the key and what the three have there.
@@ -86,18 +66,13 @@ module _ {F A V : Type 0} (g : Mut F A (Option V)) (Shows : A → Conflict V →
       (base ours theirs after : Map V) (f f' : F) →
       MergesTo same f base ours theirs f' after → after ≡ merged same answers base ours theirs
 
-  -- To say what it was asked: a closure that keeps a list of the conflicts, one more with each
-  -- call. A merge asks it about each conflict once, in order; one that is refused about those of a
-  -- prefix.
-  abbrev pub KeepsAsked : (F → List (Conflict V)) → Type 0
-  KeepsAsked asked = (f : F) (conflict : Conflict V) (answer : Option V) (f' : F) →
-      CalledOn g Shows f conflict answer f' → asked f' ≡ asked f ++ conflict ∷ []
-
+  -- What a closure was asked that keeps the conflicts which it was asked about: a merge asks about
+  -- each conflict once, in order; a merge that is refused, about those of a prefix.
   abbrev pub AsksInOrder : (V → V → Bool) → Type 0
-  AsksInOrder same = (asked : F → List (Conflict V)) → KeepsAsked asked → (f f' : F) →
+  AsksInOrder same = (asked : F → List (Conflict V)) → KeepsAsked g Shows asked → (f f' : F) →
       ((base ours theirs after : Map V) → MergesTo same f base ours theirs f' after
       → asked f' ≡ asked f ++ conflicts same base ours theirs)
-      × ((all : List (Conflict V)) → IsAskedUpTo f all f'
+      × ((all : List (Conflict V)) → IsAskedUpTo g Shows f all f'
       → (rest : List (Conflict V)) × (asked f ++ all ≡ asked f' ++ rest))
 
   -- To say what it answered: a closure that keeps each conflict with its answer. What a merge
@@ -111,11 +86,3 @@ module _ {F A V : Type 0} (g : Mut F A (Option V)) (Shows : A → Conflict V →
       (base ours theirs after : Map V) → MergesTo same f base ours theirs f' after
       → (replies : List (Reply V)) × (kept f' ≡ kept f ++ replies)
       × (after ≡ patched (patched ours (changes same base theirs)) (map change_for replies))
-
-  -- What may be asked about the conflicts may be asked about the first, and, whatever that leaves,
-  -- about the others.
-  abbrev pub AnswerableStepByStep : Type 0
-  AnswerableStepByStep = (f : F) (conflict : Conflict V) (rest : List (Conflict V)) →
-      Answerable f (conflict ∷ rest) ↔ (CallableOn g Shows f conflict
-      × ((answer : Option V) (f' : F) → CalledOn g Shows f conflict answer f'
-      → Answerable f' rest))

@@ -1,10 +1,11 @@
 //! Patches and merges, as methods of a version.
 ghost use Rattle.std.specs.Prelude.{◌≡◌, ◌+◌, OnErr, OnOk, length};
 ghost use Rattle.rart_below.specs.Clones.{ClonesEqual};
-ghost use Rattle.rart_changes.specs.Merging.{Answerable, ByLentConflict, IsAskedUpTo, MergesTo, held_in_either};
+ghost use Rattle.rart_changes.specs.Merging.{ByLentConflict, MergesTo, held_in_either};
 ghost use Rattle.rart_maps.specs.ChangeLists.{changes, effects, patched};
 ghost use Rattle.rart_maps.specs.Merges.{conflicts};
 ghost use Rattle.rart_maps.specs.Versions.{Version, HasRoom};
+ghost use Rattle.rart_versioned.specs.Replies.{Answerable, IsAskedUpTo};
 
 mod drafts;
 mod merges;

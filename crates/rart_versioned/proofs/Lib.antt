@@ -13,6 +13,7 @@ pub mod OutcomeLemmas
 pub mod PrefixEndLemmas
 pub mod ProbeLemmas
 pub mod ProofSteps
+pub mod ReplyLemmas
 pub mod RestoringLemmas
 pub mod RetainLawLemmas
 pub mod RetainLemmas

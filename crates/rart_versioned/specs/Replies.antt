@@ -1,5 +1,5 @@
 -- What a closure answers to the members of a list.
-use Rattle.std.specs.Prelude.{◌≡◌, List, ◌∷◌, ◌++◌, map}
+use Rattle.std.specs.Prelude.{◌≡◌, ◌↔◌, List, [], ◌∷◌, ◌++◌, map}
 use Rattle.std.specs.Fn.{Mut}
 use Rattle.std.specs.List.{FoldsTo}
 use Rattle.rart_maps.specs.Visits.{CalledOn, CallableOn}
@@ -27,3 +27,15 @@ module _ {F A R X : Type 0} (g : Mut F A R) (Shows : A → X → Type 0) where
   abbrev pub IsAskedUpTo : F → List X → F → Type 0
   IsAskedUpTo f members f' =
       (replies : List (X × R)) × (rest : List X) × RepliesUpTo f members replies rest f'
+
+  -- To say what it was asked: a closure that keeps a list of the members, one more with each call.
+  abbrev pub KeepsAsked : (F → List X) → Type 0
+  KeepsAsked asked = (f : F) (x : X) (reply : R) (f' : F) →
+      CalledOn g Shows f x reply f' → asked f' ≡ asked f ++ x ∷ []
+
+  -- What may be asked about the members may be asked about the first, and, whatever that leaves,
+  -- about the others.
+  abbrev pub AnswerableStepByStep : Type 0
+  AnswerableStepByStep = (f : F) (x : X) (rest : List X) →
+      Answerable f (x ∷ rest) ↔ (CallableOn g Shows f x
+      × ((reply : R) (f' : F) → CalledOn g Shows f x reply f' → Answerable f' rest))

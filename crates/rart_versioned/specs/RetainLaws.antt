@@ -1,11 +1,11 @@
 -- What is said of a version of which a closure tells which pairs stay, and worked values.
-use Rattle.std.specs.Prelude.{◌≡◌, ◌↔◌, ℕ, ◌+◌, List, [], ◌∷◌, ◌++◌, Bool, true, false, filter, not, codes}
+use Rattle.std.specs.Prelude.{◌≡◌, ℕ, ◌+◌, List, [], ◌∷◌, ◌++◌, Bool, true, false, filter, not, codes}
 use Rattle.std.specs.Fn.{Mut}
 use Rattle.std.specs.List.{count_by}
 use Rattle.rart_maps.specs.Pairs.{pairs}
 use Rattle.rart_maps.specs.Versions.{Version}
-use Rattle.rart_maps.specs.Visits.{CalledOn, CallableOn}
-use Rattle.rart_versioned.specs.Replies.{Answerable, IsAskedUpTo}
+use Rattle.rart_maps.specs.Visits.{CalledOn}
+use Rattle.rart_versioned.specs.Replies.{IsAskedUpTo, KeepsAsked}
 use Rattle.rart_versioned.specs.Retained.{Retains, count_dropped, kept_pairs}
 
 module _ {F A V : Type 0} (g : Mut F A Bool) (Shows : A → List ℕ × V → Type 0) where
@@ -22,25 +22,14 @@ module _ {F A V : Type 0} (g : Mut F A Bool) (Shows : A → List ℕ × V → Ty
       × (after.number
       ≡ before.number + count_by (λ pair. not (keeps pair)) (pairs before.content))
 
-  -- To say what it was asked: a closure that keeps a list of the pairs, one more with each call. It
-  -- is asked about each pair once, in order, and where it is refused about those of a prefix.
-  abbrev pub KeepsAsked : (F → List (List ℕ × V)) → Type 0
-  KeepsAsked asked = (f : F) (pair : List ℕ × V) (kept : Bool) (f' : F) →
-      CalledOn g Shows f pair kept f' → asked f' ≡ asked f ++ pair ∷ []
-
+  -- What a closure was asked that keeps the pairs which it was asked about: `retain` asks about each
+  -- pair once, in order; where `retain` is refused, about those of a prefix.
   abbrev pub AsksInOrder : Type 0
-  AsksInOrder = (asked : F → List (List ℕ × V)) → KeepsAsked asked → (f f' : F) →
+  AsksInOrder = (asked : F → List (List ℕ × V)) → KeepsAsked g Shows asked → (f f' : F) →
       ((before after : Version V) → Retains g Shows f before f' after
       → asked f' ≡ asked f ++ pairs before.content)
       × ((all : List (List ℕ × V)) → IsAskedUpTo g Shows f all f'
       → (rest : List (List ℕ × V)) × (asked f ++ all ≡ asked f' ++ rest))
-
-  -- What may be asked about the pairs may be asked about the first, and, whatever that leaves,
-  -- about the others.
-  abbrev pub AnswerableStepByStep : Type 0
-  AnswerableStepByStep = (f : F) (pair : List ℕ × V) (rest : List (List ℕ × V)) →
-      Answerable g Shows f (pair ∷ rest) ↔ (CallableOn g Shows f pair
-      × ((kept : Bool) (f' : F) → CalledOn g Shows f pair kept f' → Answerable g Shows f' rest))
 
 -- Of three pairs the second is not kept.
 abbrev pub WorkedReplies : Type 0

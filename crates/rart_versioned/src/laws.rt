@@ -2,7 +2,8 @@
 //! nothing. rart has none.
 ghost use Rattle.rart_maps.specs.Visits.{BySlice};
 ghost use Rattle.rart_versioned.specs.ExtendLaws.{LastPairStays, ListedPairsArePutIn, OtherKeysStay, PairsAreInsertions, PairsGoPartByPart, WorkedExtension};
-ghost use Rattle.rart_versioned.specs.RetainLaws.{AnswerableStepByStep, AsksInOrder, PairsAreFiltered, WorkedReplies};
+ghost use Rattle.rart_versioned.specs.Replies.{AnswerableStepByStep};
+ghost use Rattle.rart_versioned.specs.RetainLaws.{AsksInOrder, PairsAreFiltered, WorkedReplies};
 
 pub mod counting;
 pub mod cursors;

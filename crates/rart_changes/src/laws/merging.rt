@@ -1,11 +1,12 @@
 //! What the words on merges mean: laws, each the contract of a function that does nothing.
-ghost use Rattle.rart_changes.specs.Merging.{AnswersAreKept, AnswersAreMerged, AnswerableStepByStep, ArgumentsShowTheirConflicts, AsksInOrder, ByLentConflict};
+ghost use Rattle.rart_versioned.specs.Replies.{AnswerableStepByStep};
+ghost use Rattle.rart_changes.specs.Merging.{AnswersAreKept, AnswersAreMerged, ArgumentsShowTheirConflicts, AsksInOrder, ByLentConflict};
 
 use rart_below::KeyTrait;
 
-/// Where the closure answers as a function of the key and of what the three have there does, what a
-/// merge leaves is the merge by that function, of which `merges_are_by_key` of `rart_maps` says
-/// what stands at each key.
+/// Where the closure's answers are those of a function of the key and of what the three versions
+/// have there, a merge leaves the merge by that function. The law `merges_are_by_key` of
+/// `rart_maps` says what then stands at each key.
 pub fn answers_are_merged<
     K: KeyTrait,
     V: Eq,

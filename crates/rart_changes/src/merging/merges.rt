@@ -2,12 +2,13 @@
 ghost use Rattle.std.specs.Prelude.{◌≡◌, ◌+◌, OnErr, IfOk, IsOk, OnOk, Option, length};
 ghost use Rattle.std.specs.Option.{option_copied};
 ghost use Rattle.rart_below.specs.Clones.{ClonesEqual};
-ghost use Rattle.rart_changes.specs.Merging.{Answerable, ByLentConflict, IsAskedUpTo, MergesTo, held_in_either};
+ghost use Rattle.rart_changes.specs.Merging.{ByLentConflict, MergesTo, held_in_either};
 ghost use Rattle.rart_changes.specs.Setting.{IsSetTo};
 ghost use Rattle.rart_changes.specs.Settling.{Askable, AskableIn, Settles, SettlesIn, three_at};
 ghost use Rattle.rart_maps.specs.ChangeLists.{changes};
 ghost use Rattle.rart_maps.specs.Merges.{conflicts, in_conflict};
 ghost use Rattle.rart_maps.specs.Versions.{HasRoom, value_at};
+ghost use Rattle.rart_versioned.specs.Replies.{Answerable, IsAskedUpTo};
 
 use crate::merging::drafts::Draft;
 use crate::merging::setting::{put, put_copy};

@@ -1,4 +1,5 @@
-use Rattle.rart_versioned.proofs.RetainLawLemmas.{answerable_step_by_step, asks_in_order}
+use Rattle.rart_versioned.proofs.ReplyLemmas.{answerable_step_by_step}
+use Rattle.rart_versioned.proofs.RetainLawLemmas.{asks_in_order}
 use Rattle.rart_versioned.proofs.laws.retain_asks_in_order.Goals as goal
 
 pub returns-clause-asked : goal.returns-clause-asked

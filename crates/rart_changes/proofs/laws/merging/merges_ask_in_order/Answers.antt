@@ -1,5 +1,6 @@
 use Rattle.rart_changes.proofs.laws.merging.merges_ask_in_order.Goals as goal
-use Rattle.rart_changes.proofs.MergedVersionLemmas.{answerable_step_by_step, answers_are_kept, asks_in_order}
+use Rattle.rart_changes.proofs.MergedVersionLemmas.{answers_are_kept, asks_in_order}
+use Rattle.rart_versioned.proofs.ReplyLemmas.{answerable_step_by_step}
 
 pub returns-clause-asked : goal.returns-clause-asked
 returns-clause-asked g c = asks_in_order _ _ _

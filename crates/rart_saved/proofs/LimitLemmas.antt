@@ -1,11 +1,14 @@
 -- A limit on the length of keys that was given, and what an error then tells.
-use Rattle.std.proofs.Common.{◌≡◌, ◌≢◌, ◌⊎◌, ℕ, List, ◌++◌, length, Option, None, Result, Ok, Err, inl, inr, refl, sym, subst, ◌∙◌}
+use Rattle.std.proofs.Common.{◌≡◌, ◌≢◌, ◌⊎◌, ℕ, List, ◌++◌, length, Option, None, Result, Ok, Err, inl, inr, refl, sym, subst, ◌∙◌, ⊎_elim}
+use Rattle.std.specs.Prelude.{IfSome}
 use Rattle.std.specs.Result.{IfOk, IsErrAnd}
 use Rattle.rart_below.specs.Bytes.{IsAdmitted}
+use Rattle.rart_maps.proofs.ElementLemmas.{Contains-cases, Contains-here, Contains-later, Contains-nil}
 use Rattle.rart_maps.specs.Versions.{Version}
 use Rattle.rart_versioned.specs.Keys.{IsKeyLength}
 use Rattle.rart_saved.specs.declared.error.LoadError.{LoadError}
 use Rattle.rart_saved.specs.declared.error.LoadError.TheVariants.{Io, Memory, Truncated, Malformed, TooLong, Checksum, Unsupported}
+use Rattle.rart_saved.specs.FamilyFormLaws.{LimitsAreOfEachVersion}
 use Rattle.rart_saved.specs.Forms.{IsVersionOf, saved}
 use Rattle.rart_saved.specs.Keys.{narrowed}
 use Rattle.rart_saved.specs.Loads.{GivesBackWithin, HasKeysWithin, LacksVersion}
@@ -95,3 +98,18 @@ module _ {V : Type 0} (written : V → List ℕ)
   given-within (Err e) read refused v is stands =
       refused-told longest most (λ m. IsVersionOf m v) (HasKeysWithin longest v) is
       (version-narrowed longest most v is) e (λ other narrow. refused other v narrow stands)
+
+pub limits_are_of_each_version : {V : Type 0} → LimitsAreOfEachVersion V
+limits_are_of_each_version longest = (
+  λ one there. absurd (Contains-nil one there),
+  λ one rest. (
+    λ within. (
+      within one (Contains-here one rest),
+      λ other there. within other (Contains-later one rest other there),
+    ),
+    λ both other there. ⊎_elim
+        (λ is. subst (λ place. IfSome place (HasKeysWithin longest)) is both.0)
+        (λ later. both.1 other later)
+        (Contains-cases one rest other there),
+  ),
+)

@@ -3,7 +3,7 @@ ghost use Rattle.std.specs.Prelude.{◌≡◌, ◌⊎◌, IfErr, IfOk, IfSome};
 ghost use Rattle.std.specs.Option.{option_copied};
 ghost use Rattle.rart_below.specs.Clones.{ClonesEqual};
 ghost use Rattle.rart_maps.specs.ChangeLaws.{Decides};
-ghost use Rattle.rart_saved.specs.FamilyFormLaws.{FamiliesAreNoChanges, FamiliesAreNoVersion, FamilyFormsAreOfOne, FamilyFormsStandApart};
+ghost use Rattle.rart_saved.specs.FamilyFormLaws.{FamiliesAreNoChanges, FamiliesAreNoVersion, FamilyFormsAreOfOne, FamilyFormsStandApart, LimitsAreOfEachVersion};
 ghost use Rattle.rart_saved.specs.FamilyForms.{IsFamilyOf};
 ghost use Rattle.rart_saved.specs.Forms.{IsVersionOf};
 ghost use Rattle.rart_saved.specs.WorkedFamilies.{DiscardedPlace, EmptyFamily, OneEmptyVersion, OneOfEachStep};
@@ -34,6 +34,12 @@ pub fn worked_family_forms()
     ensures empty { OneEmptyVersion }
     ensures discarded { DiscardedPlace }
     ensures step { OneOfEachStep }
+{}
+
+/// What a load with a limit on keys may refuse as too long: a family one of whose versions has a
+/// longer key. A discarded place has no key.
+pub fn limits_are_of_each_version<V>()
+    ensures { LimitsAreOfEachVersion V }
 {}
 
 /// Every family is one that its form gives back.

@@ -2,19 +2,14 @@
 ghost use Rattle.std.specs.Prelude.{◌≡◌, ◌≢◌, ◌+◌, ◌≤◌, ℕ, List, Some, IfOk, OnOk, OnErr, IsErrOf, length};
 ghost use Rattle.rart_maps.specs.Versions.{HasRoom, has_key, value_at};
 
-use rart_versioned::{KeyTrait, VectorKey, VersionedAdaptiveRadixTree, Work};
-use std::alloc::{AllocError, Global};
+use rart_versioned::{VectorKey, VersionedAdaptiveRadixTree, Work};
+use std::alloc::AllocError;
 use thiserror::Error;
 
 pub type PriceList = VersionedAdaptiveRadixTree<VectorKey, u64>;
 
 /// Sets the price of a name, and answers whether it had one.
-pub fn set_price(
-    alloc: Global,
-    list: &mut PriceList,
-    name: &str,
-    price: u64,
-) -> Result<bool, AllocError>
+pub fn set_price(list: &mut PriceList, name: &str, price: u64) -> Result<bool, AllocError>
     requires room { HasRoom list.old 1 }
     ensures had { IfOk result (λ had. had ≡ has_key list.old name.now) }
     ensures set { OnOk result (value_at list.new name.now ≡ Some price) }
@@ -22,15 +17,12 @@ pub fn set_price(
         → value_at list.new other ≡ value_at list.old other) }
     ensures refused { OnErr result (list.new ≡ list.old) }
 {
-    let key = VectorKey::new_from_slice(alloc, name.as_bytes())?;
-    let had = list.insert_k(&key, price)?;
-    Ok(had)
+    list.insert_bytes(name, price)
 }
 
 /// Sets the price of a name, and answers the price before and the price after, each as a version of
 /// its own tells it.
 pub fn before_and_after(
-    alloc: Global,
     list: &mut PriceList,
     name: &str,
     price: u64,
@@ -40,10 +32,12 @@ pub fn before_and_after(
     ensures after { IfOk result (λ told. told.1 ≡ Some price) }
     ensures refused { OnErr result (list.new ≡ list.old) }
 {
-    let key = VectorKey::new_from_slice(alloc, name.as_bytes())?;
     let before = list.snapshot()?;
-    set_price(alloc, list, name, price)?;
-    Ok((before.get_k(&key).copied(), list.get_k(&key).copied()))
+    set_price(list, name, price)?;
+    Ok((
+        before.get_bytes(name).copied(),
+        list.get_bytes(name).copied(),
+    ))
 }
 
 /// Why a price was not set: the list is then as it was.
@@ -56,12 +50,7 @@ pub enum PriceError {
 }
 
 /// As `set_price`, for a list of which the caller knows nothing.
-pub fn try_set_price(
-    alloc: Global,
-    list: &mut PriceList,
-    name: &str,
-    price: u64,
-) -> Result<bool, PriceError>
+pub fn try_set_price(list: &mut PriceList, name: &str, price: u64) -> Result<bool, PriceError>
     ensures set { OnOk result (value_at list.new name.now ≡ Some price) }
     ensures no_room { IsErrOf result PriceError.NoRoom → ¬ HasRoom list.old 1 }
     ensures refused { OnErr result (list.new ≡ list.old) }
@@ -69,12 +58,11 @@ pub fn try_set_price(
     if list.version() == u64::MAX {
         return Err(PriceError::NoRoom);
     }
-    set_price(alloc, list, name, price).map_err(PriceError::Memory)
+    set_price(list, name, price).map_err(PriceError::Memory)
 }
 
 /// As `set_price`, and counts the nodes that it makes and those that it enters.
 pub fn set_price_counted(
-    alloc: Global,
     list: &mut PriceList,
     name: &str,
     price: u64,
@@ -84,7 +72,6 @@ pub fn set_price_counted(
     ensures made { work.new.made ≤ work.old.made + length name.now + 2 }
     ensures entered { work.new.entered ≤ work.old.entered + length name.now + 1 }
 {
-    let key = VectorKey::new_from_slice(alloc, name.as_bytes())?;
-    list.insert_k_counted(&key, price, work)?;
+    list.insert_and_replace_bytes_counted(name.as_bytes(), price, work)?;
     Ok(())
 }

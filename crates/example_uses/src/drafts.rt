@@ -8,6 +8,7 @@ ghost use Rattle.rart_versioned.specs.Missing.{Explains};
 use rart_changes::TrackedTree;
 use rart_versioned::{KeyTrait, Missing, VectorKey, VersionedAdaptiveRadixTree};
 use std::alloc::{AllocError, Global};
+use std::convert::AsSlice;
 
 type Prices = VersionedAdaptiveRadixTree<VectorKey, u64>;
 
@@ -21,14 +22,17 @@ fn draft(
 ) -> Result<Draft, AllocError> {
     let mut draft = Draft::begin(alloc, list)?;
     for (name, price) in prices {
-        let name = VectorKey::new_from_slice(alloc, name.as_bytes())?;
-        set(&mut draft, name, *price)?;
+        set(&mut draft, *name, *price)?;
     }
     Ok(draft)
 }
 
 // Sets a price, or takes a name out, where there is room for a change.
-fn set(draft: &mut Draft, name: VectorKey, price: Option<u64>) -> Result<(), AllocError> {
+fn set<Q: AsSlice<u8> + Drop>(
+    draft: &mut Draft,
+    name: Q,
+    price: Option<u64>,
+) -> Result<(), AllocError> {
     if draft.current().version() < u64::MAX {
         match price {
             Some(price) => {
@@ -51,7 +55,7 @@ pub fn reprice(draft: &mut Draft, name: &VectorKey, price: u64) -> Result<(), Mi
     ensures missing { IfErr result
         (λ missing. Explains missing (value_at draft.old.current name.now.bytes.items)) }
 {
-    *draft.value_mut_k(name)? = price;
+    *draft.value_mut(name)? = price;
     Ok(())
 }
 

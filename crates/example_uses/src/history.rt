@@ -27,7 +27,7 @@ impl Sheet {
     fn change(&mut self, alloc: Global, cells: &[(&str, Option<u64>)]) -> Result<(), AllocError> {
         let mut step = Step::begin(alloc, &self.cells)?;
         for (name, value) in cells {
-            set(alloc, &mut step, name, *value)?;
+            set(&mut step, *name, *value)?;
         }
         let after = step.current().clone()?;
         self.steps.push(step)?;
@@ -66,9 +66,8 @@ impl Sheet {
 }
 
 // Sets a cell, or empties it, where there is room for a change.
-fn set(alloc: Global, step: &mut Step, name: &str, value: Option<u64>) -> Result<(), AllocError> {
+fn set(step: &mut Step, cell: &str, value: Option<u64>) -> Result<(), AllocError> {
     if step.current().version() < u64::MAX {
-        let cell = VectorKey::new_from_slice(alloc, name.as_bytes())?;
         match value {
             Some(value) => {
                 step.insert(cell, value)?;

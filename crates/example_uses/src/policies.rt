@@ -6,7 +6,7 @@ ghost use Rattle.rart_maps.specs.Versions.{HasRoom, value_at};
 
 use rart_maps::laws::prefixes::prefix_calls_answer;
 use rart_versioned::{KeyTrait, VectorKey, VersionedAdaptiveRadixTree};
-use std::alloc::{AllocError, Global};
+use std::alloc::AllocError;
 
 type Policies = VersionedAdaptiveRadixTree<VectorKey, u64>;
 
@@ -21,7 +21,7 @@ pub fn drop_tenant(policies: &mut Policies, tenant: &[u8]) -> Result<bool, Alloc
     ensures refused { OnErr result (policies.new ≡ policies.old) }
 {
     prefix_calls_answer::<u64>();
-    policies.remove_prefix_slice(tenant)
+    policies.remove_prefix(tenant)
 }
 
 /// Gives a tenant back the rules that it had in an older table. The others keep those of now.
@@ -39,7 +39,7 @@ pub fn roll_back_tenant(
     ensures refused { OnErr result (policies.new ≡ policies.old) }
 {
     prefix_calls_answer::<u64>();
-    policies.restore_prefix_slice(tenant, older)
+    policies.restore_prefix(tenant, older)
 }
 
 /// The rules of a tenant as a table of their own, which shares them with this one; or out of
@@ -50,12 +50,12 @@ pub fn export_tenant(policies: &Policies, tenant: &[u8]) -> Result<Policies, All
         ≡ (if begins tenant.now rule then value_at policies.now rule else None)) }
 {
     prefix_calls_answer::<u64>();
-    policies.prefix_snapshot_slice(tenant)
+    policies.prefix_snapshot(tenant)
 }
 
-fn set(policies: &mut Policies, alloc: Global, rule: &str, value: u64) -> Result<(), AllocError> {
+fn set(policies: &mut Policies, rule: &str, value: u64) -> Result<(), AllocError> {
     if policies.version() < u64::MAX {
-        policies.insert(VectorKey::new_from_slice(alloc, rule.as_bytes())?, value)?;
+        policies.insert_bytes(rule, value)?;
     }
     Ok(())
 }
@@ -72,11 +72,11 @@ fn print(rt: &HostRuntime, title: &str, policies: &Policies) -> anyhow::Result<(
 pub fn show(rt: &HostRuntime) -> anyhow::Result<()> {
     let mut policies = Policies::new(rt.alloc());
     for (rule, value) in [("acme/seats", 5), ("acme/size", 20), ("bolt/seats", 3)] {
-        set(&mut policies, rt.alloc(), rule, value)?;
+        set(&mut policies, rule, value)?;
     }
     let yesterday = policies.clone()?;
-    set(&mut policies, rt.alloc(), "acme/seats", 50)?;
-    set(&mut policies, rt.alloc(), "bolt/seats", 4)?;
+    set(&mut policies, "acme/seats", 50)?;
+    set(&mut policies, "bolt/seats", 4)?;
     if policies.version() < u64::MAX - yesterday.version() {
         roll_back_tenant(&mut policies, b"acme/", &yesterday)?;
         print(rt, "policies, acme's as they were yesterday", &policies)?;

@@ -11,17 +11,13 @@ use crate::prices::filling::{list_of, set_prices};
 use crate::prices::listing::print_list;
 use crate::prices::setting::set_price;
 use crate::prices::titles::print_titles;
-use rart_versioned::{KeyTrait, VectorKey};
 
 pub fn show(rt: &HostRuntime) -> anyhow::Result<()> {
     let alloc = rt.alloc();
-    let tea = VectorKey::new_from_slice(alloc, "tea".as_bytes())?;
-    let salt = VectorKey::new_from_slice(alloc, "salt".as_bytes())?;
-
     let mut list = list_of(alloc, &[("tea", 300), ("salt", 90), ("sugar", 150)])?;
-    let yesterday = set_price(&mut list, &tea, 350)?;
-    list.delete_k(&salt)?;
-    if !set_prices(alloc, &mut list, &[("teapot", 1200)])? {
+    let yesterday = set_price(&mut list, "tea", 350)?;
+    list.remove_bytes("salt")?;
+    if !set_prices(&mut list, &[("teapot", 1200)])? {
         println!(rt; "the list was changed too often")?;
     }
 

@@ -7,7 +7,7 @@ ghost use Rattle.rart_maps.specs.Versions.{HasRoom};
 use rart_changes::Merging;
 use rart_maps::laws::changes::patches_set_what_changed;
 use rart_versioned::{KeyTrait, VectorKey, VersionedAdaptiveRadixTree};
-use std::alloc::{AllocError, Global};
+use std::alloc::AllocError;
 
 type Prices = VersionedAdaptiveRadixTree<VectorKey, u64>;
 
@@ -42,20 +42,15 @@ fn has_room<K: KeyTrait, V: Clone + Drop + Eq>(
 }
 
 // Sets prices, or takes out the names without one, where there is room for it.
-fn set_prices(
-    alloc: Global,
-    list: &mut Prices,
-    prices: &[(&str, Option<u64>)],
-) -> Result<(), AllocError> {
+fn set_prices(list: &mut Prices, prices: &[(&str, Option<u64>)]) -> Result<(), AllocError> {
     for (name, price) in prices {
-        let name = VectorKey::new_from_slice(alloc, name.as_bytes())?;
         if list.version() < u64::MAX {
             match price {
                 Some(price) => {
-                    list.insert(name, *price)?;
+                    list.insert_bytes(*name, *price)?;
                 }
                 None => {
-                    list.delete(name)?;
+                    list.remove_bytes(*name)?;
                 }
             }
         }
@@ -101,13 +96,11 @@ pub fn show(rt: &HostRuntime) -> anyhow::Result<()> {
     let mut sent = Prices::new(alloc);
     let mut replica = Prices::new(alloc);
     set_prices(
-        alloc,
         &mut list,
         &[("milk", Some(100)), ("salt", Some(90)), ("tea", Some(300))],
     )?;
     sync(rt, &list, &mut sent, &mut replica)?;
     set_prices(
-        alloc,
         &mut list,
         &[
             ("coffee", Some(400)),

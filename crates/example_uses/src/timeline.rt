@@ -51,7 +51,7 @@ pub fn put(
     ensures refused { OnErr result (records.new ≡ records.old) }
 {
     let key = key_of(alloc, id, time)?;
-    records.insert_slice(&key, value)
+    records.insert_bytes(&key, value)
 }
 
 /// The newest record of an id that is not after a time: the last key that begins as the id's keys
@@ -105,12 +105,12 @@ fn last_up_to(
     ensures { IfOk result (λ found. IsLastPair records.now.content
         (bound_map (λ high. high.now) high.entry) found) }
 {
-    let Some((len, value)) = records.last_slice(high, &mut []) else {
+    let Some((len, value)) = records.last_to(high, &mut []) else {
         return Ok(None);
     };
     let value = *value;
     let mut key = vec![in alloc; 0; len]?;
-    let _found = records.last_slice(high, &mut key);
+    let _found = records.last_to(high, &mut key);
     Ok(Some(Record { key, value }))
 }
 

@@ -60,7 +60,7 @@ pub(crate) fn get<'a, V: Clone + Drop>(table: Option<&'a Table<V>>, key: &[u8]) 
 {
     match table {
         None => None,
-        Some(table) => table.tree.get_slice(key),
+        Some(table) => table.tree.get_bytes(key),
     }
 }
 
@@ -82,7 +82,7 @@ pub(crate) fn longest<'a, V: Clone + Drop>(
 {
     match table {
         None => None,
-        Some(table) => table.tree.longest_slice(probe),
+        Some(table) => table.tree.longest_prefix(probe),
     }
 }
 
@@ -98,7 +98,7 @@ pub(crate) fn first<'a, V: Clone + Drop>(
 {
     match table {
         None => None,
-        Some(table) => table.tree.first_slice(low, room),
+        Some(table) => table.tree.first_from(low, room),
     }
 }
 
@@ -136,7 +136,7 @@ pub(crate) fn last<'a, V: Clone + Drop>(
 {
     match table {
         None => None,
-        Some(table) => table.tree.last_slice(high, room),
+        Some(table) => table.tree.last_to(high, room),
     }
 }
 

@@ -78,7 +78,7 @@ impl<V: Clone + Drop> Table<V> {
         if self.tree.version() == u64::MAX {
             return Err(Refusal::LastNumber);
         }
-        let Ok(replaced) = self.tree.insert_and_replace_slice(key, value) else {
+        let Ok(replaced) = self.tree.insert_and_replace_bytes(key, value) else {
             return Err(Refusal::NoMemory);
         };
         if replaced.is_none() {
@@ -98,12 +98,12 @@ impl<V: Clone + Drop> Table<V> {
         ensures longest { self.new.longest ≡ self.old.longest }
     {
         if self.tree.version() == u64::MAX {
-            return match self.tree.get_slice(key) {
+            return match self.tree.get_bytes(key) {
                 None => Ok(None),
                 Some(_) => Err(Refusal::LastNumber),
             };
         }
-        let Ok(removed) = self.tree.remove_slice(key) else {
+        let Ok(removed) = self.tree.remove_bytes(key) else {
             return Err(Refusal::NoMemory);
         };
         if removed.is_some() {
@@ -126,16 +126,16 @@ impl<V: Clone + Drop> Table<V> {
         ensures present { OnErr result (IsTrue (has_under self.old.version prefix.now)) }
         ensures longest { self.new.longest ≡ self.old.longest }
     {
-        if !self.tree.contains_prefix_slice(prefix) {
+        if !self.tree.contains_prefix(prefix) {
             return Ok(0);
         }
         if self.tree.version() == u64::MAX {
             return Err(Refusal::LastNumber);
         }
-        let Ok(count) = self.tree.count_under_slice(prefix) else {
+        let Ok(count) = self.tree.count_under(prefix) else {
             return Err(Refusal::NoMemory);
         };
-        let Ok(_) = self.tree.remove_prefix_slice(prefix) else {
+        let Ok(_) = self.tree.remove_prefix(prefix) else {
             return Err(Refusal::NoMemory);
         };
         self.len -= count as usize;
@@ -157,13 +157,13 @@ impl<V: Clone + Drop> Table<V> {
         if self.tree.version() > u64::MAX - from.tree.version() {
             return Err(Refusal::LastNumber);
         }
-        let Ok(removed) = self.tree.count_under_slice(prefix) else {
+        let Ok(removed) = self.tree.count_under(prefix) else {
             return Err(Refusal::NoMemory);
         };
-        let Ok(restored) = from.tree.count_under_slice(prefix) else {
+        let Ok(restored) = from.tree.count_under(prefix) else {
             return Err(Refusal::NoMemory);
         };
-        let Ok(()) = self.tree.restore_prefix_slice(prefix, &from.tree) else {
+        let Ok(()) = self.tree.restore_prefix(prefix, &from.tree) else {
             return Err(Refusal::NoMemory);
         };
         self.len = self.len - removed as usize + restored as usize;
@@ -181,10 +181,10 @@ impl<V: Clone + Drop> Table<V> {
         if self.tree.version() == u64::MAX {
             return Err(Refusal::LastNumber);
         }
-        let Ok(count) = self.tree.count_under_slice(prefix) else {
+        let Ok(count) = self.tree.count_under(prefix) else {
             return Err(Refusal::NoMemory);
         };
-        let Ok(tree) = self.tree.prefix_snapshot_slice(prefix) else {
+        let Ok(tree) = self.tree.prefix_snapshot(prefix) else {
             return Err(Refusal::NoMemory);
         };
         Ok(Table {

@@ -2,6 +2,7 @@
 ghost use Rattle.std.specs.Prelude.{◌≡◌, ◌<◌, ◌≤◌, ◌+◌, ◌*◌, false, length, IfOk};
 ghost use Rattle.std.specs.FinMap as finite;
 ghost use Rattle.std.specs.Option.{option_copied};
+ghost use Rattle.rart_below.specs.Bytes.{IsAdmitted};
 ghost use Rattle.rart_changes.specs.Asks.{CanMark};
 ghost use Rattle.rart_changes.specs.Tracking.{IsMarked, IsTracked, tracking_from};
 ghost use Rattle.rart_maps.specs.Bounds.{change_bound, lookup_bound};
@@ -95,19 +96,18 @@ impl<K: KeyTrait, V: Clone + Drop> TrackedTree<K, V> {
         &self.base
     }
 
-    /// As `get_k`, with the nodes entered counted into `work`: at most one more than the key has
+    /// As `get`, with the nodes entered counted into `work`: at most one more than the key has
     /// bytes, and at least one where there is a key in the current version, and one for each key
     /// that begins this one.
-    pub fn get_k_counted(&self, key: &K, work: &mut Work) -> Option<&V>
-        ensures value { option_copied result ≡ value_at self.now.current (K.bytes key.now) }
-        ensures counted { CountsUpTo (lookup_bound (K.bytes key.now)) 0 work.old work.new }
+    pub fn get_counted(&self, key: &[u8], work: &mut Work) -> Option<&V>
+        ensures value { option_copied result ≡ value_at self.now.current key.now }
+        ensures counted { CountsUpTo (lookup_bound key.now) 0 work.old work.new }
         ensures entered { has_no_key self.now.current ≡ false
             → work.old.entered < work.new.entered }
         ensures each { work.old.entered
-            + length (prefix_matches self.now.current.content (K.bytes key.now))
-            ≤ work.new.entered }
+            + length (prefix_matches self.now.current.content key.now) ≤ work.new.entered }
     {
-        self.current.get_k_counted(key, work)
+        self.current.get_bytes_counted(key, work)
     }
 
     /// How many keys were touched.
@@ -130,6 +130,25 @@ pub(crate) fn no_keys<K: KeyTrait>(alloc: Global) -> VersionedAdaptiveRadixTree<
 /// up, and put in where it is absent. Refused for memory, there are none.
 pub(crate) fn marked<K: KeyTrait>(
     touched: &VersionedAdaptiveRadixTree<K, ()>,
+    key: &[u8],
+    work: &mut Work,
+) -> Result<VersionedAdaptiveRadixTree<K, ()>, AllocError>
+    requires markable { CanMark touched.now }
+    requires admitted { IsAdmitted K.MAXIMUM_SIZE (length key.now) }
+    ensures marked { IfOk result (IsMarked touched.now key.now) }
+    ensures counted { CountsUpTo (2 * lookup_bound key.now) (change_bound key.now)
+        work.old work.new }
+{
+    let mut marked = touched.clone()?;
+    if marked.get_bytes_counted(key, work).is_none() {
+        marked.insert_and_replace_bytes_counted(key, (), work)?;
+    }
+    Ok(marked)
+}
+
+/// As `marked`, with a key.
+pub(crate) fn marked_key<K: KeyTrait>(
+    touched: &VersionedAdaptiveRadixTree<K, ()>,
     key: &K,
     work: &mut Work,
 ) -> Result<VersionedAdaptiveRadixTree<K, ()>, AllocError>
@@ -138,9 +157,5 @@ pub(crate) fn marked<K: KeyTrait>(
     ensures counted { CountsUpTo (2 * lookup_bound (K.bytes key.now))
         (change_bound (K.bytes key.now)) work.old work.new }
 {
-    let mut marked = touched.clone()?;
-    if marked.get_k_counted(key, work).is_none() {
-        marked.insert_k_counted(key, (), work)?;
-    }
-    Ok(marked)
+    marked(touched, key.as_ref(), work)
 }

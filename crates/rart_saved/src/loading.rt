@@ -152,7 +152,7 @@ fn take_pair<K: KeyTrait, V: SavedValue>(
     ensures points { IfErr result (PointsInto bytes.now) }
 {
     let (value, end) = take_entry::<K, V>(alloc, bytes, at, longest, tree.is_empty(), key)?;
-    tree.insert_slice(key.as_slice(), value)?;
+    tree.insert_bytes(key.as_slice(), value)?;
     Ok(end)
 }
 

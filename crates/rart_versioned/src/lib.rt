@@ -18,6 +18,6 @@ pub use plain::{
 pub use rart_below::{
     AdaptiveRadixTree, ArrPartial, ArrayKey, DirectMapping, IndexedMapping, KeyTrait,
     LendingKeyView, NodeMapping, Partial, PlainIter, Refusal, Slot, SlotUpdate, SortedKeyedMapping,
-    VectorKey, VectorPartial, VisitControl,
+    VectorKey, VectorPartial, VisitControl, is_admitted,
 };
 pub use rart_node::{GrowError, NodeRef, VersionedNode, VersionedNodeIter, Work};

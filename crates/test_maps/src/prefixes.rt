@@ -43,27 +43,27 @@ fn kept(tree: &Tree, prefix: &[u8], counts: bool) -> Result<Tree, AllocError>
     requires { HasRoom tree.now 1 }
 {
     if counts {
-        return tree.prefix_snapshot_slice_counted(prefix, &mut Work::new());
+        return tree.prefix_snapshot_counted(prefix, &mut Work::new());
     }
-    tree.prefix_snapshot_slice(prefix)
+    tree.prefix_snapshot(prefix)
 }
 
 fn removed(tree: &mut Tree, prefix: &[u8], counts: bool) -> Result<bool, AllocError>
     requires { HasRoom tree.old 1 }
 {
     if counts {
-        return tree.remove_prefix_slice_counted(prefix, &mut Work::new());
+        return tree.remove_prefix_counted(prefix, &mut Work::new());
     }
-    tree.remove_prefix_slice(prefix)
+    tree.remove_prefix(prefix)
 }
 
 fn taken(tree: &mut Tree, prefix: &[u8], counts: bool) -> Result<Tree, AllocError>
     requires { HasRoom tree.old 1 }
 {
     if counts {
-        return tree.take_prefix_slice_counted(prefix, &mut Work::new());
+        return tree.take_prefix_counted(prefix, &mut Work::new());
     }
-    tree.take_prefix_slice(prefix)
+    tree.take_prefix(prefix)
 }
 
 // Whether the number may rise.
@@ -104,9 +104,9 @@ fn restored(tree: &mut Tree, prefix: &[u8], from: &Tree, counts: bool) -> Result
     requires { HasRoom tree.old from.now.number }
 {
     if counts {
-        return tree.restore_prefix_slice_counted(prefix, from, &mut Work::new());
+        return tree.restore_prefix_counted(prefix, from, &mut Work::new());
     }
-    tree.restore_prefix_slice(prefix, from)
+    tree.restore_prefix(prefix, from)
 }
 
 // Whether the number may rise by another tree's.

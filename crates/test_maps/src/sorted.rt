@@ -31,7 +31,7 @@ fn heap_agrees(alloc: Global, map: &Map) -> Result<bool, AllocError> {
         return Ok(false);
     };
     for (key, value) in map {
-        if tree.get_slice(key) != Some(value) {
+        if tree.get_bytes(key) != Some(value) {
             return Ok(false);
         }
     }

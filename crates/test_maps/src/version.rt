@@ -127,7 +127,7 @@ impl Version {
     /// Whether the tree has the number and the pairs of the map, and as many keys.
     pub fn agrees(&self) -> bool {
         for (key, value) in &self.map {
-            if self.tree.get_slice(key) != Some(value) {
+            if self.tree.get_bytes(key) != Some(value) {
                 return false;
             }
         }

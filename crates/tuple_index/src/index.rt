@@ -133,7 +133,7 @@ impl TupleIndex {
         ensures { result ≡ has_some_with self.now.tuples columns.now }
     {
         let key = padded_key(columns);
-        self.tree.contains_prefix_slice(&key[..4 * columns.len()])
+        self.tree.contains_prefix(&key[..4 * columns.len()])
     }
 
     /// Takes out all tuples whose first columns are these, at most four, and answers whether there
@@ -155,7 +155,7 @@ impl TupleIndex {
         ensures present { OnErr result (IsTrue (has_some_with self.old.tuples columns.now)) }
     {
         let key = padded_key(columns);
-        self.tree.remove_prefix_slice(&key[..4 * columns.len()])
+        self.tree.remove_prefix(&key[..4 * columns.len()])
     }
 
     /// A set of its own of the tuples whose first columns are these, at most four, its number one
@@ -176,7 +176,7 @@ impl TupleIndex {
         let key = padded_key(columns);
         Ok(TupleIndex {
             alloc: self.alloc,
-            tree: self.tree.prefix_snapshot_slice(&key[..4 * columns.len()])?,
+            tree: self.tree.prefix_snapshot(&key[..4 * columns.len()])?,
         })
     }
 
@@ -200,7 +200,7 @@ impl TupleIndex {
     {
         let key = padded_key(columns);
         self.tree
-            .restore_prefix_slice(&key[..4 * columns.len()], &from.tree)
+            .restore_prefix(&key[..4 * columns.len()], &from.tree)
     }
 }
 

@@ -1,23 +1,19 @@
 //! Loops of insertions, with two ways to know that the number has room.
 ghost use Rattle.std.specs.Prelude.{◌≤◌, IfOk, length};
 
-use rart_versioned::{KeyTrait, VectorKey, VersionedAdaptiveRadixTree};
+use rart_versioned::{VectorKey, VersionedAdaptiveRadixTree};
 use std::alloc::{AllocError, Global};
 
 pub type PriceList = VersionedAdaptiveRadixTree<VectorKey, u64>;
 
 /// Sets these prices in a list of which nothing is known, and answers whether there was room for
 /// all: each turn tests it.
-pub fn set_prices(
-    alloc: Global,
-    list: &mut PriceList,
-    prices: &[(&str, u64)],
-) -> Result<bool, AllocError> {
+pub fn set_prices(list: &mut PriceList, prices: &[(&str, u64)]) -> Result<bool, AllocError> {
     for (name, price) in prices {
         if list.version() == u64::MAX {
             return Ok(false);
         }
-        list.insert(VectorKey::new_from_slice(alloc, name.as_bytes())?, *price)?;
+        list.insert_bytes(*name, *price)?;
     }
     Ok(true)
 }
@@ -29,7 +25,7 @@ pub fn list_of(alloc: Global, prices: &[(&str, u64)]) -> Result<PriceList, Alloc
 {
     let mut list = PriceList::new(alloc);
     for (name, price) in prices {
-        list.insert(VectorKey::new_from_slice(alloc, name.as_bytes())?, *price)?;
+        list.insert_bytes(*name, *price)?;
     }
     Ok(list)
 }

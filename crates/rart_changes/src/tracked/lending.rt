@@ -10,16 +10,16 @@ ghost use Rattle.rart_maps.specs.Versions.{HasRoom, has_key, has_no_key, value_a
 ghost use Rattle.rart_versioned.specs.Counts.{CountsUpTo};
 ghost use Rattle.rart_versioned.specs.Missing.{Explains};
 
-use crate::tracked::{TrackedTree, marked};
+use crate::tracked::{TrackedTree, marked_key};
 use rart_below::KeyTrait;
 use rart_versioned::{Missing, VersionedAdaptiveRadixTree, Work};
 
 impl<K: KeyTrait, V: Clone + Drop> TrackedTree<K, V> {
-    /// As `value_mut_k`, with the nodes entered and made counted into `work`: at most five more
+    /// As `value_mut`, with the nodes entered and made counted into `work`: at most five more
     /// entered than five times the bytes of the key, and at most four more made than twice these.
     /// One is entered at least where there is a key in the current version. Where this one is
     /// absent it is looked up alone, and none is made.
-    pub fn value_mut_k_counted(&mut self, key: &K, work: &mut Work) -> Result<&mut V, Missing>
+    pub fn value_mut_counted(&mut self, key: &K, work: &mut Work) -> Result<&mut V, Missing>
         requires clones { ClonesEqual V.is_clone }
         requires room { HasRoom self.old.current 1 }
         ensures* writes_back { sem 𝓛 (LendsTouched K.row V.row K.PartialType.row K.MAXIMUM_SIZE
@@ -67,7 +67,7 @@ fn lend_in<'a, K: KeyTrait, V: Clone + Drop>(
     ensures entered { has_no_key current.old ≡ false → work.old.entered < work.new.entered }
 {
     match marked_there(current, touched, key, work) {
-        Ok(marked) => match current.value_mut_k_counted(key, work) {
+        Ok(marked) => match current.value_mut_counted(key, work) {
             Ok(value) => {
                 *touched = marked;
                 Ok(value)
@@ -99,7 +99,7 @@ fn marked_there<K: KeyTrait, V: Clone + Drop>(
     if current.get_k_counted(key, work).is_none() {
         return Err(Missing::Absent);
     }
-    match marked(touched, key, work) {
+    match marked_key(touched, key, work) {
         Ok(marked) => Ok(marked),
         Err(refused) => Err(Missing::Memory(refused)),
     }

@@ -14,14 +14,14 @@ ghost use Rattle.rart_versioned.specs.SlotChanges.{TriesAbsent};
 ghost use Rattle.rart_versioned.specs.UpdateLookups.{TriedUpdateSets};
 ghost use Rattle.rart_versioned.specs.Updates.{TriesUpdate};
 
-use crate::tracked::{TrackedTree, marked};
+use crate::tracked::{TrackedTree, marked_key};
 use rart_below::{KeyTrait, Refusal, Slot, SlotUpdate};
 use rart_versioned::Work;
 
 impl<K: KeyTrait, V: Clone + Drop> TrackedTree<K, V> {
-    /// As `try_update_k`, counted as by `update_k_counted`. None is made where the key is absent
+    /// As `try_update`, counted as by `update_counted`. None is made where the key is absent
     /// and the callback fails.
-    pub fn try_update_k_counted<E: Drop, F: FnOnce(&mut Slot<V>) -> Result<SlotUpdate<V>, E>>(
+    pub fn try_update_counted<E: Drop, F: FnOnce(&mut Slot<V>) -> Result<SlotUpdate<V>, E>>(
         &mut self,
         key: &K,
         f: F,
@@ -53,7 +53,7 @@ impl<K: KeyTrait, V: Clone + Drop> TrackedTree<K, V> {
             let told = f(&mut Slot::Vacant);
             return self.settle_tried_absent(key, told, work);
         }
-        let touched = match marked(&self.touched, key, work) {
+        let touched = match marked_key(&self.touched, key, work) {
             Ok(touched) => touched,
             Err(refused) => return Err(Refusal::Memory(refused)),
         };

@@ -12,17 +12,17 @@ ghost use Rattle.rart_versioned.specs.SlotChanges.{AsksMemory, outcome_of_absent
 ghost use Rattle.rart_versioned.specs.UpdateLookups.{UpdateSets};
 ghost use Rattle.rart_versioned.specs.Updates.{Updates, UpdateTakesMemory};
 
-use crate::tracked::{TrackedTree, marked};
+use crate::tracked::{TrackedTree, marked_key};
 use rart_below::{KeyTrait, Slot, SlotUpdate};
 use rart_versioned::Work;
 use std::alloc::AllocError;
 
 impl<K: KeyTrait, V: Clone + Drop> TrackedTree<K, V> {
-    /// As `update_k`, with the nodes entered and made counted into `work`: at most six more entered
+    /// As `update`, with the nodes entered and made counted into `work`: at most six more entered
     /// than six times the bytes of the key, and at most four more made than twice these. One is
     /// entered at least where there is a key in the current version. Where this one is absent at
     /// most four more are entered than four times its bytes, and none is made where it stays so.
-    pub fn update_k_counted<F: FnOnce(&mut Slot<V>) -> SlotUpdate<V>>(
+    pub fn update_counted<F: FnOnce(&mut Slot<V>) -> SlotUpdate<V>>(
         &mut self,
         key: &K,
         f: F,
@@ -56,7 +56,7 @@ impl<K: KeyTrait, V: Clone + Drop> TrackedTree<K, V> {
             let told = f(&mut Slot::Vacant);
             return self.settle_absent(key, told, work);
         }
-        let touched = marked(&self.touched, key, work)?;
+        let touched = marked_key(&self.touched, key, work)?;
         let is_there = self.current.update_k_counted(key, f, work)?;
         self.touched = touched;
         Ok(is_there)
@@ -85,7 +85,7 @@ impl<K: KeyTrait, V: Clone + Drop> TrackedTree<K, V> {
     {
         match told {
             SlotUpdate::Insert(value) => {
-                self.insert_k_counted(key, value, work)?;
+                self.insert_counted(key.as_ref(), value, work)?;
                 Ok(true)
             }
             SlotUpdate::Keep => Ok(false),

@@ -24,7 +24,7 @@ pub(super) fn write_value<K: KeyTrait, V: Clone + Drop>(
     ensures counted { CountsChange (2 * lookup_bound (K.bytes key.now)) version.old
         (K.bytes key.now) changes.old changes.new }
 {
-    match version.value_mut_k_counted(key, changes) {
+    match version.value_mut_counted(key, changes) {
         Ok(to) => {
             *to = value;
             Ok(true)

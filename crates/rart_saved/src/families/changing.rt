@@ -102,7 +102,7 @@ fn take_setting<K: KeyTrait, V: SavedValue + Eq>(
     ensures points { IfErr result (PointsInto bytes.now) }
 {
     let (now, end) = take_entry::<K, Option<V>>(alloc, bytes, at, longest, is_first, key)?;
-    if !do_differ(before.get_slice(key.as_slice()), now.as_ref()) {
+    if !do_differ(before.get_bytes(key.as_slice()), now.as_ref()) {
         return Err(LoadError::Malformed { at });
     }
     latest.put(key.as_slice(), now)?;

@@ -46,11 +46,11 @@ impl<K: KeyTrait, V: SavedValue> Latest<K, V> {
         self.tree.set_version(self.keys);
         match value {
             Some(value) => {
-                let is_replaced = self.tree.insert_slice(key, value)?;
+                let is_replaced = self.tree.insert_bytes(key, value)?;
                 self.keys += u64::from(!is_replaced);
             }
             None => {
-                let removed = self.tree.remove_slice(key)?;
+                let removed = self.tree.remove_bytes(key)?;
                 self.keys -= u64::from(removed.is_some());
             }
         }

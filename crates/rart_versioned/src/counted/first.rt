@@ -16,9 +16,9 @@ use rart_ways::first_from;
 use std::ops::Bound;
 
 impl<K: KeyTrait, V: Clone + Drop> VersionedAdaptiveRadixTree<K, V> {
-    /// As `first_slice`, with the nodes entered counted into `work`: at most one for each byte of
+    /// As `first_from`, with the nodes entered counted into `work`: at most one for each byte of
     /// the bound and of the key, and one; and at least one where there is a key in the map.
-    pub fn first_slice_counted(
+    pub fn first_from_counted(
         &self,
         low: Bound<&[u8]>,
         room: &mut [u8],
@@ -43,6 +43,6 @@ impl<K: KeyTrait, V: Clone + Drop> VersionedAdaptiveRadixTree<K, V> {
         ensures counted { CountsUpTo (1 + found_length result) 0 work.old work.new }
         ensures entered { has_no_key self.now ≡ false → work.old.entered < work.new.entered }
     {
-        self.first_slice_counted(Bound::Unbounded, room, work)
+        self.first_from_counted(Bound::Unbounded, room, work)
     }
 }

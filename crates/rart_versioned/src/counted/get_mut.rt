@@ -57,10 +57,10 @@ fn lend_in<'a, P: Partial, V: Clone + Drop>(
 }
 
 impl<K: KeyTrait, V: Clone + Drop> VersionedAdaptiveRadixTree<K, V> {
-    /// As `value_mut_k`, with the nodes entered and made counted into `work`: at most two more
+    /// As `value_mut`, with the nodes entered and made counted into `work`: at most two more
     /// entered than twice the bytes of the key, and at most two more made than it has. None is made
     /// where the key is absent.
-    pub fn value_mut_k_counted(&mut self, key: &K, work: &mut Work) -> Result<&mut V, Missing>
+    pub fn value_mut_counted(&mut self, key: &K, work: &mut Work) -> Result<&mut V, Missing>
         requires clones { ClonesEqual V.is_clone }
         requires room { HasRoom self.old 1 }
         ensures* writes_back { sem 𝓛 (LendsValue K.row V.row K.PartialType.row K.MAXIMUM_SIZE
@@ -78,7 +78,7 @@ impl<K: KeyTrait, V: Clone + Drop> VersionedAdaptiveRadixTree<K, V> {
         lend_in(&mut self.root, &mut self.version, key.as_ref(), work)
     }
 
-    /// As `get_mut_k`, counted as by `value_mut_k_counted`.
+    /// As `get_mut_k`, counted as by `value_mut_counted`.
     pub fn get_mut_k_counted(
         &mut self,
         key: &K,
@@ -97,6 +97,6 @@ impl<K: KeyTrait, V: Clone + Drop> VersionedAdaptiveRadixTree<K, V> {
         ensures absent_makes_none { value_at self.old (K.bytes key.now) ≡ None
             → work.new.made ≡ work.old.made }
     {
-        found_of(self.value_mut_k_counted(key, work))
+        found_of(self.value_mut_counted(key, work))
     }
 }

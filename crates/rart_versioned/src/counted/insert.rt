@@ -53,11 +53,11 @@ impl<K: KeyTrait, V: Clone + Drop> VersionedAdaptiveRadixTree<K, V> {
         ensures entered { has_no_key self.old ≡ false → work.old.entered < work.new.entered }
         ensures made { OnOk result (work.old.made < work.new.made) }
     {
-        self.insert_and_replace_slice_counted(key.as_ref(), value, work)
+        self.insert_and_replace_bytes_counted(key.as_ref(), value, work)
     }
 
-    /// As `insert_and_replace_slice`, counted as by `insert_k_counted`.
-    pub fn insert_and_replace_slice_counted(
+    /// As `insert_and_replace_bytes`, counted as by `insert_k_counted`.
+    pub fn insert_and_replace_bytes_counted(
         &mut self,
         key: &[u8],
         value: V,

@@ -16,9 +16,9 @@ use rart_ways::last_to;
 use std::ops::Bound;
 
 impl<K: KeyTrait, V: Clone + Drop> VersionedAdaptiveRadixTree<K, V> {
-    /// As `last_slice`, with the nodes entered counted into `work`: at most one for each byte of
+    /// As `last_to`, with the nodes entered counted into `work`: at most one for each byte of
     /// the bound and of the key, and one; and at least one where there is a key in the map.
-    pub fn last_slice_counted(
+    pub fn last_to_counted(
         &self,
         high: Bound<&[u8]>,
         room: &mut [u8],
@@ -43,6 +43,6 @@ impl<K: KeyTrait, V: Clone + Drop> VersionedAdaptiveRadixTree<K, V> {
         ensures counted { CountsUpTo (1 + found_length result) 0 work.old work.new }
         ensures entered { has_no_key self.now ≡ false → work.old.entered < work.new.entered }
     {
-        self.last_slice_counted(Bound::Unbounded, room, work)
+        self.last_to_counted(Bound::Unbounded, room, work)
     }
 }

@@ -32,15 +32,15 @@ impl<K: KeyTrait, V: Clone + Drop> VersionedAdaptiveRadixTree<K, V> {
             + length (prefix_matches self.now.content (K.bytes probe.now)) ≤ work.new.entered }
     {
         let bytes = probe.as_ref();
-        let Some((length, value)) = self.longest_slice_counted(bytes, work) else {
+        let Some((length, value)) = self.longest_prefix_counted(bytes, work) else {
             return Ok(None);
         };
         let key = K::new_from_slice(self.alloc, &bytes[..length])?;
         Ok(Some((key, value)))
     }
 
-    /// As `longest_slice`, counted as by `longest_prefix_match_k_counted`.
-    pub fn longest_slice_counted(&self, probe: &[u8], work: &mut Work) -> Option<(usize, &V)>
+    /// As `longest_prefix`, counted as by `longest_prefix_match_k_counted`.
+    pub fn longest_prefix_counted(&self, probe: &[u8], work: &mut Work) -> Option<(usize, &V)>
         ensures found { prefix_found probe.now result
             ≡ longest_prefix_match self.now.content probe.now }
         ensures within { IfSome result (λ found. found.0 ≤ length probe.now) }

@@ -23,11 +23,11 @@ impl<K: KeyTrait, V: Clone + Drop> VersionedAdaptiveRadixTree<K, V> {
         ensures each { work.old.entered
             + length (prefix_matches self.now.content (K.bytes key.now)) ≤ work.new.entered }
     {
-        self.get_slice_counted(key.as_ref(), work)
+        self.get_bytes_counted(key.as_ref(), work)
     }
 
-    /// As `get_slice`, counted as by `get_k_counted`.
-    pub fn get_slice_counted(&self, key: &[u8], work: &mut Work) -> Option<&V>
+    /// As `get_bytes`, counted as by `get_k_counted`.
+    pub fn get_bytes_counted(&self, key: &[u8], work: &mut Work) -> Option<&V>
         ensures value { option_copied result ≡ value_at self.now key.now }
         ensures counted { CountsUpTo (lookup_bound key.now) 0 work.old work.new }
         ensures entered { has_no_key self.now ≡ false → work.old.entered < work.new.entered }

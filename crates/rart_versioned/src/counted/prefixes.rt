@@ -15,18 +15,9 @@ use rart_ways::{Cleared, clear_below, has_under, keep_under};
 use std::alloc::AllocError;
 
 impl<K: KeyTrait, V: Clone + Drop> VersionedAdaptiveRadixTree<K, V> {
-    /// As `contains_prefix_k`, with the nodes entered counted into `work`: at most one more than
-    /// the prefix has bytes, and at least one where there is a key in the map.
-    pub fn contains_prefix_k_counted(&self, prefix: &K, work: &mut Work) -> bool
-        ensures there { result ≡ has_under self.now (K.bytes prefix.now) }
-        ensures counted { CountsUpTo (lookup_bound (K.bytes prefix.now)) 0 work.old work.new }
-        ensures entered { has_no_key self.now ≡ false → work.old.entered < work.new.entered }
-    {
-        self.contains_prefix_slice_counted(prefix.as_ref(), work)
-    }
-
-    /// As `contains_prefix_slice`, counted as by `contains_prefix_k_counted`.
-    pub fn contains_prefix_slice_counted(&self, prefix: &[u8], work: &mut Work) -> bool
+    /// As `contains_prefix`, with the nodes entered counted into `work`: at most one more than the
+    /// prefix has bytes, and at least one where there is a key in the map.
+    pub fn contains_prefix_counted(&self, prefix: &[u8], work: &mut Work) -> bool
         ensures there { result ≡ has_under self.now prefix.now }
         ensures counted { CountsUpTo (lookup_bound prefix.now) 0 work.old work.new }
         ensures entered { has_no_key self.now ≡ false → work.old.entered < work.new.entered }
@@ -37,27 +28,9 @@ impl<K: KeyTrait, V: Clone + Drop> VersionedAdaptiveRadixTree<K, V> {
         }
     }
 
-    /// As `prefix_snapshot_k`, with the nodes entered and made counted into `work`: at most one
-    /// more entered than the prefix has bytes, and at most one made.
-    pub fn prefix_snapshot_k_counted(
-        &self,
-        prefix: &K,
-        work: &mut Work,
-    ) -> Result<VersionedAdaptiveRadixTree<K, V>, AllocError>
-        requires clones { ClonesEqual V.is_clone }
-        requires room { HasRoom self.now 1 }
-        ensures kept { IfOk result (λ part. part ≡ under_prefix self.now (K.bytes prefix.now) 1) }
-        ensures present { OnErr result (IsTrue (has_under self.now (K.bytes prefix.now))) }
-        ensures counted { CountsUpTo (lookup_bound (K.bytes prefix.now)) 1 work.old work.new }
-        ensures entered { has_no_key self.now ≡ false → work.old.entered < work.new.entered }
-        ensures absent_makes_none { has_under self.now (K.bytes prefix.now) ≡ false
-            → work.new.made ≡ work.old.made }
-    {
-        self.prefix_snapshot_slice_counted(prefix.as_ref(), work)
-    }
-
-    /// As `prefix_snapshot_slice`, counted as by `prefix_snapshot_k_counted`.
-    pub fn prefix_snapshot_slice_counted(
+    /// As `prefix_snapshot`, with the nodes entered and made counted into `work`: at most one more
+    /// entered than the prefix has bytes, and at most one made.
+    pub fn prefix_snapshot_counted(
         &self,
         prefix: &[u8],
         work: &mut Work,
@@ -84,33 +57,10 @@ impl<K: KeyTrait, V: Clone + Drop> VersionedAdaptiveRadixTree<K, V> {
         })
     }
 
-    /// As `remove_prefix_k`, with the nodes entered and made counted into `work`: at most two more
+    /// As `remove_prefix`, with the nodes entered and made counted into `work`: at most two more
     /// entered than twice the bytes of the prefix, and at most one more made than it has. None is
     /// made where it begins no key.
-    pub fn remove_prefix_k_counted(
-        &mut self,
-        prefix: &K,
-        work: &mut Work,
-    ) -> Result<bool, AllocError>
-        requires clones { ClonesEqual V.is_clone }
-        requires room { HasRoom self.old 1 }
-        ensures answer { IfOk result
-            (λ removed. removed ≡ has_under self.old (K.bytes prefix.now)) }
-        ensures removed { OnOk result
-            (self.new ≡ after_prefix_removal self.old (K.bytes prefix.now)) }
-        ensures refused { OnErr result (self.new ≡ self.old) }
-        ensures present { OnErr result (IsTrue (has_under self.old (K.bytes prefix.now))) }
-        ensures counted { CountsUpTo (2 * lookup_bound (K.bytes prefix.now))
-            (lookup_bound (K.bytes prefix.now)) work.old work.new }
-        ensures entered { has_no_key self.old ≡ false → work.old.entered < work.new.entered }
-        ensures absent_makes_none { has_under self.old (K.bytes prefix.now) ≡ false
-            → work.new.made ≡ work.old.made }
-    {
-        self.remove_prefix_slice_counted(prefix.as_ref(), work)
-    }
-
-    /// As `remove_prefix_slice`, counted as by `remove_prefix_k_counted`.
-    pub fn remove_prefix_slice_counted(
+    pub fn remove_prefix_counted(
         &mut self,
         prefix: &[u8],
         work: &mut Work,
@@ -141,32 +91,10 @@ impl<K: KeyTrait, V: Clone + Drop> VersionedAdaptiveRadixTree<K, V> {
         Ok(true)
     }
 
-    /// As `take_prefix_k`, with the nodes entered and made counted into `work`: at most three more
+    /// As `take_prefix`, with the nodes entered and made counted into `work`: at most three more
     /// entered than three times the bytes of the prefix, and at most two more made than it has.
     /// None is made where it begins no key.
-    pub fn take_prefix_k_counted(
-        &mut self,
-        prefix: &K,
-        work: &mut Work,
-    ) -> Result<VersionedAdaptiveRadixTree<K, V>, AllocError>
-        requires clones { ClonesEqual V.is_clone }
-        requires room { HasRoom self.old 1 }
-        ensures taken { IfOk result (λ part. part ≡ under_prefix self.old (K.bytes prefix.now) 1) }
-        ensures removed { OnOk result
-            (self.new ≡ after_prefix_removal self.old (K.bytes prefix.now)) }
-        ensures refused { OnErr result (self.new ≡ self.old) }
-        ensures present { OnErr result (IsTrue (has_under self.old (K.bytes prefix.now))) }
-        ensures counted { CountsUpTo (3 * lookup_bound (K.bytes prefix.now))
-            (lookup_bound (K.bytes prefix.now) + 1) work.old work.new }
-        ensures entered { has_no_key self.old ≡ false → work.old.entered < work.new.entered }
-        ensures absent_makes_none { has_under self.old (K.bytes prefix.now) ≡ false
-            → work.new.made ≡ work.old.made }
-    {
-        self.take_prefix_slice_counted(prefix.as_ref(), work)
-    }
-
-    /// As `take_prefix_slice`, counted as by `take_prefix_k_counted`.
-    pub fn take_prefix_slice_counted(
+    pub fn take_prefix_counted(
         &mut self,
         prefix: &[u8],
         work: &mut Work,
@@ -183,8 +111,8 @@ impl<K: KeyTrait, V: Clone + Drop> VersionedAdaptiveRadixTree<K, V> {
         ensures absent_makes_none { has_under self.old prefix.now ≡ false
             → work.new.made ≡ work.old.made }
     {
-        let taken = self.prefix_snapshot_slice_counted(prefix, work)?;
-        self.remove_prefix_slice_counted(prefix, work)?;
+        let taken = self.prefix_snapshot_counted(prefix, work)?;
+        self.remove_prefix_counted(prefix, work)?;
         Ok(taken)
     }
 }

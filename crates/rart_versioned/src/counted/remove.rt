@@ -31,11 +31,11 @@ impl<K: KeyTrait, V: Clone + Drop> VersionedAdaptiveRadixTree<K, V> {
         ensures absent_makes_none { value_at self.old (K.bytes key.now) ≡ None
             → work.new.made ≡ work.old.made }
     {
-        self.remove_slice_counted(key.as_ref(), work)
+        self.remove_bytes_counted(key.as_ref(), work)
     }
 
-    /// As `remove_slice`, counted as by `remove_k_counted`.
-    pub fn remove_slice_counted(
+    /// As `remove_bytes`, counted as by `remove_k_counted`.
+    pub fn remove_bytes_counted(
         &mut self,
         key: &[u8],
         work: &mut Work,

@@ -17,32 +17,10 @@ use rart_ways::{Cleared, clear_below, keep_under, put_under};
 use std::alloc::{AllocError, Global};
 
 impl<K: KeyTrait, V: Clone + Drop> VersionedAdaptiveRadixTree<K, V> {
-    /// As `restore_prefix_k`, with the nodes entered and made counted into `work`: in both versions
+    /// As `restore_prefix`, with the nodes entered and made counted into `work`: in both versions
     /// together at most three more entered than three times the bytes of the prefix, and at most
     /// four more made than it has. One is entered at least where either map has a key.
-    pub fn restore_prefix_k_counted(
-        &mut self,
-        prefix: &K,
-        from: &VersionedAdaptiveRadixTree<K, V>,
-        work: &mut Work,
-    ) -> Result<(), AllocError>
-        requires clones { ClonesEqual V.is_clone }
-        requires room { HasRoom self.old from.now.number }
-        ensures restored { OnOk result
-            (self.new ≡ after_prefix_restoring self.old (K.bytes prefix.now) from.now) }
-        ensures refused { OnErr result (self.new ≡ self.old) }
-        ensures present { OnErr result (IsTrue (has_under self.old (K.bytes prefix.now))
-            ⊎ IsTrue (has_under from.now (K.bytes prefix.now))) }
-        ensures counted { CountsUpTo (3 * lookup_bound (K.bytes prefix.now))
-            (change_bound (K.bytes prefix.now) + 2) work.old work.new }
-        ensures entered { has_no_key self.old ≡ false → work.old.entered < work.new.entered }
-        ensures entered_other { has_no_key from.now ≡ false → work.old.entered < work.new.entered }
-    {
-        self.restore_prefix_slice_counted(prefix.as_ref(), from, work)
-    }
-
-    /// As `restore_prefix_slice`, counted as by `restore_prefix_k_counted`.
-    pub fn restore_prefix_slice_counted(
+    pub fn restore_prefix_counted(
         &mut self,
         prefix: &[u8],
         from: &VersionedAdaptiveRadixTree<K, V>,

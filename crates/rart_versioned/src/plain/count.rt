@@ -10,6 +10,7 @@ use rart_below::{KeyTrait, Partial};
 use rart_node::Work;
 use rart_walks::{NoPath, Walk};
 use std::alloc::AllocError;
+use std::convert::AsSlice;
 
 impl<K: KeyTrait, V: Clone + Drop> VersionedAdaptiveRadixTree<K, V> {
     /// How many keys the map has, or out of memory. It walks over all of them, as `BTreeMap::len`
@@ -25,32 +26,18 @@ impl<K: KeyTrait, V: Clone + Drop> VersionedAdaptiveRadixTree<K, V> {
         count_left(self.whole_walk(&mut Work::new())?)
     }
 
-    /// How many keys the prefix begins, or out of memory: a walk over these alone. The empty prefix
-    /// begins every key. rart has no such call.
+    /// How many keys the prefix begins, or out of memory: a walk over these alone. The prefix may
+    /// be a text, bytes, or whatever else lends bytes; the empty one begins every key. rart has no
+    /// such call.
     ///
     /// ```
-    /// let teas = list.count_under_slice(b"tea/")?;
+    /// let teas = list.count_under("tea/")?;
     /// ```
-    pub fn count_under_slice(&self, prefix: &[u8]) -> Result<u64, AllocError>
-        ensures { IfOk result (λ count. count ≡ length (under self.now.content prefix.now)) }
+    pub fn count_under<Q: AsSlice<u8> + Drop>(&self, prefix: Q) -> Result<u64, AllocError>
+        ensures { IfOk result (λ count. count ≡ length (under self.now.content (Q.items prefix))) }
     {
         self.know_keys_for_proof();
-        count_left(self.walk_under(prefix, &mut Work::new())?)
-    }
-
-    /// As `count_under_slice`, the prefix as a key.
-    pub fn count_under_k(&self, prefix: &K) -> Result<u64, AllocError>
-        ensures { IfOk result (λ count. count
-            ≡ length (under self.now.content (K.bytes prefix.now))) }
-    {
-        self.count_under_slice(prefix.as_ref())
-    }
-
-    /// As `count_under_k`, the prefix by value.
-    pub fn count_under(&self, prefix: K) -> Result<u64, AllocError>
-        ensures { IfOk result (λ count. count ≡ length (under self.now.content (K.bytes prefix))) }
-    {
-        self.count_under_k(&prefix)
+        count_left(self.walk_under(prefix.as_slice(), &mut Work::new())?)
     }
 }
 

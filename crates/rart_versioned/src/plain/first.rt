@@ -17,18 +17,18 @@ impl<K: KeyTrait, V: Clone + Drop> VersionedAdaptiveRadixTree<K, V> {
     ///
     /// ```
     /// let mut room = [0; 16];
-    /// let found = list.first_slice(Bound::Included(tea.as_ref()), &mut room);
+    /// let found = list.first_from(Bound::Included(tea.as_ref()), &mut room);
     /// ```
     ///
     /// The key is written to the front of `room`, if it fits there; else what `room` has then is
     /// unspecified. Behind the key, and where there is none, `room` is as before.
-    pub fn first_slice(&self, low: Bound<&[u8]>, room: &mut [u8]) -> Option<(usize, &V)>
+    pub fn first_from(&self, low: Bound<&[u8]>, room: &mut [u8]) -> Option<(usize, &V)>
         ensures { Finds (within self.now.content (bound_map (λ low. low.now) low.entry)
             Unbounded) result room.old room.new }
     {
-        self.first_slice_counted(low, room, &mut Work::new())
+        self.first_from_counted(low, room, &mut Work::new())
     }
-    /// The first of all pairs, otherwise as `first_slice`: `BTreeMap::first_key_value`.
+    /// The first of all pairs, otherwise as `first_from`: `BTreeMap::first_key_value`.
     ///
     /// ```
     /// let mut room = [0; 16];

@@ -19,7 +19,7 @@ impl<K: KeyTrait, V: Clone + Drop> VersionedAdaptiveRadixTree<K, V> {
     /// is over the key has the value that it was left with. `Absent` comes where nothing is at the
     /// key, and then it isn't refused; `Memory` where a copy on the way was refused. Either way
     /// map and number are as before.
-    pub fn value_mut_k(&mut self, key: &K) -> Result<&mut V, Missing>
+    pub fn value_mut(&mut self, key: &K) -> Result<&mut V, Missing>
         requires clones { ClonesEqual V.is_clone }
         requires room { HasRoom self.old 1 }
         ensures* writes_back { sem 𝓛 (LendsValue K.row V.row K.PartialType.row K.MAXIMUM_SIZE
@@ -30,11 +30,11 @@ impl<K: KeyTrait, V: Clone + Drop> VersionedAdaptiveRadixTree<K, V> {
         ensures missing { IfErr result
             (λ missing. Explains missing (value_at self.old (K.bytes key.now))) }
     {
-        self.value_mut_k_counted(key, &mut Work::new())
+        self.value_mut_counted(key, &mut Work::new())
     }
 
-    /// As `value_mut_k`, the key by value.
-    pub fn value_mut(&mut self, key: K) -> Result<&mut V, Missing>
+    /// As `value_mut`, the key by value.
+    fn value_mut_by_value(&mut self, key: K) -> Result<&mut V, Missing>
         requires clones { ClonesEqual V.is_clone }
         requires room { HasRoom self.old 1 }
         ensures* writes_back { sem 𝓛 (LendsValue K.row V.row K.PartialType.row K.MAXIMUM_SIZE
@@ -44,10 +44,10 @@ impl<K: KeyTrait, V: Clone + Drop> VersionedAdaptiveRadixTree<K, V> {
         ensures missing { IfErr result
             (λ missing. Explains missing (value_at self.old (K.bytes key))) }
     {
-        self.value_mut_k(&key)
+        self.value_mut(&key)
     }
 
-    /// As `value_mut_k`, as rart has it: an absent key is no failure, and is answered by `None`.
+    /// As `value_mut`, as rart has it: an absent key is no failure, and is answered by `None`.
     pub fn get_mut_k(&mut self, key: &K) -> Result<Option<&mut V>, AllocError>
         requires clones { ClonesEqual V.is_clone }
         requires room { HasRoom self.old 1 }
@@ -58,7 +58,7 @@ impl<K: KeyTrait, V: Clone + Drop> VersionedAdaptiveRadixTree<K, V> {
             ≡ value_at self.old (K.bytes key.now)) }
         ensures present { OnErr result (IsTrue (has_key self.old (K.bytes key.now))) }
     {
-        found_of(self.value_mut_k(key))
+        found_of(self.value_mut(key))
     }
 
     /// As `get_mut_k`, the key by value.
@@ -72,6 +72,6 @@ impl<K: KeyTrait, V: Clone + Drop> VersionedAdaptiveRadixTree<K, V> {
             ≡ value_at self.old (K.bytes key)) }
         ensures present { OnErr result (IsTrue (has_key self.old (K.bytes key))) }
     {
-        found_of(self.value_mut(key))
+        found_of(self.value_mut_by_value(key))
     }
 }

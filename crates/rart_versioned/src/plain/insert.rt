@@ -10,6 +10,7 @@ use crate::counted::VersionedAdaptiveRadixTree;
 use rart_below::KeyTrait;
 use rart_node::Work;
 use std::alloc::AllocError;
+use std::convert::AsSlice;
 
 impl<K: KeyTrait, V: Clone + Drop> VersionedAdaptiveRadixTree<K, V> {
     /// Sets a key to a value, raises the number by one, and answers whether a value was replaced.
@@ -69,37 +70,42 @@ impl<K: KeyTrait, V: Clone + Drop> VersionedAdaptiveRadixTree<K, V> {
         self.insert_and_replace_k(&key, value)
     }
 
-    /// As `insert_k`, the key by its bytes: no key is made for it.
+    /// As `insert_k`, the key as a text, as bytes, or as whatever else lends bytes, of a length
+    /// that the key type admits: no key is made for it.
     ///
     /// ```
-    /// let replaced = list.insert_slice(b"tea", 300)?;
+    /// let replaced = list.insert_bytes("tea", 300)?;
     /// ```
-    pub fn insert_slice(&mut self, key: &[u8], value: V) -> Result<bool, AllocError>
+    pub fn insert_bytes<Q: AsSlice<u8> + Drop>(
+        &mut self,
+        key: Q,
+        value: V,
+    ) -> Result<bool, AllocError>
         requires clones { ClonesEqual V.is_clone }
         requires room { HasRoom self.old 1 }
-        requires admitted { IsAdmitted K.MAXIMUM_SIZE (length key.now) }
-        ensures answer { IfOk result (λ replaced. replaced ≡ has_key self.old key.now) }
-        ensures set { OnOk result (self.new ≡ with_key self.old key.now value 1) }
-        ensures lookups { OnOk result (Sets self.old self.new key.now (Some value)) }
+        requires admitted { IsAdmitted K.MAXIMUM_SIZE (length (Q.items key)) }
+        ensures answer { IfOk result (λ replaced. replaced ≡ has_key self.old (Q.items key)) }
+        ensures set { OnOk result (self.new ≡ with_key self.old (Q.items key) value 1) }
+        ensures lookups { OnOk result (Sets self.old self.new (Q.items key) (Some value)) }
         ensures refused { OnErr result (self.new ≡ self.old) }
     {
-        Ok(self.insert_and_replace_slice(key, value)?.is_some())
+        Ok(self.insert_and_replace_bytes(key, value)?.is_some())
     }
 
-    /// As `insert_slice`, and answers the value that was replaced, if one was.
-    pub fn insert_and_replace_slice(
+    /// As `insert_bytes`, and answers the value that was replaced, if one was.
+    pub fn insert_and_replace_bytes<Q: AsSlice<u8> + Drop>(
         &mut self,
-        key: &[u8],
+        key: Q,
         value: V,
     ) -> Result<Option<V>, AllocError>
         requires clones { ClonesEqual V.is_clone }
         requires room { HasRoom self.old 1 }
-        requires admitted { IsAdmitted K.MAXIMUM_SIZE (length key.now) }
-        ensures answer { IfOk result (λ replaced. replaced ≡ value_at self.old key.now) }
-        ensures set { OnOk result (self.new ≡ with_key self.old key.now value 1) }
-        ensures lookups { OnOk result (Sets self.old self.new key.now (Some value)) }
+        requires admitted { IsAdmitted K.MAXIMUM_SIZE (length (Q.items key)) }
+        ensures answer { IfOk result (λ replaced. replaced ≡ value_at self.old (Q.items key)) }
+        ensures set { OnOk result (self.new ≡ with_key self.old (Q.items key) value 1) }
+        ensures lookups { OnOk result (Sets self.old self.new (Q.items key) (Some value)) }
         ensures refused { OnErr result (self.new ≡ self.old) }
     {
-        self.insert_and_replace_slice_counted(key, value, &mut Work::new())
+        self.insert_and_replace_bytes_counted(key.as_slice(), value, &mut Work::new())
     }
 }

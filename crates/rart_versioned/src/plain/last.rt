@@ -12,24 +12,24 @@ use rart_node::Work;
 use std::ops::Bound;
 
 impl<K: KeyTrait, V: Clone + Drop> VersionedAdaptiveRadixTree<K, V> {
-    /// The last of the pairs whose keys meet an upper bound, as `first_slice` tells the first from
+    /// The last of the pairs whose keys meet an upper bound, as `first_from` tells the first from
     /// a lower one: how many bytes its key has, and a reference to its value. `None` where there is
     /// none. It can't be refused. rart has no such call.
     ///
     /// ```
     /// let mut room = [0; 16];
-    /// let newest = log.last_slice(Bound::Included(monday.as_ref()), &mut room);
+    /// let newest = log.last_to(Bound::Included(monday.as_ref()), &mut room);
     /// ```
     ///
     /// The key is written to the front of `room`, if it fits there; else what `room` has then is
     /// unspecified. Behind the key, and where there is none, `room` is as before.
-    pub fn last_slice(&self, high: Bound<&[u8]>, room: &mut [u8]) -> Option<(usize, &V)>
+    pub fn last_to(&self, high: Bound<&[u8]>, room: &mut [u8]) -> Option<(usize, &V)>
         ensures { Finds (reverse (within self.now.content Unbounded
             (bound_map (λ high. high.now) high.entry))) result room.old room.new }
     {
-        self.last_slice_counted(high, room, &mut Work::new())
+        self.last_to_counted(high, room, &mut Work::new())
     }
-    /// The last of all pairs, otherwise as `last_slice`: `BTreeMap::last_key_value`.
+    /// The last of all pairs, otherwise as `last_to`: `BTreeMap::last_key_value`.
     ///
     /// ```
     /// let mut room = [0; 16];

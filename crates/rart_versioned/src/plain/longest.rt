@@ -8,6 +8,7 @@ use crate::counted::VersionedAdaptiveRadixTree;
 use rart_below::KeyTrait;
 use rart_node::Work;
 use std::alloc::AllocError;
+use std::convert::AsSlice;
 
 impl<K: KeyTrait, V: Clone + Drop> VersionedAdaptiveRadixTree<K, V> {
     /// The pair with the longest key that begins the probe, if there is one: the last of those that
@@ -28,17 +29,18 @@ impl<K: KeyTrait, V: Clone + Drop> VersionedAdaptiveRadixTree<K, V> {
     }
 
     /// How many bytes of the probe the longest key has that begins it, and a reference to its
-    /// value. It can't be refused. rart has no such call.
+    /// value. The probe may be a text, bytes, or whatever else lends bytes. It can't be refused.
+    /// rart has no such call.
     ///
     /// ```
-    /// let hop = routes.longest_slice(&[10, 1, 2, 3]).map(|route| *route.1);
+    /// let hop = routes.longest_prefix([10, 1, 2, 3]).map(|route| *route.1);
     /// ```
-    pub fn longest_slice(&self, probe: &[u8]) -> Option<(usize, &V)>
-        ensures found { prefix_found probe.now result
-            ≡ longest_prefix_match self.now.content probe.now }
-        ensures within { IfSome result (λ found. found.0 ≤ length probe.now) }
+    pub fn longest_prefix<Q: AsSlice<u8> + Drop>(&self, probe: Q) -> Option<(usize, &V)>
+        ensures found { prefix_found (Q.items probe) result
+            ≡ longest_prefix_match self.now.content (Q.items probe) }
+        ensures within { IfSome result (λ found. found.0 ≤ length (Q.items probe)) }
     {
-        self.longest_slice_counted(probe, &mut Work::new())
+        self.longest_prefix_counted(probe.as_slice(), &mut Work::new())
     }
 
     /// As `longest_prefix_match_k`, the probe by value.

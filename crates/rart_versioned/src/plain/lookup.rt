@@ -7,6 +7,7 @@ ghost use Rattle.rart_maps.specs.Versions.{has_key, value_at};
 use crate::counted::VersionedAdaptiveRadixTree;
 use rart_below::KeyTrait;
 use rart_node::Work;
+use std::convert::AsSlice;
 
 impl<K: KeyTrait, V: Clone + Drop> VersionedAdaptiveRadixTree<K, V> {
     /// The value of a key, if the key is there. It can't be refused.
@@ -27,39 +28,27 @@ impl<K: KeyTrait, V: Clone + Drop> VersionedAdaptiveRadixTree<K, V> {
         self.get_k(&key)
     }
 
-    /// As `get_k`, the key by its bytes. rart has no such call.
+    /// As `get_k`, the key as a text, as bytes, or as whatever else lends bytes. rart has no such
+    /// call.
     ///
     /// ```
-    /// let price = list.get_slice(b"tea").copied().unwrap_or(0);
+    /// let price = list.get_bytes("tea").copied().unwrap_or(0);
     /// ```
-    pub fn get_slice(&self, key: &[u8]) -> Option<&V>
-        ensures { option_copied result ≡ value_at self.now key.now }
+    pub fn get_bytes<Q: AsSlice<u8> + Drop>(&self, key: Q) -> Option<&V>
+        ensures { option_copied result ≡ value_at self.now (Q.items key) }
     {
-        self.get_slice_counted(key, &mut Work::new())
+        self.get_bytes_counted(key.as_slice(), &mut Work::new())
     }
 
-    /// Whether a key is there. It can't be refused. rart has no such call.
+    /// Whether a key is there. The key may be a text, bytes, or whatever else lends bytes. It can't
+    /// be refused. rart has no such call.
     ///
     /// ```
-    /// let is_listed = list.contains_key_k(&tea);
+    /// let is_listed = list.contains_key("tea") || list.contains_key(&tea);
     /// ```
-    pub fn contains_key_k(&self, key: &K) -> bool
-        ensures { result ≡ has_key self.now (K.bytes key.now) }
+    pub fn contains_key<Q: AsSlice<u8> + Drop>(&self, key: Q) -> bool
+        ensures { result ≡ has_key self.now (Q.items key) }
     {
-        self.contains_slice(key.as_ref())
-    }
-
-    /// As `contains_key_k`, the key by value.
-    pub fn contains_key(&self, key: K) -> bool
-        ensures { result ≡ has_key self.now (K.bytes key) }
-    {
-        self.contains_key_k(&key)
-    }
-
-    /// As `contains_key_k`, the key by its bytes.
-    pub fn contains_slice(&self, key: &[u8]) -> bool
-        ensures { result ≡ has_key self.now key.now }
-    {
-        self.get_slice(key).is_some()
+        self.get_bytes(key).is_some()
     }
 }

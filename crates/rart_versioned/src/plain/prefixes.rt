@@ -1,5 +1,6 @@
 // Ported from rart 0.11.0 (Apache-2.0), and rewritten.
-//! All that stands under a prefix, with no count.
+//! All that stands under a prefix, with no count. A prefix may be a text, bytes, a key, or whatever
+//! else lends bytes.
 ghost use Rattle.std.specs.Prelude.{◌≡◌, ◌⊎◌, IfOk, IsTrue, OnErr, OnOk};
 ghost use Rattle.rart_below.specs.Clones.{ClonesEqual};
 ghost use Rattle.rart_maps.specs.Prefixes.{after_prefix_removal, after_prefix_restoring, has_under, under_prefix};
@@ -9,94 +10,39 @@ use crate::counted::VersionedAdaptiveRadixTree;
 use rart_below::KeyTrait;
 use rart_node::Work;
 use std::alloc::AllocError;
+use std::convert::AsSlice;
 
 impl<K: KeyTrait, V: Clone + Drop> VersionedAdaptiveRadixTree<K, V> {
-    /// As `contains_prefix_k`, with the prefix by value.
-    pub fn contains_prefix(&self, prefix: K) -> bool
-        ensures { result ≡ has_under self.now (K.bytes prefix) }
-    {
-        self.contains_prefix_k(&prefix)
-    }
-
     /// Whether the prefix begins a key, itself among them. It can't be refused. rart has no such
     /// call.
     ///
     /// ```
-    /// let has_orders = orders.contains_prefix_k(&customer);
+    /// let has_teas = list.contains_prefix("tea ");
     /// ```
-    pub fn contains_prefix_k(&self, prefix: &K) -> bool
-        ensures { result ≡ has_under self.now (K.bytes prefix.now) }
+    pub fn contains_prefix<Q: AsSlice<u8> + Drop>(&self, prefix: Q) -> bool
+        ensures { result ≡ has_under self.now (Q.items prefix) }
     {
-        self.contains_prefix_k_counted(prefix, &mut Work::new())
+        self.contains_prefix_counted(prefix.as_slice(), &mut Work::new())
     }
 
-    /// As `contains_prefix_k`, the prefix by its bytes.
+    /// A version of its own with the pairs alone whose key the prefix begins, its number one greater
+    /// than this one's. Both share what is below the prefix. This version and its number stay as
+    /// they are, also where memory for the copy is refused. Where the prefix begins no key, it isn't
+    /// refused.
     ///
     /// ```
-    /// let has_teas = list.contains_prefix_slice(b"tea ");
+    /// let of_customer = orders.prefix_snapshot(&customer)?;
     /// ```
-    pub fn contains_prefix_slice(&self, prefix: &[u8]) -> bool
-        ensures { result ≡ has_under self.now prefix.now }
-    {
-        self.contains_prefix_slice_counted(prefix, &mut Work::new())
-    }
-
-    /// As `prefix_snapshot_k`, with the prefix by value.
-    pub fn prefix_snapshot(&self, prefix: K) -> Result<VersionedAdaptiveRadixTree<K, V>, AllocError>
-        requires clones { ClonesEqual V.is_clone }
-        requires room { HasRoom self.now 1 }
-        ensures kept { IfOk result (λ part. part ≡ under_prefix self.now (K.bytes prefix) 1) }
-        ensures present { OnErr result (IsTrue (has_under self.now (K.bytes prefix))) }
-    {
-        self.prefix_snapshot_k(&prefix)
-    }
-
-    /// A version of its own with the pairs alone whose key the prefix begins, its number one
-    /// greater. This one stays as it is, its number too, also where the copy is refused for memory,
-    /// which it is not where the prefix begins no key. Both share what is below the prefix.
-    ///
-    /// ```
-    /// let of_customer = orders.prefix_snapshot_k(&customer)?;
-    /// ```
-    pub fn prefix_snapshot_k(
+    pub fn prefix_snapshot<Q: AsSlice<u8> + Drop>(
         &self,
-        prefix: &K,
+        prefix: Q,
     ) -> Result<VersionedAdaptiveRadixTree<K, V>, AllocError>
         requires clones { ClonesEqual V.is_clone }
         requires room { HasRoom self.now 1 }
-        ensures kept { IfOk result (λ part. part ≡ under_prefix self.now (K.bytes prefix.now) 1) }
-        ensures present { OnErr result (IsTrue (has_under self.now (K.bytes prefix.now))) }
+        ensures kept { IfOk result (λ part. part ≡ under_prefix self.now (Q.items prefix) 1) }
+        ensures present { OnErr result (IsTrue (has_under self.now (Q.items prefix))) }
     {
-        self.prefix_snapshot_k_counted(prefix, &mut Work::new())
-    }
-
-    /// As `prefix_snapshot_k`, the prefix by its bytes.
-    ///
-    /// ```
-    /// let teas = list.prefix_snapshot_slice(b"tea ")?;
-    /// ```
-    pub fn prefix_snapshot_slice(
-        &self,
-        prefix: &[u8],
-    ) -> Result<VersionedAdaptiveRadixTree<K, V>, AllocError>
-        requires clones { ClonesEqual V.is_clone }
-        requires room { HasRoom self.now 1 }
-        ensures kept { IfOk result (λ part. part ≡ under_prefix self.now prefix.now 1) }
-        ensures present { OnErr result (IsTrue (has_under self.now prefix.now)) }
-    {
-        self.prefix_snapshot_slice_counted(prefix, &mut Work::new())
-    }
-
-    /// As `remove_prefix_k`, with the prefix by value.
-    pub fn remove_prefix(&mut self, prefix: K) -> Result<bool, AllocError>
-        requires clones { ClonesEqual V.is_clone }
-        requires room { HasRoom self.old 1 }
-        ensures answer { IfOk result (λ removed. removed ≡ has_under self.old (K.bytes prefix)) }
-        ensures removed { OnOk result (self.new ≡ after_prefix_removal self.old (K.bytes prefix)) }
-        ensures refused { OnErr result (self.new ≡ self.old) }
-        ensures present { OnErr result (IsTrue (has_under self.old (K.bytes prefix))) }
-    {
-        self.remove_prefix_k(&prefix)
+        self.prefix_snapshot_counted(prefix.as_slice(), &mut Work::new())
     }
 
     /// Takes out all pairs whose key the prefix begins, and says whether there was one: the number
@@ -104,100 +50,37 @@ impl<K: KeyTrait, V: Clone + Drop> VersionedAdaptiveRadixTree<K, V> {
     /// Refused for memory, map and number are as before.
     ///
     /// ```
-    /// let had_teas = list.remove_prefix_k(&tea)?;
+    /// let had_teas = list.remove_prefix("tea ")?;
     /// ```
-    pub fn remove_prefix_k(&mut self, prefix: &K) -> Result<bool, AllocError>
+    pub fn remove_prefix<Q: AsSlice<u8> + Drop>(&mut self, prefix: Q) -> Result<bool, AllocError>
         requires clones { ClonesEqual V.is_clone }
         requires room { HasRoom self.old 1 }
-        ensures answer { IfOk result
-            (λ removed. removed ≡ has_under self.old (K.bytes prefix.now)) }
-        ensures removed { OnOk result
-            (self.new ≡ after_prefix_removal self.old (K.bytes prefix.now)) }
+        ensures answer { IfOk result (λ removed. removed ≡ has_under self.old (Q.items prefix)) }
+        ensures removed { OnOk result (self.new ≡ after_prefix_removal self.old (Q.items prefix)) }
         ensures refused { OnErr result (self.new ≡ self.old) }
-        ensures present { OnErr result (IsTrue (has_under self.old (K.bytes prefix.now))) }
+        ensures present { OnErr result (IsTrue (has_under self.old (Q.items prefix))) }
     {
-        self.remove_prefix_k_counted(prefix, &mut Work::new())
+        self.remove_prefix_counted(prefix.as_slice(), &mut Work::new())
     }
 
-    /// As `remove_prefix_k`, the prefix by its bytes.
+    /// Takes out all pairs whose key the prefix begins, as `remove_prefix`, and answers them, as
+    /// `prefix_snapshot`. Refused for memory, map and number are as before.
     ///
     /// ```
-    /// let had_teas = list.remove_prefix_slice(b"tea ")?;
+    /// let teas = list.take_prefix("tea ")?;
     /// ```
-    pub fn remove_prefix_slice(&mut self, prefix: &[u8]) -> Result<bool, AllocError>
-        requires clones { ClonesEqual V.is_clone }
-        requires room { HasRoom self.old 1 }
-        ensures answer { IfOk result (λ removed. removed ≡ has_under self.old prefix.now) }
-        ensures removed { OnOk result (self.new ≡ after_prefix_removal self.old prefix.now) }
-        ensures refused { OnErr result (self.new ≡ self.old) }
-        ensures present { OnErr result (IsTrue (has_under self.old prefix.now)) }
-    {
-        self.remove_prefix_slice_counted(prefix, &mut Work::new())
-    }
-
-    /// As `take_prefix_k`, with the prefix by value.
-    pub fn take_prefix(&mut self, prefix: K) -> Result<VersionedAdaptiveRadixTree<K, V>, AllocError>
-        requires clones { ClonesEqual V.is_clone }
-        requires room { HasRoom self.old 1 }
-        ensures taken { IfOk result (λ part. part ≡ under_prefix self.old (K.bytes prefix) 1) }
-        ensures removed { OnOk result (self.new ≡ after_prefix_removal self.old (K.bytes prefix)) }
-        ensures refused { OnErr result (self.new ≡ self.old) }
-        ensures present { OnErr result (IsTrue (has_under self.old (K.bytes prefix))) }
-    {
-        self.take_prefix_k(&prefix)
-    }
-
-    /// Takes out all pairs whose key the prefix begins, as `remove_prefix_k`, and answers them, as
-    /// `prefix_snapshot_k`. Refused for memory, map and number are as before.
-    pub fn take_prefix_k(
+    pub fn take_prefix<Q: AsSlice<u8> + Drop>(
         &mut self,
-        prefix: &K,
+        prefix: Q,
     ) -> Result<VersionedAdaptiveRadixTree<K, V>, AllocError>
         requires clones { ClonesEqual V.is_clone }
         requires room { HasRoom self.old 1 }
-        ensures taken { IfOk result (λ part. part ≡ under_prefix self.old (K.bytes prefix.now) 1) }
-        ensures removed { OnOk result
-            (self.new ≡ after_prefix_removal self.old (K.bytes prefix.now)) }
+        ensures taken { IfOk result (λ part. part ≡ under_prefix self.old (Q.items prefix) 1) }
+        ensures removed { OnOk result (self.new ≡ after_prefix_removal self.old (Q.items prefix)) }
         ensures refused { OnErr result (self.new ≡ self.old) }
-        ensures present { OnErr result (IsTrue (has_under self.old (K.bytes prefix.now))) }
+        ensures present { OnErr result (IsTrue (has_under self.old (Q.items prefix))) }
     {
-        self.take_prefix_k_counted(prefix, &mut Work::new())
-    }
-
-    /// As `take_prefix_k`, the prefix by its bytes.
-    ///
-    /// ```
-    /// let teas = list.take_prefix_slice(b"tea ")?;
-    /// ```
-    pub fn take_prefix_slice(
-        &mut self,
-        prefix: &[u8],
-    ) -> Result<VersionedAdaptiveRadixTree<K, V>, AllocError>
-        requires clones { ClonesEqual V.is_clone }
-        requires room { HasRoom self.old 1 }
-        ensures taken { IfOk result (λ part. part ≡ under_prefix self.old prefix.now 1) }
-        ensures removed { OnOk result (self.new ≡ after_prefix_removal self.old prefix.now) }
-        ensures refused { OnErr result (self.new ≡ self.old) }
-        ensures present { OnErr result (IsTrue (has_under self.old prefix.now)) }
-    {
-        self.take_prefix_slice_counted(prefix, &mut Work::new())
-    }
-
-    /// As `restore_prefix_k`, with the prefix by value.
-    pub fn restore_prefix(
-        &mut self,
-        prefix: K,
-        from: &VersionedAdaptiveRadixTree<K, V>,
-    ) -> Result<(), AllocError>
-        requires clones { ClonesEqual V.is_clone }
-        requires room { HasRoom self.old from.now.number }
-        ensures restored { OnOk result
-            (self.new ≡ after_prefix_restoring self.old (K.bytes prefix) from.now) }
-        ensures refused { OnErr result (self.new ≡ self.old) }
-        ensures present { OnErr result (IsTrue (has_under self.old (K.bytes prefix))
-            ⊎ IsTrue (has_under from.now (K.bytes prefix))) }
-    {
-        self.restore_prefix_k(&prefix, from)
+        self.take_prefix_counted(prefix.as_slice(), &mut Work::new())
     }
 
     /// Puts all pairs of another version whose key the prefix begins in place of the pairs of this
@@ -215,45 +98,22 @@ impl<K: KeyTrait, V: Clone + Drop> VersionedAdaptiveRadixTree<K, V> {
     ///
     /// ```
     /// let yesterday = list.clone()?;
-    /// list.insert_k(&tea, 350)?;
-    /// list.restore_prefix_k(&tea, &yesterday)?;
+    /// list.insert_bytes("tea pot", 2_000)?;
+    /// list.restore_prefix("tea ", &yesterday)?;
     /// ```
-    pub fn restore_prefix_k(
+    pub fn restore_prefix<Q: AsSlice<u8> + Drop>(
         &mut self,
-        prefix: &K,
+        prefix: Q,
         from: &VersionedAdaptiveRadixTree<K, V>,
     ) -> Result<(), AllocError>
         requires clones { ClonesEqual V.is_clone }
         requires room { HasRoom self.old from.now.number }
         ensures restored { OnOk result
-            (self.new ≡ after_prefix_restoring self.old (K.bytes prefix.now) from.now) }
+            (self.new ≡ after_prefix_restoring self.old (Q.items prefix) from.now) }
         ensures refused { OnErr result (self.new ≡ self.old) }
-        ensures present { OnErr result (IsTrue (has_under self.old (K.bytes prefix.now))
-            ⊎ IsTrue (has_under from.now (K.bytes prefix.now))) }
+        ensures present { OnErr result (IsTrue (has_under self.old (Q.items prefix))
+            ⊎ IsTrue (has_under from.now (Q.items prefix))) }
     {
-        self.restore_prefix_k_counted(prefix, from, &mut Work::new())
-    }
-
-    /// As `restore_prefix_k`, the prefix by its bytes.
-    ///
-    /// ```
-    /// let yesterday = list.clone()?;
-    /// list.insert_slice(b"tea pot", 2_000)?;
-    /// list.restore_prefix_slice(b"tea ", &yesterday)?;
-    /// ```
-    pub fn restore_prefix_slice(
-        &mut self,
-        prefix: &[u8],
-        from: &VersionedAdaptiveRadixTree<K, V>,
-    ) -> Result<(), AllocError>
-        requires clones { ClonesEqual V.is_clone }
-        requires room { HasRoom self.old from.now.number }
-        ensures restored { OnOk result
-            (self.new ≡ after_prefix_restoring self.old prefix.now from.now) }
-        ensures refused { OnErr result (self.new ≡ self.old) }
-        ensures present { OnErr result (IsTrue (has_under self.old prefix.now)
-            ⊎ IsTrue (has_under from.now prefix.now)) }
-    {
-        self.restore_prefix_slice_counted(prefix, from, &mut Work::new())
+        self.restore_prefix_counted(prefix.as_slice(), from, &mut Work::new())
     }
 }

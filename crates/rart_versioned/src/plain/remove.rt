@@ -10,6 +10,7 @@ use crate::counted::VersionedAdaptiveRadixTree;
 use rart_below::KeyTrait;
 use rart_node::Work;
 use std::alloc::AllocError;
+use std::convert::AsSlice;
 
 impl<K: KeyTrait, V: Clone + Drop> VersionedAdaptiveRadixTree<K, V> {
     /// As `remove_k`, with the key by value.
@@ -46,21 +47,22 @@ impl<K: KeyTrait, V: Clone + Drop> VersionedAdaptiveRadixTree<K, V> {
         self.remove_k_counted(key, &mut Work::new())
     }
 
-    /// As `remove_k`, the key by its bytes. rart has no such call.
+    /// As `remove_k`, the key as a text, as bytes, or as whatever else lends bytes. rart has no
+    /// such call.
     ///
     /// ```
-    /// let price = list.remove_slice(b"tea")?;
+    /// let price = list.remove_bytes("tea")?;
     /// ```
-    pub fn remove_slice(&mut self, key: &[u8]) -> Result<Option<V>, AllocError>
+    pub fn remove_bytes<Q: AsSlice<u8> + Drop>(&mut self, key: Q) -> Result<Option<V>, AllocError>
         requires clones { ClonesEqual V.is_clone }
         requires room { HasRoom self.old 1 }
-        ensures answer { IfOk result (λ removed. removed ≡ value_at self.old key.now) }
-        ensures removed { OnOk result (self.new ≡ after_removal self.old key.now) }
-        ensures lookups { OnOk result (Sets self.old self.new key.now None) }
+        ensures answer { IfOk result (λ removed. removed ≡ value_at self.old (Q.items key)) }
+        ensures removed { OnOk result (self.new ≡ after_removal self.old (Q.items key)) }
+        ensures lookups { OnOk result (Sets self.old self.new (Q.items key) None) }
         ensures refused { OnErr result (self.new ≡ self.old) }
-        ensures present { OnErr result (IsTrue (has_key self.old key.now)) }
+        ensures present { OnErr result (IsTrue (has_key self.old (Q.items key))) }
     {
-        self.remove_slice_counted(key, &mut Work::new())
+        self.remove_bytes_counted(key.as_slice(), &mut Work::new())
     }
 
     /// As `delete_k`, with the key by value.

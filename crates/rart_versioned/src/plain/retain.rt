@@ -74,7 +74,7 @@ impl<K: KeyTrait, V: Clone + Drop> VersionedAdaptiveRadixTree<K, V> {
             × OnOk result (self.new ≡ after_reply self.old (key.now, value.now) kept) }
     {
         if !keep(key, value) {
-            self.remove_slice(key)?;
+            self.remove_bytes(key)?;
         }
         Ok(())
     }

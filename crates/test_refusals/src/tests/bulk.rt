@@ -34,11 +34,11 @@ impl Bulk {
             Bulk::Extend => extend(ours, pairs(alloc, fuse)?),
             Bulk::Retain => retain(ours),
             Bulk::PrefixSnapshot => {
-                let part = ours.prefix_snapshot_slice(b"ee")?;
+                let part = ours.prefix_snapshot(b"ee")?;
                 Ok(tell(&part) == [None, Some(5), Some(6)])
             }
             Bulk::RemovePrefix => {
-                Ok(ours.remove_prefix_slice(b"ee")? && tell(ours) == [Some(4), None, None])
+                Ok(ours.remove_prefix(b"ee")? && tell(ours) == [Some(4), None, None])
             }
             Bulk::TakePrefix => take(ours),
             Bulk::RestorePrefix => restore(ours, &begun.base),
@@ -48,7 +48,7 @@ impl Bulk {
 
 // The values of `e`, `ee` and `eee`.
 fn tell(version: &Version) -> [Option<u64>; 3] {
-    [b"e".as_slice(), b"ee", b"eee"].map(|key| number_of(version.get_slice(key)))
+    [b"e".as_slice(), b"ee", b"eee"].map(|key| number_of(version.get_bytes(key)))
 }
 
 // Pairs to put in, which are made once more where that is refused.
@@ -85,7 +85,7 @@ fn retain(ours: &mut Version) -> Result<bool, AllocError> {
 fn take(ours: &mut Version) -> Result<bool, AllocError>
     requires { HasRoom ours.old 2 }
 {
-    let part = ours.take_prefix_slice(b"ee")?;
+    let part = ours.take_prefix(b"ee")?;
     Ok(tell(&part) == [None, Some(5), Some(6)] && tell(ours) == [Some(4), None, None])
 }
 
@@ -94,6 +94,6 @@ fn restore(ours: &mut Version, base: &Version) -> Result<bool, AllocError> {
     if base.version() > u64::MAX - ours.version() {
         return Ok(false);
     }
-    ours.restore_prefix_slice(b"c", base)?;
-    Ok(number_of(ours.get_slice(b"c")) == Some(3))
+    ours.restore_prefix(b"c", base)?;
+    Ok(number_of(ours.get_bytes(b"c")) == Some(3))
 }

@@ -109,20 +109,20 @@ fn begin(number: usize, alloc: Global, tea: &VectorKey) -> Result<bool, AllocErr
     match number {
         0 => {
             let mut prices = PriceList::new(alloc);
-            let told = before_and_after(alloc, &mut prices, "tea", 300)?;
+            let told = before_and_after(&mut prices, "tea", 300)?;
             Ok(told == (None, Some(300)))
         }
         1 => {
             let mut prices = PriceList::new(alloc);
-            set_price_counted(alloc, &mut prices, "salt", 90, &mut Work::new())?;
+            set_price_counted(&mut prices, "salt", 90, &mut Work::new())?;
             Ok(true)
         }
         2 => {
             let mut prices = PriceList::new_at(alloc, u64::MAX - 1);
-            if try_set_price(alloc, &mut prices, "tea", 300).is_err() {
+            if try_set_price(&mut prices, "tea", 300).is_err() {
                 return Err(AllocError);
             }
-            let tried = try_set_price(alloc, &mut prices, "tea", 350);
+            let tried = try_set_price(&mut prices, "tea", 350);
             Ok(matches!(tried, Err(PriceError::NoRoom)))
         }
         3 => {

@@ -13,10 +13,10 @@ fn lend_the_only_value(rt: &impl Abort, alloc: Global) -> Result<(), AllocError>
     let value = Fragile::new(3, &fuse)?;
     let mut tracked = Tracked::begin(alloc, &Version::new(alloc))?;
     assert!(rt; has_room(tracked.current()));
-    tracked.insert_k(&key, value)?;
+    tracked.insert(&key, value)?;
     assert_eq!(rt; tracked.touched_count(), tracked.current().version());
     assert!(rt; has_room(tracked.current()));
-    let number = match tracked.value_mut_k(&key) {
+    let number = match tracked.value_mut(&key) {
         Ok(lent) => Some(lent.number()),
         Err(Missing::Absent) => None,
         Err(Missing::Memory(refused)) => return Err(refused),

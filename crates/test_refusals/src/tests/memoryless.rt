@@ -2,7 +2,7 @@
 // `checks/refusals` counts the requests of these two tests, which are to be as many.
 use super::begun::{Begun, Version, has_room, key_of};
 use super::fragile::{Fragile, Fuse};
-use rart_family::{Slot, SlotUpdate, VectorKey, Work};
+use rart_family::{KeyTrait, Slot, SlotUpdate, VectorKey, Work};
 use rart_versioned::Missing;
 use std::alloc::{AllocError, Global};
 use std::ops::Bound;
@@ -14,22 +14,31 @@ fn make_calls(rt: &impl Abort, begun: &mut Begun, present: &VectorKey, absent: &
     read(rt, &begun.base, &begun.theirs, present, absent);
     change_nothing(rt, &mut begun.ours, absent);
     let tracked = &mut begun.tracked;
-    assert!(rt; tracked.get_k_counted(present, &mut Work::new()).is_some());
+    assert!(rt;
+        tracked
+            .get_counted(present.as_ref(), &mut Work::new())
+            .is_some()
+    );
     assert!(rt; !tracked.is_touched(present));
     assert!(rt; has_room(tracked.current()));
     assert!(rt;
         matches!(
-            tracked.value_mut_k_counted(absent, &mut Work::new()),
+            tracked.value_mut_counted(absent, &mut Work::new()),
             Err(Missing::Absent)
         )
     );
     assert!(rt; has_room(tracked.current()));
-    assert!(rt; matches!(tracked.remove_k_counted(absent, &mut Work::new()), Ok(None)));
+    assert!(rt;
+        matches!(
+            tracked.remove_counted(absent.as_ref(), &mut Work::new()),
+            Ok(None)
+        )
+    );
     assert!(rt; has_room(tracked.current()));
-    assert!(rt; tracked.delete_k_counted(absent, &mut Work::new()) == Ok(false));
+    assert!(rt; tracked.delete_counted(absent.as_ref(), &mut Work::new()) == Ok(false));
     let keep = |_slot: &mut Slot<Fragile>| SlotUpdate::Keep;
     assert!(rt; has_room(tracked.current()));
-    assert!(rt; tracked.update_k_counted(absent, keep, &mut Work::new()) == Ok(false));
+    assert!(rt; tracked.update_counted(absent, keep, &mut Work::new()) == Ok(false));
 }
 
 fn read(
@@ -42,16 +51,13 @@ fn read(
     let mut room = [0; 8];
     let mut shown = 0_u64;
     assert!(rt; base.get_k(present).is_some());
-    assert!(rt; base.get_slice(b"abd").is_none());
-    assert!(rt; base.longest_slice(b"abd").is_some());
+    assert!(rt; base.get_bytes(b"abd").is_none());
+    assert!(rt; base.longest_prefix(b"abd").is_some());
     assert!(rt; base.has_within(Bound::Excluded(b"abc"), Bound::Unbounded));
-    assert!(rt;
-        base.first_slice(Bound::Excluded(b"ab"), &mut room)
-            .is_some()
-    );
-    assert!(rt; base.last_slice(Bound::Unbounded, &mut room).is_some());
-    assert!(rt; base.contains_prefix_k(present));
-    assert!(rt; !base.contains_prefix_slice(b"abd"));
+    assert!(rt; base.first_from(Bound::Excluded(b"ab"), &mut room).is_some());
+    assert!(rt; base.last_to(Bound::Unbounded, &mut room).is_some());
+    assert!(rt; base.contains_prefix(present));
+    assert!(rt; !base.contains_prefix(b"abd"));
     assert!(rt; matches!(base.longest_prefix_match_k(absent), Ok(None)));
     base.prefix_match_for_each_k(
         present,
@@ -80,9 +86,9 @@ fn change_nothing(rt: &impl Abort, version: &mut Version, absent: &VectorKey) {
     assert!(rt; has_room(version));
     assert!(rt; version.update_k(absent, remove) == Ok(false));
     assert!(rt; has_room(version));
-    assert!(rt; version.remove_prefix_k(absent) == Ok(false));
+    assert!(rt; version.remove_prefix(absent) == Ok(false));
     assert!(rt; has_room(version));
-    assert!(rt; version.prefix_snapshot_k(absent).is_ok());
+    assert!(rt; version.prefix_snapshot(absent).is_ok());
 }
 
 // Makes each call so often.

@@ -73,7 +73,7 @@ fn give_back(reading: Reading, alloc: Global, base: &Version) -> Result<usize, A
             count(range.or(base.range_rev((Bound::Unbounded, Bound::Unbounded)))?)
         }
         Reading::PrefixBack => count(
-            base.prefix_iter_rev_k(&prefix)
+            base.prefix_iter_rev(&prefix)
                 .or(base.prefix_iter_rev(prefix))?,
         ),
         _ => count(base.iter_rev().or(base.iter_rev())?),

@@ -3,16 +3,15 @@ ghost use Rattle.rart_maps.specs.Versions.{HasRoom};
 
 use super::begun::{Begun, Tracked, Version, has_room, key_of, number_of};
 use super::fragile::{Fragile, Fuse};
-use rart_family::{Slot, SlotUpdate, VectorKey, Work};
+use rart_family::{KeyTrait, Slot, SlotUpdate, VectorKey, Work};
 use rart_versioned::Missing;
 use std::alloc::{AllocError, Global};
 use std::rc::Rc;
 
-/// The form of a call. A call of two forms has the last two, and one of one form that one.
+/// The form of a call: without a count, or counted, of a call that has both.
 #[derive(Clone, Copy)]
 pub enum Form {
-    ByValue,
-    ByReference,
+    Plain,
     WithWork,
 }
 
@@ -53,7 +52,7 @@ impl Call {
         match self {
             Call::Insert => insert(tracked, form, key, value),
             Call::Replace => replace(tracked, form, key, value),
-            Call::TryInsert => try_insert(tracked, form, key, value),
+            Call::TryInsert => try_insert(tracked, key, value),
             Call::Remove => remove(tracked, form, key),
             Call::Delete => delete(tracked, form, key),
             Call::Lend => write(tracked, form, key, value),
@@ -83,9 +82,8 @@ fn insert(
     requires { HasRoom tracked.old.current 2 }
 {
     match form {
-        Form::ByValue => tracked.insert(key, value),
-        Form::ByReference => tracked.insert_k(&key, value),
-        Form::WithWork => tracked.insert_k_counted(&key, value, &mut Work::new()),
+        Form::Plain => tracked.insert(&key, value),
+        Form::WithWork => tracked.insert_counted(key.as_ref(), value, &mut Work::new()),
     }
 }
 
@@ -98,24 +96,18 @@ fn replace(
     requires { HasRoom tracked.old.current 2 }
 {
     let replaced = match form {
-        Form::ByValue => tracked.insert_and_replace(key, value)?,
-        Form::ByReference => tracked.insert_and_replace_k(&key, value)?,
-        Form::WithWork => tracked.insert_and_replace_k_counted(&key, value, &mut Work::new())?,
+        Form::Plain => tracked.insert_and_replace(&key, value)?,
+        Form::WithWork => tracked.insert_and_replace_counted(
+            key.as_ref(),
+            value,
+            &mut Work::new(),
+        )?,
     };
     Ok(number_of(replaced.as_ref()) == Some(1))
 }
 
-fn try_insert(
-    tracked: &mut Tracked,
-    form: Form,
-    key: VectorKey,
-    value: Fragile,
-) -> Result<bool, AllocError> {
-    let tried = match form {
-        Form::ByValue => tracked.try_insert(key, value),
-        Form::ByReference | Form::WithWork => tracked.try_insert_k(&key, value),
-    };
-    match tried {
+fn try_insert(tracked: &mut Tracked, key: VectorKey, value: Fragile) -> Result<bool, AllocError> {
+    match tracked.try_insert(&key, value) {
         Ok(replaced) => Ok(replaced),
         Err(_refused) => Err(AllocError),
     }
@@ -125,9 +117,8 @@ fn remove(tracked: &mut Tracked, form: Form, key: VectorKey) -> Result<bool, All
     requires { HasRoom tracked.old.current 2 }
 {
     let removed = match form {
-        Form::ByValue => tracked.remove(key)?,
-        Form::ByReference => tracked.remove_k(&key)?,
-        Form::WithWork => tracked.remove_k_counted(&key, &mut Work::new())?,
+        Form::Plain => tracked.remove(&key)?,
+        Form::WithWork => tracked.remove_counted(key.as_ref(), &mut Work::new())?,
     };
     Ok(number_of(removed.as_ref()) == Some(1))
 }
@@ -136,9 +127,8 @@ fn delete(tracked: &mut Tracked, form: Form, key: VectorKey) -> Result<bool, All
     requires { HasRoom tracked.old.current 2 }
 {
     match form {
-        Form::ByValue => tracked.delete(key),
-        Form::ByReference => tracked.delete_k(&key),
-        Form::WithWork => tracked.delete_k_counted(&key, &mut Work::new()),
+        Form::Plain => tracked.delete(&key),
+        Form::WithWork => tracked.delete_counted(key.as_ref(), &mut Work::new()),
     }
 }
 
@@ -151,9 +141,8 @@ fn write(
     requires { HasRoom tracked.old.current 2 }
 {
     let lent = match form {
-        Form::ByValue => tracked.value_mut(key),
-        Form::ByReference => tracked.value_mut_k(&key),
-        Form::WithWork => tracked.value_mut_k_counted(&key, &mut Work::new()),
+        Form::Plain => tracked.value_mut(&key),
+        Form::WithWork => tracked.value_mut_counted(&key, &mut Work::new()),
     };
     match lent {
         Ok(old) => {
@@ -179,9 +168,8 @@ fn update(
         SlotUpdate::Keep
     };
     match form {
-        Form::ByValue => tracked.update(key, leave),
-        Form::ByReference => tracked.update_k(&key, leave),
-        Form::WithWork => tracked.update_k_counted(&key, leave, &mut Work::new()),
+        Form::Plain => tracked.update(&key, leave),
+        Form::WithWork => tracked.update_counted(&key, leave, &mut Work::new()),
     }
 }
 
@@ -198,9 +186,8 @@ fn try_update(
         Ok(SlotUpdate::Insert(value))
     };
     let tried = match form {
-        Form::ByValue => tracked.try_update(key, store),
-        Form::ByReference => tracked.try_update_k(&key, store),
-        Form::WithWork => tracked.try_update_k_counted(&key, store, &mut Work::new()),
+        Form::Plain => tracked.try_update(&key, store),
+        Form::WithWork => tracked.try_update_counted(&key, store, &mut Work::new()),
     };
     match tried {
         Ok(is_there) => Ok(is_there),
@@ -223,7 +210,7 @@ fn show_changes(tracked: &Tracked, form: Form) -> Result<bool, AllocError> {
     };
     match form {
         Form::WithWork => tracked.changes_with_counted(&mut show, &mut Work::new())?,
-        _ => tracked.changes_with(&mut show)?,
+        Form::Plain => tracked.changes_with(&mut show)?,
     }
     Ok(shown == 2)
 }
@@ -237,7 +224,7 @@ fn show_conflicts(tracked: &Tracked, theirs: &Version, form: Form) -> Result<boo
     };
     match form {
         Form::WithWork => tracked.conflicts_with_counted(theirs, &mut show, &mut Work::new())?,
-        _ => tracked.conflicts_with(theirs, &mut show)?,
+        Form::Plain => tracked.conflicts_with(theirs, &mut show)?,
     }
     Ok(shown == 1)
 }

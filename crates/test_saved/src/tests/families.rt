@@ -41,9 +41,9 @@ const THREE: [u8; 138] = [
 /// The first place of `THREE`.
 fn first(alloc: Global) -> Result<Tree, AllocError> {
     let mut tree = Tree::new(alloc);
-    tree.insert_slice(b"teapot", 2)?;
-    tree.insert_slice(b"", u64::MAX)?;
-    tree.insert_slice(b"tea", 300)?;
+    tree.insert_bytes(b"teapot", 2)?;
+    tree.insert_bytes(b"", u64::MAX)?;
+    tree.insert_bytes(b"tea", 300)?;
     Ok(tree)
 }
 
@@ -51,9 +51,9 @@ fn first(alloc: Global) -> Result<Tree, AllocError> {
 fn change(tree: &mut Tree) -> Result<(), AllocError>
     requires { HasRoom tree.old 3 }
 {
-    tree.remove_slice(b"")?;
-    tree.insert_slice(b"tin", 5)?;
-    tree.insert_slice(b"tea", 7)?;
+    tree.remove_bytes(b"")?;
+    tree.insert_bytes(b"tin", 5)?;
+    tree.insert_bytes(b"tea", 7)?;
     Ok(())
 }
 
@@ -96,9 +96,9 @@ fn change_one(tree: &mut Tree, i: u64) -> Result<(), AllocError>
     let bytes = (i % 700).wrapping_mul(0x9e37_79b9_7f4a_7c15).to_be_bytes();
     let key = &bytes[..(i % 9) as usize];
     if i % 5 == 4 {
-        tree.remove_slice(key)?;
+        tree.remove_bytes(key)?;
     } else {
-        tree.insert_slice(key, i / 2)?;
+        tree.insert_bytes(key, i / 2)?;
     }
     Ok(())
 }

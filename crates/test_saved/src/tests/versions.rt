@@ -31,9 +31,9 @@ const THREE: [u8; 79] = [
 
 fn three(alloc: Global) -> Result<Tree, AllocError> {
     let mut tree = Tree::new(alloc);
-    tree.insert_slice(b"teapot", 2)?;
-    tree.insert_slice(b"", u64::MAX)?;
-    tree.insert_slice(b"tea", 300)?;
+    tree.insert_bytes(b"teapot", 2)?;
+    tree.insert_bytes(b"", u64::MAX)?;
+    tree.insert_bytes(b"tea", 300)?;
     Ok(tree)
 }
 
@@ -61,7 +61,7 @@ fn many(alloc: Global) -> Result<Tree, AllocError> {
     for i in 0..2000_u64 {
         let bytes = i.wrapping_mul(0x9e37_79b9_7f4a_7c15).to_be_bytes();
         if tree.version() < u64::MAX {
-            tree.insert_slice(&bytes[..(i % 9) as usize], i)?;
+            tree.insert_bytes(&bytes[..(i % 9) as usize], i)?;
         }
     }
     Ok(tree)
@@ -83,8 +83,8 @@ fn trees_come_back(rt: HostRuntime) -> Result<(), Fail> {
 fn two_strings(alloc: Global) -> Result<Vec<u8>, AllocError> {
     let mut tree: VersionedAdaptiveRadixTree<ArrayKey<4>, ByteString> =
         VersionedAdaptiveRadixTree::new_at(alloc, 8);
-    tree.insert_slice(b"a", ByteString::new(alloc, b"")?)?;
-    tree.insert_slice(b"abcd", ByteString::new(alloc, b"two\0")?)?;
+    tree.insert_bytes(b"a", ByteString::new(alloc, b"")?)?;
+    tree.insert_bytes(b"abcd", ByteString::new(alloc, b"two\0")?)?;
     save_slice(alloc, &tree)
 }
 
@@ -95,7 +95,7 @@ fn byte_strings_come_back(rt: HostRuntime) -> Result<(), Fail> {
     let back = load_slice::<ArrayKey<4>, ByteString>(alloc, bytes.as_slice())?;
     assert!(rt; back.version() == 10);
     assert!(rt; save_slice(alloc, &back)?.as_slice() == bytes.as_slice());
-    let value = back.get_slice(b"abcd");
+    let value = back.get_bytes(b"abcd");
     assert!(rt; value.is_some_and(|value| value.as_slice() == b"two\0".as_slice()));
     Ok(())
 }

@@ -39,10 +39,10 @@ fn listed(tree: &Tree, form: usize, prefix: VectorKey) -> Result<u64, AllocError
         1 => values_of(tree.range_rev((Bound::Included(prefix), Bound::Unbounded))?),
         2 => {
             let low = Bound::Included(prefix.as_ref());
-            values_of(tree.range_slice_rev(low, Bound::Unbounded)?)
+            values_of(tree.range_bytes_rev(low, Bound::Unbounded)?)
         }
         3 => values_of(tree.prefix_iter_rev(prefix)?),
-        _ => values_of(tree.prefix_iter_rev_k(&prefix)?),
+        _ => values_of(tree.prefix_iter_rev(&prefix)?),
     }
 }
 
@@ -128,7 +128,7 @@ fn assert_between(
     high: Bound<&[u8]>,
     digits: u64,
 ) -> Result<(), AllocError> {
-    assert_eq!(rt; digits_of(tree.range_slice_rev(low, high)?)?, digits);
+    assert_eq!(rt; digits_of(tree.range_bytes_rev(low, high)?)?, digits);
     Ok(())
 }
 

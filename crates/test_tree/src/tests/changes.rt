@@ -15,9 +15,8 @@ fn inserted(tree: &mut Tree, form: usize, key: VectorKey) -> Result<bool, AllocE
         0 => tree.insert(key, 9),
         1 => tree.insert_k(&key, 9),
         2 => tree.insert_k_counted(&key, 9, &mut Work::new()),
-        3 => tree.insert_slice(key.as_ref(), 9),
-        4 => tree.try_insert(key, 9).or(Err(AllocError)),
-        _ => tree.try_insert_k(&key, 9).or(Err(AllocError)),
+        3 => tree.insert_bytes(key.as_ref(), 9),
+        _ => tree.try_insert(&key, 9).or(Err(AllocError)),
     }
 }
 
@@ -30,8 +29,8 @@ fn replaced(tree: &mut Tree, form: usize, key: VectorKey) -> Result<Option<u64>,
         0 => tree.insert_and_replace(key, 9),
         1 => tree.insert_and_replace_k(&key, 9),
         2 => tree.insert_and_replace_k_counted(&key, 9, work),
-        3 => tree.insert_and_replace_slice(key.as_ref(), 9),
-        _ => tree.insert_and_replace_slice_counted(key.as_ref(), 9, work),
+        3 => tree.insert_and_replace_bytes(key.as_ref(), 9),
+        _ => tree.insert_and_replace_bytes_counted(key.as_ref(), 9, work),
     }
 }
 
@@ -44,8 +43,8 @@ fn removed(tree: &mut Tree, form: usize, key: VectorKey) -> Result<Option<u64>, 
         0 => tree.remove(key),
         1 => tree.remove_k(&key),
         2 => tree.remove_k_counted(&key, work),
-        3 => tree.remove_slice(key.as_ref()),
-        _ => tree.remove_slice_counted(key.as_ref(), work),
+        3 => tree.remove_bytes(key.as_ref()),
+        _ => tree.remove_bytes_counted(key.as_ref(), work),
     }
 }
 
@@ -150,7 +149,7 @@ fn is_answered(
 
 // The answer is the right one, and this is left at "abc".
 fn assert_left(rt: &impl Abort, form: usize, answered: bool, tree: &Tree, left: Option<u64>) {
-    let is_left = tree.get_slice(b"abc").copied() == left;
+    let is_left = tree.get_bytes(b"abc").copied() == left;
     assert!(rt; answered && is_left, "form {form}");
 }
 
@@ -173,7 +172,7 @@ fn assert_change(
 
 // Each kind, how many forms it has, and what it leaves.
 const CHANGES: &[(Change, usize, Option<u64>)] = &[
-    (Change::Insert, 6, Some(9)),
+    (Change::Insert, 5, Some(9)),
     (Change::Replace, 5, Some(9)),
     (Change::Remove, 5, None),
     (Change::Delete, 3, None),

@@ -41,7 +41,7 @@ fn last_pair_of_a_key_is_put_in(rt: HostRuntime) -> Result<(), Fail> {
     )?;
     assert_counts(&rt, &tree, 5, 7)?;
     for (bytes, value) in [(b"a".as_slice(), 1), (b"abd", 8), (b"c", 5)] {
-        assert_eq!(rt; tree.get_slice(bytes), Some(&value));
+        assert_eq!(rt; tree.get_bytes(bytes), Some(&value));
     }
     Ok(())
 }

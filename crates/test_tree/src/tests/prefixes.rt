@@ -15,10 +15,9 @@ fn kept(tree: &Tree, form: usize, prefix: VectorKey) -> Result<Tree, AllocError>
     let work = &mut Work::new();
     match form {
         0 => tree.prefix_snapshot(prefix),
-        1 => tree.prefix_snapshot_k(&prefix),
-        2 => tree.prefix_snapshot_k_counted(&prefix, work),
-        3 => tree.prefix_snapshot_slice(prefix.as_ref()),
-        _ => tree.prefix_snapshot_slice_counted(prefix.as_ref(), work),
+        1 => tree.prefix_snapshot(&prefix),
+        2 => tree.prefix_snapshot(prefix.as_ref()),
+        _ => tree.prefix_snapshot_counted(prefix.as_ref(), work),
     }
 }
 
@@ -28,10 +27,9 @@ fn removed(tree: &mut Tree, form: usize, prefix: VectorKey) -> Result<bool, Allo
     let work = &mut Work::new();
     match form {
         0 => tree.remove_prefix(prefix),
-        1 => tree.remove_prefix_k(&prefix),
-        2 => tree.remove_prefix_k_counted(&prefix, work),
-        3 => tree.remove_prefix_slice(prefix.as_ref()),
-        _ => tree.remove_prefix_slice_counted(prefix.as_ref(), work),
+        1 => tree.remove_prefix(&prefix),
+        2 => tree.remove_prefix(prefix.as_ref()),
+        _ => tree.remove_prefix_counted(prefix.as_ref(), work),
     }
 }
 
@@ -41,10 +39,9 @@ fn taken(tree: &mut Tree, form: usize, prefix: VectorKey) -> Result<Tree, AllocE
     let work = &mut Work::new();
     match form {
         0 => tree.take_prefix(prefix),
-        1 => tree.take_prefix_k(&prefix),
-        2 => tree.take_prefix_k_counted(&prefix, work),
-        3 => tree.take_prefix_slice(prefix.as_ref()),
-        _ => tree.take_prefix_slice_counted(prefix.as_ref(), work),
+        1 => tree.take_prefix(&prefix),
+        2 => tree.take_prefix(prefix.as_ref()),
+        _ => tree.take_prefix_counted(prefix.as_ref(), work),
     }
 }
 
@@ -88,7 +85,7 @@ fn assert_cut(
 #[test]
 fn what_is_under_a_prefix_is_kept_and_taken_out(rt: HostRuntime) -> Result<(), Fail> {
     for (prefix, many) in PREFIXES {
-        for form in 0..5 {
+        for form in 0..4 {
             assert_cut(&rt, rt.alloc(), form, prefix, *many)?;
         }
     }
@@ -101,10 +98,9 @@ fn restored(tree: &mut Tree, form: usize, prefix: VectorKey, from: &Tree) -> Res
     let work = &mut Work::new();
     match form {
         0 => tree.restore_prefix(prefix, from),
-        1 => tree.restore_prefix_k(&prefix, from),
-        2 => tree.restore_prefix_k_counted(&prefix, from, work),
-        3 => tree.restore_prefix_slice(prefix.as_ref(), from),
-        _ => tree.restore_prefix_slice_counted(prefix.as_ref(), from, work),
+        1 => tree.restore_prefix(&prefix, from),
+        2 => tree.restore_prefix(prefix.as_ref(), from),
+        _ => tree.restore_prefix_counted(prefix.as_ref(), from, work),
     }
 }
 
@@ -153,7 +149,7 @@ fn what_is_under_a_prefix_is_put_in_its_place(rt: HostRuntime) -> Result<(), Fai
     let from = tree_of(&rt, rt.alloc(), &[(b"ab", 20), (b"abc", 30), (b"c", 40)])?;
     let whole = from.clone()?;
     for (prefix, pairs) in RESTORED {
-        for form in 0..5 {
+        for form in 0..4 {
             assert_restored(&rt, rt.alloc(), form, prefix, &from, pairs)?;
             assert!(rt; from.equals(&whole)?);
         }

@@ -5,12 +5,14 @@ use std::test::Fail;
 
 #[test]
 fn refused_insertion_tells_why(rt: HostRuntime) -> Result<(), Fail> {
+    let too_long: InsertError<u64> = InsertError::TooLong(7);
     let no_room: InsertError<u64> = InsertError::NoRoom(7);
     let no_memory: InsertError<u64> = InsertError::NoMemory;
-    let text = format!(in rt.alloc(); "{no_room}, {no_memory}")?;
+    let text = format!(in rt.alloc(); "{too_long}; {no_room}; {no_memory}")?;
     assert_eq!(rt;
         text.as_str(),
-        "the number of the tree can't rise, out of memory"
+        "the key is longer than the tree's keys may be; the number of the tree can't rise; \
+        out of memory"
     );
     Ok(())
 }

@@ -27,7 +27,7 @@ fn has_room_for(onto: &Tree, tracked: &Tracked) -> bool
 // Writes 1000 over the value of a key, if it is there.
 fn write_over(rt: &impl Abort, tracked: &mut Tracked, key: &VectorKey) -> bool {
     assert!(rt; has_room(tracked));
-    match tracked.value_mut_k(key) {
+    match tracked.value_mut(key) {
         Ok(value) => {
             *value = 1000;
             true
@@ -43,8 +43,8 @@ fn touch_all(rt: &impl Abort, alloc: Global, tracked: &mut Tracked) -> Result<()
         let key = VectorKey::new_from_slice(alloc, bytes.as_slice())?;
         assert!(rt; has_room(tracked));
         let was_there = match length % 3 {
-            0 => tracked.insert_k(&key, 1000)?,
-            1 => tracked.delete_k(&key)?,
+            0 => tracked.insert(&key, 1000)?,
+            1 => tracked.delete(&key)?,
             _ => write_over(rt, tracked, &key),
         };
         assert!(rt; was_there, "key {length}");

@@ -24,7 +24,7 @@ pub fn key(alloc: Global, bytes: &[u8]) -> Result<VectorKey, AllocError> {
 // Sets a key that is absent.
 fn put(rt: &impl Abort, tree: &mut Tree, bytes: &[u8], value: u64) -> Result<(), AllocError> {
     assert!(rt; has_room(tree));
-    assert!(rt; !tree.insert_slice(bytes, value)?);
+    assert!(rt; !tree.insert_bytes(bytes, value)?);
     Ok(())
 }
 

@@ -17,6 +17,6 @@ of-part v p (Err refused) kept = tt
 
 pub returns : goal.returns
 returns c = record {
-  rules = of-part c.args.policies.now c.args.tenant.now c.prefix_snapshot_slice.result
-      c.prefix_snapshot_slice.ensures.kept;
+  rules = of-part c.args.policies.now c.args.tenant.now c.prefix_snapshot.result
+      c.prefix_snapshot.ensures.kept;
 }

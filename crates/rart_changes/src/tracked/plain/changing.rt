@@ -1,5 +1,6 @@
 //! Changes of one key: the current version is changed as a tree is, and the key is touched.
-ghost use Rattle.std.specs.Prelude.{◌≡◌, IfOk, IsTrue, OnErr, OnOk};
+ghost use Rattle.std.specs.Prelude.{◌≡◌, length, IfOk, IsTrue, OnErr, OnOk};
+ghost use Rattle.rart_below.specs.Bytes.{IsAdmitted};
 ghost use Rattle.rart_below.specs.Clones.{ClonesEqual};
 ghost use Rattle.rart_changes.specs.Tracking.{after_insertion, after_removal, tracking_from};
 ghost use Rattle.rart_maps.specs.Versions.{HasRoom, has_key, value_at};
@@ -8,109 +9,67 @@ use crate::tracked::{TrackedTree, no_keys};
 use rart_below::KeyTrait;
 use rart_versioned::Work;
 use std::alloc::AllocError;
+use std::convert::AsSlice;
 
 impl<K: KeyTrait, V: Clone + Drop> TrackedTree<K, V> {
-    /// Sets a key to a value, and touches it. The number is one greater then, and the answer is
-    /// whether a value was replaced. Refused for memory, all is as before.
-    pub fn insert_k(&mut self, key: &K, value: V) -> Result<bool, AllocError>
+    /// Sets a key to a value, and touches it. The key may be a text, bytes, or whatever else lends
+    /// bytes, of a length that the key type admits. The number is one greater then, and the answer
+    /// is whether a value was replaced. Refused for memory, all is as before.
+    pub fn insert<Q: AsSlice<u8> + Drop>(&mut self, key: Q, value: V) -> Result<bool, AllocError>
         requires clones { ClonesEqual V.is_clone }
         requires room { HasRoom self.old.current 1 }
+        requires admitted { IsAdmitted K.MAXIMUM_SIZE (length (Q.items key)) }
         ensures answer { IfOk result
-            (λ replaced. replaced ≡ has_key self.old.current (K.bytes key.now)) }
-        ensures set { OnOk result (self.new ≡ after_insertion self.old (K.bytes key.now) value) }
+            (λ replaced. replaced ≡ has_key self.old.current (Q.items key)) }
+        ensures set { OnOk result (self.new ≡ after_insertion self.old (Q.items key) value) }
         ensures refused { OnErr result (self.new ≡ self.old) }
     {
-        Ok(self.insert_and_replace_k(key, value)?.is_some())
+        Ok(self.insert_and_replace(key, value)?.is_some())
     }
 
-    /// As `insert_k`, the key by value.
-    pub fn insert(&mut self, key: K, value: V) -> Result<bool, AllocError>
+    /// As `insert`, and answers the value that was replaced, if one was.
+    pub fn insert_and_replace<Q: AsSlice<u8> + Drop>(
+        &mut self,
+        key: Q,
+        value: V,
+    ) -> Result<Option<V>, AllocError>
         requires clones { ClonesEqual V.is_clone }
         requires room { HasRoom self.old.current 1 }
+        requires admitted { IsAdmitted K.MAXIMUM_SIZE (length (Q.items key)) }
         ensures answer { IfOk result
-            (λ replaced. replaced ≡ has_key self.old.current (K.bytes key)) }
-        ensures set { OnOk result (self.new ≡ after_insertion self.old (K.bytes key) value) }
+            (λ replaced. replaced ≡ value_at self.old.current (Q.items key)) }
+        ensures set { OnOk result (self.new ≡ after_insertion self.old (Q.items key) value) }
         ensures refused { OnErr result (self.new ≡ self.old) }
     {
-        self.insert_k(&key, value)
+        self.insert_and_replace_counted(key.as_slice(), value, &mut Work::new())
     }
 
-    /// As `insert_k`, and answers the value that was replaced, if one was.
-    pub fn insert_and_replace_k(&mut self, key: &K, value: V) -> Result<Option<V>, AllocError>
+    /// Takes a key out, touches it, and gives its value: the number is one greater then. The key
+    /// may be a text, bytes, or whatever else lends bytes. Where it is absent the answer is `None`,
+    /// all is as before, and it isn't refused. Refused for memory, all is as before.
+    pub fn remove<Q: AsSlice<u8> + Drop>(&mut self, key: Q) -> Result<Option<V>, AllocError>
         requires clones { ClonesEqual V.is_clone }
         requires room { HasRoom self.old.current 1 }
         ensures answer { IfOk result
-            (λ replaced. replaced ≡ value_at self.old.current (K.bytes key.now)) }
-        ensures set { OnOk result (self.new ≡ after_insertion self.old (K.bytes key.now) value) }
+            (λ removed. removed ≡ value_at self.old.current (Q.items key)) }
+        ensures removed { OnOk result (self.new ≡ after_removal self.old (Q.items key)) }
         ensures refused { OnErr result (self.new ≡ self.old) }
+        ensures present { OnErr result (IsTrue (has_key self.old.current (Q.items key))) }
     {
-        self.insert_and_replace_k_counted(key, value, &mut Work::new())
+        self.remove_counted(key.as_slice(), &mut Work::new())
     }
 
-    /// As `insert_and_replace_k`, the key by value.
-    pub fn insert_and_replace(&mut self, key: K, value: V) -> Result<Option<V>, AllocError>
+    /// Takes a key out and says whether it was there, otherwise as `remove`.
+    pub fn delete<Q: AsSlice<u8> + Drop>(&mut self, key: Q) -> Result<bool, AllocError>
         requires clones { ClonesEqual V.is_clone }
         requires room { HasRoom self.old.current 1 }
         ensures answer { IfOk result
-            (λ replaced. replaced ≡ value_at self.old.current (K.bytes key)) }
-        ensures set { OnOk result (self.new ≡ after_insertion self.old (K.bytes key) value) }
+            (λ removed. removed ≡ has_key self.old.current (Q.items key)) }
+        ensures removed { OnOk result (self.new ≡ after_removal self.old (Q.items key)) }
         ensures refused { OnErr result (self.new ≡ self.old) }
+        ensures present { OnErr result (IsTrue (has_key self.old.current (Q.items key))) }
     {
-        self.insert_and_replace_k(&key, value)
-    }
-
-    /// Takes a key out, touches it, and gives its value: the number is one greater then. Where the
-    /// key is absent the answer is `None`, all is as before, and it isn't refused. Refused for
-    /// memory, all is as before.
-    pub fn remove_k(&mut self, key: &K) -> Result<Option<V>, AllocError>
-        requires clones { ClonesEqual V.is_clone }
-        requires room { HasRoom self.old.current 1 }
-        ensures answer { IfOk result
-            (λ removed. removed ≡ value_at self.old.current (K.bytes key.now)) }
-        ensures removed { OnOk result (self.new ≡ after_removal self.old (K.bytes key.now)) }
-        ensures refused { OnErr result (self.new ≡ self.old) }
-        ensures present { OnErr result (IsTrue (has_key self.old.current (K.bytes key.now))) }
-    {
-        self.remove_k_counted(key, &mut Work::new())
-    }
-
-    /// As `remove_k`, the key by value.
-    pub fn remove(&mut self, key: K) -> Result<Option<V>, AllocError>
-        requires clones { ClonesEqual V.is_clone }
-        requires room { HasRoom self.old.current 1 }
-        ensures answer { IfOk result
-            (λ removed. removed ≡ value_at self.old.current (K.bytes key)) }
-        ensures removed { OnOk result (self.new ≡ after_removal self.old (K.bytes key)) }
-        ensures refused { OnErr result (self.new ≡ self.old) }
-        ensures present { OnErr result (IsTrue (has_key self.old.current (K.bytes key))) }
-    {
-        self.remove_k(&key)
-    }
-
-    /// Takes a key out and says whether it was there, otherwise as `remove_k`.
-    pub fn delete_k(&mut self, key: &K) -> Result<bool, AllocError>
-        requires clones { ClonesEqual V.is_clone }
-        requires room { HasRoom self.old.current 1 }
-        ensures answer { IfOk result
-            (λ removed. removed ≡ has_key self.old.current (K.bytes key.now)) }
-        ensures removed { OnOk result (self.new ≡ after_removal self.old (K.bytes key.now)) }
-        ensures refused { OnErr result (self.new ≡ self.old) }
-        ensures present { OnErr result (IsTrue (has_key self.old.current (K.bytes key.now))) }
-    {
-        Ok(self.remove_k(key)?.is_some())
-    }
-
-    /// As `delete_k`, the key by value.
-    pub fn delete(&mut self, key: K) -> Result<bool, AllocError>
-        requires clones { ClonesEqual V.is_clone }
-        requires room { HasRoom self.old.current 1 }
-        ensures answer { IfOk result
-            (λ removed. removed ≡ has_key self.old.current (K.bytes key)) }
-        ensures removed { OnOk result (self.new ≡ after_removal self.old (K.bytes key)) }
-        ensures refused { OnErr result (self.new ≡ self.old) }
-        ensures present { OnErr result (IsTrue (has_key self.old.current (K.bytes key))) }
-    {
-        self.delete_k(&key)
+        Ok(self.remove(key)?.is_some())
     }
 
     /// Goes back to the base: it is the current version, with the base's number, which is lower

@@ -15,7 +15,7 @@ impl<K: KeyTrait, V: Clone + Drop> TrackedTree<K, V> {
     /// number is one greater, and once the reference is over the key has the value that it was left
     /// with. `Absent` comes where nothing is at the key, and then it isn't refused; `Memory`
     /// where a copy on the way, or the key's mark, was refused. Either way all is as before.
-    pub fn value_mut_k(&mut self, key: &K) -> Result<&mut V, Missing>
+    pub fn value_mut(&mut self, key: &K) -> Result<&mut V, Missing>
         requires clones { ClonesEqual V.is_clone }
         requires room { HasRoom self.old.current 1 }
         ensures* writes_back { sem 𝓛 (LendsTouched K.row V.row K.PartialType.row K.MAXIMUM_SIZE
@@ -26,21 +26,6 @@ impl<K: KeyTrait, V: Clone + Drop> TrackedTree<K, V> {
         ensures missing { IfErr result
             (λ missing. Explains missing (value_at self.old.current (K.bytes key.now))) }
     {
-        self.value_mut_k_counted(key, &mut Work::new())
-    }
-
-    /// As `value_mut_k`, the key by value.
-    pub fn value_mut(&mut self, key: K) -> Result<&mut V, Missing>
-        requires clones { ClonesEqual V.is_clone }
-        requires room { HasRoom self.old.current 1 }
-        ensures* writes_back { sem 𝓛 (LendsTouched K.row V.row K.PartialType.row K.MAXIMUM_SIZE
-            K.bytes K.eq K.cmp K.partial_cmp K.PartialType.Partial V.Clone self.entry
-            (K.bytes key) result) }
-        ensures value { IfOk result (λ value. value_at self.old.current (K.bytes key)
-            ≡ Some value.now) }
-        ensures missing { IfErr result
-            (λ missing. Explains missing (value_at self.old.current (K.bytes key))) }
-    {
-        self.value_mut_k(&key)
+        self.value_mut_counted(key, &mut Work::new())
     }
 }

@@ -91,10 +91,10 @@ impl<K: KeyTrait, V: Clone + Drop + Eq> TrackedTree<K, V> {
     {
         match value {
             Some(value) => {
-                self.insert(key, value.clone()?)?;
+                self.insert(key.as_ref(), value.clone()?)?;
             }
             None => {
-                self.delete(key)?;
+                self.delete(key.as_ref())?;
             }
         }
         Ok(())

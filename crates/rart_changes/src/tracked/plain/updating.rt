@@ -19,7 +19,7 @@ impl<K: KeyTrait, V: Clone + Drop> TrackedTree<K, V> {
     /// The answer is whether the key was there or is now: then it is touched, and the number is one
     /// greater. Else all is as before, and it isn't refused. Refused for memory, all is as
     /// before, and the callback may have run.
-    pub fn update_k<F: FnOnce(&mut Slot<V>) -> SlotUpdate<V>>(
+    pub fn update<F: FnOnce(&mut Slot<V>) -> SlotUpdate<V>>(
         &mut self,
         key: &K,
         f: F,
@@ -38,38 +38,15 @@ impl<K: KeyTrait, V: Clone + Drop> TrackedTree<K, V> {
         ensures memory { OnErr result
             (UpdateTakesMemory F.FnOnce f self.old.current (K.bytes key.now)) }
     {
-        self.update_k_counted(key, f, &mut Work::new())
+        self.update_counted(key, f, &mut Work::new())
     }
 
-    /// As `update_k`, the key by value.
-    pub fn update<F: FnOnce(&mut Slot<V>) -> SlotUpdate<V>>(
-        &mut self,
-        key: K,
-        f: F,
-    ) -> Result<bool, AllocError>
-        requires clones { ClonesEqual V.is_clone }
-        requires room { HasRoom self.old.current 1 }
-        requires callable { FnOnceTakesAtMut F.FnOnce f
-            (slot_of (value_at self.old.current (K.bytes key))) }
-        ensures updates { IfOk result (λ answer.
-            Updates F.FnOnce f self.old.current (K.bytes key) answer self.new.current) }
-        ensures touched { IfOk result (λ answer.
-            self.new ≡ updated self.old (K.bytes key) answer self.new.current) }
-        ensures lookups { OnOk result
-            (UpdateSets F.FnOnce f self.old.current (K.bytes key) self.new.current) }
-        ensures refused { OnErr result (self.new ≡ self.old) }
-        ensures memory { OnErr result
-            (UpdateTakesMemory F.FnOnce f self.old.current (K.bytes key)) }
-    {
-        self.update_k(&key, f)
-    }
-
-    /// As `update_k` for a callback that may fail, as the tree's `try_update_k`.
+    /// As `update` for a callback that may fail, as the tree's `try_update_k`.
     ///
     /// Its error is answered as `Refusal::Callback`: both maps and the touched keys are as before,
     /// and the number of the current one is two greater where the key is there. Refused for memory
     /// the answer is `Refusal::Memory`, all is as before, and the callback may have run.
-    pub fn try_update_k<E: Drop, F: FnOnce(&mut Slot<V>) -> Result<SlotUpdate<V>, E>>(
+    pub fn try_update<E: Drop, F: FnOnce(&mut Slot<V>) -> Result<SlotUpdate<V>, E>>(
         &mut self,
         key: &K,
         f: F,
@@ -86,27 +63,6 @@ impl<K: KeyTrait, V: Clone + Drop> TrackedTree<K, V> {
             (TriedUpdateSets F.FnOnce f self.old.current (K.bytes key.now) self.new.current) }
         ensures refused { OnErr result (self.new.current.content ≡ self.old.current.content) }
     {
-        self.try_update_k_counted(key, f, &mut Work::new())
-    }
-
-    /// As `try_update_k`, the key by value.
-    pub fn try_update<E: Drop, F: FnOnce(&mut Slot<V>) -> Result<SlotUpdate<V>, E>>(
-        &mut self,
-        key: K,
-        f: F,
-    ) -> Result<bool, Refusal<E>>
-        requires clones { ClonesEqual V.is_clone }
-        requires room { HasRoom self.old.current 2 }
-        requires callable { FnOnceTakesAtMut F.FnOnce f
-            (slot_of (value_at self.old.current (K.bytes key))) }
-        ensures updates { TriesUpdate F.FnOnce f self.old.current (K.bytes key) result
-            self.new.current }
-        ensures touched { self.new ≡ updated self.old (K.bytes key)
-            (result_unwrap_or result false) self.new.current }
-        ensures lookups { OnOk result
-            (TriedUpdateSets F.FnOnce f self.old.current (K.bytes key) self.new.current) }
-        ensures refused { OnErr result (self.new.current.content ≡ self.old.current.content) }
-    {
-        self.try_update_k(&key, f)
+        self.try_update_counted(key, f, &mut Work::new())
     }
 }

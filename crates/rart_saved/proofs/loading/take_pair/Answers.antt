@@ -18,6 +18,6 @@ pub returns-clause-read : goal.returns-clause-read
 returns-clause-read g c = (
   c.in_ok-value.value,
   c.in_ok-value.ensures.read,
-  c.in_ok-insert_slice.ensures.set
+  c.in_ok-insert_bytes.ensures.set
       ∙ ap (λ k. with_key c.args.tree.now k c.in_ok-value.value 1) c.as_slice.ensures.value,
 )

@@ -10,6 +10,7 @@ use rart_below::{KeyTrait, Partial};
 use rart_node::Work;
 use rart_walks::{BytesPath, WalkBack};
 use std::alloc::{AllocError, Global};
+use std::convert::AsSlice;
 use std::marker::{Model, PhantomData};
 
 /// The pairs of a tree, or of a part of it, from the last key to the first.
@@ -57,11 +58,11 @@ impl<K: KeyTrait, V: Clone + Drop> VersionedAdaptiveRadixTree<K, V> {
         })
     }
 
-    /// The pairs whose key the prefix begins, from the last key to the first. The empty prefix
-    /// begins every key.
+    /// The pairs whose key the prefix begins, from the last key to the first. The prefix may be a
+    /// text, bytes, a key, or whatever else lends bytes; the empty one begins every key.
     ///
     /// ```
-    /// for item in list.prefix_iter_rev_k(prefix)? {
+    /// for item in list.prefix_iter_rev("tea ")? {
     ///     let (name, price) = item?;
     ///     lines.push((name, *price))?;
     /// }
@@ -69,34 +70,19 @@ impl<K: KeyTrait, V: Clone + Drop> VersionedAdaptiveRadixTree<K, V> {
     ///
     /// It goes down to the prefix, which may end inside what its keys have in common. Refusals are
     /// as `iter_rev` tells them.
-    pub fn prefix_iter_rev_k(
+    pub fn prefix_iter_rev<Q: AsSlice<u8> + Drop>(
         &self,
-        prefix: &K,
+        prefix: Q,
     ) -> Result<VersionedRevIter<'_, K, K::PartialType, V>, AllocError>
         ensures { IfOk result (λ iter. iter
-            ≡ Some (reverse (under self.now.content (K.bytes prefix.now)))) }
+            ≡ Some (reverse (under self.now.content (Q.items prefix)))) }
     {
-        let walk = self.walk_back_under(prefix.as_ref(), &mut Work::new())?;
+        let walk = self.walk_back_under(prefix.as_slice(), &mut Work::new())?;
         Ok(VersionedRevIter {
             alloc: self.alloc,
             walk: Some(walk),
             key: PhantomData,
         })
-    }
-
-    /// As `prefix_iter_rev_k`, the prefix by value.
-    ///
-    /// ```
-    /// let names = list.prefix_iter_rev(VectorKey::new_from_slice(alloc, b"tea")?)?;
-    /// ```
-    pub fn prefix_iter_rev(
-        &self,
-        prefix: K,
-    ) -> Result<VersionedRevIter<'_, K, K::PartialType, V>, AllocError>
-        ensures { IfOk result (λ iter. iter
-            ≡ Some (reverse (under self.now.content (K.bytes prefix)))) }
-    {
-        self.prefix_iter_rev_k(&prefix)
     }
 }
 

@@ -62,9 +62,9 @@ impl<K: KeyTrait, V: Clone + Drop> VersionedAdaptiveRadixTree<K, V> {
     /// does not.
     ///
     /// ```
-    /// let found = list.range_slice(Bound::Included(first.as_ref()), Bound::Unbounded)?;
+    /// let found = list.range_bytes(Bound::Included(first.as_ref()), Bound::Unbounded)?;
     /// ```
-    pub fn range_slice<'a>(
+    pub fn range_bytes<'a>(
         &'a self,
         low: Bound<&[u8]>,
         high: Bound<&'a [u8]>,
@@ -85,9 +85,9 @@ impl<K: KeyTrait, V: Clone + Drop> VersionedAdaptiveRadixTree<K, V> {
     /// bytes: no key is made for them.
     ///
     /// ```
-    /// let found = list.range_slice_rev(Bound::Unbounded, Bound::Included(first.as_ref()))?;
+    /// let found = list.range_bytes_rev(Bound::Unbounded, Bound::Included(first.as_ref()))?;
     /// ```
-    pub fn range_slice_rev<'a>(
+    pub fn range_bytes_rev<'a>(
         &'a self,
         low: Bound<&'a [u8]>,
         high: Bound<&[u8]>,

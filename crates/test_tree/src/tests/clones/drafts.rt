@@ -30,10 +30,10 @@ fn make(
 ) -> Result<(), AllocError> {
     assert!(rt; has_room(draft));
     let is_there = match change {
-        Change::Set => !draft.insert_k(key, value)?,
-        Change::Remove => draft.remove_k(key)?.is_some(),
-        Change::Lend => draft.value_mut_k(key).is_ok(),
-        Change::Update => draft.update_k(key, |_slot: &mut Slot<Counted>| SlotUpdate::Keep)?,
+        Change::Set => !draft.insert(key, value)?,
+        Change::Remove => draft.remove(key)?.is_some(),
+        Change::Lend => draft.value_mut(key).is_ok(),
+        Change::Update => draft.update(key, |_slot: &mut Slot<Counted>| SlotUpdate::Keep)?,
     };
     assert!(rt; is_there);
     Ok(())

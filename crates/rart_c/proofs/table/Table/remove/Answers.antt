@@ -13,8 +13,8 @@ pub invariant_of-self-then-is_some : goal.invariant_of-self-then-is_some
 invariant_of-self-then-is_some g c =
     record {
       count = ap (λ n. n - 1) c.self.invariant.count
-          ∙ one-less c.self.inside.tree c.remove_slice.new.self c.args.key.now c.in-Ok.removed
+          ∙ one-less c.self.inside.tree c.remove_bytes.new.self c.args.key.now c.in-Ok.removed
           (c.in-Ok.ensures.answer, c.in-Ok.ensures.removed) (sym c.if-is_some.ensures);
       limit = KeepsLimit-after_removal c.self.inside.longest c.self.inside.tree c.args.key.now
-          c.self.invariant.limit c.remove_slice.new.self c.in-Ok.ensures.removed;
+          c.self.invariant.limit c.remove_bytes.new.self c.in-Ok.ensures.removed;
     }

@@ -16,7 +16,7 @@ overflow_add-self g c =
     let few = few-under c.self.inside.tree p in
     let also = few-under c.from.inside.tree p in
     let removed = c.in-Ok.ensures in
-    let restored = c.in-Ok-count_under_slice.ensures in
+    let restored = c.in-Ok-count_under.ensures in
     let all = c.self.invariant.count in
     let most = c.version.ensures.few in
     let more = c.version-2.ensures.few in
@@ -28,11 +28,11 @@ invariant_of-self-2 g c =
     let p = c.args.prefix.now in
     let tree = c.self.inside.tree in
     let from = c.from.inside.tree in
-    let after = c.in-Ok-restore_prefix_slice.ensures.restored in
+    let after = c.in-Ok-restore_prefix.ensures.restored in
     let left = len-restored from.content tree.content p in
     let is = ap (λ v. finite.len v.content) after in
     let removed = c.in-Ok.ensures in
-    let restored = c.in-Ok-count_under_slice.ensures in
+    let restored = c.in-Ok-count_under.ensures in
     let all = c.self.invariant.count in
     record {
       count = omega (arith, left, is, removed, restored, all);
@@ -41,5 +41,5 @@ invariant_of-self-2 g c =
           (subst (λ it. it.longest ≤ c.self.inside.longest) (sym c.from.view_is)
           (subst (λ it. c.args.from.now.longest ≤ it.longest) (sym c.self.view_is)
           c.requires.short))
-          c.restore_prefix_slice.new.self after;
+          c.restore_prefix.new.self after;
     }

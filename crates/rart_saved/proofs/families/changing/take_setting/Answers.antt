@@ -32,7 +32,7 @@ returns-then-not-do_differ-clause-refused g c other key now rest next long diffe
     (sym c.in_ok-now.ensures.read.stands ∙ stands)).0 in
     false≢true (sym c.if-not-do_differ.true ∙ c.do_differ.ensures
     ∙ (λ i. differ g.V.PartialEq.eq
-    ((c.get_slice.ensures ∙ ap (value_at c.args.before.now) (c.as_slice.ensures.value
+    ((c.get_bytes.ensures ∙ ap (value_at c.args.before.now) (c.as_slice.ensures.value
     ∙ ap (λ p. p.0) read)) i)
     ((c.as_ref.ensures.value ∙ ap (λ p. p.1) read) i))
     ∙ differs)
@@ -50,7 +50,7 @@ returns-clause-read g c = (
   c.in_ok-now.now,
   c.in_ok-now.ensures.read,
   (λ i. differ g.V.PartialEq.eq
-      (sym (c.get_slice.ensures ∙ ap (value_at c.args.before.now) c.as_slice.ensures.value) i)
+      (sym (c.get_bytes.ensures ∙ ap (value_at c.args.before.now) c.as_slice.ensures.value) i)
       (sym c.as_ref.ensures.value i))
       ∙ sym c.do_differ.ensures ∙ c.if-not-do_differ.false,
   c.in_ok-put.ensures.set

@@ -6,17 +6,17 @@ invariant_of-self c =
     restored-keys c.args.columns.now c.padded_key-key.ensures.narrow _
     c.padded_key-key.ensures.bytes
     c.self.inside.tree c.self.invariant c.args.self.now c.self.view_is
-    c.restore_prefix_slice.new.self c.from.inside.tree c.from.invariant c.args.from.now
-    c.from.view_is c.restore_prefix_slice.result
-    c.restore_prefix_slice.ensures.restored c.restore_prefix_slice.ensures.refused
+    c.restore_prefix.new.self c.from.inside.tree c.from.invariant c.args.from.now
+    c.from.view_is c.restore_prefix.result
+    c.restore_prefix.ensures.restored c.restore_prefix.ensures.refused
 
 pub returns-clause-tuples : goal.returns-clause-tuples
 returns-clause-tuples c =
     restored-tuples c.args.columns.now c.padded_key-key.ensures.narrow _
     c.padded_key-key.ensures.bytes
     c.self.inside.tree c.self.invariant c.args.self.now c.self.view_is
-    c.restore_prefix_slice.new.self c.from.inside.tree c.from.invariant c.args.from.now
-    c.from.view_is c.restore_prefix_slice.result c.restore_prefix_slice.ensures.restored
+    c.restore_prefix.new.self c.from.inside.tree c.from.invariant c.args.from.now
+    c.from.view_is c.restore_prefix.result c.restore_prefix.ensures.restored
 
 pub returns-clause-present : goal.returns-clause-present
 returns-clause-present c =
@@ -24,4 +24,4 @@ returns-clause-present c =
     c.padded_key-key.ensures.bytes
     c.self.inside.tree c.self.invariant c.args.self.now c.self.view_is
     c.from.inside.tree c.from.invariant c.args.from.now c.from.view_is
-    c.restore_prefix_slice.result c.restore_prefix_slice.ensures.present
+    c.restore_prefix.result c.restore_prefix.ensures.present

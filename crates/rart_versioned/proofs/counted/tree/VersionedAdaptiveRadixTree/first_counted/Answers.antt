@@ -3,4 +3,4 @@ use Rattle.rart_versioned.proofs.counted.tree.VersionedAdaptiveRadixTree.first_c
 
 pub returns-clause-first : goal.returns-clause-first
 returns-clause-first g c =
-    rw (within-none c.args.self.now.content) at c.first_slice_counted.ensures.first
+    rw (within-none c.args.self.now.content) at c.first_from_counted.ensures.first

@@ -1,4 +1,4 @@
--- `found_of(self.value_mut_k_counted(key, work))` by hand, step by step: the call below, what it lent,
+-- `found_of(self.value_mut_counted(key, work))` by hand, step by step: the call below, what it lent,
 -- and then the call that turns its answer.
 -- Rows, laws, bounds with their dictionaries and their proofs come in the order of the statement:
 -- keys K, values V, prefixes P; then KeyTrait, Eq, PartialEq, Ord, PartialOrd, Partial, Clone, and
@@ -24,8 +24,8 @@ use Rattle.rart_versioned.specs.contracts.counted.tree.VersionedAdaptiveRadixTre
 use Rattle.rart_versioned.specs.contracts.counted.tree.VersionedAdaptiveRadixTree.get_mut_k_counted as f
 use Rattle.rart_versioned.proofs.counted.tree.VersionedAdaptiveRadixTree.get_mut_k_counted.Statement.{statement}
 use Rattle.rart_versioned.proofs.counted.tree.VersionedAdaptiveRadixTree.get_mut_k_counted.Code as code
-use Rattle.rart_versioned.specs.contracts.counted.tree.VersionedAdaptiveRadixTree.value_mut_k_counted as g
-use Rattle.rart_versioned.proofs.counted.tree.VersionedAdaptiveRadixTree.value_mut_k_counted.Met as g-met
+use Rattle.rart_versioned.specs.contracts.counted.tree.VersionedAdaptiveRadixTree.value_mut_counted as g
+use Rattle.rart_versioned.proofs.counted.tree.VersionedAdaptiveRadixTree.value_mut_counted.Met as g-met
 use Rattle.rart_versioned.specs.contracts.counted.missing.found_of as h
 use Rattle.rart_versioned.proofs.counted.missing.found_of.Met as h-met
 
@@ -98,7 +98,7 @@ get_mut_k_counted_spec 𝓤 𝓛 𝓜 𝓡 wired K V P LK LV LP k k-d e e-d q q-
     sets ! (addr ! (through ! refl (stop !))) refl (tt, tt) $ sets !
     (addr ! (through ! refl (stop !))) refl (tt, tt) $
     calls_at ! fr G (g-met.met 𝓤 𝓛 𝓜 𝓡
-    (code.calls-rart_versioned::counted::tree::VersionedAdaptiveRadixTree::value_mut_k_counted 𝓡.env
+    (code.calls-rart_versioned::counted::tree::VersionedAdaptiveRadixTree::value_mut_counted 𝓡.env
     wired) K V P LK LV LP k k-d e e-d q q-d o o-d r r-d p p-d v v-d x-d y-d z-d mk me mq mo mr
     mp mv mx my mz) z
     (and_then ! (get ! refl) (and_then ! (get ! refl) (and_then ! (get ! refl) (no_more !)))) (λ u.

@@ -3,4 +3,4 @@ use Rattle.rart_versioned.proofs.counted.tree.VersionedAdaptiveRadixTree.last_co
 
 pub returns-clause-last : goal.returns-clause-last
 returns-clause-last g c =
-    rw (within-none c.args.self.now.content) at c.last_slice_counted.ensures.last
+    rw (within-none c.args.self.now.content) at c.last_to_counted.ensures.last

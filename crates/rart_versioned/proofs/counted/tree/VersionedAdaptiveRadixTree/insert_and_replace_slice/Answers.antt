@@ -1,8 +1,0 @@
-use Rattle.rart_versioned.proofs.OutcomeLemmas.{set-lookups}
-use Rattle.rart_versioned.proofs.counted.tree.VersionedAdaptiveRadixTree.insert_and_replace_slice.Goals as goal
-
-pub returns-clause-lookups : goal.returns-clause-lookups
-returns-clause-lookups g c =
-    set-lookups c.args.self.now c.insert_and_replace_slice_counted.new.self
-    c.args.key.now c.args.value
-    c.insert_and_replace_slice_counted.result c.insert_and_replace_slice_counted.ensures.set

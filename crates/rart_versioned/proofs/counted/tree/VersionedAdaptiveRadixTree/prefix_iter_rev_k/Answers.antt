@@ -1,9 +1,0 @@
-use Rattle.std.proofs.Common.{Some, ℕ, List, reverse, ap, ◌∙◌}
-use Rattle.rart_maps.specs.Pairs.{under}
-use Rattle.rart_versioned.proofs.counted.tree.VersionedAdaptiveRadixTree.prefix_iter_rev_k.Goals as goal
-
-pub returns : goal.returns
-returns g c =
-    ap (λ (list : List (List ℕ × g.row.V.Denot)). Some list)
-    (c.in_ok-walk.ensures.pairs
-    ∙ ap (λ prefix. reverse (under c.args.self.now.content prefix)) c.as_ref.ensures)

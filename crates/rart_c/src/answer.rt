@@ -7,7 +7,7 @@ ghost use Rattle.rart_c.specs.Under.{some_of};
 ghost use Rattle.rart_ways.specs.Firsts.{Finds};
 
 use rart_saved::LoadError;
-use std::alloc::AllocError;
+use std::alloc::{AllocError, AllocFailed};
 
 /// The call was done. Where it answers a value, there was one, and it is written.
 pub const DONE: u8 = 0;
@@ -55,6 +55,26 @@ pub const WRONG_SUM: u8 = 12;
 pub(crate) enum Refusal {
     LastNumber,
     NoMemory,
+}
+
+impl From<AllocError> for Refusal {
+    ghost use Rattle.rart_c.specs.declared.answer.Refusal.TheVariants.{NoMemory};
+
+    ghost from_gives = { λ _ refusal. refusal ≡ NoMemory };
+
+    fn from(_refused: AllocError) -> Refusal {
+        Refusal::NoMemory
+    }
+}
+
+impl<T: Drop> From<AllocFailed<T>> for Refusal {
+    ghost use Rattle.rart_c.specs.declared.answer.Refusal.TheVariants.{NoMemory};
+
+    ghost from_gives = { λ _ refusal. refusal ≡ NoMemory };
+
+    fn from(_refused: AllocFailed<T>) -> Refusal {
+        Refusal::NoMemory
+    }
 }
 
 impl Refusal {

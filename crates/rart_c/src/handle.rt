@@ -136,9 +136,7 @@ impl RartTree {
         if let Some(table) = self.table_mut() {
             return table.insert(key, value);
         }
-        let Ok(mut table) = Box::new(alloc, Table::new_at(alloc, 0)) else {
-            return Err(Refusal::NoMemory);
-        };
+        let mut table = Box::new(alloc, Table::new_at(alloc, 0))?;
         let told = table.insert(key, value);
         *self = RartTree::of(table);
         told
@@ -202,10 +200,7 @@ impl RartTree {
         }
         let mut table = Table::new_at(alloc, 0);
         table.restore_prefix(prefix, from)?;
-        let Ok(table) = Box::new(alloc, table) else {
-            return Err(Refusal::NoMemory);
-        };
-        *self = RartTree::of(table);
+        *self = RartTree::of(Box::new(alloc, table)?);
         Ok(())
     }
 

@@ -87,8 +87,5 @@ pub(crate) fn set(
     if lent::version(tree.table()) == u64::MAX {
         return Err(Refusal::LastNumber);
     }
-    let Ok(value) = Bytes::new(alloc, value) else {
-        return Err(Refusal::NoMemory);
-    };
-    tree.insert(alloc, key, value)
+    tree.insert(alloc, key, Bytes::new(alloc, value)?)
 }

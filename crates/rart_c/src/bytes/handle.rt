@@ -137,9 +137,7 @@ impl RartBytes {
         if let Some(table) = self.table_mut() {
             return table.insert(key, value);
         }
-        let Ok(mut table) = Box::new(alloc, Table::new_at(alloc, 0)) else {
-            return Err(Refusal::NoMemory);
-        };
+        let mut table = Box::new(alloc, Table::new_at(alloc, 0))?;
         let told = table.insert(key, value);
         *self = RartBytes::of(table);
         told
@@ -203,10 +201,7 @@ impl RartBytes {
         }
         let mut table = Table::new_at(alloc, 0);
         table.restore_prefix(prefix, from)?;
-        let Ok(table) = Box::new(alloc, table) else {
-            return Err(Refusal::NoMemory);
-        };
-        *self = RartBytes::of(table);
+        *self = RartBytes::of(Box::new(alloc, table)?);
         Ok(())
     }
 

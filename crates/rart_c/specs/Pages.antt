@@ -2,18 +2,22 @@
 use Rattle.std.specs.Prelude.{◌≡◌, ◌+◌, ◌<◌, ◌⊎◌, ◌++◌, ◌==◌, if◌then◌else◌, ℕ, zero, suc, ⊤, Bool, List, reverse, [], ◌∷◌, Option, Some, None, drop, length, take}
 use Rattle.std.specs.Borrow.{Bor}
 use Rattle.std.specs.List.{flat_map}
+use Rattle.std.specs.Option.{ForSome}
+use Rattle.std.specs.declared.cmp.Ordering.{Ordering}
 use Rattle.std.specs.declared.ops.Bound.{Bound}
 use Rattle.std.specs.declared.ops.Bound.TheVariants.{Included, Excluded, Unbounded}
 use Rattle.rart_c.specs.declared.answer.TheConstants.{DONE, ABSENT, TOO_SMALL, NO_ENTRIES}
 use Rattle.rart_c.specs.declared.bytes.paging.RartBytesEntry.{RartBytesEntry}
 use Rattle.rart_c.specs.declared.paging.RartEntry.{RartEntry}
 use Rattle.rart_c.specs.declared.paging.TheConstants.{INCLUDED, EXCLUDED}
+use Rattle.rart_c.specs.Shown.{shown}
+use Rattle.rart_c.specs.declared.paging.Page.{Page}
 use Rattle.rart_c.specs.declared.paging.Order.{Order}
 use Rattle.rart_c.specs.declared.paging.Order.TheVariants.{Ascending, Descending}
 use Rattle.rart_c.specs.declared.paging.cursor.PageCursor.{PageCursor}
 use Rattle.rart_c.specs.declared.paging.cursor.PageCursor.TheVariants.{Onward, Back}
 use Rattle.std.specs.Ordering.{as_partial_cmp}
-use Rattle.std.specs.Range.Bound.{is_from_start, is_up_to_end}
+use Rattle.std.specs.Range.Bound.{bound_map, is_from_start, is_up_to_end}
 use Rattle.rart_below.specs.Bytes.{byte_order}
 use Rattle.rart_maps.specs.Pairs.{within}
 use Rattle.rart_maps.specs.Versions.{Map}
@@ -131,6 +135,11 @@ abbrev pub bound_behind : Option (ℕ × ℕ) → Bound (List ℕ) → List ℕ 
 bound_behind None from written = from
 bound_behind (Some last) from written = Excluded (drop last.0 (take last.1 written))
 
+-- how a key stands to another one, in an order
+abbrev pub compared : Order → List ℕ → List ℕ → Ordering
+compared Ascending key other = byte_order key other
+compared Descending key other = byte_order other key
+
 -- whether a key meets the bound to which pairs go in an order
 abbrev pub is_before_end : Order → Bound (List ℕ) → List ℕ → Bool
 is_before_end Ascending to key = is_up_to_end (as_partial_cmp byte_order) to key
@@ -150,3 +159,18 @@ module _ {V : Type 0} where
   -- The cursor has left the pairs from a bound on, in an order.
   abbrev pub IsCursorFor : Order → Map V → Bound (List ℕ) → PageCursor V → Type 0
   IsCursorFor order m from cursor = (cursor_in cursor).left ≡ range_in order m from Unbounded
+
+  -- the bound from which a page goes
+  abbrev pub start_of : Page V → Bound (List ℕ)
+  start_of page = bound_map (λ from. from.now) page.from
+
+  -- the pairs from a bound on to the one to which a page goes, in its order
+  abbrev pub pairs_from : Page V → Bound (List ℕ) → List (List ℕ × V)
+  pairs_from page from =
+      range_in page.order (shown page.table).version.content from
+      (bound_map (λ to. to.now) page.to)
+
+  -- A page's cursor, where it has one, has left the pairs from a bound on.
+  abbrev pub IsAt : Page V → Bound (List ℕ) → Type 0
+  IsAt page from =
+      ForSome page.cursor (IsCursorFor page.order (shown page.table).version.content from)

@@ -1,12 +1,10 @@
 //! What C calls to read a page: the pairs within two bounds, as many as there is room for.
 ghost use Rattle.std.specs.Prelude.{◌≡◌, ◌≤◌, ◌==◌, ◌∷◌, ℕ, IfOk, List, OnErr, OnOk, drop, length, not, reverse, take};
 ghost use Rattle.std.specs.Option.{ForSome};
-ghost use Rattle.std.specs.Ordering.{as_partial_cmp};
-ghost use Rattle.std.specs.Range.Bound.{bound_map, is_from_start, is_up_to_end};
+ghost use Rattle.std.specs.Range.Bound.{bound_map};
 ghost use Rattle.std.specs.declared.ops.Bound.{Bound};
 ghost use Rattle.std.specs.declared.ops.Bound.TheVariants.{Excluded, Unbounded};
-ghost use Rattle.rart_below.specs.Bytes.{byte_order};
-ghost use Rattle.rart_c.specs.Pages.{FindsFirst, IsCursorFor, TellsPage, WritesPage, bound_behind, bound_of, first_length, is_before_end, range_in};
+ghost use Rattle.rart_c.specs.Pages.{FindsFirst, IsAt, IsCursorFor, TellsPage, WritesPage, bound_behind, bound_of, compared, first_length, is_before_end, pairs_from, range_in, start_of};
 ghost use Rattle.rart_c.specs.Shown.{shown};
 ghost use Rattle.rart_maps.specs.Pairs.{within};
 ghost use Rattle.rart_maps.specs.Versions.{Map};
@@ -21,6 +19,7 @@ use crate::paging::cursor::PageCursor;
 use crate::table::Table;
 use rart_below::compare_bytes;
 use std::alloc::AllocError;
+use std::cmp::Ordering;
 use std::ops::Bound;
 
 /// The bound is a key that meets it.
@@ -78,7 +77,8 @@ pub extern "C" fn rart_page(
     ensures same { tree.new.shows ≡ tree.old.shows }
 {
     let (low, high) = (bound_of(low_kind, low), bound_of(high_kind, high));
-    let (written, next) = write_page(tree.table(), Order::Ascending, low, high, bytes, entries);
+    let page = Page::new(tree.table(), Order::Ascending, low, high, entries.len());
+    let (written, next) = write_page(page, bytes, entries);
     *count = written;
     tell_page(written, entries.len(), next, needed)
 }
@@ -105,7 +105,8 @@ pub extern "C" fn rart_page_back(
     ensures same { tree.new.shows ≡ tree.old.shows }
 {
     let (from, to) = (bound_of(high_kind, high), bound_of(low_kind, low));
-    let (written, next) = write_page(tree.table(), Order::Descending, from, to, bytes, entries);
+    let page = Page::new(tree.table(), Order::Descending, from, to, entries.len());
+    let (written, next) = write_page(page, bytes, entries);
     *count = written;
     tell_page(written, entries.len(), next, needed)
 }
@@ -123,9 +124,9 @@ pub(crate) fn bound_of(kind: u8, key: &[u8]) -> Bound<&[u8]>
     Bound::Unbounded
 }
 
-/// Tells whether a page has pairs, or why it has none, by how long the key is of the next pair.
+/// Tells whether a page has pairs, or why it has none, by how long the key is of the first.
 fn tell_page(count: usize, room: usize, next: Option<usize>, needed: &mut usize) -> u8
-    ensures { (left : List (List ℕ × ℕ)) → next ≡ first_length left
+    ensures { (left : List (List ℕ × ℕ)) → (count ≡ 0 → next ≡ first_length left)
         → TellsPage count room left result needed.old needed.new }
 {
     if count > 0 {
@@ -141,29 +142,27 @@ fn tell_page(count: usize, room: usize, next: Option<usize>, needed: &mut usize)
     TOO_SMALL
 }
 
-/// Writes the first pairs from one bound to another, in an order. Gives how many have room, and how
-/// long the key is of the next, if there is one.
+/// Writes the first pairs of a page. Gives how many have room, and where none has, how long the key
+/// is of the first, if there is one.
 fn write_page(
-    table: Option<&Table<u64>>,
-    order: Order,
-    from: Bound<&[u8]>,
-    to: Bound<&[u8]>,
+    mut page: Page<'_, '_, u64>,
     bytes: &mut [u8],
     entries: &mut [RartEntry],
 ) -> (usize, Option<usize>)
+    requires { IsAt page (start_of page) }
     ensures { (left : List (List ℕ × ℕ))
-        × WritesPage (range_in order (shown table.entry).version.content
-        (bound_map (λ from. from.now) from.entry) (bound_map (λ to. to.now) to.entry)) left
+        × WritesPage (pairs_from page.entry (start_of page.entry)) left
         result.0 bytes.new entries.old entries.new
-        × (result.1 ≡ first_length left) }
+        × (result.0 ≡ 0 → result.1 ≡ first_length left) }
 {
-    let mut cursor = cursor_for(table, order, from, entries.len());
     let mut last = None;
     let mut end = 0;
     let mut count = 0;
     loop {
-        let next = next_pair(&mut cursor, table, order, from, to, bytes, last, end);
-        let Some((len, value)) = next else {
+        if count > 0 && count == entries.len() {
+            return (count, None);
+        }
+        let Some((len, value)) = page.next(bytes, last, end) else {
             return (count, None);
         };
         if bytes.len() - end < len || count == entries.len() {
@@ -177,74 +176,162 @@ fn write_page(
     }
 }
 
-/// A cursor before the pairs from a bound on, in an order, for so many of them: none for a few,
-/// which are found sooner by searching, nor where memory is refused.
-pub(crate) fn cursor_for<'a, V: Clone + Drop>(
-    table: Option<&'a Table<V>>,
+/// The pairs of a table, or of none, from one bound to another in an order: a page has the first of
+/// them. A cursor, where there is one, has left those that aren't written yet, to the last of all.
+#[derive(Drop)]
+pub(crate) struct Page<'t, 'b, V: Clone + Drop> {
+    table: Option<&'t Table<V>>,
+    order: Order,
+    from: Bound<&'b [u8]>,
+    to: Bound<&'b [u8]>,
+    cursor: Option<PageCursor<'t, V>>,
+}
+
+impl<'t, 'b, V: Clone + Drop> Page<'t, 'b, V> {
+    /// A page for so many pairs. A few are found sooner by searching, so it has no cursor then, nor
+    /// where memory is refused.
+    pub(crate) fn new(
+        table: Option<&'t Table<V>>,
+        order: Order,
+        from: Bound<&'b [u8]>,
+        to: Bound<&'b [u8]>,
+        room: usize,
+    ) -> Page<'t, 'b, V>
+        ensures pairs { pairs_from result (start_of result)
+            ≡ range_in order (shown table.entry).version.content
+            (bound_map (λ from. from.now) from.entry) (bound_map (λ to. to.now) to.entry) }
+        ensures cursor { IsAt result (start_of result) }
+    {
+        let cursor = if room <= FEW {
+            None
+        } else {
+            cursor_for(table, order, from)
+        };
+        Page {
+            table,
+            order,
+            from,
+            to,
+            cursor,
+        }
+    }
+
+    /// The first of the pairs behind the last key that was written, which begins and ends here; or
+    /// of all of them, where none was. Its key is written from `end` on, if it fits. Where the
+    /// cursor lacks memory it is let go, and the pair is found by searching: so none is refused.
+    pub(crate) fn next(
+        &mut self,
+        bytes: &mut [u8],
+        last: Option<(usize, usize)>,
+        end: usize,
+    ) -> Option<(usize, &'t V)>
+        requires end { end ≤ length bytes.old }
+        requires last { ForSome last (λ last. (last.0 ≤ last.1) × (last.1 ≤ end)) }
+        requires cursor { IsAt self.old
+            (bound_behind last (start_of self.old) (take end bytes.old)) }
+        ensures kept { take end bytes.new ≡ take end bytes.old }
+        ensures first { FindsFirst (pairs_from self.old
+            (bound_behind last (start_of self.old) (take end bytes.old))) result
+            (drop end bytes.old) (drop end bytes.new) }
+        ensures cursor { (key : List ℕ) (value : V) (others : List (List ℕ × V))
+            → pairs_from self.old (bound_behind last (start_of self.old) (take end bytes.old))
+            ≡ (key, value) ∷ others → IsAt self.new (Excluded key) }
+        ensures same { (from : Bound (List ℕ))
+            → pairs_from self.new from ≡ pairs_from self.old from }
+    {
+        let (written, room) = bytes.split_at_mut(end);
+        if let Some(open) = &mut self.cursor {
+            if let Ok(found) = next_of(open, self.order, self.to, room) {
+                return found;
+            }
+        }
+        self.cursor = None;
+        self.first_behind(written, last, room)
+    }
+
+    /// The same by searching: `written` is what stands before `end`, `room` what is behind it.
+    fn first_behind(
+        &self,
+        written: &[u8],
+        last: Option<(usize, usize)>,
+        room: &mut [u8],
+    ) -> Option<(usize, &'t V)>
+        requires { ForSome last (λ last. (last.0 ≤ last.1) × (last.1 ≤ length written.now)) }
+        ensures { FindsFirst (pairs_from self.now
+            (bound_behind last (start_of self.now) written.now)) result room.old room.new }
+    {
+        match last {
+            None => self.first(self.from, room),
+            Some((start, stop)) => {
+                let from = Bound::Excluded(&written[..stop][start..]);
+                self.first(from, room)
+            }
+        }
+    }
+
+    /// The first of the pairs from a bound on, if there is one. Where its key doesn't fit, whether
+    /// it meets the other bound is asked of the table.
+    fn first(&self, from: Bound<&[u8]>, room: &mut [u8]) -> Option<(usize, &'t V)>
+        ensures { FindsFirst (pairs_from self.now (bound_map (λ from. from.now) from.entry)) result
+            room.old room.new }
+    {
+        let Some((len, value)) = self.first_of_all(from, room) else {
+            return None;
+        };
+        let is_within = if len <= room.len() {
+            meets(&room[..len], self.order, self.to)
+        } else {
+            self.has_any(from)
+        };
+        if is_within { Some((len, value)) } else { None }
+    }
+
+    /// The same whether or not it meets the other bound.
+    fn first_of_all(&self, from: Bound<&[u8]>, room: &mut [u8]) -> Option<(usize, &'t V)>
+        ensures { Finds (range_in self.now.order (shown self.now.table).version.content
+            (bound_map (λ from. from.now) from.entry) Unbounded) result room.old room.new }
+    {
+        match self.order {
+            Order::Ascending => lent::first(self.table, from, room),
+            Order::Descending => lent::last(self.table, from, room),
+        }
+    }
+
+    /// Whether there is a pair from a bound on.
+    fn has_any(&self, from: Bound<&[u8]>) -> bool
+        ensures { result ≡ not (length
+            (pairs_from self.now (bound_map (λ from. from.now) from.entry)) == 0) }
+    {
+        match self.order {
+            Order::Ascending => lent::has_within(self.table, from, self.to),
+            Order::Descending => lent::has_within(self.table, self.to, from),
+        }
+    }
+}
+
+/// A cursor before the pairs from a bound on, in an order.
+fn cursor_for<'t, V: Clone + Drop>(
+    table: Option<&'t Table<V>>,
     order: Order,
     from: Bound<&[u8]>,
-    room: usize,
-) -> Option<PageCursor<'a, V>>
+) -> Option<PageCursor<'t, V>>
     ensures { ForSome result (IsCursorFor order (shown table.entry).version.content
         (bound_map (λ from. from.now) from.entry)) }
 {
-    if room <= FEW {
-        return None;
-    }
     match order {
         Order::Ascending => Some(PageCursor::Onward(lent::cursor(table, from)?)),
         Order::Descending => Some(PageCursor::Back(lent::cursor_back(table, from)?)),
     }
 }
 
-/// The first of the pairs from one bound to another, in an order, behind the last key that was
-/// written, which begins and ends here; or of all of them, where none was. Its key is written from
-/// `end` on, if it fits. A cursor, where there is one, has left what is behind that key. Where it
-/// lacks memory it is let go, and the pair is found by searching: so none is refused.
-pub(crate) fn next_pair<'a, V: Clone + Drop>(
-    cursor: &mut Option<PageCursor<'a, V>>,
-    table: Option<&'a Table<V>>,
-    order: Order,
-    from: Bound<&[u8]>,
-    to: Bound<&[u8]>,
-    bytes: &mut [u8],
-    last: Option<(usize, usize)>,
-    end: usize,
-) -> Option<(usize, &'a V)>
-    requires end { end ≤ length bytes.old }
-    requires last { ForSome last (λ last. (last.0 ≤ last.1) × (last.1 ≤ end)) }
-    requires cursor { ForSome cursor.old (IsCursorFor order (shown table).version.content
-        (bound_behind last (bound_map (λ from. from.now) from) (take end bytes.old))) }
-    ensures kept { take end bytes.new ≡ take end bytes.old }
-    ensures first { FindsFirst (range_in order (shown table.entry).version.content
-        (bound_behind last (bound_map (λ from. from.now) from.entry) (take end bytes.old))
-        (bound_map (λ to. to.now) to.entry)) result
-        (drop end bytes.old) (drop end bytes.new) }
-    ensures cursor { (key : List ℕ) (value : V) (others : List (List ℕ × V))
-        → range_in order (shown table.entry).version.content
-        (bound_behind last (bound_map (λ from. from.now) from.entry) (take end bytes.old))
-        (bound_map (λ to. to.now) to.entry) ≡ (key, value) ∷ others
-        → ForSome cursor.new (IsCursorFor order (shown table.entry).version.content
-        (Excluded key)) }
-{
-    let (written, room) = bytes.split_at_mut(end);
-    if let Some(open) = cursor {
-        if let Ok(found) = next_of(open, order, to, room) {
-            return found;
-        }
-    }
-    *cursor = None;
-    first_behind(table, order, from, to, written, last, room)
-}
-
 /// The next pair of a cursor, where its key meets the bound to which pairs go in an order. The key
 /// is written to the front of the room, if it fits. Refused for memory, the room is as before.
-fn next_of<'a, V: Drop>(
-    cursor: &mut PageCursor<'a, V>,
+fn next_of<'t, V: Drop>(
+    cursor: &mut PageCursor<'t, V>,
     order: Order,
     to: Bound<&[u8]>,
     room: &mut [u8],
-) -> Result<Option<(usize, &'a V)>, AllocError>
+) -> Result<Option<(usize, &'t V)>, AllocError>
     ensures first { (m : Map V) (from : Bound (List ℕ)) → IsCursorFor order m from cursor.old
         → IfOk result (λ found. FindsFirst
         (range_in order m from (bound_map (λ to. to.now) to.entry)) found room.old room.new) }
@@ -275,116 +362,23 @@ fn write_key(key: &[u8], room: &mut [u8])
     }
 }
 
-/// The same without a cursor: `written` is what stands before `end`, `room` what is behind it.
-fn first_behind<'a, V: Clone + Drop>(
-    table: Option<&'a Table<V>>,
-    order: Order,
-    from: Bound<&[u8]>,
-    to: Bound<&[u8]>,
-    written: &[u8],
-    last: Option<(usize, usize)>,
-    room: &mut [u8],
-) -> Option<(usize, &'a V)>
-    requires { ForSome last (λ last. (last.0 ≤ last.1) × (last.1 ≤ length written.now)) }
-    ensures { FindsFirst (range_in order (shown table.entry).version.content
-        (bound_behind last (bound_map (λ from. from.now) from.entry) written.now)
-        (bound_map (λ to. to.now) to.entry)) result room.old room.new }
-{
-    match last {
-        None => first_within(table, order, from, to, room),
-        Some((start, stop)) => {
-            let from = Bound::Excluded(&written[..stop][start..]);
-            first_within(table, order, from, to, room)
-        }
-    }
-}
-
-/// The first of the pairs from one bound to another, in an order, if there is one. Where its key
-/// doesn't fit, whether it meets the other bound is asked of the table.
-fn first_within<'a, V: Clone + Drop>(
-    table: Option<&'a Table<V>>,
-    order: Order,
-    from: Bound<&[u8]>,
-    to: Bound<&[u8]>,
-    room: &mut [u8],
-) -> Option<(usize, &'a V)>
-    ensures { FindsFirst (range_in order (shown table.entry).version.content
-        (bound_map (λ from. from.now) from.entry) (bound_map (λ to. to.now) to.entry)) result
-        room.old room.new }
-{
-    let Some((len, value)) = first_from(table, order, from, room) else {
-        return None;
-    };
-    let is_within = if len <= room.len() {
-        meets(&room[..len], order, to)
-    } else {
-        has_any(table, order, from, to)
-    };
-    if is_within { Some((len, value)) } else { None }
-}
-
-/// The first of the pairs from a bound on, in an order, if there is one.
-fn first_from<'a, V: Clone + Drop>(
-    table: Option<&'a Table<V>>,
-    order: Order,
-    from: Bound<&[u8]>,
-    room: &mut [u8],
-) -> Option<(usize, &'a V)>
-    ensures { Finds (range_in order (shown table.entry).version.content
-        (bound_map (λ from. from.now) from.entry) Unbounded) result room.old room.new }
-{
-    match order {
-        Order::Ascending => lent::first(table, from, room),
-        Order::Descending => lent::last(table, from, room),
-    }
-}
-
-/// Whether there is a pair from one bound to another, in an order.
-fn has_any<V: Clone + Drop>(
-    table: Option<&Table<V>>,
-    order: Order,
-    from: Bound<&[u8]>,
-    to: Bound<&[u8]>,
-) -> bool
-    ensures { result ≡ not (length (range_in order (shown table.entry).version.content
-        (bound_map (λ from. from.now) from.entry) (bound_map (λ to. to.now) to.entry)) == 0) }
-{
-    match order {
-        Order::Ascending => lent::has_within(table, from, to),
-        Order::Descending => lent::has_within(table, to, from),
-    }
-}
-
 /// Whether a key meets the bound to which pairs go in an order.
 fn meets(key: &[u8], order: Order, to: Bound<&[u8]>) -> bool
     ensures { result ≡ is_before_end order (bound_map (λ to. to.now) to.entry) key.now }
 {
+    match to {
+        Bound::Included(end) => compared(order, key, end).is_le(),
+        Bound::Excluded(end) => compared(order, key, end).is_lt(),
+        Bound::Unbounded => true,
+    }
+}
+
+/// How a key stands to another one, in an order.
+fn compared(order: Order, key: &[u8], other: &[u8]) -> Ordering
+    ensures { result ≡ compared order key.now other.now }
+{
     match order {
-        Order::Ascending => is_up_to(key, to),
-        Order::Descending => is_from(key, to),
-    }
-}
-
-/// Whether a key meets an upper bound.
-fn is_up_to(key: &[u8], high: Bound<&[u8]>) -> bool
-    ensures { result ≡ is_up_to_end (as_partial_cmp byte_order)
-        (bound_map (λ high. high.now) high.entry) key.now }
-{
-    match high {
-        Bound::Included(high) => compare_bytes(key, high).is_le(),
-        Bound::Excluded(high) => compare_bytes(key, high).is_lt(),
-        Bound::Unbounded => true,
-    }
-}
-
-/// Whether a key meets a lower bound.
-fn is_from(key: &[u8], low: Bound<&[u8]>) -> bool
-    ensures { result ≡ is_from_start (as_partial_cmp byte_order)
-        (bound_map (λ low. low.now) low.entry) key.now }
-{
-    match low {
-        Bound::Included(low) => compare_bytes(low, key).is_le(),
-        Bound::Excluded(low) => compare_bytes(low, key).is_lt(),
-        Bound::Unbounded => true,
+        Order::Ascending => compare_bytes(key, other),
+        Order::Descending => compare_bytes(other, key),
     }
 }

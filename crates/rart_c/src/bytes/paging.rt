@@ -1,16 +1,12 @@
 //! What C calls to read a page of a tree of byte strings.
 ghost use Rattle.std.specs.Prelude.{◌≡◌, ◌+◌, ◌<◌, ◌≤◌, ◌↔◌, ℕ, IsTrue, List, drop, length, reverse, take};
-ghost use Rattle.std.specs.Range.Bound.{bound_map};
-ghost use Rattle.rart_c.specs.Pages.{TellsPageSo, WritesStrings, bound_of, first_told, lengths_of, range_in};
-ghost use Rattle.rart_c.specs.Shown.{shown};
+ghost use Rattle.rart_c.specs.Pages.{IsAt, TellsPageSo, WritesStrings, bound_of, first_told, lengths_of, pairs_from, start_of};
 ghost use Rattle.rart_maps.specs.Pairs.{within};
 
 use crate::answer::{ABSENT, DONE, NO_ENTRIES, TOO_SMALL};
 use crate::bytes::handle::RartBytes;
 use crate::bytes::value::Bytes;
-use crate::paging::{Order, bound_of, cursor_for, next_pair};
-use crate::table::Table;
-use std::ops::Bound;
+use crate::paging::{Order, Page, bound_of};
 
 /// Where the key of an entry ends among the bytes of its page, and where its value behind it.
 #[repr(C)]
@@ -46,7 +42,8 @@ pub extern "C" fn rart_bytes_page(
     ensures same { tree.new.shows ≡ tree.old.shows }
 {
     let (low, high) = (bound_of(low_kind, low), bound_of(high_kind, high));
-    let (written, next) = write_page(tree.table(), Order::Ascending, low, high, bytes, entries);
+    let page = Page::new(tree.table(), Order::Ascending, low, high, entries.len());
+    let (written, next) = write_page(page, bytes, entries);
     *count = written;
     tell_page(written, entries.len(), next, key_len, len)
 }
@@ -74,12 +71,13 @@ pub extern "C" fn rart_bytes_page_back(
     ensures same { tree.new.shows ≡ tree.old.shows }
 {
     let (from, to) = (bound_of(high_kind, high), bound_of(low_kind, low));
-    let (written, next) = write_page(tree.table(), Order::Descending, from, to, bytes, entries);
+    let page = Page::new(tree.table(), Order::Descending, from, to, entries.len());
+    let (written, next) = write_page(page, bytes, entries);
     *count = written;
     tell_page(written, entries.len(), next, key_len, len)
 }
 
-/// Tells whether a page has pairs, or why it has none, by the lengths of the next pair.
+/// Tells whether a page has pairs, or why it has none, by the lengths of the first.
 fn tell_page(
     count: usize,
     room: usize,
@@ -87,7 +85,7 @@ fn tell_page(
     key_len: &mut usize,
     len: &mut usize,
 ) -> u8
-    ensures { (left : List (List ℕ × List ℕ)) → next ≡ first_told lengths_of left
+    ensures { (left : List (List ℕ × List ℕ)) → (count ≡ 0 → next ≡ first_told lengths_of left)
         → TellsPageSo lengths_of count room left result
         (key_len.old, len.old) (key_len.new, len.new) }
 {
@@ -105,29 +103,27 @@ fn tell_page(
     TOO_SMALL
 }
 
-/// Writes the first pairs from one bound to another, in an order. Gives how many have room, and how
-/// long the key is of the next and its value, if there is one.
+/// Writes the first pairs of a page. Gives how many have room, and where none has, how long the key
+/// is of the first and its value, if there is one.
 fn write_page(
-    table: Option<&Table<Bytes>>,
-    order: Order,
-    from: Bound<&[u8]>,
-    to: Bound<&[u8]>,
+    mut page: Page<'_, '_, Bytes>,
     bytes: &mut [u8],
     entries: &mut [RartBytesEntry],
 ) -> (usize, Option<(usize, usize)>)
+    requires { IsAt page (start_of page) }
     ensures { (left : List (List ℕ × List ℕ))
-        × WritesStrings (range_in order (shown table.entry).version.content
-        (bound_map (λ from. from.now) from.entry) (bound_map (λ to. to.now) to.entry)) left
+        × WritesStrings (pairs_from page.entry (start_of page.entry)) left
         result.0 bytes.new entries.old entries.new
-        × (result.1 ≡ first_told lengths_of left) }
+        × (result.0 ≡ 0 → result.1 ≡ first_told lengths_of left) }
 {
-    let mut cursor = cursor_for(table, order, from, entries.len());
     let mut last = None;
     let mut end = 0;
     let mut count = 0;
     loop {
-        let next = next_pair(&mut cursor, table, order, from, to, bytes, last, end);
-        let Some((len, value)) = next else {
+        if count > 0 && count == entries.len() {
+            return (count, None);
+        }
+        let Some((len, value)) = page.next(bytes, last, end) else {
             return (count, None);
         };
         let string = value.as_slice();

@@ -1,16 +1,13 @@
 use Rattle.std.proofs.Common.{◌≡◌, ◌≤◌, ◌++◌, ◌-◌, ℕ, List, take, drop, length}
 use Rattle.std.specs.Option.{ForSome}
-use Rattle.std.specs.Range.Bound.{bound_map}
-use Rattle.rart_c.specs.Pages.{IsCursorFor, bound_behind, entries_of, range_in, string_entry_of, strings_of, written_of}
-use Rattle.rart_c.specs.Shown.{shown}
+use Rattle.rart_c.specs.Pages.{IsAt, bound_behind, entries_of, pairs_from, start_of, string_entry_of, strings_of, written_of}
 use Rattle.rart_c.proofs.bytes.paging.write_page.Given as goal
 
-abbrev pub invariant-loop-len : goal.invariant-loop-len
-invariant-loop-len l = record {
+abbrev pub invariant-loop-count : goal.invariant-loop-count
+invariant-loop-count l = record {
   page : List (List ℕ × List ℕ);
   left : List (List ℕ × List ℕ);
-  range_is : range_in l.order (shown l.table).version.content
-      (bound_map (λ from. from.now) l.from) (bound_map (λ to. to.now) l.to) ≡ page ++ left;
+  range_is : pairs_from l.fn.page (start_of l.fn.page) ≡ page ++ left;
   many : l.count ≡ length page;
   end_is : l.end ≡ length (written_of strings_of string_entry_of page);
   keys : take l.end l.bytes ≡ written_of strings_of string_entry_of page;
@@ -18,12 +15,9 @@ invariant-loop-len l = record {
   fits : l.end ≤ length l.bytes;
   most : l.count ≤ length l.entries;
   last : ForSome l.last (λ last. (last.0 ≤ last.1) × (last.1 ≤ l.end));
-  behind : range_in l.order (shown l.table).version.content
-      (bound_behind l.last (bound_map (λ from. from.now) l.from) (take l.end l.bytes))
-      (bound_map (λ to. to.now) l.to) ≡ left;
-  cursor : ForSome l.cursor (IsCursorFor l.order (shown l.table).version.content
-      (bound_behind l.last (bound_map (λ from. from.now) l.from) (take l.end l.bytes)));
+  behind : pairs_from l.page (bound_behind l.last (start_of l.page) (take l.end l.bytes)) ≡ left;
+  cursor : IsAt l.page (bound_behind l.last (start_of l.page) (take l.end l.bytes));
 }
 
-abbrev pub decreases-loop-len : goal.decreases-loop-len
-decreases-loop-len l = length l.entries - l.count
+abbrev pub decreases-loop-count : goal.decreases-loop-count
+decreases-loop-count l = length l.entries - l.count

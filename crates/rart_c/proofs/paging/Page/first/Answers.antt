@@ -1,28 +1,28 @@
 use Rattle.std.proofs.Common.{◌≡◌, ◌∙◌, ap, sym, arith}
 use Rattle.std.specs.Range.Bound.{bound_map}
 use Rattle.rart_c.proofs.PageOrderLemmas.{range-meets, range-none, range-past, range-told}
-use Rattle.rart_c.proofs.paging.first_within.Goals as goal
-use Rattle.rart_c.proofs.paging.first_within.Goals.{then-len-room, else-len-room}
+use Rattle.rart_c.proofs.paging.Page.first.Goals as goal
+use Rattle.rart_c.proofs.paging.Page.first.Goals.{then-len-room, else-len-room}
 use Rattle.rart_c.specs.Pages.{is_before_end}
 use Rattle.rart_c.specs.Shown.{shown}
 
 pub returns-in_default : goal.returns-in_default
 returns-in_default g c =
-    range-none c.args.order (shown c.args.table).version.content
-    (bound_map (λ from. from.now) c.args.from) (bound_map (λ to. to.now) c.args.to)
+    range-none c.args.self.now.order (shown c.args.self.now.table).version.content
+    (bound_map (λ from. from.now) c.args.from) (bound_map (λ to. to.now) c.args.self.now.to)
     c.in_default.ensures.0
 
 pub returns-then-is_within : goal.returns-then-is_within
 returns-then-is_within g c =
-    let content = (shown c.args.table).version.content in
-    let order = c.args.order in
+    let content = (shown c.args.self.now.table).version.content in
+    let order = c.args.self.now.order in
     let from = bound_map (λ from. from.now) c.args.from in
-    let to = bound_map (λ to. to.now) c.args.to in
+    let to = bound_map (λ to. to.now) c.args.self.now.to in
     let first = c.in-Some.ensures in
     let told : is_before_end order to first.key ≡ c.if-len-room.is_within =
     elim c.if-len-room.branch [
       | then-len-room w ↦
-          let long = c.first_from.auto.room in
+          let long = c.first_of_all.auto.room in
           let fits = w.if-len-room.true in
           ap (is_before_end order to) (sym (first.written (omega (arith, long, fits))))
           ∙ sym w.meets-is_within.ensures ∙ sym w.is_within-is
@@ -34,15 +34,15 @@ returns-then-is_within g c =
 
 pub returns-else-is_within : goal.returns-else-is_within
 returns-else-is_within g c =
-    let content = (shown c.args.table).version.content in
-    let order = c.args.order in
+    let content = (shown c.args.self.now.table).version.content in
+    let order = c.args.self.now.order in
     let from = bound_map (λ from. from.now) c.args.from in
-    let to = bound_map (λ to. to.now) c.args.to in
+    let to = bound_map (λ to. to.now) c.args.self.now.to in
     let first = c.in-Some.ensures in
     let told : is_before_end order to first.key ≡ c.if-len-room.is_within =
     elim c.if-len-room.branch [
       | then-len-room w ↦
-          let long = c.first_from.auto.room in
+          let long = c.first_of_all.auto.room in
           let fits = w.if-len-room.true in
           ap (is_before_end order to) (sym (first.written (omega (arith, long, fits))))
           ∙ sym w.meets-is_within.ensures ∙ sym w.is_within-is

@@ -1,7 +1,6 @@
 -- What a handle shows once the table that it lends has come back.
-use Rattle.std.specs.Prelude.{◌≡◌, ℕ, ⊤, List, Option}
-use Rattle.std.specs.Borrow.{Fml, MutBor, LendsIf, follows_so}
-use mathlib.Core.Option.{none}
+use Rattle.std.specs.Prelude.{ℕ, List, Option}
+use Rattle.std.specs.Borrow.{Fml, MutBor, LendsIf}
 use denote.Builtin.{u64}
 use Rattle.core.specs.contracts.clone.U64Clone.TheImpl as number
 use Rattle.rart_c.specs.contracts.bytes.handle.RartBytes as bytes_handle
@@ -11,6 +10,7 @@ use Rattle.rart_c.specs.contracts.handle.RartTree as handle
 use Rattle.rart_c.specs.contracts.table.Table as table
 use Rattle.rart_c.specs.declared.bytes.handle.RartBytes.{RartBytes}
 use Rattle.rart_c.specs.declared.handle.RartTree.{RartTree}
+use Rattle.rart_c.specs.Rests.{Rests}
 use Rattle.rart_c.specs.Trees.{Tree}
 
 -- the last tree of the table; what it showed before, where it has none
@@ -26,11 +26,7 @@ lends_bytes tree lent =
 
 -- what it showed before
 abbrev pub rests : MutBor RartTree → Fml
-rests tree =
-    follows_so handle.the_row handle.the_row tree.ghost_name none (λ _ _. ⊤)
-    (λ left. left ≡ tree.now)
+rests tree = Rests handle.the_row tree
 
 abbrev pub rests_bytes : MutBor RartBytes → Fml
-rests_bytes tree =
-    follows_so bytes_handle.the_row bytes_handle.the_row tree.ghost_name none (λ _ _. ⊤)
-    (λ left. left ≡ tree.now)
+rests_bytes tree = Rests bytes_handle.the_row tree

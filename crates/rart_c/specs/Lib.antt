@@ -9,6 +9,7 @@ pub mod Longest
 pub mod Owned
 pub mod Pages
 pub mod Reads
+pub mod Rests
 pub mod Saves
 pub mod Shown
 pub mod Tables

@@ -8,7 +8,7 @@ ghost use Rattle.rart_maps.specs.Versions.{HasRoom, has_key, value_at, with_key}
 
 use crate::answer::{TOO_LONG, tell};
 use crate::handle::RartTree;
-use crate::lent;
+use crate::{handling, lent};
 use std::alloc::Global;
 
 /// Frees what the tree leads to: it has no key then, its number is 0, and keys may be as long as at
@@ -44,7 +44,7 @@ pub extern "C" fn rart_insert(
     if key.len() > lent::longest_key(tree.table()) {
         return TOO_LONG;
     }
-    match tree.insert(alloc, key, value) {
+    match handling::insert(alloc, tree, key, value) {
         Ok(was) => tell(was, replaced),
         Err(refusal) => refusal.number(),
     }
@@ -65,7 +65,7 @@ pub extern "C" fn rart_remove(tree: &mut RartTree, key: &[u8], value: &mut u64) 
         ↔ (IsTrue (has_key tree.old.shows.version key.now)
         × ¬ (HasRoom tree.old.shows.version 1)) }
 {
-    match tree.remove(key) {
+    match handling::remove(tree, key) {
         Ok(was) => tell(was, value),
         Err(refusal) => refusal.number(),
     }

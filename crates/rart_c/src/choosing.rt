@@ -9,7 +9,7 @@ ghost use Rattle.rart_maps.specs.Versions.{HasRoom, has_key, value_at};
 
 use crate::answer::{ABSENT, TOO_LONG, tell};
 use crate::handle::RartTree;
-use crate::lent;
+use crate::{handling, lent};
 use std::alloc::Global;
 
 /// Sets a key to a value where it is not there, the number then one greater, and answers `ABSENT`.
@@ -42,7 +42,7 @@ pub extern "C" fn rart_add(
     if key.len() > lent::longest_key(tree.table()) {
         return TOO_LONG;
     }
-    match tree.insert(alloc, key, value) {
+    match handling::insert(alloc, tree, key, value) {
         Ok(_) => ABSENT,
         Err(refusal) => refusal.number(),
     }
@@ -73,7 +73,7 @@ pub extern "C" fn rart_replace(
     if !lent::has(tree.table(), key) {
         return ABSENT;
     }
-    match tree.insert(alloc, key, value) {
+    match handling::insert(alloc, tree, key, value) {
         Ok(was) => tell(was, replaced),
         Err(refusal) => refusal.number(),
     }

@@ -7,12 +7,14 @@
 
 mod answer;
 mod bytes;
+mod calls;
 mod changing;
 mod choosing;
 mod combining;
 mod comparing;
 mod forms;
 mod handle;
+mod handling;
 mod laws;
 mod lent;
 mod limits;

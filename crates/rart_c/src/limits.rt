@@ -5,9 +5,8 @@ ghost use Rattle.rart_c.specs.Trees.{KeepsLimit, with_longest};
 ghost use Rattle.rart_c.specs.declared.answer.TheConstants.{DONE, NO_MEMORY, NOT_EMPTY};
 ghost use Rattle.rart_maps.specs.Versions.{has_no_key};
 
-use crate::answer::{DONE, NO_MEMORY, NOT_EMPTY};
 use crate::handle::RartTree;
-use crate::lent;
+use crate::{calls, lent};
 use std::alloc::Global;
 
 /// How many bytes a key may have at first.
@@ -34,11 +33,5 @@ pub extern "C" fn rart_set_longest_key(alloc: Global, tree: &mut RartTree, longe
         → tree.new.shows ≡ tree.old.shows }
     ensures empty { (result ≡ NOT_EMPTY) ↔ ¬ (IsTrue (has_no_key tree.old.shows.version)) }
 {
-    if lent::len(tree.table()) > 0 {
-        return NOT_EMPTY;
-    }
-    match tree.set_longest(alloc, longest) {
-        Ok(()) => DONE,
-        Err(_) => NO_MEMORY,
-    }
+    calls::set_longest_key(alloc, tree, longest)
 }

@@ -5,9 +5,8 @@ ghost use Rattle.rart_c.specs.declared.answer.TheConstants.{DONE};
 ghost use Rattle.rart_saved.specs.Forms.{IsVersionOf, saved};
 ghost use Rattle.rart_saved.specs.Values.{eight_bytes};
 
-use crate::answer::{DONE, tell_length, tell_unread, tell_written};
+use crate::calls;
 use crate::handle::RartTree;
-use crate::{forms, lent};
 use std::alloc::Global;
 
 /// Writes to `len` how many bytes `rart_save` writes, and answers `DONE`. It goes through all
@@ -19,7 +18,7 @@ pub extern "C" fn rart_saved_len(alloc: Global, tree: &mut RartTree, len: &mut u
         len.new }
     ensures same { tree.new.shows ≡ tree.old.shows }
 {
-    tell_length(forms::len(alloc, tree.table()), len)
+    calls::saved_len(alloc, tree, len)
 }
 
 /// Writes the version as bytes to the front of `into`, and how many they are to `len`: its map and
@@ -39,8 +38,7 @@ pub extern "C" fn rart_save(
     ensures loadable { IsVersionOf (Some tree.old.shows.longest) tree.old.shows.version }
     ensures same { tree.new.shows ≡ tree.old.shows }
 {
-    let written = forms::save(alloc, tree.table(), into);
-    tell_written(written, into.len(), len)
+    calls::save(alloc, tree, into, len)
 }
 
 /// Makes the tree the version whose bytes these are, as `rart_save` writes them, and frees what it
@@ -66,11 +64,5 @@ pub extern "C" fn rart_load(
     ensures gives_back { GivesBack eight_bytes 1 tree.old.shows.longest bytes.now result
         tree.new.shows.version }
 {
-    match forms::load(alloc, bytes, lent::longest_key(tree.table())) {
-        Ok(table) => {
-            *tree = RartTree::of(table);
-            DONE
-        }
-        Err(error) => tell_unread(error, offset),
-    }
+    calls::load(alloc, tree, bytes, offset)
 }

@@ -9,7 +9,7 @@ ghost use Rattle.rart_maps.specs.Versions.{HasRoom, has_key, with_key};
 use crate::answer::{Refusal, TOO_LONG, tell_there};
 use crate::bytes::handle::RartBytes;
 use crate::bytes::value::Bytes;
-use crate::lent;
+use crate::{handling, lent};
 use std::alloc::Global;
 
 /// Frees what the tree leads to: it has no key then, its number is 0, and keys may be as long as at
@@ -63,7 +63,7 @@ pub extern "C" fn rart_bytes_remove(tree: &mut RartBytes, key: &[u8]) -> u8
         ↔ (IsTrue (has_key tree.old.shows.version key.now)
         × ¬ (HasRoom tree.old.shows.version 1)) }
 {
-    match tree.remove(key) {
+    match handling::remove(tree, key) {
         Ok(was) => tell_there(was.is_some()),
         Err(refusal) => refusal.number(),
     }
@@ -87,5 +87,5 @@ pub(crate) fn set(
     if lent::version(tree.table()) == u64::MAX {
         return Err(Refusal::LastNumber);
     }
-    tree.insert(alloc, key, Bytes::new(alloc, value)?)
+    handling::insert(alloc, tree, key, Bytes::new(alloc, value)?)
 }

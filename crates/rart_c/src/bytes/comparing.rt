@@ -5,10 +5,11 @@ ghost use Rattle.std.specs.Cmp.Lexicographic.{pointwise};
 ghost use Rattle.rart_c.specs.Differences.{difference, intersection};
 ghost use Rattle.rart_c.specs.Equality.{TellsEqual};
 ghost use Rattle.rart_c.specs.Trees.{of_content};
+ghost use Rattle.rart_c.specs.declared.answer.TheConstants.{DONE, NO_MEMORY};
 
-use crate::answer::{DONE, NO_MEMORY, tell_equal};
+use crate::answer::tell_equal;
 use crate::bytes::handle::RartBytes;
-use crate::{combining, lent};
+use crate::{calls, lent};
 use std::alloc::Global;
 
 /// Whether both trees have the same keys with the same values, whatever their numbers: answers
@@ -48,11 +49,7 @@ pub extern "C" fn rart_bytes_difference(
     ensures same { tree.new.shows ≡ tree.old.shows }
     ensures other_same { other.new.shows ≡ other.old.shows }
 {
-    let Ok(made) = combining::difference(alloc, tree.table(), other.table()) else {
-        return NO_MEMORY;
-    };
-    *part = RartBytes::of(made);
-    DONE
+    calls::difference(alloc, tree, other, part)
 }
 
 /// Makes `part` the map of the pairs of `tree` alone whose key `other` has too, its number that of
@@ -74,9 +71,5 @@ pub extern "C" fn rart_bytes_intersection(
     ensures same { tree.new.shows ≡ tree.old.shows }
     ensures other_same { other.new.shows ≡ other.old.shows }
 {
-    let Ok(made) = combining::intersection(alloc, tree.table(), other.table()) else {
-        return NO_MEMORY;
-    };
-    *part = RartBytes::of(made);
-    DONE
+    calls::intersection(alloc, tree, other, part)
 }

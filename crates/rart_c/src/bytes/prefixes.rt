@@ -3,13 +3,12 @@ ghost use Rattle.std.specs.Prelude.{◌≡◌, ◌<◌, ◌≤◌, ◌⊎◌, �
 ghost use Rattle.rart_c.specs.Answers.{IsRefused, IsRefusedKey, Tells};
 ghost use Rattle.rart_c.specs.Trees.{of_version};
 ghost use Rattle.rart_c.specs.Under.{some_under};
-ghost use Rattle.rart_c.specs.declared.answer.TheConstants.{LAST_NUMBER, TOO_LONG};
+ghost use Rattle.rart_c.specs.declared.answer.TheConstants.{DONE, LAST_NUMBER, TOO_LONG};
 ghost use Rattle.rart_maps.specs.Prefixes.{after_prefix_removal, after_prefix_restoring, has_under, under_prefix};
 ghost use Rattle.rart_maps.specs.Versions.{HasRoom};
 
-use crate::answer::{DONE, TOO_LONG, tell_count};
 use crate::bytes::handle::RartBytes;
-use crate::lent;
+use crate::calls;
 use std::alloc::Global;
 
 /// Takes out all pairs whose key the prefix begins, the number then one greater. Answers `DONE` and
@@ -34,10 +33,7 @@ pub extern "C" fn rart_bytes_remove_prefix(
         ↔ (IsTrue (has_under tree.old.shows.version prefix.now)
         × ¬ (HasRoom tree.old.shows.version 1)) }
 {
-    match tree.remove_prefix(prefix) {
-        Ok(count) => tell_count(count, removed),
-        Err(refusal) => refusal.number(),
-    }
+    calls::remove_prefix(tree, prefix, removed)
 }
 
 /// Makes `part` the map of the pairs alone whose key the prefix begins, its number one greater, and
@@ -60,13 +56,7 @@ pub extern "C" fn rart_bytes_prefix_snapshot(
     ensures room { (result ≡ LAST_NUMBER) ↔ ¬ (HasRoom tree.old.shows.version 1) }
     ensures same { tree.new.shows ≡ tree.old.shows }
 {
-    match lent::prefix_snapshot(alloc, tree.table(), prefix) {
-        Ok(made) => {
-            *part = RartBytes::of(made);
-            DONE
-        }
-        Err(refusal) => refusal.number(),
-    }
+    calls::prefix_snapshot(alloc, tree, prefix, part)
 }
 
 /// Puts in place of all pairs whose key the prefix begins those that another tree has there, the
@@ -92,12 +82,5 @@ pub extern "C" fn rart_bytes_restore_prefix(
         × ¬ (HasRoom tree.old.shows.version from.old.shows.version.number)) }
     ensures same { from.new.shows ≡ from.old.shows }
 {
-    let from = from.table();
-    if lent::longest_key(from) > lent::longest_key(tree.table()) {
-        return TOO_LONG;
-    }
-    match tree.restore_prefix(alloc, prefix, from) {
-        Ok(()) => DONE,
-        Err(refusal) => refusal.number(),
-    }
+    calls::restore_prefix(alloc, tree, prefix, from)
 }

@@ -1,14 +1,12 @@
 //! What C calls to have one tree of byte strings more.
 ghost use Rattle.std.specs.Prelude.{◌≡◌, ◌⊎◌, ◌↔◌};
 ghost use Rattle.rart_c.specs.Answers.{IsRefused};
-ghost use Rattle.rart_c.specs.declared.answer.TheConstants.{LAST_NUMBER};
+ghost use Rattle.rart_c.specs.declared.answer.TheConstants.{DONE, LAST_NUMBER, NO_MEMORY};
 ghost use Rattle.rart_c.specs.Trees.{tree_at, of_version};
 ghost use Rattle.rart_maps.specs.Versions.{HasRoom, with_rise};
 
-use crate::answer::{DONE, NO_MEMORY};
 use crate::bytes::handle::RartBytes;
-use crate::lent;
-use crate::table::Table;
+use crate::calls;
 use std::alloc::Global;
 
 /// Makes `copy` the same map, its number one greater, and frees what `copy` was. Keys may be as
@@ -27,13 +25,7 @@ pub extern "C" fn rart_bytes_snapshot(
     ensures room { (result ≡ LAST_NUMBER) ↔ ¬ (HasRoom tree.old.shows.version 1) }
     ensures same { tree.new.shows ≡ tree.old.shows }
 {
-    match lent::snapshot(alloc, tree.table()) {
-        Ok(made) => {
-            *copy = RartBytes::of(made);
-            DONE
-        }
-        Err(refusal) => refusal.number(),
-    }
+    calls::snapshot(alloc, tree, copy)
 }
 
 /// Makes `copy` the same map, its number too, and frees what `copy` was. Keys may be as long in it.
@@ -45,14 +37,7 @@ pub extern "C" fn rart_bytes_clone(alloc: Global, tree: &mut RartBytes, copy: &m
     ensures refused { result ≡ NO_MEMORY → copy.new.shows ≡ copy.old.shows }
     ensures same { tree.new.shows ≡ tree.old.shows }
 {
-    let Ok(made) = lent::clone(alloc, tree.table()) else {
-        return NO_MEMORY;
-    };
-    *copy = match made {
-        None => RartBytes::empty(alloc),
-        Some(made) => RartBytes::of(made),
-    };
-    DONE
+    calls::clone(alloc, tree, copy)
 }
 
 /// Frees what the tree leads to, and leaves it without a key, with this number, keys as long as at
@@ -63,11 +48,5 @@ pub extern "C" fn rart_bytes_new_at(alloc: Global, tree: &mut RartBytes, number:
         ⊎ ((result ≡ DONE) × (tree.new.shows ≡ tree_at number)) }
     ensures refused { result ≡ NO_MEMORY → tree.new.shows ≡ tree.old.shows }
 {
-    match Box::new(alloc, Table::new_at(alloc, number)) {
-        Ok(table) => {
-            *tree = RartBytes::of(table);
-            DONE
-        }
-        Err(_) => NO_MEMORY,
-    }
+    calls::new_at(alloc, tree, number)
 }

@@ -1,6 +1,0 @@
-use Rattle.rart_c.proofs.PrefixLemmas.{none-at-first}
-use Rattle.rart_c.proofs.handle.RartTree.remove_prefix.Goals as goal
-
-pub returns-in-None-clause-changes : goal.returns-in-None-clause-changes
-returns-in-None-clause-changes c =
-    rw (c.in-None.ensures.table) (none-at-first c.args.prefix.now)

@@ -12,10 +12,8 @@
 #ifndef BOLTCOMFREY_H
 #define BOLTCOMFREY_H
 
-// The library's release. It was called RART_VERSION, which programs may still ask: rart_version is
-// another thing, the number of a map.
-#define RART_RELEASE "0.2.0"
-#define RART_VERSION "0.2.0"
+// The library's release. (rart_version is another thing: the number of a map.)
+#define RART_RELEASE "0.3.0"
 
 #include <stdbool.h>
 #include <stddef.h>

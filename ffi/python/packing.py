@@ -34,7 +34,7 @@ def header():
 
 def version(text):
     """The version of the library, which is the package's too."""
-    return re.search(r'^#define RART_VERSION "(.*)"$', text, re.M)[1]
+    return re.search(r'^#define RART_RELEASE "(.*)"$', text, re.M)[1]
 
 
 def declarations(text):

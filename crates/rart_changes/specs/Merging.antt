@@ -45,8 +45,8 @@ module _ {V : Type 0} where
       changes
 
 module _ {F A V : Type 0} (g : Mut F A (Option V)) (Shows : A → Conflict V → Type 0) where
-  -- A merge: the closure f replies to each conflict in turn. Ours has then the changes of theirs, and
-  -- at each conflict the answer.
+  -- A merge: the closure f replies to each conflict in turn. Ours has then the changes of theirs,
+  -- and at each conflict the answer.
   pub record MergesTo (same : V → V → Bool) (f : F) (base ours theirs : Map V) (f' : F)
       (after : Map V) : Type 0 where
     pub replies : List (Reply V)

@@ -21,8 +21,9 @@ use crate::saving::save_slice;
 use crate::streams::{load, load_changes};
 use crate::value::{ByteString, SavedValue};
 pub use families::{
-    families_are_given_back, families_are_given_back_by_streams, families_are_of_trees,
-    family_forms_stand_apart, limits_are_of_each_version, worked_family_forms,
+    families_are_given_back, families_are_given_back_by_streams, families_are_given_back_within,
+    families_are_of_trees, family_forms_stand_apart, limits_are_of_each_version,
+    worked_family_forms,
 };
 use rart_changes::KeyChange;
 use rart_versioned::{KeyTrait, VersionedAdaptiveRadixTree};

@@ -22,8 +22,8 @@ module _ {F A V : Type 0} (g : Mut F A Bool) (Shows : A → List ℕ × V → Ty
       × (after.number
       ≡ before.number + count_by (λ pair. not (keeps pair)) (pairs before.content))
 
-  -- What a closure was asked that keeps the pairs which it was asked about: `retain` asks about each
-  -- pair once, in order; where `retain` is refused, about those of a prefix.
+  -- What a closure was asked that keeps the pairs which it was asked about: `retain` asks about
+  -- each pair once, in order; where `retain` is refused, about those of a prefix.
   abbrev pub AsksInOrder : Type 0
   AsksInOrder = (asked : F → List (List ℕ × V)) → KeepsAsked g Shows asked → (f f' : F) →
       ((before after : Version V) → Retains g Shows f before f' after

@@ -1,16 +1,17 @@
 //! The same of families of versions.
-ghost use Rattle.std.specs.Prelude.{◌≡◌, ◌⊎◌, IfErr, IfOk, IfSome};
+ghost use Rattle.std.specs.Prelude.{◌≡◌, ◌⊎◌, IfErr, IfOk, IfSome, Some};
 ghost use Rattle.std.specs.Option.{option_copied};
 ghost use Rattle.rart_below.specs.Clones.{ClonesEqual};
 ghost use Rattle.rart_maps.specs.ChangeLaws.{Decides};
 ghost use Rattle.rart_saved.specs.FamilyFormLaws.{FamiliesAreNoChanges, FamiliesAreNoVersion, FamilyFormsAreOfOne, FamilyFormsStandApart, LimitsAreOfEachVersion};
 ghost use Rattle.rart_saved.specs.FamilyForms.{IsFamilyOf};
+ghost use Rattle.rart_saved.specs.FamilyLoads.{HasVersionsWithin};
 ghost use Rattle.rart_saved.specs.Forms.{IsVersionOf};
 ghost use Rattle.rart_saved.specs.WorkedFamilies.{DiscardedPlace, EmptyFamily, OneEmptyVersion, OneOfEachStep};
 ghost use Rattle.rart_saved.specs.declared.error.LoadError.TheVariants.{Io, Memory};
 
 use crate::error::LoadError;
-use crate::families::loading::load_family_slice;
+use crate::families::loading::{load_family_slice, load_family_slice_within};
 use crate::families::saving::save_family_slice;
 use crate::streams::load_family;
 use crate::value::SavedValue;
@@ -73,6 +74,23 @@ pub fn families_are_given_back<K: KeyTrait, V: SavedValue + Eq>(
     families_are_of_trees(family);
     let bytes = save_family_slice(alloc, family)?;
     load_family_slice(alloc, bytes.as_slice())
+}
+
+/// The same with a limit on keys: where no key is longer, memory alone may be refused.
+pub fn families_are_given_back_within<K: KeyTrait, V: SavedValue + Eq>(
+    alloc: Global,
+    family: &Family<K, V>,
+    longest: usize,
+) -> Result<Family<K, V>, LoadError>
+    requires clones { ClonesEqual V.is_clone }
+    requires decides { Decides V.eq }
+    requires within { HasVersionsWithin (Some longest) family.now }
+    ensures same { IfOk result (λ back. back ≡ family.now) }
+    ensures memory { IfErr result (λ error. error ≡ Memory) }
+{
+    families_are_of_trees(family);
+    let bytes = save_family_slice(alloc, family)?;
+    load_family_slice_within(alloc, bytes.as_slice(), longest)
 }
 
 /// The same over a stream of these bytes, where reading may fail too.

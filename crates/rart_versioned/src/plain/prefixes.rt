@@ -25,10 +25,10 @@ impl<K: KeyTrait, V: Clone + Drop> VersionedAdaptiveRadixTree<K, V> {
         self.contains_prefix_counted(prefix.as_slice(), &mut Work::new())
     }
 
-    /// A version of its own with the pairs alone whose key the prefix begins, its number one greater
-    /// than this one's. Both share what is below the prefix. This version and its number stay as
-    /// they are, also where memory for the copy is refused. Where the prefix begins no key, it isn't
-    /// refused.
+    /// A version of its own with the pairs alone whose key the prefix begins, its number one
+    /// greater than this one's. Both share what is below the prefix. This version and its number
+    /// stay as they are, also where memory for the copy is refused. Where the prefix begins no key,
+    /// it isn't refused.
     ///
     /// ```
     /// let of_customer = orders.prefix_snapshot(&customer)?;

@@ -190,6 +190,24 @@ fn other_types_are_refused(rt: HostRuntime) -> Result<(), Fail> {
     Ok(())
 }
 
+/// What stands behind a key says whether it had a value and has one, and is 3 at most.
+fn assert_unknown_kind_is_told(rt: &impl Abort, alloc: Global, at: usize) {
+    let mut bytes = THREE;
+    if let Some(kind) = bytes.get_mut(at) {
+        *kind = 4;
+    }
+    let answer = load_changes_slice::<VectorKey, u64>(alloc, bytes.as_slice()).err();
+    assert!(rt; answer == Some(LoadError::Malformed { at }));
+}
+
+#[test]
+fn unknown_kind_of_change_is_told_where_it_stands(rt: HostRuntime) -> Result<(), Fail> {
+    for at in [12, 26, 48] {
+        assert_unknown_kind_is_told(&rt, rt.alloc(), at);
+    }
+    Ok(())
+}
+
 #[test]
 fn keys_out_of_order_are_refused(rt: HostRuntime) -> Result<(), Fail> {
     let alloc = rt.alloc();

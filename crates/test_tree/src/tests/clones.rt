@@ -23,7 +23,10 @@ type Tree = VersionedAdaptiveRadixTree<VectorKey, Counted>;
 #[derive(Clone, Copy)]
 enum Change {
     Set,
+    SetByBytes,
+    Replace,
     Remove,
+    RemoveByBytes,
     Lend,
     Update,
 }
@@ -39,7 +42,10 @@ fn make(
     assert!(rt; tree.version() < u64::MAX);
     let is_there = match change {
         Change::Set => !tree.insert(key, value)?,
+        Change::SetByBytes => !tree.insert_bytes(&key, value)?,
+        Change::Replace => tree.insert_and_replace_bytes(&key, value)?.is_some(),
         Change::Remove => tree.remove(key)?.is_some(),
+        Change::RemoveByBytes => tree.remove_bytes(&key)?.is_some(),
         Change::Lend => tree.get_mut(key)?.is_some(),
         Change::Update => tree.update(key, |_slot: &mut Slot<Counted>| SlotUpdate::Keep)?,
     };
@@ -89,6 +95,15 @@ const CASES: &[(bool, &[Row], &[Row])] = &[
         ],
     ),
     (false, FOUR_KEYS, &[(Change::Update, b"abc", 1)]),
+    (
+        false,
+        FOUR_KEYS,
+        &[
+            (Change::SetByBytes, b"abe", 0),
+            (Change::Replace, b"abc", 0),
+            (Change::RemoveByBytes, b"abd", 0),
+        ],
+    ),
     // (the node of "abcd" is cut)
     (
         false,
@@ -100,6 +115,14 @@ const CASES: &[(bool, &[Row], &[Row])] = &[
         true,
         FOUR_KEYS,
         &[(Change::Set, b"abe", 2), (Change::Set, b"abf", 0)],
+    ),
+    (
+        true,
+        FOUR_KEYS,
+        &[
+            (Change::SetByBytes, b"abe", 2),
+            (Change::Replace, b"abe", 0),
+        ],
     ),
     // (and its own)
     (

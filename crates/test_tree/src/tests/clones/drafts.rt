@@ -30,8 +30,9 @@ fn make(
 ) -> Result<(), AllocError> {
     assert!(rt; has_room(draft));
     let is_there = match change {
-        Change::Set => !draft.insert(key, value)?,
-        Change::Remove => draft.remove(key)?.is_some(),
+        Change::Set | Change::SetByBytes => !draft.insert(key, value)?,
+        Change::Replace => draft.insert_and_replace(key, value)?.is_some(),
+        Change::Remove | Change::RemoveByBytes => draft.remove(key)?.is_some(),
         Change::Lend => draft.value_mut(key).is_ok(),
         Change::Update => draft.update(key, |_slot: &mut Slot<Counted>| SlotUpdate::Keep)?,
     };

@@ -1,7 +1,8 @@
 // That a change copies no node that one tree alone has: it asks for no memory then, but for the
-// bytes of a value. Of a node that another tree shares it makes a copy. And that a node has up to 16
-// bytes of its key in place: only a longer key takes a block of its own. And that a load believes no
-// length in its bytes: it asks for no more than they can fill.
+// bytes of a value. Of a node that another tree shares it makes a copy. And that a node has up to
+// 22 bytes of its key in place: only a longer key takes a block of its own, and only one of more
+// than 248 bytes two. And that a load believes no length in its bytes: it asks for no more than
+// they can fill.
 #include "boltcomfrey.h"
 #include "expect.h"
 #include <string.h>
@@ -50,19 +51,22 @@ static unsigned long to_set_bytes(rart_bytes *tree) {
     return requests;
 }
 
-// How many requests it takes to insert a first key.
-static unsigned long to_begin(const char *key) {
+// How many requests it takes to insert a first key of so many bytes.
+static unsigned long to_begin(size_t len) {
+    static const uint8_t key[249];
     rart_tree tree = {0};
     requests = 0;
-    EXPECT(RART_OK(rart_insert(&tree, bytes(key), strlen(key), 1, NULL)));
+    EXPECT(RART_OK(rart_insert(&tree, key, len, 1, NULL)));
     unsigned long begun = requests;
     rart_clear(&tree);
     return begun;
 }
 
 static void try_lengths(void) {
-    EXPECT(to_begin("sixteen bytes ok") == to_begin("b"));
-    EXPECT(to_begin("seventeen bytes!!") == to_begin("b") + 1);
+    unsigned long in_place = to_begin(1);
+    EXPECT(to_begin(22) == in_place);
+    EXPECT(to_begin(23) == in_place + 1 && to_begin(248) == in_place + 1);
+    EXPECT(to_begin(249) == in_place + 2);
 }
 
 static void try_numbers(void) {

@@ -6,7 +6,7 @@ use Rattle.std.proofs.lemmas.Nat.{le_bytes_4, le_bytes_8}
 use Rattle.rart_below.specs.Bytes.{common_length}
 use Rattle.rart_below.proofs.CommonLengthLemmas.{common_length-append, common_length-split}
 
-abbrev AreBytes : List ℕ → Type 0
+abbrev pub AreBytes : List ℕ → Type 0
 AreBytes bytes = (place : ℕ) → get_or bytes place 0 < 256
 
 AreBytes-take : (count : ℕ) (bytes : List ℕ) → AreBytes bytes → AreBytes (take count bytes)
@@ -26,22 +26,22 @@ pub record HasBlock (count place : ℕ) (bytes : List ℕ) : Type 0 where
   pub within : place + count ≤ length bytes
   pub are_bytes : AreBytes bytes
 
-abbrev block : ℕ → ℕ → List ℕ → List ℕ
+abbrev pub block : ℕ → ℕ → List ℕ → List ℕ
 block count place bytes = take count (drop place bytes)
 
-length-block : (count place : ℕ) (bytes : List ℕ) → HasBlock count place bytes
+pub length-block : (count place : ℕ) (bytes : List ℕ) → HasBlock count place bytes
     → length (block count place bytes) ≡ count
 length-block count place bytes has =
     let long : count ≤ length (drop place bytes) =
     omega (arith, length-drop place bytes, has.within) in
     length-take-le count (drop place bytes) long
 
-AreBytes-block : (count place : ℕ) (bytes : List ℕ) → HasBlock count place bytes
+pub AreBytes-block : (count place : ℕ) (bytes : List ℕ) → HasBlock count place bytes
     → AreBytes (block count place bytes)
 AreBytes-block count place bytes has =
     AreBytes-take count (drop place bytes) (AreBytes-drop place bytes has.are_bytes)
 
-block-rest : (count place : ℕ) (bytes : List ℕ)
+pub block-rest : (count place : ℕ) (bytes : List ℕ)
     → drop place bytes ≡ block count place bytes ++ drop (place + count) bytes
 block-rest count place bytes = sym (take-append-drop count (drop place bytes))
     ∙ ap (λ rest. block count place bytes ++ rest) (drop-drop count place bytes)

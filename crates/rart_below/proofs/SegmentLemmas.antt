@@ -34,7 +34,7 @@ ordering_then-decided Greater later unequal = refl
 
 -- A segment that the other string is long enough for is compared with its front, and what follows
 -- with the rest.
-order-append : (segment later other : List ℕ) → length segment ≤ length other →
+pub order-append : (segment later other : List ℕ) → length segment ≤ length other →
     byte_order (segment ++ later) other
     ≡ ordering_then (byte_order segment (take (length segment) other))
     (byte_order later (drop (length segment) other))

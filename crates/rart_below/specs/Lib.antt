@@ -4,6 +4,7 @@ pub mod Children
 pub mod Clones
 pub mod Counting
 pub mod DirectMapping
+pub mod Held
 pub mod IndexedMapping
 pub mod Laws
 pub mod Layouts
@@ -13,4 +14,3 @@ pub mod Plain
 pub mod RankedKeys
 pub mod SlotArray
 pub mod SortedKeyedMapping
-pub mod VectorPartial

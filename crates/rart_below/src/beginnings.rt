@@ -2,7 +2,7 @@
 //! How many bytes two byte strings have in common at their start, whether one begins the other, and
 //! their order.
 ghost use Rattle.std.specs.Prelude.{◌≡◌, ◌↔◌, ◌+◌, ◌≤◌, IsTrue, length, take, drop};
-ghost use Rattle.std.specs.Int.{from_le_bytes, w32, w64};
+ghost use Rattle.std.specs.Int.{from_be_bytes, from_le_bytes, w32, w64};
 ghost use Rattle.rart_below.specs.Bytes.{begins, byte_order, common_length};
 
 use std::cmp::Ordering;
@@ -29,11 +29,53 @@ pub fn prefix_length(left: &[u8], right: &[u8]) -> usize
     matched
 }
 
-/// How two byte strings stand to one another, in lexicographic order. Keys that don't begin alike
-/// are told apart by their first bytes; what two have in common at their start is compared in
-/// blocks.
-#[tactic(auto, using(crate::proofs::CommonLengthLemmas::byte_order_first, crate::proofs::CommonLengthLemmas::byte_order_difference, crate::proofs::CommonLengthLemmas::byte_order_beginning))]
+/// How two byte strings stand to one another, in lexicographic order.
+///
+/// Where both have eight bytes, blocks of eight are compared as numbers, of which the last may
+/// overlap the one before. The first two that differ decide.
+#[inline]
 pub fn compare_bytes(left: &[u8], right: &[u8]) -> Ordering
+    ensures { result ≡ byte_order left.now right.now }
+{
+    if left.len() >= 8 && right.len() >= 8 {
+        return compare_by_eight(left, right);
+    }
+    compare_few(left, right)
+}
+
+/// The same where both have at least eight bytes, by blocks of eight.
+fn compare_by_eight(left: &[u8], right: &[u8]) -> Ordering
+    requires long_left { 8 ≤ length left.now }
+    requires long_right { 8 ≤ length right.now }
+    ensures { result ≡ byte_order left.now right.now }
+{
+    let last = left.len().min(right.len()) - 8;
+    let mut place = 0;
+    while place < last {
+        if eight_at(left, place) != eight_at(right, place) {
+            return compare_blocks(left, right, place);
+        }
+        place += 8;
+    }
+    if eight_at(left, last) != eight_at(right, last) {
+        return compare_blocks(left, right, last);
+    }
+    left.len().cmp(&right.len())
+}
+
+/// How the blocks of eight bytes from this place on stand to one another.
+fn compare_blocks(left: &[u8], right: &[u8], place: usize) -> Ordering
+    requires in_left { place + 8 ≤ length left.now }
+    requires in_right { place + 8 ≤ length right.now }
+    ensures { result ≡ byte_order (take 8 (drop place left.now)) (take 8 (drop place right.now)) }
+{
+    eight_in_order(left, place).cmp(&eight_in_order(right, place))
+}
+
+/// The same where one has fewer than eight bytes. Where the first bytes differ these decide; what
+/// two have in common at their start is compared in blocks.
+#[tactic(auto, using(crate::proofs::CommonLengthLemmas::byte_order_first, crate::proofs::CommonLengthLemmas::byte_order_difference, crate::proofs::CommonLengthLemmas::byte_order_beginning))]
+fn compare_few(left: &[u8], right: &[u8]) -> Ordering
     ensures { result ≡ byte_order left.now right.now }
 {
     if !left.is_empty() && !right.is_empty() && left[0] != right[0] {
@@ -179,6 +221,24 @@ fn eight_at(bytes: &[u8], place: usize) -> u64
     ensures { result ≡ from_le_bytes w64 (take 8 (drop place bytes.now)) }
 {
     u64::from_le_bytes([
+        bytes[place],
+        bytes[place + 1],
+        bytes[place + 2],
+        bytes[place + 3],
+        bytes[place + 4],
+        bytes[place + 5],
+        bytes[place + 6],
+        bytes[place + 7],
+    ])
+}
+
+/// The same eight bytes as a number to which the first adds most, so that numbers stand to one
+/// another as the bytes do.
+fn eight_in_order(bytes: &[u8], place: usize) -> u64
+    requires { place + 8 ≤ length bytes.now }
+    ensures { result ≡ from_be_bytes w64 (take 8 (drop place bytes.now)) }
+{
+    u64::from_be_bytes([
         bytes[place],
         bytes[place + 1],
         bytes[place + 2],

@@ -5,7 +5,9 @@
 
 mod array;
 mod beginnings;
+mod bounds;
 mod byte_set;
+mod held;
 mod key;
 mod mapping;
 mod partial;
@@ -17,6 +19,7 @@ mod visit;
 
 pub use array::{ArrPartial, ArrayKey};
 pub use beginnings::{compare_bytes, does_begin, prefix_length};
+pub use bounds::{is_from, is_up_to};
 pub use byte_set::{ByteSet, BytesLeft};
 pub use key::{KeyTrait, is_admitted};
 pub use mapping::{Clear, DirectMapping, IndexedMapping, NodeMapping, SortedKeyedMapping};

@@ -1,32 +1,21 @@
 // Ported from rart 0.11.0 (Apache-2.0), and rewritten.
 //! Keys and prefixes of any length.
-ghost use Rattle.std.specs.Prelude.{◌≡◌, ◌++◌, None, IfOk, refl};
+ghost use Rattle.std.specs.Prelude.{◌≡◌, ◌≤◌, ◌++◌, None, IfOk, refl};
 ghost use Rattle.std.proofs.lemmas.Slice.Eq.{bytes_eq-Decides};
-ghost use Rattle.rart_below.specs.VectorPartial.{bytes_of};
+ghost use Rattle.rart_below.specs.Held.{bytes_of, count_of, room_of};
 
-use crate::array::inline_bytes;
 use crate::beginnings::prefix_length;
+use crate::held::Held;
 use crate::key::KeyTrait;
 use crate::partial::Partial;
-use arrayvec::ArrayVec;
 use std::alloc::{AllocError, Global};
 use std::convert::AsSlice;
 
-/// So many bytes fit in place. With more, a leaf would take a greater block of memory.
-const FEW: usize = 16;
-
-/// Where the bytes of a prefix are. Few are in place, so a node that has them needs no second block
-/// of memory, and a lookup reads none.
-#[derive(Drop)]
-enum Held {
-    InPlace(ArrayVec<u8, 16>),
-    OnHeap(Vec<u8>),
-}
-
-/// Bytes of any number: at most 16 are held inline, more on the heap.
+/// Bytes of any number: at most 22 are held inline, more on the heap.
 #[derive(Drop)]
 pub struct VectorPartial {
     held: Held,
+    ghost fits: { count_of held ≤ room_of held },
 }
 
 impl VectorPartial {
@@ -34,29 +23,17 @@ impl VectorPartial {
     fn of(alloc: Global, bytes: &[u8]) -> Result<VectorPartial, AllocError>
         ensures { IfOk result (λ partial. bytes_of partial.held ≡ bytes.now) }
     {
-        let held = if bytes.len() <= FEW {
-            Held::InPlace(inline_bytes(bytes))
-        } else {
-            Held::OnHeap(bytes.to_vec(alloc)?)
-        };
-        Ok(VectorPartial { held })
+        Ok(VectorPartial {
+            held: Held::of(alloc, bytes)?,
+        })
     }
 
     /// These bytes, and others behind them.
     fn joined(alloc: Global, front: &[u8], back: &[u8]) -> Result<VectorPartial, AllocError>
         ensures { IfOk result (λ partial. bytes_of partial.held ≡ front.now ++ back.now) }
     {
-        if front.len() <= FEW && back.len() <= FEW - front.len() {
-            let mut bytes = inline_bytes(front);
-            let _ = bytes.try_extend_from_slice(back);
-            return Ok(VectorPartial {
-                held: Held::InPlace(bytes),
-            });
-        }
-        let mut bytes = front.to_vec(alloc)?;
-        bytes.extend_from_slice(back)?;
         Ok(VectorPartial {
-            held: Held::OnHeap(bytes),
+            held: Held::joined(alloc, front, back)?,
         })
     }
 }
@@ -86,10 +63,7 @@ impl Partial for VectorPartial {
 
     #[inline]
     fn as_ref(&self) -> &[u8] {
-        match &self.held {
-            Held::InPlace(bytes) => bytes.as_slice(),
-            Held::OnHeap(bytes) => bytes.as_slice(),
-        }
+        self.held.as_slice()
     }
 
     fn partial_before(&self, alloc: Global, count: usize) -> Result<VectorPartial, AllocError> {
@@ -109,7 +83,9 @@ impl Partial for VectorPartial {
     }
 
     fn copy(&self, alloc: Global) -> Result<VectorPartial, AllocError> {
-        VectorPartial::of(alloc, self.as_ref())
+        Ok(VectorPartial {
+            held: self.held.copy(alloc)?,
+        })
     }
 
     fn prefix_length_slice(&self, other: &[u8]) -> usize {

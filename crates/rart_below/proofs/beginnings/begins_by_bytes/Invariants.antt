@@ -1,4 +1,4 @@
-use Rattle.std.proofs.Common.{◌-◌, ◌≤◌, ◌≡◌, ◌+◌, length, drop}
+use Rattle.std.proofs.Common.{◌-◌, ◌≤◌, ◌≡◌, ◌+◌, drop}
 use Rattle.rart_below.specs.Bytes.{common_length}
 use Rattle.rart_below.proofs.beginnings.begins_by_bytes.Given as goal
 

@@ -1,7 +1,6 @@
-use Rattle.std.proofs.Common.{arith, ◌≤◌, ◌+◌, ◌-◌, ◌∙◌, sym, ap, length}
-use Rattle.std.proofs.lemmas.Bool.{false≢true, eq-eqb, eqb-true}
+use Rattle.std.proofs.Common.{arith, ◌-◌, ◌∙◌, sym, ap, length}
+use Rattle.std.proofs.lemmas.Bool.{eq-eqb, eqb-true}
 use Rattle.std.specs.Int.{from_le_bytes, w32}
-use Rattle.rart_below.specs.Bytes.{common_length}
 use Rattle.rart_below.proofs.BlockLemmas.{longer_by_four, same_block, HasBlock}
 use Rattle.rart_below.proofs.beginnings.begins_by_four.Goals as goal
 

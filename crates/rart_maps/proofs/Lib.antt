@@ -1,3 +1,4 @@
+pub mod CallerLemmas
 pub mod ChangeLawLemmas
 pub mod ChangeLemmas
 pub mod ElementLemmas
@@ -8,9 +9,11 @@ pub mod LongestLemmas
 pub mod LookupLawLemmas
 pub mod LookupLemmas
 pub mod MapLemmas
+pub mod MapPartLemmas
 pub mod MergeLemmas
 pub mod OrderLemmas
 pub mod PairLawLemmas
+pub mod PlaceLawLemmas
 pub mod PointLemmas
 pub mod PrefixLawLemmas
 pub mod PrefixLemmas

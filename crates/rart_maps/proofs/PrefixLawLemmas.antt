@@ -77,7 +77,7 @@ module _ (V : Type 0) where
   restorings_answer v other p key = get-with_prefix_of p other.content v.content key
 
   -- the pairs of a map that has these keys of another one
-  kept-pairs : (test : List ℕ → Bool) (m kept : Map V)
+  pub kept-pairs : (test : List ℕ → Bool) (m kept : Map V)
       → ((q : List ℕ) → finite.get kept q ≡ cond (test q) (finite.get m q) None)
       → pairs kept ≡ filter (λ pair. test pair.0) (pairs m)
   kept-pairs test m kept answers =

@@ -49,7 +49,7 @@ module _ {K : Type 0} {R : K → K → Ordering} (o : IsTotalOrder R)
       (sym (set.contains-insert o (set.retain s p) k q))
       ∙ sym (contains-cond (p k) (set.insert (set.retain s p) k) (set.retain s p) q))
 
-  met_kept : (s t : set.FinSet R) → set.intersection s t ≡ set.retain s (set.contains t)
+  pub met_kept : (s t : set.FinSet R) → set.intersection s t ≡ set.retain s (set.contains t)
   met_kept s t =
       set.same_set o same _ _ (λ q. set.contains-intersection o s t q
       ∙ sym (contains-kept s (set.contains t) q))

@@ -2,11 +2,13 @@
 use Rattle.std.specs.Prelude.{ℕ, ◌+◌, ◌*◌, List, [], length}
 use Rattle.std.specs.declared.ops.Bound.{Bound}
 use Rattle.std.specs.declared.ops.Bound.TheVariants.{Included, Excluded, Unbounded}
+use Rattle.std.specs.FinMap as finite
 use Rattle.std.specs.FinSet as set
 use Rattle.rart_below.specs.Bytes.{begins}
+use Rattle.rart_maps.specs.MapParts.{common_part}
 use Rattle.rart_maps.specs.Versions.{Map}
 use Rattle.rart_maps.specs.Pairs.{starts, shared, under, within}
-use Rattle.rart_maps.specs.Points.{points}
+use Rattle.rart_maps.specs.Points.{places, points}
 
 -- the most nodes that a lookup of w enters
 abbrev pub lookup_bound : List ℕ → ℕ
@@ -33,6 +35,16 @@ module _ {V : Type 0} where
   -- the most nodes that an intersection enters
   abbrev pub meet_bound : Map V → Map V → ℕ
   meet_bound left right = 2 * set.len (shared left right)
+
+  -- the most nodes that a difference enters: two for each place of the two maps, and one for each
+  -- key of both
+  abbrev pub difference_bound : Map V → Map V → ℕ
+  difference_bound left right =
+      2 * set.len (places left right) + finite.len (common_part left right)
+
+  -- the most nodes that it makes: one for each string that begins a key of both
+  abbrev pub difference_makes : Map V → Map V → ℕ
+  difference_makes left right = set.len (starts (common_part left right))
 
   -- the most nodes that a walk under p enters, told by the strings that begin keys
   abbrev pub reach_bound : Map V → List ℕ → ℕ

@@ -9,6 +9,8 @@ pub mod IterationLaws
 pub mod Iterations
 pub mod LookupLaws
 pub mod Lookups
+pub mod MapPartLaws
+pub mod MapParts
 pub mod MergeLaws
 pub mod Merges
 pub mod Order

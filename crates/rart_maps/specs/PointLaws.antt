@@ -2,8 +2,9 @@
 use Rattle.std.specs.Prelude.{◌≢◌, ◌↔◌, ◌⊎◌, ◌≤◌, ◌*◌, ℕ, List, IsTrue, length}
 use Rattle.std.specs.FinMap as finite
 use Rattle.std.specs.FinSet as set
-use Rattle.rart_maps.specs.Pairs.{starts, under}
-use Rattle.rart_maps.specs.Points.{points}
+use Rattle.rart_maps.specs.ChangeLists.{joined}
+use Rattle.rart_maps.specs.Pairs.{shared, starts, under}
+use Rattle.rart_maps.specs.Points.{places, points}
 use Rattle.rart_maps.specs.StartLaws.{how_many_under, with_byte}
 use Rattle.rart_maps.specs.Versions.{Map}
 
@@ -34,3 +35,17 @@ module _ (V : Type 0) where
   abbrev pub PointsUnderAreFew : Type 0
   PointsUnderAreFew = (m : Map V) (p : List ℕ) →
       how_many_under (points m) p ≤ 2 * length (under m p)
+
+  -- A string is a place of two maps exactly where it begins keys of both, and is a point of the two
+  -- put together.
+  abbrev pub PlacesAreSharedPoints : Type 0
+  PlacesAreSharedPoints = (left right : Map V) (s : List ℕ) →
+      IsTrue (set.contains (places left right) s)
+      ↔ (IsTrue (set.contains (shared left right) s)
+      × IsTrue (set.contains (points (joined left right)) s))
+
+  -- There are no more places than strings that begin keys of both, nor than points.
+  abbrev pub PlacesAreFew : Type 0
+  PlacesAreFew = (left right : Map V) →
+      (set.len (places left right) ≤ set.len (shared left right))
+      × (set.len (places left right) ≤ set.len (points (joined left right)))

@@ -4,7 +4,8 @@ use Rattle.std.specs.List.{filter_map, flat_map}
 use Rattle.std.specs.Option.{option_map}
 use Rattle.std.specs.FinSet as set
 use Rattle.rart_maps.specs.Versions.{Map}
-use Rattle.rart_maps.specs.Pairs.{Strings, pairs}
+use Rattle.rart_maps.specs.ChangeLists.{joined}
+use Rattle.rart_maps.specs.Pairs.{Strings, pairs, shared}
 
 -- where two strings part: behind what both begin with they go on with different bytes
 abbrev pub parting : List ℕ → List ℕ → Option (List ℕ)
@@ -20,3 +21,8 @@ module _ {V : Type 0} where
   -- the keys of a map, and the strings at which any two of them part
   abbrev pub points : Map V → Strings
   points m = set.from_list (map (λ pair. pair.0) (pairs m) ++ partings (pairs m))
+
+  -- the places of two maps: the strings that begin keys of both, at which one of the two has a key
+  -- or keys of either part
+  abbrev pub places : Map V → Map V → Strings
+  places left right = set.intersection (shared left right) (points (joined left right))

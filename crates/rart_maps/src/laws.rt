@@ -6,6 +6,7 @@ pub mod iterations;
 pub mod lookups;
 pub mod merges;
 pub mod pairs;
+pub mod parts;
 pub mod points;
 pub mod prefixes;
 pub mod starts;

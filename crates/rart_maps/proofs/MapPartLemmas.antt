@@ -1,0 +1,130 @@
+-- What look-ups answer in the parts that another map cuts a map into, and the laws of these.
+use Rattle.std.proofs.Common.{◌≡◌, ℕ, Bool, true, false, cond, not, List, refl, sym, ap, ◌∙◌}
+use Rattle.std.specs.Prelude.{Option, Some, None, is_some}
+use Rattle.std.specs.FinMap as finite
+use Rattle.rart_below.specs.Bytes.{byte_order}
+use Rattle.rart_maps.specs.ChangeLists.{joined}
+use Rattle.rart_maps.specs.MapParts.{common_part, without}
+use Rattle.rart_maps.specs.MapPartLaws.{CommonPartAnswers, OtherPartAnswers, CommonPartHasThesePairs, OtherPartHasThesePairs, PartsAreTheMap, NoKeyCutsNothing, CuttingTwiceIsCuttingOnce, NothingIsLeftWithoutItself, KeysGoOneAfterTheOther}
+use Rattle.rart_maps.specs.Versions.{Map}
+use Rattle.rart_maps.proofs.ChangeLemmas.{or_else, get-joined}
+use Rattle.rart_maps.proofs.OrderLemmas.{byte_order-IsAntisymmetric}
+use Rattle.rart_maps.proofs.PrefixLawLemmas.{kept-pairs}
+use Rattle.rart_maps.proofs.PrefixLemmas.{same_map}
+
+turned : {V : Type 0} (t : Bool) (x : Option V) → cond (not t) x None ≡ cond t None x
+turned true x = refl
+turned false x = refl
+
+module _ {V W : Type 0} where
+  pub get-common_part : (m : Map V) (other : Map W) (q : List ℕ)
+      → finite.get (common_part m other) q
+      ≡ cond (finite.contains_key other q) (finite.get m q) None
+  get-common_part m other q =
+      finite.get-retain_keys m (finite.contains_key other) q
+      (λ x tied. ap (finite.contains_key other) (sym (byte_order-IsAntisymmetric q x tied)))
+
+  kept-without : (m : Map V) (other : Map W) (q : List ℕ)
+      → finite.get (without m other) q
+      ≡ cond (not (finite.contains_key other q)) (finite.get m q) None
+  kept-without m other q =
+      finite.get-retain_keys m (λ key. not (finite.contains_key other key)) q
+      (λ x tied. ap (λ key. not (finite.contains_key other key))
+      (sym (byte_order-IsAntisymmetric q x tied)))
+
+  pub get-without : (m : Map V) (other : Map W) (q : List ℕ)
+      → finite.get (without m other) q
+      ≡ cond (finite.contains_key other q) None (finite.get m q)
+  get-without m other q =
+      kept-without m other q ∙ turned (finite.contains_key other q) (finite.get m q)
+
+both-parts : {V : Type 0} (t : Bool) (x : Option V) → or_else (cond t x None) (cond t None x) ≡ x
+both-parts true None = refl
+both-parts true (Some x) = refl
+both-parts false x = refl
+
+cut-twice : {V : Type 0} (t : Bool) (x : Option V) → cond t None (cond t None x) ≡ cond t None x
+cut-twice true x = refl
+cut-twice false x = refl
+
+cut-both : {V : Type 0} (t : Bool) (x : Option V) → cond t (cond t None x) None ≡ None
+cut-both true x = refl
+cut-both false x = refl
+
+own-cut : {V : Type 0} (x : Option V) → cond (is_some x) None x ≡ None
+own-cut None = refl
+own-cut (Some x) = refl
+
+own-kept : {V : Type 0} (x : Option V) → cond (is_some x) x None ≡ x
+own-kept None = refl
+own-kept (Some x) = refl
+
+one-then-other : {V : Type 0} (x one other : Option V)
+    → cond (is_some other) None (cond (is_some one) None x)
+    ≡ cond (is_some (or_else one other)) None x
+one-then-other x None None = refl
+one-then-other x None (Some other) = refl
+one-then-other x (Some one) None = refl
+one-then-other x (Some one) (Some other) = refl
+
+module _ (V W : Type 0) where
+  pub common_part_answers : CommonPartAnswers V W
+  common_part_answers m other key = get-common_part m other key
+
+  pub other_part_answers : OtherPartAnswers V W
+  other_part_answers m other key = get-without m other key
+
+  pub common_part_has_these_pairs : CommonPartHasThesePairs V W
+  common_part_has_these_pairs m other =
+      kept-pairs V (finite.contains_key other) m (common_part m other) (get-common_part m other)
+
+  pub other_part_has_these_pairs : OtherPartHasThesePairs V W
+  other_part_has_these_pairs m other =
+      kept-pairs V (λ key. not (finite.contains_key other key)) m (without m other)
+      (kept-without m other)
+
+  pub parts_are_the_map : PartsAreTheMap V W
+  parts_are_the_map m other =
+      same_map (joined (common_part m other) (without m other)) m (λ q.
+      get-joined (common_part m other) (without m other) q
+      ∙ (λ i. or_else (get-common_part m other q i) (get-without m other q i))
+      ∙ both-parts (finite.contains_key other q) (finite.get m q))
+
+  no-key : (q : List ℕ) → finite.contains_key (finite.empty {X = W} {R = byte_order}) q ≡ false
+  no-key q = ap is_some (finite.get-empty byte_order q)
+
+  pub no_key_cuts_nothing : NoKeyCutsNothing V W
+  no_key_cuts_nothing m = (
+    same_map _ _ (λ q. get-without m finite.empty q
+        ∙ ap (λ t. cond t None (finite.get m q)) (no-key q)),
+    same_map _ _ (λ q. get-common_part m finite.empty q
+        ∙ ap (λ t. cond t (finite.get m q) None) (no-key q) ∙ sym (finite.get-empty byte_order q)),
+  )
+
+  pub cutting_twice_is_cutting_once : CuttingTwiceIsCuttingOnce V W
+  cutting_twice_is_cutting_once m other = (
+    same_map _ _ (λ q. get-without (without m other) other q
+        ∙ ap (cond (finite.contains_key other q) None) (get-without m other q)
+        ∙ cut-twice (finite.contains_key other q) (finite.get m q)
+        ∙ sym (get-without m other q)),
+    same_map _ _ (λ q. get-common_part (without m other) other q
+        ∙ ap (λ x. cond (finite.contains_key other q) x None) (get-without m other q)
+        ∙ cut-both (finite.contains_key other q) (finite.get m q)
+        ∙ sym (finite.get-empty byte_order q)),
+  )
+
+module _ (V : Type 0) where
+  pub nothing_is_left_without_itself : NothingIsLeftWithoutItself V
+  nothing_is_left_without_itself m = (
+    same_map _ _ (λ q. get-without m m q ∙ own-cut (finite.get m q)
+        ∙ sym (finite.get-empty byte_order q)),
+    same_map _ _ (λ q. get-common_part m m q ∙ own-kept (finite.get m q)),
+  )
+
+  pub keys_go_one_after_the_other : KeysGoOneAfterTheOther V
+  keys_go_one_after_the_other m one other =
+      same_map _ _ (λ q. get-without (without m one) other q
+      ∙ ap (cond (finite.contains_key other q) None) (get-without m one q)
+      ∙ one-then-other (finite.get m q) (finite.get one q) (finite.get other q)
+      ∙ sym (get-without m (joined one other) q
+      ∙ ap (λ x. cond (is_some x) None (finite.get m q)) (get-joined one other q)))

@@ -1,0 +1,35 @@
+//! What the two parts of a map are that another map cuts it into: the pairs whose key the other one
+//! has, and those whose key it lacks.
+ghost use Rattle.rart_maps.specs.MapPartLaws.{CommonPartAnswers, OtherPartAnswers};
+ghost use Rattle.rart_maps.specs.MapPartLaws.{CommonPartHasThesePairs, OtherPartHasThesePairs};
+ghost use Rattle.rart_maps.specs.MapPartLaws.{PartsAreTheMap, NoKeyCutsNothing};
+ghost use Rattle.rart_maps.specs.MapPartLaws.{CuttingTwiceIsCuttingOnce};
+ghost use Rattle.rart_maps.specs.MapPartLaws.{NothingIsLeftWithoutItself, KeysGoOneAfterTheOther};
+
+/// What each key has in either part. As maps that answer alike are the same, this is all that can
+/// be said of each.
+pub fn parts_answer<V, W>()
+    ensures common { CommonPartAnswers V W }
+    ensures other { OtherPartAnswers V W }
+{}
+
+/// The pairs of either part, in order.
+pub fn parts_have_these_pairs<V, W>()
+    ensures common { CommonPartHasThesePairs V W }
+    ensures other { OtherPartHasThesePairs V W }
+{}
+
+/// Put together, the two parts are the map. A map without a key cuts nothing off, and what was cut
+/// off once is not there to be cut off again.
+pub fn parts_are_the_map<V, W>()
+    ensures together { PartsAreTheMap V W }
+    ensures nothing { NoKeyCutsNothing V W }
+    ensures twice { CuttingTwiceIsCuttingOnce V W }
+{}
+
+/// Without its own keys nothing is left of a map. The keys of two maps go at once, or one after the
+/// other.
+pub fn keys_go<V>()
+    ensures itself { NothingIsLeftWithoutItself V }
+    ensures after { KeysGoOneAfterTheOther V }
+{}

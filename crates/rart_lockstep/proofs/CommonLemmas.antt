@@ -11,7 +11,7 @@ use Rattle.rart_node.specs.Shape.{Shape, Forest, node, bare, grown, prefix_of, v
 use Rattle.rart_node.specs.Trees.{strip_prefix, BeginsWith, at_end, own_pair, found, found_below, pairs_of, pairs_below, IsTree, AreBranches}
 use Rattle.rart_node.proofs.FindLemmas.{found-below}
 use Rattle.rart_node.proofs.PairLemmas.{found-empty, found-other}
-use Rattle.rart_node.proofs.PrefixLemmas.{behind-append, strip_prefix-own}
+use Rattle.rart_node.proofs.PrefixRestLemmas.{behind-append, strip_prefix-own}
 use Rattle.rart_node.specs.PairsBehind.{behind_path}
 use Rattle.rart_node.proofs.BehindLemmas.{behind-behind, behind-none}
 use Rattle.rart_lockstep.specs.Children.{common_children}

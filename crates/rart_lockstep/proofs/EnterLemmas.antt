@@ -6,7 +6,7 @@ use Rattle.rart_below.specs.Bytes.{common_length}
 use Rattle.rart_node.specs.Counts.{Counts, CountsUpTo}
 use Rattle.rart_node.specs.Shape.{Shape, prefix_of}
 use Rattle.rart_node.specs.Trees.{BeginsWith, IsTree}
-use Rattle.rart_node.proofs.PrefixLemmas.{begins-common}
+use Rattle.rart_node.proofs.PrefixRestLemmas.{begins-common}
 use Rattle.rart_maps.specs.Pairs.{Strings}
 use Rattle.rart_maps.specs.StartLaws.{how_many_under, with_byte}
 use Rattle.rart_maps.proofs.StartLemmas.{under-byte}

@@ -2,9 +2,10 @@ pub mod BranchLemmas
 pub mod ChildLemmas
 pub mod CommonLemmas
 pub mod CommonVisitLemmas
+pub mod EndingLemmas
 pub mod EnterLemmas
 pub mod IntersectionLemmas
-pub mod LeastLemmas
+pub mod LeastCountLemmas
 pub mod LockstepLemmas
 pub mod NextChildLemmas
 pub mod PairLeafLemmas

@@ -1,12 +1,12 @@
 -- The way down two trees: what was visited where it has come to, among the branches of one place.
 use Rattle.std.proofs.Common.{◌≡◌, ◌<◌, ◌+◌, ℕ, List, [], ◌∷◌, ◌++◌, Option, Some, None, Ok, Err, length, take, drop, refl, sym, ap, subst, ◌∙◌, arith}
-use Rattle.std.specs.declared.alloc.AllocError.{AllocError}
 use Rattle.std.specs.Fn.{Mut}
 use Rattle.std.specs.List.{concat}
 use Rattle.std.proofs.lemmas.List.{take-append-drop}
 use Rattle.rart_below.specs.Bytes.{IsAdmitted}
-use Rattle.rart_maps.specs.Visits.{AnswersUpTo, Visits, VisitFront, Visitable}
-use Rattle.rart_maps.proofs.VisitLemmas.{up_to-start, up_to-within, up_to-part, up_to-over, callable-part}
+use Rattle.rart_maps.specs.Visits.{Answers, AnswersUpTo, CallableInTurn}
+use Rattle.rart_maps.proofs.VisitLemmas.{up_to-start, up_to-part, up_to-over, callable-part}
+use Rattle.rart_lockstep.proofs.EndingLemmas.{leaves-within}
 use Rattle.rart_node.specs.Counts.{Counts, CountsUpTo}
 use Rattle.rart_node.specs.Shape.{Shape, IsAscending, prefix_of, height}
 use Rattle.rart_node.specs.Trees.{IsTree, pairs_of}
@@ -16,6 +16,7 @@ use Rattle.rart_node.specs.PairsBehind.{AreShort}
 use Rattle.rart_node.proofs.KeyPathLemmas.{concat-push}
 use Rattle.rart_lockstep.specs.Children.{common_children}
 use Rattle.rart_lockstep.specs.CommonPairs.{common_pairs}
+use Rattle.rart_lockstep.specs.Endings.{LeavesBy}
 use Rattle.rart_lockstep.specs.Entries.{entry_here, behind_key}
 use Rattle.rart_lockstep.specs.PairCursors.{CommonBytes}
 use Rattle.rart_lockstep.specs.Intersections.{CanIntersect, HasIntersected}
@@ -25,7 +26,7 @@ use Rattle.rart_lockstep.proofs.CommonLemmas.{common_of_all}
 use Rattle.rart_lockstep.proofs.EnterLemmas.{EntersUpTo}
 use Rattle.rart_lockstep.proofs.PairStepLemmas.{tree-with, height-with, one-ends, common_pairs-apart, common_pairs-here, common_pairs-next, left-split}
 
-module _ {T V F A : Type 0} (g : Mut F A (Unit {0})) (Shows : A → List ℕ × V × V → Type 0)
+module _ {T V F A R : Type 0} (g : Mut F A R) (Shows : A → List ℕ × V × V → Type 0) (goes : R)
     (holds : T → List (List ℕ) → Type 0) (s t : Shape V) (count : ℕ) where
   -- On the way to the branches that are left, the key path keeps what was matched behind what it
   -- kept at the start, and the closure was called on all before these branches.
@@ -35,7 +36,7 @@ module _ {T V F A : Type 0} (g : Mut F A (Unit {0})) (Shows : A → List ℕ × 
     pub held : (segments : List (List ℕ)) → holds key_path segments
         → holds key_path' (segments ++ take count (prefix_of s) ∷ [])
     pub calls : (segments : List (List ℕ)) → holds key_path segments
-        → AnswersUpTo g Shows tt f (behind_key (concat segments) (common_pairs s t))
+        → AnswersUpTo g Shows goes f (behind_key (concat segments) (common_pairs s t))
         (behind_key (concat (segments ++ take count (prefix_of s) ∷ [])) (common_of_all left)) f'
     pub pairs : ArePairs (behind_bytes count s) (behind_bytes count t) left
 
@@ -57,28 +58,26 @@ module _ {T V F A : Type 0} (g : Mut F A (Unit {0})) (Shows : A → List ℕ × 
 
       -- the entry here comes first
       pub here-visitable : (segments : List (List ℕ)) (f : F)
-          → Visitable g Shows f (behind_key (concat segments) (common_pairs s t))
-          → Visitable g Shows f (entry_here (concat (segments ++ take count (prefix_of s) ∷ []))
+          → CallableInTurn g Shows goes f (behind_key (concat segments) (common_pairs s t))
+          → CallableInTurn g Shows goes f (entry_here (concat (segments ++ take count (prefix_of s) ∷ []))
           (behind_bytes count s) (behind_bytes count t))
       here-visitable segments f visitable =
-          callable-part g Shows tt _ _ (whole-here segments) visitable
-          (up_to-start g Shows tt f (behind_key (concat segments) (common_pairs s t)))
+          callable-part g Shows goes _ _ (whole-here segments) visitable
+          (up_to-start g Shows goes f (behind_key (concat segments) (common_pairs s t)))
 
-      pub here-refused : (segments : List (List ℕ)) (f f' : F)
-          → VisitFront g Shows f (entry_here (concat (segments ++ take count (prefix_of s) ∷ []))
-          (behind_bytes count s) (behind_bytes count t)) f'
-          → VisitFront g Shows f (behind_key (concat segments) (common_pairs s t)) f'
-      here-refused segments f f' front = (
-        _,
-        up_to-within g Shows tt _ _ (whole-here segments)
-            (up_to-start g Shows tt f (behind_key (concat segments) (common_pairs s t))) front.0
-            front.1,
-      )
+      pub here-ended : (by : Option R) (segments : List (List ℕ)) (f f' : F)
+          → LeavesBy g Shows goes by f
+          (entry_here (concat (segments ++ take count (prefix_of s) ∷ [])) (behind_bytes count s)
+          (behind_bytes count t)) f'
+          → LeavesBy g Shows goes by f (behind_key (concat segments) (common_pairs s t)) f'
+      here-ended by segments f f' ends =
+          leaves-within g Shows goes by f' _ _ (whole-here segments)
+          (up_to-start g Shows goes f (behind_key (concat segments) (common_pairs s t))) ends
 
       pub on_common_key-start : (key_path key_path' : T) (f f' : F)
           → ((segments : List (List ℕ)) → holds key_path segments
           → holds key_path' (segments ++ take count (prefix_of s) ∷ []))
-          → ((segments : List (List ℕ)) → holds key_path segments → Visits g Shows (Ok tt) f
+          → ((segments : List (List ℕ)) → holds key_path segments → Answers g Shows goes f
           (entry_here (concat (segments ++ take count (prefix_of s) ∷ [])) (behind_bytes count s)
           (behind_bytes count t)) f')
           → IsIntersection key_path f (common_children (next_children (behind_bytes count s))
@@ -86,8 +85,8 @@ module _ {T V F A : Type 0} (g : Mut F A (Unit {0})) (Shows : A → List ℕ × 
       on_common_key-start key_path key_path' f f' held visits =
           record {
             held = held;
-            calls = λ segments holds. up_to-part g Shows tt _ _ (whole-here segments)
-                (up_to-start g Shows tt f (behind_key (concat segments) (common_pairs s t)))
+            calls = λ segments holds. up_to-part g Shows goes _ _ (whole-here segments)
+                (up_to-start g Shows goes f (behind_key (concat segments) (common_pairs s t)))
                 (visits segments holds);
             pairs = pairs-next_children (behind_bytes count s) (behind_bytes count t)
                 (tree-with s (drop count (prefix_of s)) left_tree)
@@ -98,9 +97,9 @@ module _ {T V F A : Type 0} (g : Mut F A (Unit {0})) (Shows : A → List ℕ × 
       pub next-may : (greatest : Option ℕ) (key_path key_path' : T) (f f' : F) (byte : ℕ)
           (x y : Shape V)
           (rest : List (ℕ × (Shape V × Shape V)))
-          → CanIntersect g Shows holds greatest key_path f s t
+          → CanIntersect g Shows goes holds greatest key_path f s t
           → IsIntersection key_path f ((byte, (x, y)) ∷ rest) key_path' f'
-          → CanIntersect g Shows holds greatest key_path' f' x y
+          → CanIntersect g Shows goes holds greatest key_path' f' x y
       next-may greatest key_path key_path' f f' byte x y rest may on_common_key =
           let segments = may.0 in
           let start = take count (prefix_of s) in
@@ -112,64 +111,61 @@ module _ {T V F A : Type 0} (g : Mut F A (Unit {0})) (Shows : A → List ℕ × 
             segments ++ start ∷ [],
             on_common_key.held segments may.1,
             short-within greatest path x (behind_bytes count s) on_common_key.pairs.0.0.within here,
-            callable-part g Shows tt _ _ (common_pairs-next path byte x y rest) may.3
+            callable-part g Shows goes _ _ (common_pairs-next path byte x y rest) may.3
                 (on_common_key.calls segments may.1),
           )
 
-      pub on_common_key-next : (key_path key_path' key_path'' : T) (f f' f'' : F) (byte : ℕ)
+      pub on_common_key-next : {E : Type 0} (told : E → Option R)
+          (key_path key_path' key_path'' : T) (f f' f'' : F) (byte : ℕ)
           (x y : Shape V)
           (rest : List (ℕ × (Shape V × Shape V)))
           → IsIntersection key_path f ((byte, (x, y)) ∷ rest) key_path' f'
-          → HasIntersected g Shows holds key_path' f' (Ok tt) x y key_path'' f''
+          → HasIntersected g Shows goes holds told key_path' f' (Ok tt) x y key_path'' f''
           → IsIntersection key_path f rest key_path'' f''
-      on_common_key-next key_path key_path' key_path'' f f' f'' byte x y rest on_common_key met =
+      on_common_key-next told key_path key_path' key_path'' f f' f'' byte x y rest on_common_key met =
           record {
             held = λ segments holds. (met (segments ++ take count (prefix_of s) ∷ [])
                 (on_common_key.held segments holds)).1;
             calls = λ segments holds.
                 let path = concat (segments ++ take count (prefix_of s) ∷ []) in
-                up_to-part g Shows tt _ _ (common_pairs-next path byte x y rest)
+                up_to-part g Shows goes _ _ (common_pairs-next path byte x y rest)
                 (on_common_key.calls segments holds)
                 (met (segments ++ take count (prefix_of s) ∷ [])
                 (on_common_key.held segments holds)).0;
             pairs = on_common_key.pairs.1;
           }
 
-      pub on_common_key-refused : (refused : AllocError) (key_path key_path' key_path'' : T)
-          (f f' f'' : F)
-          (byte : ℕ) (x y : Shape V) (rest : List (ℕ × (Shape V × Shape V)))
+      pub on_common_key-ended : {E : Type 0} (told : E → Option R) (e : E)
+          (key_path key_path' key_path'' : T) (f f' f'' : F) (byte : ℕ) (x y : Shape V)
+          (rest : List (ℕ × (Shape V × Shape V)))
           → IsIntersection key_path f ((byte, (x, y)) ∷ rest) key_path' f'
-          → HasIntersected g Shows holds key_path' f' (Err refused) x y key_path'' f''
+          → HasIntersected g Shows goes holds told key_path' f' (Err e) x y key_path'' f''
           → (segments : List (List ℕ)) → holds key_path segments
-          → VisitFront g Shows f (behind_key (concat segments) (common_pairs s t)) f''
-      on_common_key-refused refused key_path key_path' key_path'' f f' f'' byte x y rest
-          on_common_key met segments
-          held =
+          → LeavesBy g Shows goes (told e) f (behind_key (concat segments) (common_pairs s t)) f''
+      on_common_key-ended told e key_path key_path' key_path'' f f' f'' byte x y rest
+          on_common_key met segments held =
           let path = concat (segments ++ take count (prefix_of s) ∷ []) in
-          let front = (met (segments ++ take count (prefix_of s) ∷ [])
-          (on_common_key.held segments held)).0 in (
-            _,
-            up_to-within g Shows tt _ _ (common_pairs-next path byte x y rest)
-                (on_common_key.calls segments held) front.0 front.1,
-          )
+          leaves-within g Shows goes (told e) f'' _ _ (common_pairs-next path byte x y rest)
+          (on_common_key.calls segments held)
+          (met (segments ++ take count (prefix_of s) ∷ []) (on_common_key.held segments held)).0
 
       pub on_common_key-over : (key_path key_path' : T) (f f' : F)
           (left : List (ℕ × (Shape V × Shape V)))
           → left ≡ [] → IsIntersection key_path f left key_path' f'
           → (segments : List (List ℕ)) → holds key_path segments
-          → Visits g Shows (Ok tt) f (behind_key (concat segments) (common_pairs s t)) f'
+          → Answers g Shows goes f (behind_key (concat segments) (common_pairs s t)) f'
       on_common_key-over key_path key_path' f f' left none on_common_key segments holds =
-          up_to-over g Shows tt
+          up_to-over g Shows goes
           (ap (λ left. behind_key (concat (segments ++ take count (prefix_of s) ∷ []))
           (common_of_all left)) none) (on_common_key.calls segments holds)
 
-module _ {V F A : Type 0} (g : Mut F A (Unit {0})) (Shows : A → List ℕ × V × V → Type 0)
+module _ {V F A R : Type 0} (g : Mut F A R) (Shows : A → List ℕ × V × V → Type 0) (goes : R)
     (s t : Shape V) where
   -- Where nothing is in common, nothing is visited.
   pub visits-apart : (path : List ℕ) (f : F) → CommonBytes s t None
-      → Visits g Shows (Ok tt) f (behind_key path (common_pairs s t)) f
+      → Answers g Shows goes f (behind_key path (common_pairs s t)) f
   visits-apart path f apart =
-      subst (λ entries. Visits g Shows (Ok tt) f (behind_key path entries) f)
+      subst (λ entries. Answers g Shows goes f (behind_key path entries) f)
       (sym (common_pairs-apart s t apart)) refl
 
 -- What was matched is not too long, behind what the key path keeps.

@@ -1,15 +1,15 @@
 -- Two leaves side by side: what they have in common is their key, if it is the same.
-use Rattle.std.proofs.Common.{◌≡◌, ◌≢◌, ◌⊎◌, inl, inr, ℕ, suc, cond, ⊎_elim, List, [], ◌∷◌, ◌++◌, Some, None, Ok, length, take, drop, refl, sym, ap, ◌∙◌, arith}
+use Rattle.std.proofs.Common.{◌≡◌, ◌≢◌, ◌⊎◌, inl, inr, ℕ, suc, cond, ⊎_elim, List, [], ◌∷◌, ◌++◌, Some, None, length, take, drop, refl, sym, ap, ◌∙◌, arith}
 use Rattle.std.specs.Prelude.{Bool}
 use Rattle.std.specs.Fn.{Mut}
 use Rattle.std.specs.List.{concat}
 use Rattle.std.proofs.lemmas.Bool.{cases_lt, eq-eqb}
 use Rattle.std.proofs.lemmas.List.{append-nil, drop_all}
 use Rattle.rart_below.specs.Bytes.{common_length}
-use Rattle.rart_maps.specs.Visits.{Visits}
+use Rattle.rart_maps.specs.Visits.{Answers}
 use Rattle.rart_node.specs.Shape.{Shape, node, prefix_of, children_of}
 use Rattle.rart_node.specs.Trees.{IsTree}
-use Rattle.rart_node.proofs.PrefixLemmas.{split-whole, common-within}
+use Rattle.rart_node.proofs.PrefixRestLemmas.{split-whole, common-within}
 use Rattle.rart_lockstep.specs.Children.{common_children}
 use Rattle.rart_lockstep.specs.CommonPairs.{common_pairs}
 use Rattle.rart_lockstep.specs.Entries.{own_entry, entry_here, behind_key}
@@ -106,19 +106,19 @@ module _ {V : Type 0} where
         ]
 
     -- The closure was called on the entry here: so it was on all that they have in common.
-    pub leaves-met : {T F A : Type 0} (g : Mut F A (Unit {0}))
-        (Shows : A → List ℕ × V × V → Type 0) (holds : T → List (List ℕ) → Type 0) (count : ℕ)
+    pub leaves-met : {T F A R : Type 0} (g : Mut F A R) (Shows : A → List ℕ × V × V → Type 0)
+        (goes : R) (holds : T → List (List ℕ) → Type 0) (count : ℕ)
         → SameBytes s t (Some count) → IsTree t → (key_path key_path' : T) (f f' : F)
         → ((segments : List (List ℕ)) → holds key_path segments
         → holds key_path' (segments ++ take count (prefix_of s) ∷ []))
-        → ((segments : List (List ℕ)) → holds key_path segments → Visits g Shows (Ok tt) f
+        → ((segments : List (List ℕ)) → holds key_path segments → Answers g Shows goes f
         (entry_here (concat (segments ++ take count (prefix_of s) ∷ [])) (behind_bytes count s)
         (behind_bytes count t)) f')
         → (segments : List (List ℕ)) → holds key_path segments
-        → Visits g Shows (Ok tt) f (behind_key (concat segments) (common_pairs s t)) f'
-    leaves-met g Shows holds count same right_tree key_path key_path' f f' held visits =
+        → Answers g Shows goes f (behind_key (concat segments) (common_pairs s t)) f'
+    leaves-met g Shows goes holds count same right_tree key_path key_path' f f' held visits =
         let common = same-common s t count same in
-        on_common_key-over g Shows holds s t count common tree right_tree key_path key_path' f f' _
-        (behind_step count common)
-        (on_common_key-start g Shows holds s t count common tree right_tree key_path key_path' f f'
-        held visits)
+        on_common_key-over g Shows goes holds s t count common tree right_tree key_path key_path' f
+        f' _ (behind_step count common)
+        (on_common_key-start g Shows goes holds s t count common tree right_tree key_path key_path'
+        f f' held visits)

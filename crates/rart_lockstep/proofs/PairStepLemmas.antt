@@ -9,7 +9,7 @@ use Rattle.rart_below.specs.Bytes.{common_length}
 use Rattle.rart_below.specs.Children.{child_at}
 use Rattle.rart_node.specs.Shape.{Shape, node, prefix_of, entries_of, height, with_prefix}
 use Rattle.rart_node.specs.Trees.{BeginsWith, IsTree}
-use Rattle.rart_node.proofs.PrefixLemmas.{split-common, common-within}
+use Rattle.rart_node.proofs.PrefixRestLemmas.{split-common, common-within}
 use Rattle.rart_lockstep.specs.Children.{common_children}
 use Rattle.rart_lockstep.specs.CommonPairs.{common_pairs}
 use Rattle.rart_lockstep.specs.Entries.{own_entry, entry_here, behind_key}

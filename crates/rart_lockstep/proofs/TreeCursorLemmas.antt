@@ -4,7 +4,7 @@ use Rattle.std.specs.Prelude.{nat_lt, Some}
 use Rattle.std.proofs.lemmas.Bool.{false≢true}
 use Rattle.rart_below.specs.Bytes.{common_length}
 use Rattle.rart_node.specs.Shape.{Shape, node, prefix_of}
-use Rattle.rart_node.proofs.PrefixLemmas.{eqb-sym, common-within}
+use Rattle.rart_node.proofs.PrefixRestLemmas.{eqb-sym, common-within}
 use Rattle.rart_lockstep.specs.PairCursors.{CommonBytes}
 use Rattle.rart_lockstep.specs.TreeCursors.{behind_bytes}
 

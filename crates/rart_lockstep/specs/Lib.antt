@@ -2,6 +2,7 @@ pub mod Branches
 pub mod ChildFields
 pub mod Children
 pub mod CommonPairs
+pub mod Endings
 pub mod Entries
 pub mod Intersections
 pub mod PairCursors

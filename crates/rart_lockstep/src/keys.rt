@@ -1,6 +1,6 @@
 // Ported from rart 0.11.0 (Apache-2.0), and rewritten.
 //! Visits of the keys of two trees, each made anew.
-ghost use Rattle.std.specs.Prelude.{◌+◌, ◌*◌, ◌≤◌, length, true, OnOk};
+ghost use Rattle.std.specs.Prelude.{◌+◌, ◌*◌, ◌≤◌, length, true, None, OnOk};
 ghost use Rattle.std.specs.FinSet as set;
 ghost use Rattle.rart_maps.specs.Visits.{ByKeyPair, Visits, Visitable};
 ghost use Rattle.rart_node.specs.Counts.{CountsUpTo};
@@ -105,11 +105,24 @@ impl<'a, K: KeyTrait, V, F: FnMut(K, &'a V, &'a V)> IntersectionPath<'a, V, F>
     for KeyMaker<'a, K, V> {
     ghost use Rattle.std.specs.Borrow.{Bor};
 
+    type Broken = AllocError;
+
     ghost Arguments = { K × (Bor V × (Bor V × Unit {0})) };
+
+    ghost Answer = { Unit {0} };
 
     ghost calls = { F.FnMut };
 
     ghost Shows = { ByKeyPair K.bytes };
+
+    ghost goes = { tt };
+
+    ghost told = { λ _. None };
+
+    #[inline(always)]
+    fn refused(error: AllocError) -> AllocError {
+        error
+    }
 
     #[inline]
     fn meet(&self, left: &'a V, right: &'a V, f: &mut F) -> Result<(), AllocError> {

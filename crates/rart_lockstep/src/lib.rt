@@ -15,6 +15,7 @@ ghost use Rattle.rart_lockstep.specs.Steps.{EntersBelow};
 mod branches;
 mod children;
 mod count;
+mod ended;
 mod intersection_path;
 mod keys;
 mod leaves;
@@ -29,10 +30,11 @@ mod visit;
 use crate::leaves::intersect_leaves;
 use crate::on_common_key::OnCommonKey;
 pub use count::count_common;
+pub use ended::{Ended, without_stop};
 pub use intersection_path::IntersectionPath;
 pub use keys::visit_common_keys;
 use rart_node::Work;
-use std::alloc::AllocError;
+pub use tree_cursor::TreeCursor;
 pub use values::visit_common_values;
 pub use views::ViewsPath;
 pub use visit::visit_common;
@@ -40,19 +42,20 @@ pub use visit::visit_common;
 /// Calls the closure on each key of two trees that lies below a cursor in both, in order, from a
 /// key path, which keeps the way to the key. The prefix of one of the nodes there is whole.
 ///
-/// Refused for memory, it has called it on a prefix of them. It takes no memory of its own.
+/// Where memory is refused, or an answer of the closure ends it, it has called it on a prefix of
+/// them. It takes no memory of its own.
 pub(crate) fn intersect_below<V, T, F, J: OnCommonKey<V, T, F>>(
     at: J,
     key_path: &mut T,
     f: &mut F,
     work: &mut Work,
-) -> Result<(), AllocError>
+) -> Result<(), J::Broken>
     requires left { IsTree (J.left at) }
     requires right { IsTree (J.right at) }
     requires whole { J.HasWhole at }
-    requires meets { CanIntersect J.calls J.Shows J.holds J.greatest key_path.old f.old
+    requires meets { CanIntersect J.calls J.Shows J.goes J.holds J.greatest key_path.old f.old
         (J.left at) (J.right at) }
-    ensures met { HasIntersected J.calls J.Shows J.holds key_path.old f.old result
+    ensures met { HasIntersected J.calls J.Shows J.goes J.holds J.told key_path.old f.old result
         (J.left at) (J.right at) key_path.new f.new }
     ensures refused { OnErr result (IsTrue J.can_refuse) }
     ensures enters { EntersBelow (J.left at) (J.right at) work.old work.new }
@@ -63,7 +66,10 @@ pub(crate) fn intersect_below<V, T, F, J: OnCommonKey<V, T, F>>(
     let Some(common) = at.common() else {
         return Ok(());
     };
-    at.push(common, key_path)?;
+    match at.push(common, key_path) {
+        Ok(()) => {}
+        Err(error) => return Err(J::refused(error)),
+    }
     let next = at.behind(common);
     next.meet(key_path, f)?;
     let mut branches = next.branches();

@@ -11,9 +11,9 @@ use rart_node::{VersionedNode, rest_of};
 ///
 /// Contracts see it as the node without these bytes, by `cursor_shape`.
 #[derive(Drop)]
-pub(crate) struct TreeCursor<'a, P: Partial, V> {
-    pub(crate) node: &'a VersionedNode<P, V>,
-    pub(crate) from: usize,
+pub struct TreeCursor<'a, P: Partial, V> {
+    pub node: &'a VersionedNode<P, V>,
+    pub from: usize,
     ghost within: { from ≤ length (prefix_of node.now.shape) },
 }
 
@@ -24,7 +24,7 @@ impl<'a, P: Partial, V: Drop> TreeCursor<'a, P, V> {
 
     /// The node with its whole prefix.
     #[inline(always)]
-    pub(crate) fn whole(node: &'a VersionedNode<P, V>) -> TreeCursor<'a, P, V>
+    pub fn whole(node: &'a VersionedNode<P, V>) -> TreeCursor<'a, P, V>
         ensures shape { cursor_shape result ≡ node.now.shape }
         ensures from { result.from ≡ 0 }
     {
@@ -32,14 +32,14 @@ impl<'a, P: Partial, V: Drop> TreeCursor<'a, P, V> {
     }
 
     /// What is left of the prefix.
-    pub(crate) fn rest(&self) -> &'a [u8]
+    pub fn rest(&self) -> &'a [u8]
         ensures { result.now ≡ prefix_of (cursor_shape self.now) }
     {
         rest_of(self.node.prefix().as_ref(), self.from)
     }
 
     /// What is left of the prefix, as far as `count` bytes.
-    pub(crate) fn first(&self, count: usize) -> &'a [u8]
+    pub fn first(&self, count: usize) -> &'a [u8]
         requires { count ≤ length (prefix_of (cursor_shape self.now)) }
         ensures { result.now ≡ take count (prefix_of (cursor_shape self.now)) }
     {
@@ -47,14 +47,14 @@ impl<'a, P: Partial, V: Drop> TreeCursor<'a, P, V> {
     }
 
     /// Whether more than `count` bytes are left of the prefix.
-    pub(crate) fn is_longer(&self, count: usize) -> bool
+    pub fn is_longer(&self, count: usize) -> bool
         ensures { result ≡ nat_lt count (length (prefix_of (cursor_shape self.now))) }
     {
         count < self.rest().len()
     }
 
     /// The value of the key that ends here, if there is one.
-    pub(crate) fn value_here(&self) -> Option<&'a V>
+    pub fn value_here(&self) -> Option<&'a V>
         ensures { option_copied result ≡ value_here (cursor_shape self.now) }
     {
         if self.is_longer(0) {
@@ -65,7 +65,7 @@ impl<'a, P: Partial, V: Drop> TreeCursor<'a, P, V> {
     }
 
     /// The same node with `count` bytes passed beside those before.
-    pub(crate) fn behind(&self, count: usize) -> TreeCursor<'a, P, V>
+    pub fn behind(&self, count: usize) -> TreeCursor<'a, P, V>
         requires { count ≤ length (prefix_of (cursor_shape self.now)) }
         ensures { cursor_shape result ≡ behind_bytes count (cursor_shape self.now) }
     {
@@ -79,7 +79,7 @@ impl<'a, P: Partial, V: Drop> TreeCursor<'a, P, V> {
 
     /// How many bytes two sides have in common at their start. The prefix of one is whole.
     #[inline(always)]
-    pub(crate) fn common_with(&self, other: &TreeCursor<'_, P, V>) -> usize
+    pub fn common_with(&self, other: &TreeCursor<'_, P, V>) -> usize
         requires whole { (self.now.from ≡ 0) ⊎ (other.now.from ≡ 0) }
         ensures { result ≡ common_length (prefix_of (cursor_shape self.now))
             (prefix_of (cursor_shape other.now)) }

@@ -86,11 +86,24 @@ impl<'a, V, F: FnMut(&'a V, &'a V)> IntersectionPath<'a, V, F> for ValuesPath<'a
     ghost use Rattle.std.specs.Borrow.{Bor};
     ghost use Rattle.rart_lockstep.specs.Entries.{ByItsValues};
 
+    type Broken = AllocError;
+
     ghost Arguments = { Bor V × (Bor V × Unit {0}) };
+
+    ghost Answer = { Unit {0} };
 
     ghost calls = { F.FnMut };
 
     ghost Shows = { ByItsValues };
+
+    ghost goes = { tt };
+
+    ghost told = { λ _. None };
+
+    #[inline(always)]
+    fn refused(error: AllocError) -> AllocError {
+        error
+    }
 
     fn meet(&self, left: &'a V, right: &'a V, f: &mut F) -> Result<(), AllocError> {
         f(left, right);

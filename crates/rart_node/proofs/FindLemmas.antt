@@ -9,7 +9,7 @@ use Rattle.rart_below.specs.Bytes.{common_length}
 use Rattle.rart_below.specs.Children.{child_at}
 use Rattle.rart_node.specs.Shape.{Shape, Forest, node, bare, grown, prefix_of, value_of, children_of, entries_of, height, height_below, IsAscending}
 use Rattle.rart_node.specs.Trees.{BeginsWith, found, found_below, IsTree, IsOrdered, AreBranches}
-use Rattle.rart_node.proofs.PrefixLemmas.{strip_prefix-whole}
+use Rattle.rart_node.proofs.PrefixRestLemmas.{strip_prefix-whole}
 
 module _ {V : Type 0} where
   -- Below the children a string that is not empty has what the child under its first byte has.

@@ -18,7 +18,7 @@ use Rattle.rart_below.specs.Children as children
 use Rattle.rart_below.specs.Children.{child_at, with_child}
 use Rattle.rart_node.specs.Shape.{Shape, Forest, node, bare, grown, prefix_of, value_of, children_of, entries_of, forest_of, node_of, widened, with_value, with_added, with_replaced, entries_of-forest_of}
 use Rattle.rart_node.specs.Trees.{strip_prefix, BeginsWith, at_end, found, found_below, is_key_or_fork, IsTree, IsOrdered, AreBranches, IsPut}
-use Rattle.rart_node.proofs.PrefixLemmas.{is_left, bytes_eq-strip_prefix}
+use Rattle.rart_node.proofs.PrefixRestLemmas.{is_left, bytes_eq-strip_prefix}
 use Rattle.rart_node.proofs.FindLemmas.{found-below, branch}
 
 holds : {t : Bool} → IsTrue t → T t

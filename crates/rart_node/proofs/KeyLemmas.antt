@@ -4,7 +4,7 @@ use Rattle.std.specs.Prelude.{◌==◌}
 use Rattle.std.proofs.lemmas.Bool.{false≢true}
 use Rattle.rart_node.specs.Shape.{Shape, Forest, node, bare, grown, prefix_of}
 use Rattle.rart_node.specs.Trees.{BeginsWith, found, IsTree, pairs_of, pairs_below}
-use Rattle.rart_node.proofs.PrefixLemmas.{strip_prefix-own}
+use Rattle.rart_node.proofs.PrefixRestLemmas.{strip_prefix-own}
 use Rattle.rart_node.proofs.PairLemmas.{found-empty, found-other}
 
 module _ {V : Type 0} where

@@ -16,8 +16,8 @@ pub mod OnlyChildLemmas
 pub mod PairLemmas
 pub mod PairOrderLemmas
 pub mod PartingLemmas
-pub mod PrefixLemmas
 pub mod PrefixMatchLemmas
+pub mod PrefixRestLemmas
 pub mod RoomLemmas
 pub mod SearchLemmas
 pub mod SkipLemmas

@@ -6,7 +6,7 @@ use Rattle.std.proofs.lemmas.Option.{same_Some, none-some}
 use Rattle.rart_below.specs.Children.{child_at}
 use Rattle.rart_node.specs.Shape.{Shape, node, prefix_of, value_of, children_of, entries_of}
 use Rattle.rart_node.specs.Trees.{strip_prefix, found, path_bound}
-use Rattle.rart_node.proofs.PrefixLemmas.{strip_prefix-is, no-first, begins-first, begins-long}
+use Rattle.rart_node.proofs.PrefixRestLemmas.{strip_prefix-is, no-first, begins-first, begins-long}
 use Rattle.rart_node.proofs.CountingLemmas.{path-step}
 use Rattle.rart_node.proofs.FindLemmas.{found-below, IsBranch}
 

@@ -4,7 +4,7 @@ use Rattle.std.specs.Prelude.{◌==◌}
 use Rattle.std.specs.Option.{option_and_then}
 use Rattle.rart_node.specs.Shape.{Shape, Forest, node, bare, grown, prefix_of, value_of, entries_of, forest_of, HasOnly, merged}
 use Rattle.rart_node.specs.Trees.{strip_prefix, BeginsWith, found, IsTree, IsOrdered, AreBranches}
-use Rattle.rart_node.proofs.PrefixLemmas.{behind-append}
+use Rattle.rart_node.proofs.PrefixRestLemmas.{behind-append}
 use Rattle.rart_node.proofs.PairLemmas.{found-empty, found-other}
 use Rattle.rart_node.proofs.InsertionLemmas.{inside, forest_of-entries_of}
 

@@ -13,7 +13,7 @@ use Rattle.rart_below.specs.Children.{child_at}
 use Rattle.rart_below.proofs.AscendingLemmas.{child_at-below, ascending_parts}
 use Rattle.rart_node.specs.Shape.{Shape, Forest, node, bare, grown, prefix_of, entries_of}
 use Rattle.rart_node.specs.Trees.{strip_prefix, BeginsWith, at_end, own_pair, found, found_below, pairs_of, pairs_below, IsTree, AreBranches}
-use Rattle.rart_node.proofs.PrefixLemmas.{is_left, bytes_eq-strip_prefix}
+use Rattle.rart_node.proofs.PrefixRestLemmas.{is_left, bytes_eq-strip_prefix}
 use Rattle.rart_node.proofs.FindLemmas.{found-below}
 
 module _ {V : Type 0} where

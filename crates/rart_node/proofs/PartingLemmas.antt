@@ -6,7 +6,7 @@ use Rattle.std.proofs.lemmas.Bool.{eqb-true, eqb-false}
 use Rattle.std.proofs.lemmas.List.{length-drop}
 use Rattle.rart_below.specs.Bytes.{common_length}
 use Rattle.rart_node.specs.Trees.{strip_prefix}
-use Rattle.rart_node.proofs.PrefixLemmas.{strip_prefix-whole, split-whole, common_fits}
+use Rattle.rart_node.proofs.PrefixRestLemmas.{strip_prefix-whole, split-whole, common_fits}
 
 -- The first list is the front of the second.
 pub record IsFront (rest prefix : List ℕ) : Type 0 where

@@ -8,7 +8,7 @@ use Rattle.rart_below.specs.Bytes.{begins}
 use Rattle.rart_below.specs.Children.{child_at}
 use Rattle.rart_node.specs.Shape.{Shape, prefix_of, value_of, children_of}
 use Rattle.rart_node.specs.Trees.{strip_prefix, IsTree, own_pair, pairs_of}
-use Rattle.rart_node.proofs.PrefixLemmas.{strip_prefix-is, eqb-sym}
+use Rattle.rart_node.proofs.PrefixRestLemmas.{strip_prefix-is, eqb-sym}
 use Rattle.rart_node.specs.PairsBehind.{behind_path}
 use Rattle.rart_node.proofs.GatherLemmas.{keeping, keeping-append, keeping-behind, keeping-begun, keeping-children, keeping-either, keeping-same, gathered, gathered_all, gathered-is, kept_at, pairs-gathered, AreBegun, tree-ascending, tree-begun}
 use Rattle.rart_node.proofs.AlongLemmas.{begins-along, own_pair-ends}

@@ -9,7 +9,7 @@ use Rattle.rart_node.specs.Shape.{Shape}
 use Rattle.rart_node.specs.Trees.{IsTree, own_pair, pairs_of}
 use Rattle.rart_walks.specs.BackFrames.{KeepsBack, IsSpent, OpenBack, TakesChildBack, TakesOwn, TreesBehind, back_paths_of, back_paths_of_all, back_segments, owns_behind, pairs_behind, paths_behind}
 use Rattle.rart_walks.specs.Frames.{AreTrees, behind_path, pairs_of_all, under_path}
-use Rattle.rart_walks.proofs.LastLemmas.{map-push}
+use Rattle.rart_walks.proofs.LastElementLemmas.{map-push}
 use Rattle.rart_node.proofs.BehindLemmas.{behind-append, behind-behind}
 use Rattle.rart_walks.proofs.WalkLemmas.{under-append, under-under}
 

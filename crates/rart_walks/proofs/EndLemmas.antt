@@ -13,7 +13,7 @@ use Rattle.rart_walks.specs.Parts.{keeps, reaches, goes_on, is_strict}
 use Rattle.rart_walks.specs.Walks.{IsEndOf, paths_of}
 use Rattle.rart_node.proofs.GatherLemmas.{keeping, gathered, gathered_all, gathered-is, pairs-gathered, all-gathered}
 use Rattle.rart_node.proofs.AlongLemmas.{StandsAtEnd, GoesAlong, own_pair-ends, parted-lower, parted-upper, parted-all, parted-inside}
-use Rattle.rart_walks.proofs.PartLemmas.{keeps-goes, reaches-goes, keeps-itself, strict-itself, reaches-itself}
+use Rattle.rart_walks.proofs.PartTestLemmas.{keeps-goes, reaches-goes, keeps-itself, strict-itself, reaches-itself}
 use Rattle.rart_walks.proofs.CursorLemmas.{own_place, own_place-ends, keys_of, paths-are, paths-kept}
 
 either-less : (b c : ℕ) → b ≢ c → (b < c) ⊎ (c < b)

@@ -12,9 +12,9 @@ pub mod DiffLemmas
 pub mod DiffPassLemmas
 pub mod EndLemmas
 pub mod FrameLemmas
-pub mod LastLemmas
+pub mod LastElementLemmas
 pub mod LeafLemmas
-pub mod PartLemmas
+pub mod PartTestLemmas
 pub mod PassLemmas
 pub mod PathLemmas
 pub mod SideLemmas

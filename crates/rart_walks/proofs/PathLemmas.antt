@@ -14,7 +14,7 @@ use Rattle.rart_walks.specs.Walks.{AreShort, paths_of}
 use Rattle.rart_walks.proofs.AheadLemmas.{gathered_ahead, pushed-gathered, pairs-ahead, paths-ahead}
 use Rattle.rart_node.proofs.GatherLemmas.{keeping, gathered, gathered_all, kept_at, pairs-gathered}
 use Rattle.rart_node.proofs.AlongLemmas.{StandsAtEnd, GoesAlong, own_pair-ends, parted-below}
-use Rattle.rart_walks.proofs.PartLemmas.{keeps-goes, reaches-goes}
+use Rattle.rart_walks.proofs.PartTestLemmas.{keeps-goes, reaches-goes}
 use Rattle.rart_walks.proofs.CursorLemmas.{own_place, own_place-ends, keys_of, keys-behind, keys-append, paths-kept}
 use Rattle.rart_node.proofs.BehindLemmas.{behind-none, behind-behind, behind-append, pairs-entered, short-none, short-append, short-pending}
 use Rattle.rart_walks.proofs.WalkLemmas.{trees-entered, pushed-path, pushed-pairs, pushed-trees}

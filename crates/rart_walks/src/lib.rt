@@ -20,7 +20,7 @@ pub use diff::{
 pub use rart_node::{BytesPath, KeyPath, NoPath, SegmentsPath};
 pub use visits::{
     visit_values, visit_values_until, visit_views, visit_views_back, visit_views_back_until,
-    visit_views_up_to,
+    visit_views_until, visit_views_up_to,
 };
 pub use walk::Walk;
 pub use walk_back::WalkBack;

@@ -10,5 +10,5 @@ mod views;
 mod views_back;
 
 pub use values::{visit_values, visit_values_until};
-pub use views::{visit_views, visit_views_up_to};
+pub use views::{visit_views, visit_views_until, visit_views_up_to};
 pub use views_back::{visit_views_back, visit_views_back_until};

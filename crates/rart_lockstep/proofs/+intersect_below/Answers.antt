@@ -1,15 +1,17 @@
-use Rattle.std.proofs.Common.{◌≡◌, ◌∷◌, [], ◌++◌, take, drop, sym, ap, subst, ◌∙◌, ⊎_elim, inl, inr, arith, Ok}
+use Rattle.std.proofs.Common.{◌≡◌, ◌∷◌, [], ◌++◌, take, drop, sym, ap, subst, ◌∙◌, ⊎_elim, inl, inr, arith}
 use Rattle.std.specs.List.{concat}
-use Rattle.rart_maps.specs.Visits.{Visits, VisitFront, Visitable}
+use Rattle.rart_maps.specs.Visits.{Answers, CallableInTurn}
 use Rattle.rart_maps.proofs.VisitLemmas.{up_to-start}
 use Rattle.rart_node.specs.Shape.{IsAscending, prefix_of}
 use Rattle.rart_lockstep.specs.Children.{common_children}
-use Rattle.rart_lockstep.specs.Entries.{entry_here}
+use Rattle.rart_lockstep.specs.Endings.{LeavesBy}
+use Rattle.rart_lockstep.specs.CommonPairs.{common_pairs}
+use Rattle.rart_lockstep.specs.Entries.{behind_key, entry_here}
 use Rattle.rart_lockstep.specs.TreeCursors.{behind_bytes, next_children, children_next}
 use Rattle.rart_lockstep.proofs.EnterLemmas.{EntersUpTo, enters-none, enters-start, enters-next, enters-past, enters-end}
-use Rattle.rart_lockstep.proofs.LockstepLemmas.{IsIntersection, here-visitable, here-refused, on_common_key-start, next-may, on_common_key-next, on_common_key-refused, visits-apart, push-admits, step-lower, enters-still, tree-ascending}
-use Rattle.rart_lockstep.proofs.IntersectionLemmas.{have-refused}
-use Rattle.rart_lockstep.proofs.LeastLemmas.{EntersLeast, least-start, least-next, least-end, least-apart, least-leaves, least-refused}
+use Rattle.rart_lockstep.proofs.LockstepLemmas.{IsIntersection, here-visitable, here-ended, on_common_key-start, next-may, on_common_key-next, on_common_key-ended, visits-apart, push-admits, step-lower, enters-still, tree-ascending}
+use Rattle.rart_lockstep.proofs.EndingLemmas.{have-ended}
+use Rattle.rart_lockstep.proofs.LeastCountLemmas.{EntersLeast, least-start, least-next, least-end, least-apart, least-leaves, least-refused}
 use Rattle.rart_lockstep.proofs.PairStepLemmas.{count-left, count-right, one-ends, tree-with}
 use Rattle.rart_lockstep.proofs.+intersect_below.Goals as goal
 
@@ -18,8 +20,8 @@ returns-in_default-clause-met g t c =
     let s = g.J.PairCursor.left c.args.at in
     let t = g.J.PairCursor.right c.args.at in
     λ segments holds. (
-      visits-apart g.J.OnCommonKey.calls g.J.OnCommonKey.Shows s t (concat segments) _
-          c.in_default.ensures,
+      visits-apart g.J.OnCommonKey.calls g.J.OnCommonKey.Shows g.J.OnCommonKey.goes s t
+          (concat segments) _ c.in_default.ensures,
       holds,
     )
 
@@ -41,16 +43,21 @@ push-requires-clause-short g t c =
           c.requires.left may.2,
     )
 
-pub returns-in_err-push-clause-met : goal.returns-in_err-push-clause-met
-returns-in_err-push-clause-met g t c =
+pub returns-in-Err-clause-met : goal.returns-in-Err-clause-met
+returns-in-Err-clause-met g t c =
     λ segments holds.
     let calls = g.J.OnCommonKey.calls in
     let Shows = g.J.OnCommonKey.Shows in
-    have-refused calls Shows _ _ _ _ c.from_residual.result c.from_residual.ensures.0
-    (_, up_to-start calls Shows tt _ _)
+    let goes = g.J.OnCommonKey.goes in
+    let all = behind_key (concat segments)
+    (common_pairs (g.J.PairCursor.left c.args.at) (g.J.PairCursor.right c.args.at)) in (
+      subst (λ by. LeavesBy calls Shows goes by c.args.f.now all c.args.f.now)
+          (sym c.refused.ensures) (all, up_to-start calls Shows goes c.args.f.now all),
+      tt,
+    )
 
-pub returns-in_err-push-clause-enters : goal.returns-in_err-push-clause-enters
-returns-in_err-push-clause-enters g t c =
+pub returns-in-Err-clause-enters : goal.returns-in-Err-clause-enters
+returns-in-Err-clause-enters g t c =
     enters-none (g.J.PairCursor.left c.args.at) (g.J.PairCursor.right c.args.at) c.requires.left
     c.requires.right c.args.work.now
 
@@ -68,19 +75,20 @@ meet-requires g t c =
     let t = g.J.PairCursor.right c.args.at in
     let calls = g.J.OnCommonKey.calls in
     let Shows = g.J.OnCommonKey.Shows in
+    let goes = g.J.OnCommonKey.goes in
     let may = c.requires.meets in
     let start = take c.in-Some.common (prefix_of s) in
     let path = concat (may.0 ++ start ∷ []) in
     let next = c.behind-next.ensures in
-    let here = here-visitable calls Shows g.J.PairCursor.holds s t c.in-Some.common
+    let here = here-visitable calls Shows goes g.J.PairCursor.holds s t c.in-Some.common
     c.in-Some.ensures
     c.requires.left c.requires.right may.0 _ may.3 in
     record {
       visitable = (
         may.0 ++ start ∷ [],
-        c.in_ok-push.ensures.keeps may.0 may.1,
+        c.in-Ok.ensures.keeps may.0 may.1,
         push-admits g.J.PairCursor.greatest may.0 s _ c.requires.left may.2,
-        subst (Visitable calls Shows c.args.f.now)
+        subst (CallableInTurn calls Shows goes c.args.f.now)
             (λ i. entry_here path (sym next.left i) (sym next.right i)) here,
       );
     }
@@ -92,17 +100,21 @@ returns-in_err-meet-clause-met g t c =
     let t = g.J.PairCursor.right c.args.at in
     let calls = g.J.OnCommonKey.calls in
     let Shows = g.J.OnCommonKey.Shows in
+    let goes = g.J.OnCommonKey.goes in
+    let told = g.J.OnCommonKey.told in
+    let broken = c.in_err-meet.field-0.0 in
     let start = take c.in-Some.common (prefix_of s) in
     let path = concat (segments ++ start ∷ []) in
     let next = c.behind-next.ensures in
-    let front = c.in_err-meet.ensures.visits (segments ++ start ∷ [])
-    (c.in_ok-push.ensures.keeps segments holds) in
-    let here = subst (λ entries. VisitFront calls Shows c.args.f.now entries c.meet.new.f)
-    (λ i. entry_here path (next.left i) (next.right i)) front in
-    have-refused calls Shows _ _ _ _ c.from_residual-in_err-meet.result
-    c.from_residual-in_err-meet.ensures.0
-    (here-refused calls Shows g.J.PairCursor.holds s t c.in-Some.common c.in-Some.ensures
-    c.requires.left c.requires.right segments _ _ here)
+    let ends = c.in_err-meet.ensures.visits (segments ++ start ∷ [])
+    (c.in-Ok.ensures.keeps segments holds) in
+    let here = subst
+    (λ entries. LeavesBy calls Shows goes (told broken) c.args.f.now entries c.meet.new.f)
+    (λ i. entry_here path (next.left i) (next.right i)) ends in
+    have-ended calls Shows goes told _ _ _ _ c.from_residual.result broken
+    c.from_residual.ensures.0 c.from_residual.ensures.1
+    (here-ended calls Shows goes g.J.PairCursor.holds s t c.in-Some.common c.in-Some.ensures
+    c.requires.left c.requires.right (told broken) segments _ _ here)
 
 pub returns-in_err-meet-clause-enters : goal.returns-in_err-meet-clause-enters
 returns-in_err-meet-clause-enters g t c =
@@ -130,6 +142,7 @@ branches-init g t c =
     let t = g.J.PairCursor.right c.args.at in
     let calls = g.J.OnCommonKey.calls in
     let Shows = g.J.OnCommonKey.Shows in
+    let goes = g.J.OnCommonKey.goes in
     let count = c.in-Some.common in
     let start = take count (prefix_of s) in
     let x = behind_bytes count s in
@@ -140,17 +153,17 @@ branches-init g t c =
     c.branches-branches.ensures.steps
     ∙ (λ i. common_children (next_children (next.left i)) (next_children (next.right i))) in
     record {
-      on_common_key = subst (λ left. IsIntersection calls Shows g.J.PairCursor.holds s t count
+      on_common_key = subst (λ left. IsIntersection calls Shows goes g.J.PairCursor.holds s t count
           c.args.key_path.now
           c.args.f.now left c.push.new.key_path c.meet.new.f) (sym left)
-          (on_common_key-start calls Shows g.J.PairCursor.holds s t count c.in-Some.ensures
+          (on_common_key-start calls Shows goes g.J.PairCursor.holds s t count c.in-Some.ensures
           c.requires.left
-          c.requires.right _ _ _ _ c.in_ok-push.ensures.keeps
+          c.requires.right _ _ _ _ c.in-Ok.ensures.keeps
           (λ segments holds.
-          subst (λ entries. Visits calls Shows (Ok tt) c.args.f.now entries c.meet.new.f)
+          subst (λ entries. Answers calls Shows goes c.args.f.now entries c.meet.new.f)
           (λ i. entry_here (concat (segments ++ start ∷ [])) (next.left i) (next.right i))
           (c.in_ok-meet.ensures.visits (segments ++ start ∷ [])
-          (c.in_ok-push.ensures.keeps segments holds))));
+          (c.in-Ok.ensures.keeps segments holds))));
       entered = subst (λ left. EntersUpTo x y
           (common_children (next_children x) (next_children y)) left
           c.args.work.now c.args.work.now) (sym left)
@@ -168,13 +181,14 @@ branches-preserved-then-parts_early g t c =
     let t = g.J.PairCursor.right c.args.at in
     let calls = g.J.OnCommonKey.calls in
     let Shows = g.J.OnCommonKey.Shows in
+    let goes = g.J.OnCommonKey.goes in
     let holds = g.J.PairCursor.holds in
     let count = c.in-Some.common in
     let x = g.J.PairCursor.left c.in-Some-next.below in
     let y = g.J.PairCursor.right c.in-Some-next.below in
     let rest = g.J.PairCursor.branches_left c.next.new.branches in
     let takes = c.in-Some-next.ensures.takes in
-    let here = subst (λ left. IsIntersection calls Shows holds s t count c.args.key_path.now
+    let here = subst (λ left. IsIntersection calls Shows goes holds s t count c.args.key_path.now
     c.args.f.now
     left c.branches.key_path c.branches.f) takes.1 c.branches.invariant.on_common_key in
     let all = common_children (next_children (behind_bytes count s))
@@ -183,12 +197,12 @@ branches-preserved-then-parts_early g t c =
     c.args.work.now c.branches.work) takes.1 c.branches.invariant.entered in
     let apart = c.parts_early.ensures c.if-parts_early.true in
     record {
-      on_common_key = on_common_key-next calls Shows holds s t count c.in-Some.ensures
+      on_common_key = on_common_key-next calls Shows goes holds s t count c.in-Some.ensures
           c.requires.left
-          c.requires.right c.args.key_path.now c.branches.key_path c.branches.key_path c.args.f.now
+          c.requires.right g.J.OnCommonKey.told c.args.key_path.now c.branches.key_path c.branches.key_path c.args.f.now
           c.branches.f c.branches.f takes.0 x y rest here
           (λ segments held. (
-            visits-apart calls Shows x y (concat segments) c.branches.f apart,
+            visits-apart calls Shows goes x y (concat segments) c.branches.f apart,
             held,
           ));
       entered = enters-past (behind_bytes count s) (behind_bytes count t) all rest takes.0 x y
@@ -209,16 +223,17 @@ intersect_leaves-requires-clause-meets g t c =
     let t = g.J.PairCursor.right c.args.at in
     let calls = g.J.OnCommonKey.calls in
     let Shows = g.J.OnCommonKey.Shows in
+    let goes = g.J.OnCommonKey.goes in
     let holds = g.J.PairCursor.holds in
     let count = c.in-Some.common in
     let x = g.J.PairCursor.left c.in-Some-next.below in
     let y = g.J.PairCursor.right c.in-Some-next.below in
     let rest = g.J.PairCursor.branches_left c.next.new.branches in
     let takes = c.in-Some-next.ensures.takes in
-    let here = subst (λ left. IsIntersection calls Shows holds s t count c.args.key_path.now
+    let here = subst (λ left. IsIntersection calls Shows goes holds s t count c.args.key_path.now
     c.args.f.now
     left c.branches.key_path c.branches.f) takes.1 c.branches.invariant.on_common_key in
-    next-may calls Shows holds s t count c.in-Some.ensures c.requires.left
+    next-may calls Shows goes holds s t count c.in-Some.ensures c.requires.left
     c.requires.right g.J.PairCursor.greatest c.args.key_path.now c.branches.key_path c.args.f.now
     c.branches.f
     takes.0 x y rest c.requires.meets here
@@ -229,13 +244,14 @@ branches-preserved-then-are_leaves g t c =
     let t = g.J.PairCursor.right c.args.at in
     let calls = g.J.OnCommonKey.calls in
     let Shows = g.J.OnCommonKey.Shows in
+    let goes = g.J.OnCommonKey.goes in
     let holds = g.J.PairCursor.holds in
     let count = c.in-Some.common in
     let x = g.J.PairCursor.left c.in-Some-next.below in
     let y = g.J.PairCursor.right c.in-Some-next.below in
     let rest = g.J.PairCursor.branches_left c.next.new.branches in
     let takes = c.in-Some-next.ensures.takes in
-    let here = subst (λ left. IsIntersection calls Shows holds s t count c.args.key_path.now
+    let here = subst (λ left. IsIntersection calls Shows goes holds s t count c.args.key_path.now
     c.args.f.now
     left c.branches.key_path c.branches.f) takes.1 c.branches.invariant.on_common_key in
     let all = common_children (next_children (behind_bytes count s))
@@ -243,9 +259,9 @@ branches-preserved-then-are_leaves g t c =
     let so_far = subst (λ left. EntersUpTo (behind_bytes count s) (behind_bytes count t) all left
     c.args.work.now c.branches.work) takes.1 c.branches.invariant.entered in
     record {
-      on_common_key = on_common_key-next calls Shows holds s t count c.in-Some.ensures
+      on_common_key = on_common_key-next calls Shows goes holds s t count c.in-Some.ensures
           c.requires.left
-          c.requires.right c.args.key_path.now c.branches.key_path c.intersect_leaves.new.key_path
+          c.requires.right g.J.OnCommonKey.told c.args.key_path.now c.branches.key_path c.intersect_leaves.new.key_path
           c.args.f.now
           c.branches.f c.intersect_leaves.new.f takes.0 x y rest here
           c.in_ok-intersect_leaves.ensures.met;
@@ -268,19 +284,21 @@ returns-in_err-intersect_leaves-clause-met g t c =
     let t = g.J.PairCursor.right c.args.at in
     let calls = g.J.OnCommonKey.calls in
     let Shows = g.J.OnCommonKey.Shows in
+    let goes = g.J.OnCommonKey.goes in
     let holds = g.J.PairCursor.holds in
     let count = c.in-Some.common in
     let x = g.J.PairCursor.left c.in-Some-next.below in
     let y = g.J.PairCursor.right c.in-Some-next.below in
     let rest = g.J.PairCursor.branches_left c.next.new.branches in
     let takes = c.in-Some-next.ensures.takes in
-    let here = subst (λ left. IsIntersection calls Shows holds s t count c.args.key_path.now
+    let here = subst (λ left. IsIntersection calls Shows goes holds s t count c.args.key_path.now
     c.args.f.now
     left c.branches.key_path c.branches.f) takes.1 c.branches.invariant.on_common_key in
-    have-refused calls Shows _ _ _ _ c.from_residual-in_err-intersect_leaves.result
-    c.from_residual-in_err-intersect_leaves.ensures.0
-    (on_common_key-refused calls Shows holds s t count c.in-Some.ensures c.requires.left
-    c.requires.right _ c.args.key_path.now c.branches.key_path c.intersect_leaves.new.key_path
+    have-ended calls Shows goes g.J.OnCommonKey.told _ _ _ _ c.from_residual-in_err-intersect_leaves.result
+    c.in_err-intersect_leaves.field-0.0 c.from_residual-in_err-intersect_leaves.ensures.0
+    c.from_residual-in_err-intersect_leaves.ensures.1
+    (on_common_key-ended calls Shows goes holds s t count c.in-Some.ensures c.requires.left
+    c.requires.right g.J.OnCommonKey.told _ c.args.key_path.now c.branches.key_path c.intersect_leaves.new.key_path
     c.args.f.now
     c.branches.f c.intersect_leaves.new.f takes.0 x y rest here
     c.in_err-intersect_leaves.ensures.met segments
@@ -293,13 +311,14 @@ returns-in_err-intersect_leaves-clause-enters g t c =
     let t = g.J.PairCursor.right c.args.at in
     let calls = g.J.OnCommonKey.calls in
     let Shows = g.J.OnCommonKey.Shows in
+    let goes = g.J.OnCommonKey.goes in
     let holds = g.J.PairCursor.holds in
     let count = c.in-Some.common in
     let x = g.J.PairCursor.left c.in-Some-next.below in
     let y = g.J.PairCursor.right c.in-Some-next.below in
     let rest = g.J.PairCursor.branches_left c.next.new.branches in
     let takes = c.in-Some-next.ensures.takes in
-    let here = subst (λ left. IsIntersection calls Shows holds s t count c.args.key_path.now
+    let here = subst (λ left. IsIntersection calls Shows goes holds s t count c.args.key_path.now
     c.args.f.now
     left c.branches.key_path c.branches.f) takes.1 c.branches.invariant.on_common_key in
     let all = common_children (next_children (behind_bytes count s))
@@ -318,19 +337,20 @@ intersect_below-requires g t c κs within =
     let t = g.J.PairCursor.right c.args.at in
     let calls = g.J.OnCommonKey.calls in
     let Shows = g.J.OnCommonKey.Shows in
+    let goes = g.J.OnCommonKey.goes in
     let holds = g.J.PairCursor.holds in
     let count = c.in-Some.common in
     let x = g.J.PairCursor.left c.in-Some-next.below in
     let y = g.J.PairCursor.right c.in-Some-next.below in
     let rest = g.J.PairCursor.branches_left c.next.new.branches in
     let takes = c.in-Some-next.ensures.takes in
-    let here = subst (λ left. IsIntersection calls Shows holds s t count c.args.key_path.now
+    let here = subst (λ left. IsIntersection calls Shows goes holds s t count c.args.key_path.now
     c.args.f.now
     left c.branches.key_path c.branches.f) takes.1 c.branches.invariant.on_common_key in
     let left = here.pairs.0.0 in
     let right = here.pairs.0.1 in
     let lower = step-lower s t count takes.0 x y c.in-Some.ensures left right in
-    let may = next-may calls Shows holds s t count c.in-Some.ensures c.requires.left
+    let may = next-may calls Shows goes holds s t count c.in-Some.ensures c.requires.left
     c.requires.right g.J.PairCursor.greatest c.args.key_path.now c.branches.key_path c.args.f.now
     c.branches.f
     takes.0 x y rest c.requires.meets here in (
@@ -344,8 +364,11 @@ intersect_below-requires g t c κs within =
             (
               within.1.1.1.0,
               (
-                within.1.1.1.1,
-                (left.tree, (right.tree, (c.in-Some-next.ensures.whole, may))),
+                within.1.1.1.1.0,
+                (
+                  within.1.1.1.1.1,
+                  (left.tree, (right.tree, (c.in-Some-next.ensures.whole, may))),
+                ),
               ),
             ),
           ),
@@ -359,13 +382,14 @@ branches-preserved g t c =
     let t = g.J.PairCursor.right c.args.at in
     let calls = g.J.OnCommonKey.calls in
     let Shows = g.J.OnCommonKey.Shows in
+    let goes = g.J.OnCommonKey.goes in
     let holds = g.J.PairCursor.holds in
     let count = c.in-Some.common in
     let x = g.J.PairCursor.left c.in-Some-next.below in
     let y = g.J.PairCursor.right c.in-Some-next.below in
     let rest = g.J.PairCursor.branches_left c.next.new.branches in
     let takes = c.in-Some-next.ensures.takes in
-    let here = subst (λ left. IsIntersection calls Shows holds s t count c.args.key_path.now
+    let here = subst (λ left. IsIntersection calls Shows goes holds s t count c.args.key_path.now
     c.args.f.now
     left c.branches.key_path c.branches.f) takes.1 c.branches.invariant.on_common_key in
     let all = common_children (next_children (behind_bytes count s))
@@ -373,9 +397,9 @@ branches-preserved g t c =
     let so_far = subst (λ left. EntersUpTo (behind_bytes count s) (behind_bytes count t) all left
     c.args.work.now c.branches.work) takes.1 c.branches.invariant.entered in
     record {
-      on_common_key = on_common_key-next calls Shows holds s t count c.in-Some.ensures
+      on_common_key = on_common_key-next calls Shows goes holds s t count c.in-Some.ensures
           c.requires.left
-          c.requires.right c.args.key_path.now c.branches.key_path c.intersect_below.new.key_path
+          c.requires.right g.J.OnCommonKey.told c.args.key_path.now c.branches.key_path c.intersect_below.new.key_path
           c.args.f.now
           c.branches.f c.intersect_below.new.f takes.0 x y rest here
           c.in_ok-intersect_below.ensures.met;
@@ -399,19 +423,21 @@ returns-in_err-intersect_below-clause-met g t c =
     let t = g.J.PairCursor.right c.args.at in
     let calls = g.J.OnCommonKey.calls in
     let Shows = g.J.OnCommonKey.Shows in
+    let goes = g.J.OnCommonKey.goes in
     let holds = g.J.PairCursor.holds in
     let count = c.in-Some.common in
     let x = g.J.PairCursor.left c.in-Some-next.below in
     let y = g.J.PairCursor.right c.in-Some-next.below in
     let rest = g.J.PairCursor.branches_left c.next.new.branches in
     let takes = c.in-Some-next.ensures.takes in
-    let here = subst (λ left. IsIntersection calls Shows holds s t count c.args.key_path.now
+    let here = subst (λ left. IsIntersection calls Shows goes holds s t count c.args.key_path.now
     c.args.f.now
     left c.branches.key_path c.branches.f) takes.1 c.branches.invariant.on_common_key in
-    have-refused calls Shows _ _ _ _ c.from_residual-in_err-intersect_below.result
-    c.from_residual-in_err-intersect_below.ensures.0
-    (on_common_key-refused calls Shows holds s t count c.in-Some.ensures c.requires.left
-    c.requires.right _ c.args.key_path.now c.branches.key_path c.intersect_below.new.key_path
+    have-ended calls Shows goes g.J.OnCommonKey.told _ _ _ _ c.from_residual-in_err-intersect_below.result
+    c.in_err-intersect_below.field-0.0 c.from_residual-in_err-intersect_below.ensures.0
+    c.from_residual-in_err-intersect_below.ensures.1
+    (on_common_key-ended calls Shows goes holds s t count c.in-Some.ensures c.requires.left
+    c.requires.right g.J.OnCommonKey.told _ c.args.key_path.now c.branches.key_path c.intersect_below.new.key_path
     c.args.f.now
     c.branches.f c.intersect_below.new.f takes.0 x y rest here c.in_err-intersect_below.ensures.met
     segments
@@ -423,13 +449,14 @@ returns-in_err-intersect_below-clause-enters g t c =
     let t = g.J.PairCursor.right c.args.at in
     let calls = g.J.OnCommonKey.calls in
     let Shows = g.J.OnCommonKey.Shows in
+    let goes = g.J.OnCommonKey.goes in
     let holds = g.J.PairCursor.holds in
     let count = c.in-Some.common in
     let x = g.J.PairCursor.left c.in-Some-next.below in
     let y = g.J.PairCursor.right c.in-Some-next.below in
     let rest = g.J.PairCursor.branches_left c.next.new.branches in
     let takes = c.in-Some-next.ensures.takes in
-    let here = subst (λ left. IsIntersection calls Shows holds s t count c.args.key_path.now
+    let here = subst (λ left. IsIntersection calls Shows goes holds s t count c.args.key_path.now
     c.args.f.now
     left c.branches.key_path c.branches.f) takes.1 c.branches.invariant.on_common_key in
     let all = common_children (next_children (behind_bytes count s))
@@ -465,13 +492,9 @@ returns-in_default-clause-least g t c =
     least-apart (g.J.PairCursor.left c.args.at) (g.J.PairCursor.right c.args.at) c.in_default.ensures
     c.args.work.now
 
-pub returns-in_err-push-clause-least : goal.returns-in_err-push-clause-least
-returns-in_err-push-clause-least g t c =
-    least-refused _ c.from_residual.result c.from_residual.ensures.0
-
 pub returns-in_err-meet-clause-least : goal.returns-in_err-meet-clause-least
 returns-in_err-meet-clause-least g t c =
-    least-refused _ c.from_residual-in_err-meet.result c.from_residual-in_err-meet.ensures.0
+    least-refused _ c.from_residual.result c.from_residual.ensures.0
 
 pub returns-in_err-intersect_leaves-clause-least :
     goal.returns-in_err-intersect_leaves-clause-least

@@ -4,7 +4,7 @@ use Rattle.rart_lockstep.specs.Children.{common_children}
 use Rattle.rart_lockstep.specs.PairCursors.{CommonBytes}
 use Rattle.rart_lockstep.specs.TreeCursors.{behind_bytes, next_children, children_next}
 use Rattle.rart_lockstep.proofs.EnterLemmas.{EntersUpTo}
-use Rattle.rart_lockstep.proofs.LeastLemmas.{EntersLeast}
+use Rattle.rart_lockstep.proofs.LeastCountLemmas.{EntersLeast}
 use Rattle.rart_lockstep.proofs.LockstepLemmas.{IsIntersection}
 use Rattle.rart_lockstep.proofs.+intersect_below.Given as goal
 
@@ -19,7 +19,8 @@ invariant-branches g l =
     let left = g.J.PairCursor.branches_left l.branches in
     record {
       on_common_key :
-          IsIntersection g.J.OnCommonKey.calls g.J.OnCommonKey.Shows g.J.PairCursor.holds s t
+          IsIntersection g.J.OnCommonKey.calls g.J.OnCommonKey.Shows g.J.OnCommonKey.goes
+          g.J.PairCursor.holds s t
           l.common l.fn.key_path
           l.fn.f left l.key_path l.f;
       entered : EntersUpTo (behind_bytes l.common s) (behind_bytes l.common t)

@@ -6,14 +6,15 @@ ghost use Rattle.std.specs.Ordering.{as_partial_cmp};
 ghost use Rattle.std.specs.Range.Bound.{bound_map, is_up_to_end};
 ghost use Rattle.rart_below.specs.Bytes.{byte_order};
 ghost use Rattle.rart_maps.specs.FoundLaws.{KeysAscend};
-ghost use Rattle.rart_maps.specs.Visits.{ByView, Visitable, Visits};
+ghost use Rattle.rart_maps.specs.Visits.{ByView, Visitable, VisitableUntil, Visits, VisitsUntil};
 ghost use Rattle.rart_node.specs.Counts.{CountsUpTo};
+ghost use Rattle.rart_walks.specs.Ends.{Ends, EntersUpTo};
 ghost use Rattle.rart_walks.specs.Visited.{pairs_up_to};
 ghost use Rattle.rart_walks.specs.WalkFields.{at_hand, cursor, IsWalk};
 ghost use Rattle.rart_node.specs.KeyPaths.{HoldsSegments, extent_in_segments};
 
 use crate::walk::Walk;
-use rart_below::{LendingKeyView, Partial};
+use rart_below::{LendingKeyView, Partial, Refusal, VisitControl};
 use rart_node::{SegmentsPath, Work};
 use std::alloc::AllocError;
 use std::cmp::Ordering;
@@ -42,6 +43,43 @@ pub fn visit_views<'a, P: Partial, V: Drop, F: FnMut(LendingKeyView<'_, '_>, &V)
         f(view_of(walk.key_path()), value);
     }
     Ok(())
+}
+
+/// As `visit_views`, up to the first pair on which the closure answers `Stop` or an error. Its error
+/// is answered as `Refusal::Callback`. It enters no node behind the one of that pair.
+///
+/// Refused for memory, the answer is `Refusal::Memory`: it has called the closure on a prefix of
+/// the pairs, and each time the closure answered `Continue`.
+pub fn visit_views_until<
+    'a,
+    P: Partial,
+    V: Drop,
+    E: Drop,
+    F: FnMut(LendingKeyView<'_, '_>, &V) -> Result<VisitControl, E>,
+>(mut walk: Walk<'a, P, V, SegmentsPath<'a>>, f: &mut F, work: &mut Work) -> Result<(), Refusal<E>>
+    requires walk { IsWalk HoldsSegments extent_in_segments (Some (2 ^ 64 - 1)) walk }
+    requires visitable { VisitableUntil F.FnMut ByView f.old (cursor walk).pairs }
+    ensures visits { VisitsUntil F.FnMut ByView result f.old (cursor walk.entry).pairs f.new }
+    ensures counted { CountsUpTo (length (cursor walk.entry).paths) 0 work.old work.new }
+    ensures ends { let left = cursor walk.entry in
+        let through = work.old.entered + length left.pairs
+        ≤ work.new.entered + at_hand walk.entry in
+        let ended = EntersUpTo left.paths (at_hand walk.entry) work.old work.new in
+        Ends F.FnMut ByView through ended result f.old left.pairs f.new }
+{
+    'visiting: loop {
+        let value = match walk.next_node(work) {
+            Ok(Some(Some(value))) => value,
+            Ok(Some(None)) => continue 'visiting,
+            Ok(None) => return Ok(()),
+            Err(refused) => return Err(Refusal::Memory(refused)),
+        };
+        match f(view_of(walk.key_path()), value) {
+            Ok(VisitControl::Continue) => {}
+            Ok(VisitControl::Stop) => return Ok(()),
+            Err(error) => return Err(Refusal::Callback(error)),
+        }
+    }
 }
 
 /// As `visit_views`, for the pairs up to an upper bound. It ends at the first node past that, with

@@ -1,12 +1,14 @@
-use Rattle.std.proofs.Common.{◌∷◌, [], ◌++◌, take, refl, sym, subst, Ok}
+use Rattle.std.proofs.Common.{◌∷◌, [], ◌++◌, take, refl, sym, subst}
 use Rattle.std.specs.List.{concat}
-use Rattle.rart_maps.specs.Visits.{Visits, VisitFront, Visitable}
+use Rattle.rart_maps.specs.Visits.{Answers, CallableInTurn}
 use Rattle.rart_maps.proofs.VisitLemmas.{up_to-start}
 use Rattle.rart_node.specs.Shape.{prefix_of}
+use Rattle.rart_lockstep.specs.CommonPairs.{common_pairs}
+use Rattle.rart_lockstep.specs.Endings.{LeavesBy}
 use Rattle.rart_lockstep.specs.Entries.{entry_here, behind_key}
 use Rattle.rart_lockstep.proofs.PairLeafLemmas.{same-common, leaves-apart, leaves-met}
-use Rattle.rart_lockstep.proofs.LockstepLemmas.{here-visitable, here-refused, push-admits}
-use Rattle.rart_lockstep.proofs.IntersectionLemmas.{have-refused}
+use Rattle.rart_lockstep.proofs.LockstepLemmas.{here-visitable, here-ended, push-admits}
+use Rattle.rart_lockstep.proofs.EndingLemmas.{have-ended}
 use Rattle.rart_lockstep.proofs.PairStepLemmas.{count-left, count-right}
 use Rattle.rart_lockstep.proofs.leaves.intersect_leaves.Goals as goal
 
@@ -16,10 +18,11 @@ returns-in_default-clause-met g c =
     let t = g.J.PairCursor.right c.args.at in
     let calls = g.J.OnCommonKey.calls in
     let Shows = g.J.OnCommonKey.Shows in
+    let goes = g.J.OnCommonKey.goes in
     let none = leaves-apart s t c.requires.left c.requires.left_leaf c.requires.right_leaf
     c.in_default.ensures in
     λ segments holds. (
-      subst (λ entries. Visits calls Shows (Ok tt) c.args.f.now
+      subst (λ entries. Answers calls Shows goes c.args.f.now
           (behind_key (concat segments) entries) c.args.f.now) (sym none) refl,
       holds,
     )
@@ -39,13 +42,18 @@ push-requires-clause-short g c =
           c.requires.left may.2,
     )
 
-pub returns-in_err-push-clause-met : goal.returns-in_err-push-clause-met
-returns-in_err-push-clause-met g c =
+pub returns-in-Err-clause-met : goal.returns-in-Err-clause-met
+returns-in-Err-clause-met g c =
     λ segments holds.
     let calls = g.J.OnCommonKey.calls in
     let Shows = g.J.OnCommonKey.Shows in
-    have-refused calls Shows _ _ _ _ c.from_residual.result c.from_residual.ensures.0
-    (_, up_to-start calls Shows tt _ _)
+    let goes = g.J.OnCommonKey.goes in
+    let all = behind_key (concat segments)
+    (common_pairs (g.J.PairCursor.left c.args.at) (g.J.PairCursor.right c.args.at)) in (
+      subst (λ by. LeavesBy calls Shows goes by c.args.f.now all c.args.f.now)
+          (sym c.refused.ensures) (all, up_to-start calls Shows goes c.args.f.now all),
+      tt,
+    )
 
 pub behind-next-requires-clause-left_inside : goal.behind-next-requires-clause-left_inside
 behind-next-requires-clause-left_inside g c =
@@ -65,19 +73,20 @@ meet-requires g c =
     let t = g.J.PairCursor.right c.args.at in
     let calls = g.J.OnCommonKey.calls in
     let Shows = g.J.OnCommonKey.Shows in
+    let goes = g.J.OnCommonKey.goes in
     let may = c.requires.meets in
     let start = take c.in-Some.common (prefix_of s) in
     let path = concat (may.0 ++ start ∷ []) in
     let next = c.behind-next.ensures in
     let common = same-common s t c.in-Some.common c.in-Some.ensures in
-    let here = here-visitable calls Shows g.J.PairCursor.holds s t c.in-Some.common common
+    let here = here-visitable calls Shows goes g.J.PairCursor.holds s t c.in-Some.common common
     c.requires.left c.requires.right may.0 _ may.3 in
     record {
       visitable = (
         may.0 ++ start ∷ [],
-        c.in_ok-push.ensures.keeps may.0 may.1,
+        c.in-Ok.ensures.keeps may.0 may.1,
         push-admits g.J.PairCursor.greatest may.0 s _ c.requires.left may.2,
-        subst (Visitable calls Shows c.args.f.now)
+        subst (CallableInTurn calls Shows goes c.args.f.now)
             (λ i. entry_here path (sym next.left i) (sym next.right i)) here,
       );
     }
@@ -89,18 +98,22 @@ returns-in_err-meet-clause-met g c =
     let t = g.J.PairCursor.right c.args.at in
     let calls = g.J.OnCommonKey.calls in
     let Shows = g.J.OnCommonKey.Shows in
+    let goes = g.J.OnCommonKey.goes in
+    let told = g.J.OnCommonKey.told in
+    let broken = c.in_err-meet.field-0.0 in
     let start = take c.in-Some.common (prefix_of s) in
     let path = concat (segments ++ start ∷ []) in
     let next = c.behind-next.ensures in
     let common = same-common s t c.in-Some.common c.in-Some.ensures in
-    let front = c.in_err-meet.ensures.visits (segments ++ start ∷ [])
-    (c.in_ok-push.ensures.keeps segments holds) in
-    let here = subst (λ entries. VisitFront calls Shows c.args.f.now entries c.meet.new.f)
-    (λ i. entry_here path (next.left i) (next.right i)) front in
-    have-refused calls Shows _ _ _ _ c.from_residual-in_err-meet.result
-    c.from_residual-in_err-meet.ensures.0
-    (here-refused calls Shows g.J.PairCursor.holds s t c.in-Some.common common
-    c.requires.left c.requires.right segments _ _ here)
+    let ends = c.in_err-meet.ensures.visits (segments ++ start ∷ [])
+    (c.in-Ok.ensures.keeps segments holds) in
+    let here = subst
+    (λ entries. LeavesBy calls Shows goes (told broken) c.args.f.now entries c.meet.new.f)
+    (λ i. entry_here path (next.left i) (next.right i)) ends in
+    have-ended calls Shows goes told _ _ _ _ c.from_residual.result broken
+    c.from_residual.ensures.0 c.from_residual.ensures.1
+    (here-ended calls Shows goes g.J.PairCursor.holds s t c.in-Some.common common
+    c.requires.left c.requires.right (told broken) segments _ _ here)
 
 pub pop-requires-clause-inside : goal.pop-requires-clause-inside
 pop-requires-clause-inside g c =
@@ -110,7 +123,7 @@ pop-requires-clause-inside g c =
 
 pub pop-requires-clause-kept : goal.pop-requires-clause-kept
 pop-requires-clause-kept g c =
-    let may = c.requires.meets in (may.0, c.in_ok-push.ensures.keeps may.0 may.1)
+    let may = c.requires.meets in (may.0, c.in-Ok.ensures.keeps may.0 may.1)
 
 pub returns-clause-met : goal.returns-clause-met
 returns-clause-met g c =
@@ -119,16 +132,17 @@ returns-clause-met g c =
     let t = g.J.PairCursor.right c.args.at in
     let calls = g.J.OnCommonKey.calls in
     let Shows = g.J.OnCommonKey.Shows in
+    let goes = g.J.OnCommonKey.goes in
     let start = take c.in-Some.common (prefix_of s) in
     let next = c.behind-next.ensures in (
-      leaves-met s t c.requires.left c.requires.left_leaf c.requires.right_leaf calls Shows
+      leaves-met s t c.requires.left c.requires.left_leaf c.requires.right_leaf calls Shows goes
           g.J.PairCursor.holds c.in-Some.common c.in-Some.ensures c.requires.right _ _ _ _
-          c.in_ok-push.ensures.keeps
+          c.in-Ok.ensures.keeps
           (λ segments holds.
-          subst (λ entries. Visits calls Shows (Ok tt) c.args.f.now entries c.meet.new.f)
+          subst (λ entries. Answers calls Shows goes c.args.f.now entries c.meet.new.f)
           (λ i. entry_here (concat (segments ++ start ∷ [])) (next.left i) (next.right i))
           (c.in_ok-meet.ensures.visits (segments ++ start ∷ [])
-          (c.in_ok-push.ensures.keeps segments holds)))
+          (c.in-Ok.ensures.keeps segments holds)))
           segments holds,
-      c.pop.ensures segments (c.in_ok-push.ensures.keeps segments holds),
+      c.pop.ensures segments (c.in-Ok.ensures.keeps segments holds),
     )

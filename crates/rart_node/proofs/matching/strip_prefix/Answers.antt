@@ -1,6 +1,6 @@
 use Rattle.std.proofs.Common.{◌≡◌, Some, drop, length, true, ap, sym, ◌∙◌}
 use Rattle.rart_below.specs.Bytes.{begins}
-use Rattle.rart_node.proofs.PrefixLemmas.{begins-within, strip_prefix-begun, strip_prefix-other}
+use Rattle.rart_node.proofs.PrefixRestLemmas.{begins-within, strip_prefix-begun, strip_prefix-other}
 use Rattle.rart_node.proofs.matching.strip_prefix.Goals as goal
 
 pub returns-then-not-does_begin : goal.returns-then-not-does_begin

@@ -3,7 +3,7 @@ use Rattle.std.specs.Option.{option_copied}
 use Rattle.std.specs.Vec.{vec_len}
 use Rattle.rart_walks.specs.BackFields.{open_back}
 use Rattle.rart_walks.proofs.BackLemmas.{same-segments, took-child, took-own, took-nothing}
-use Rattle.rart_walks.proofs.LastLemmas.{ends-with, map-push}
+use Rattle.rart_walks.proofs.LastElementLemmas.{ends-with, map-push}
 use Rattle.rart_walks.proofs.walk_back.take_last.Goals as goal
 
 pub returns-in-Some-clause-segments : goal.returns-in-Some-clause-segments

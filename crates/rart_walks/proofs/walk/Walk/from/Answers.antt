@@ -7,7 +7,7 @@ use Rattle.rart_node.specs.Trees.{pairs_of}
 use Rattle.rart_node.proofs.CountingLemmas.{counts-most, path-most}
 use Rattle.rart_walks.specs.declared.walk.path.Part.TheVariants.{From}
 use Rattle.rart_node.proofs.GatherLemmas.{keeping-same}
-use Rattle.rart_walks.proofs.PartLemmas.{keeps-itself}
+use Rattle.rart_walks.proofs.PartTestLemmas.{keeps-itself}
 use Rattle.rart_walks.proofs.walk.Walk.from.Goals as goal
 
 pub returns-in-Included : goal.returns-in-Included

@@ -5,7 +5,7 @@ use Rattle.std.proofs.lemmas.Result.{IfOk-from_err}
 use Rattle.rart_below.specs.Bytes.{common_length}
 use Rattle.rart_node.specs.Shape.{Shape, prefix_of}
 use Rattle.rart_node.proofs.FindLemmas.{ascending, ordered}
-use Rattle.rart_node.proofs.PrefixLemmas.{common_fits}
+use Rattle.rart_node.proofs.PrefixRestLemmas.{common_fits}
 use Rattle.rart_walks.specs.Frames.{with_rest}
 use Rattle.rart_walks.specs.WalkFields.{nodes_open, open_nodes}
 use Rattle.rart_walks.specs.Parts.{reaches}

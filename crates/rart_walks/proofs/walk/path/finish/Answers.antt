@@ -4,7 +4,7 @@ use Rattle.std.specs.List.{concat}
 use Rattle.rart_node.specs.Shape.{prefix_of}
 use Rattle.std.proofs.lemmas.Result.{on_ok_weaker}
 use Rattle.rart_node.specs.Trees.{pairs_of}
-use Rattle.rart_node.proofs.PrefixLemmas.{common_fits}
+use Rattle.rart_node.proofs.PrefixRestLemmas.{common_fits}
 use Rattle.rart_walks.specs.Frames.{behind_path, under_path, pairs_inside}
 use Rattle.rart_walks.specs.WalkFields.{cursor}
 use Rattle.rart_walks.specs.Parts.{is_strict, goes_on}

@@ -5,7 +5,7 @@ use Rattle.rart_below.specs.Bytes.{common_length}
 use Rattle.rart_below.specs.Children.{child_at, children_below}
 use Rattle.rart_node.specs.Shape.{prefix_of, value_of, children_of}
 use Rattle.rart_node.specs.Trees.{pairs_of}
-use Rattle.rart_node.proofs.PrefixLemmas.{common_fits}
+use Rattle.rart_node.proofs.PrefixRestLemmas.{common_fits}
 use Rattle.rart_node.proofs.SearchLemmas.{IsSearchAt, search-child, search-counted, search-entered, search-lower}
 use Rattle.rart_walks.specs.BackFields.{open_back}
 use Rattle.rart_walks.specs.BackFrames.{back_segments}

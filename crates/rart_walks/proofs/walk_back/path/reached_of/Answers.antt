@@ -1,7 +1,7 @@
 use Rattle.std.proofs.Common.{◌≡◌, ◌<◌, ◌≤◌, true, false, length, arith, sym, ap, subst, ◌∙◌}
 use Rattle.std.specs.Prelude.{◌==◌, slice_index_or}
 use Rattle.rart_node.specs.Shape.{prefix_of}
-use Rattle.rart_node.proofs.PrefixLemmas.{common_fits}
+use Rattle.rart_node.proofs.PrefixRestLemmas.{common_fits}
 use Rattle.rart_walks.specs.Fronts.{at_end_of, has_lower, reached_pairs, reached_paths}
 use Rattle.rart_walks.proofs.BackPartLemmas.{end-pairs, end-paths, parts-all, parts-lacks, parts-none}
 use Rattle.rart_node.proofs.PartingLemmas.{common-front, parts-at}

@@ -1,8 +1,0 @@
-use Rattle.std.proofs.Common.{of_calls, refl, ap, ◌∙◌}
-use Rattle.std.specs.List.{concat}
-use Rattle.rart_lockstep.proofs.views.ViewsPathIntersectionPath.meet.Goals as goal
-
-pub returns-clause-called : goal.returns-clause-called
-returns-clause-called g c = λ segments holds.
-    let key = c.new-key.ensures ∙ ap concat (c.segments.ensures ∙ holds) in
-    ((c.new-key.result, (c.args.left, (c.args.right, tt))), search (of_calls), (key, refl, refl))

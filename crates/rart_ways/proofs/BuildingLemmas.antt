@@ -12,7 +12,7 @@ use Rattle.rart_node.specs.Shape.{Shape, Forest, node, grown, entries_of, is_ful
 use Rattle.rart_node.specs.Trees.{BeginsWith, AreBranches, IsTree, pairs_of, pairs_below}
 use Rattle.rart_node.proofs.InsertionLemmas.{forest_of-entries_of}
 use Rattle.rart_ways.specs.Runs.{AllBegin, EndsBesides, run_from, runs}
-use Rattle.rart_ways.proofs.RunLemmas.{AllUnder, all-some, front-under, not_full, run-below, run-split, runs-split, sorted-back, sorted-front, under-front}
+use Rattle.rart_ways.proofs.AscendingRunLemmas.{AllUnder, all-some, front-under, not_full, run-below, run-split, runs-split, sorted-back, sorted-front, under-front}
 
 -- the children where one more is put below those that are there
 added-below : {V : Type 0} (prefix : List ℕ) (value : Option V) (width byte : ℕ) (child : Shape V)

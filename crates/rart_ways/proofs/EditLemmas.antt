@@ -9,7 +9,7 @@ use Rattle.rart_node.specs.Shape.{Shape, prefix_of, value_of, children_of, with_
 use Rattle.rart_ways.specs.Plans.{GoesOn, Removes, RemovesBelow, value_under}
 use Rattle.rart_ways.specs.declared.removal.edit.Edit.{Edit}
 use Rattle.rart_node.specs.Trees.{strip_prefix, found, IsTree, IsTaken}
-use Rattle.rart_node.proofs.PrefixLemmas.{strip_prefix-is, strip_prefix-own}
+use Rattle.rart_node.proofs.PrefixRestLemmas.{strip_prefix-is, strip_prefix-own}
 use Rattle.rart_node.proofs.MatchLemmas.{found-deeper}
 use Rattle.rart_node.proofs.FindLemmas.{IsBranch, branch, ordered}
 use Rattle.rart_node.proofs.InsertionLemmas.{replaced-same}

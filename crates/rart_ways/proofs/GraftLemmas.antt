@@ -17,7 +17,7 @@ use Rattle.rart_node.specs.Trees.{strip_prefix, BeginsWith, found, found_below, 
 use Rattle.rart_node.proofs.FindLemmas.{found-below, branch, ordered, ascending}
 use Rattle.rart_node.proofs.InsertionLemmas.{inside, in-child, ascending-with, branches-with, fork-with, forest_of-entries_of}
 use Rattle.rart_node.proofs.OnlyChildLemmas.{merged-found, merged-tree, merged-first}
-use Rattle.rart_node.proofs.PrefixLemmas.{behind-append, first-parts}
+use Rattle.rart_node.proofs.PrefixRestLemmas.{behind-append, first-parts}
 use Rattle.rart_ways.specs.Grafts.{graft, graft_at}
 use Rattle.rart_ways.specs.Paths.{first_byte, step, path_end}
 use Rattle.rart_ways.specs.Prefixes.{IsGrafted, IsCleared, IsWithoutChild, StandsUnder, under_or}
@@ -25,7 +25,7 @@ use Rattle.rart_ways.specs.Removals.{AreAdmitted}
 use Rattle.rart_ways.proofs.LentPathLemmas.{is-step, front-there}
 use Rattle.rart_ways.proofs.LookupPathLemmas.{back-is}
 use Rattle.rart_ways.proofs.PlanLemmas.{forks}
-use Rattle.rart_ways.proofs.PrefixLemmas.{strip-begins, step-above, not-begun}
+use Rattle.rart_ways.proofs.UnderPrefixLemmas.{strip-begins, step-above, not-begun}
 use Rattle.rart_ways.proofs.RemovalLemmas.{branches-without, child_at-without, fork-is, one-less, admitted-child}
 
 module _ {V : Type 0} where

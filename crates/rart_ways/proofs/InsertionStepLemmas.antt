@@ -8,9 +8,9 @@ use Rattle.std.specs.Option.{option_and_then, OnSome}
 use Rattle.rart_node.specs.Counts.{Counts, CountsUpTo}
 use Rattle.rart_node.specs.Shape.{Shape, node, widenings, prefix_of, children_of, value_of, with_replaced}
 use Rattle.rart_node.specs.Trees.{BeginsWith, found, IsTree, IsPut, Puts, cut_at, ending, path_bound}
-use Rattle.rart_node.proofs.PrefixLemmas.{strip_prefix-own, split-common, split-whole, common-within, common-long, begins-first, begins-long, no-first, first-parts}
+use Rattle.rart_node.proofs.PrefixRestLemmas.{strip_prefix-own, split-common, split-whole, common-within, common-long, begins-first, begins-long, no-first, first-parts}
 use Rattle.rart_node.proofs.CountingLemmas.{path-step, path-one, counts-opened, counts-then, counts-below, ending-most}
-use Rattle.rart_ways.proofs.CutLemmas.{cut-found}
+use Rattle.rart_ways.proofs.CutNodeLemmas.{cut-found}
 use Rattle.rart_node.proofs.FindLemmas.{found-below, found-child, branch, ordered, IsBranch}
 use Rattle.rart_node.proofs.InsertionLemmas.{put-below, replaced-same}
 

@@ -5,7 +5,7 @@ use Rattle.std.proofs.lemmas.Option.{none-some, same_Some}
 use Rattle.rart_below.specs.Children.{child_at}
 use Rattle.rart_node.specs.Shape.{Shape, prefix_of, value_of, children_of}
 use Rattle.rart_node.specs.Trees.{strip_prefix, found}
-use Rattle.rart_node.proofs.PrefixLemmas.{no-first, strip_prefix-is, strip_prefix-whole}
+use Rattle.rart_node.proofs.PrefixRestLemmas.{no-first, strip_prefix-is, strip_prefix-whole}
 use Rattle.rart_ways.specs.Paths.{first_byte, step, path_end}
 use Rattle.rart_ways.specs.Plans.{GoesOn, IsAbove, IsLeafAt, Removes, RemovesBelow}
 use Rattle.rart_ways.specs.Steps.{child_under}

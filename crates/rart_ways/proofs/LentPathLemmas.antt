@@ -13,10 +13,10 @@ use Rattle.rart_ways.specs.Grafts.{graft, graft_at}
 use Rattle.rart_ways.specs.Paths.{first_byte, child_along, step, path_end, Arrives}
 use Rattle.rart_ways.proofs.LookupPathLemmas.{path_end-add}
 use Rattle.rart_node.specs.Trees.{strip_prefix, found, IsTree, IsPut}
-use Rattle.rart_node.proofs.PrefixLemmas.{strip_prefix-short, strip_prefix-whole, strip_prefix-is, first-parts, common-within, begins-long, begins-first}
+use Rattle.rart_node.proofs.PrefixRestLemmas.{strip_prefix-short, strip_prefix-whole, strip_prefix-is, first-parts, common-within, begins-long, begins-first}
 use Rattle.rart_node.proofs.FindLemmas.{found-child, branch, ordered}
 use Rattle.rart_node.proofs.InsertionLemmas.{put-below, put-end, replaced-same}
-use Rattle.rart_node.proofs.PrefixLemmas.{split-whole}
+use Rattle.rart_node.proofs.PrefixRestLemmas.{split-whole}
 
 -- something that is there
 pub IsSome-Some : {A : Type 0} (o : Option A) → IsSome o → (a : A) × (o ≡ Some a)

@@ -1,7 +1,7 @@
-pub mod BackLemmas
+pub mod LastUpToLemmas
 pub mod BesideLemmas
 pub mod BuildingLemmas
-pub mod CutLemmas
+pub mod CutNodeLemmas
 pub mod EditLemmas
 pub mod FromLemmas
 pub mod GraftLemmas
@@ -11,12 +11,12 @@ pub mod LastLemmas
 pub mod LeastLemmas
 pub mod LentPathLemmas
 pub mod LookupPathLemmas
-pub mod PartLemmas
+pub mod PutPartLemmas
 pub mod NodeRunLemmas
 pub mod PlanLemmas
-pub mod PrefixLemmas
+pub mod UnderPrefixLemmas
 pub mod RemovalLemmas
-pub mod RunLemmas
+pub mod AscendingRunLemmas
 pub mod RunPlaceLemmas
 pub mod SeekStartLemmas
 pub mod SeekStepLemmas

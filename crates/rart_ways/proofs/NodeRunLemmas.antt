@@ -12,7 +12,7 @@ use Rattle.rart_node.specs.Trees.{BeginsWith, IsTree, is_key_or_fork, pairs_of, 
 use Rattle.rart_node.proofs.PairOrderLemmas.{sorted-behind}
 use Rattle.rart_ways.specs.Paths.{first_byte}
 use Rattle.rart_ways.specs.Runs.{AllBegin, AllLong, last_key, run_from, runs, shared}
-use Rattle.rart_ways.proofs.RunLemmas.{AllSome, AllUnder, behind-shared, cut, long-less, long-under, put_behind, run-split, tail-sorted, under-front, runs-one, runs-some, shared-begins, shared-stops, some-later, under-none}
+use Rattle.rart_ways.proofs.AscendingRunLemmas.{AllSome, AllUnder, behind-shared, cut, long-less, long-under, put_behind, run-split, tail-sorted, under-front, runs-one, runs-some, shared-begins, shared-stops, some-later, under-none}
 use Rattle.rart_ways.proofs.RunPlaceLemmas.{cons-at, long-at, run-at, run-none}
 use Rattle.rart_ways.proofs.BuildingLemmas.{Building}
 

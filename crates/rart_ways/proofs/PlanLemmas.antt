@@ -13,7 +13,7 @@ use Rattle.rart_ways.specs.Removals.{AreAdmitted, IsTakenOr, CountsLeaving}
 use Rattle.rart_node.specs.Counts.{Counts, CountsUpTo}
 use Rattle.rart_ways.specs.declared.removal.edit.Edit.TheVariants.{Take, Prune, Replace}
 use Rattle.rart_node.specs.Trees.{strip_prefix, found, IsTree, IsTaken}
-use Rattle.rart_node.proofs.PrefixLemmas.{strip_prefix-own, strip_prefix-is}
+use Rattle.rart_node.proofs.PrefixRestLemmas.{strip_prefix-own, strip_prefix-is}
 use Rattle.rart_node.proofs.MatchLemmas.{found-here}
 use Rattle.rart_node.proofs.FindLemmas.{ascending, ordered}
 use Rattle.rart_ways.proofs.EditLemmas.{found-below-is}

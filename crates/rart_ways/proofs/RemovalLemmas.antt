@@ -18,7 +18,7 @@ use Rattle.rart_below.proofs.AscendingLemmas.{ascending-with_child, ascending-wh
 use Rattle.rart_node.specs.Shape.{Shape, Forest, node, bare, grown, prefix_of, value_of, children_of, entries_of, forest_of, with_value, with_deleted, with_replaced, HasOnly, merged, IsAscending, entries_of-forest_of}
 use Rattle.rart_ways.specs.Removals.{AreAdmitted}
 use Rattle.rart_node.specs.Trees.{strip_prefix, BeginsWith, found, found_below, is_key_or_fork, IsTree, IsOrdered, AreBranches, IsTaken}
-use Rattle.rart_node.proofs.PrefixLemmas.{strip_prefix-own, strip_prefix-is, eqb-sym}
+use Rattle.rart_node.proofs.PrefixRestLemmas.{strip_prefix-own, strip_prefix-is, eqb-sym}
 use Rattle.rart_node.proofs.FindLemmas.{found-below, branch, ordered, IsBranch}
 use Rattle.rart_node.proofs.KeyLemmas.{tree-has-key}
 use Rattle.rart_node.proofs.OnlyChildLemmas.{merged-found, merged-tree, merged-first}

@@ -4,9 +4,9 @@ use Rattle.std.specs.Prelude.{slice_index_or}
 use Rattle.std.proofs.lemmas.List.{drop_all, drop_more, get_or-take, length-drop, length-map, length-take, length-take-le}
 use Rattle.rart_below.specs.Bytes.{common_length}
 use Rattle.rart_node.specs.Trees.{BeginsWith}
-use Rattle.rart_node.proofs.PrefixLemmas.{begins-drop}
+use Rattle.rart_node.proofs.PrefixRestLemmas.{begins-drop}
 use Rattle.rart_ways.specs.Runs.{AllBegin, AllLong, EndsBesides, last_key, run_from, runs, shared}
-use Rattle.rart_ways.proofs.RunLemmas.{AllSome, run-split, runs-split}
+use Rattle.rart_ways.proofs.AscendingRunLemmas.{AllSome, run-split, runs-split}
 
 two-first : (b c : ℕ) (w : List ℕ) → BeginsWith b w → BeginsWith c w → b ≡ c
 two-first b c [] first second = absurd first

@@ -11,7 +11,7 @@ use Rattle.rart_node.specs.Shape.{Shape, height, prefix_of, value_of, children_o
 use Rattle.rart_ways.specs.Searches.{EntersEach}
 use Rattle.rart_ways.specs.Steps.{child_under}
 use Rattle.rart_node.specs.Trees.{strip_prefix, found, IsTree, own_pair, path_bound}
-use Rattle.rart_node.proofs.PrefixLemmas.{strip_prefix-is}
+use Rattle.rart_node.proofs.PrefixRestLemmas.{strip_prefix-is}
 use Rattle.rart_node.proofs.SearchLemmas.{IsSearchAt, search-counted, search-entered, search-left, search-here, search-missing, search-lower, search-child}
 use Rattle.rart_node.specs.PairsBehind.{behind_path, pending_pair}
 use Rattle.rart_node.proofs.PrefixMatchLemmas.{matches_of, matches_at, matches_of-left, matches_of-end, matches_of-deeper}

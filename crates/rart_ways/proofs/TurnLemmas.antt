@@ -8,7 +8,7 @@ use Rattle.rart_node.specs.Shape.{Shape, Forest, node, bare, grown, prefix_of, c
 use Rattle.rart_ways.specs.Starts.{IsStart, StartAt, AreTurns, IsDeep, start_length}
 use Rattle.rart_node.specs.Trees.{IsTree, AreBranches, pairs_of}
 use Rattle.rart_node.proofs.CountingLemmas.{counts-then, counts-none_made}
-use Rattle.rart_node.proofs.PrefixLemmas.{begins-long}
+use Rattle.rart_node.proofs.PrefixRestLemmas.{begins-long}
 use Rattle.rart_node.specs.PairsBehind.{behind_path, pairs_of_all, AreShort}
 use Rattle.rart_node.proofs.BehindLemmas.{behind-append, short-front}
 

@@ -1,11 +1,12 @@
 -- What stands under a prefix in a tree, alone and in the place of something else.
-use Rattle.std.specs.Prelude.{◌≡◌, ◌+◌, ◌≤◌, ◌++◌, ℕ, false, List, Option, Some, None, IsSome, IsTrue, length, drop, if◌then◌else◌}
-use Rattle.rart_below.specs.Bytes.{begins}
+use Rattle.std.specs.Prelude.{◌≡◌, ◌+◌, ◌≤◌, ◌++◌, ℕ, Bool, false, true, List, Option, Some, None, IsSome, IsTrue, length, drop, take, if◌then◌else◌}
+use Rattle.rart_below.specs.Bytes.{IsAdmitted, begins}
 use Rattle.rart_node.specs.Shape.{Shape, prefix_of, with_deleted, with_prefix}
 use Rattle.rart_node.specs.Trees.{strip_prefix, BeginsWith, found, IsTree, KeepsFirst}
 use Rattle.rart_ways.specs.Paths.{path_end, step}
 use Rattle.rart_ways.specs.declared.prefixes.Cleared.{Cleared}
 use Rattle.rart_ways.specs.declared.prefixes.Cleared.TheVariants.{Nothing, Part, Whole}
+use Rattle.rart_ways.specs.declared.prefixes.ending.PrefixEnd.{PrefixEnd}
 use Rattle.rart_ways.specs.declared.prefixes.ending.Turn.{Turn}
 use Rattle.rart_ways.specs.declared.prefixes.ending.Turn.TheVariants.{Under, Apart, Down}
 
@@ -54,6 +55,12 @@ module _ {V : Type 0} where
   abbrev pub tail_of : ℕ → Shape V → Shape V
   tail_of above s = with_prefix (drop above (prefix_of s)) s
 
+  -- After, there is behind p what the other tree has there, where it has any; else it is as before.
+  abbrev pub IsPutUnder : Bool → List ℕ → Shape V → Shape V → Shape V → Type 0
+  IsPutUnder true p from before after =
+      IsGrafted p (λ rest. found from (p ++ rest)) before after × HasSomeUnder p from
+  IsPutUnder false p from before after = (after ≡ before) × HasNoneUnder p from
+
   -- After, the tree has nothing under p, and else what it had.
   abbrev pub IsCleared : List ℕ → Shape V → Shape V → Type 0
   IsCleared p before after = IsGrafted p (λ rest. None) before after
@@ -71,6 +78,20 @@ module _ {V : Type 0} where
     pub tree : IsTree after
     pub finds : (q : List ℕ) → found after q ≡ found (with_deleted byte before) q
     pub first : (b : ℕ) → BeginsWith b (prefix_of before) → BeginsWith b (prefix_of after)
+
+-- All that a prefix begins, as a node behind none of its bytes.
+abbrev pub part_of : {P V : Type 0} → PrefixEnd P V → Shape V
+part_of end = let s = end.node.now.shape in
+    with_prefix (take end.above end.prefix.now ++ prefix_of s) s
+
+-- It is in order, the prefix begins it, and the pointer shows the node. `most` is how long prefixes
+-- may be.
+pub record IsPart {P V : Type 0} (most : Option ℕ) (end : PrefixEnd P V) : Type 0 where
+  pub within : end.above ≤ length end.prefix.now
+  pub tree : IsTree (part_of end)
+  pub begun : IsTrue (begins end.prefix.now (prefix_of (part_of end)))
+  pub same : end.at.now.shape ≡ end.node.now.shape
+  pub admitted : IsAdmitted most (end.above + length (prefix_of end.node.now.shape))
 
 -- What is left of a prefix finds at a node that it begins all there, or nothing, or that it goes on
 -- at a child.

@@ -3,16 +3,15 @@
 //!
 //! It is one node and what is below that, so each takes a way along the prefix, and leaves what is
 //! below alone.
-ghost use Rattle.std.specs.Prelude.{◌≡◌, ◌+◌, ◌*◌, ◌<◌, ◌++◌, false, IfOk, IfSome, IsSome, IsTrue, None, OnErr, OnOk, length};
+ghost use Rattle.std.specs.Prelude.{◌≡◌, ◌+◌, ◌*◌, ◌<◌, false, IfOk, IsSome, IsTrue, OnErr, OnOk};
 ghost use Rattle.std.specs.Option.{option_map};
-ghost use Rattle.rart_below.specs.Bytes.{IsAdmitted, begins};
 ghost use Rattle.rart_below.specs.Children.{child_at};
 ghost use Rattle.rart_below.specs.Clones.{ClonesEqual};
 ghost use Rattle.rart_node.specs.Counts.{CountsUpTo};
 ghost use Rattle.rart_node.specs.Seen.{shape_of};
-ghost use Rattle.rart_node.specs.Shape.{children_of, prefix_of, with_prefix};
-ghost use Rattle.rart_node.specs.Trees.{IsTree, found, path_bound};
-ghost use Rattle.rart_ways.specs.Prefixes.{HasNoneUnder, HasSomeUnder, IsCleared, IsClearedSo, IsGrafted};
+ghost use Rattle.rart_node.specs.Shape.{children_of};
+ghost use Rattle.rart_node.specs.Trees.{IsTree, path_bound};
+ghost use Rattle.rart_ways.specs.Prefixes.{HasNoneUnder, HasSomeUnder, IsCleared, IsClearedSo, IsPutUnder};
 ghost use Rattle.rart_ways.specs.Prefixes.{IsUnderAlone, IsWithoutChild, StandsBelow};
 ghost use Rattle.rart_ways.specs.Removals.{AreAdmitted};
 
@@ -22,7 +21,7 @@ mod grafting;
 use crate::lending::path::{Path, Whole, next_byte};
 use crate::removal::plan::can_lose_a_child;
 use ending::prefix_end;
-use grafting::{Part, put_below};
+use grafting::put_below;
 use rart_below::Partial;
 use rart_node::{NodeRef, VersionedNode, Work};
 use std::alloc::{AllocError, Global};
@@ -67,8 +66,6 @@ pub fn keep_under<P: Partial, V: Clone + Drop>(
     requires lengths { AreAdmitted P.MAXIMUM_SIZE root.now.shape }
     ensures kept { IfOk result (λ kept. IsUnderAlone prefix.now root.now.shape
         (option_map shape_of kept)) }
-    ensures begun { IfOk result (λ kept. IfSome kept (λ it.
-        IsTrue (begins prefix.now (prefix_of it.shape)))) }
     ensures present { OnErr result (HasSomeUnder prefix.now root.now.shape) }
     ensures counted { CountsUpTo (path_bound root.now.shape prefix.now) 1 work.old work.new }
     ensures entered { work.old.entered < work.new.entered }
@@ -78,59 +75,45 @@ pub fn keep_under<P: Partial, V: Clone + Drop>(
     let Some(end) = prefix_end(root, prefix, work) else {
         return Ok(None);
     };
-    if end.above == 0 {
-        return Ok(Some(end.at.copy()?));
-    }
-    let lifted = lift(alloc, end.node, &prefix[..end.above], version)?;
-    Ok(Some(NodeRef::new(alloc, lifted, work)?))
+    Ok(Some(end.behind(alloc, 0, version, work)?))
 }
 
-/// Puts all that a root of its own has below another one, in place of all that stands there under a
-/// prefix, which begins that root's prefix. What is below its node is shared. Refused for memory,
-/// the other root is as before.
+/// Puts all that stands under a prefix below one root in place of all that stands there below
+/// another, and answers whether there is any: where there is none, nothing is done. What is below
+/// the node that has it is shared. Refused for memory, the other root is as before.
 ///
-/// The root of its own is entered, and each node of the way along the prefix. At most two more are
-/// made than there are on that way.
+/// Each node of the way along the prefix is entered once below either root, and at most two more
+/// are made than there are on that way below the other one.
 pub fn put_under<P: Partial, V: Clone + Drop>(
     alloc: Global,
     root: &mut NodeRef<P, V>,
     prefix: &[u8],
-    part: &NodeRef<P, V>,
+    from: &NodeRef<P, V>,
     version: u64,
     work: &mut Work,
-) -> Result<(), AllocError>
+) -> Result<bool, AllocError>
     requires clones { ClonesEqual V.is_clone }
     requires tree { IsTree root.old.shape }
-    requires part { IsTree part.now.shape }
-    requires begun { IsTrue (begins prefix.now (prefix_of part.now.shape)) }
-    ensures grafted { OnOk result (IsGrafted prefix.now
-        (λ rest. found part.now.shape (prefix.now ++ rest)) root.old.shape root.new.shape) }
+    requires tree_from { IsTree from.now.shape }
+    requires lengths_from { AreAdmitted P.MAXIMUM_SIZE from.now.shape }
+    ensures put { IfOk result (λ any. IsPutUnder any prefix.now from.now.shape root.old.shape
+        root.new.shape) }
     ensures refused { OnErr result (root.new.shape ≡ root.old.shape) }
-    ensures counted { CountsUpTo (path_bound root.old.shape prefix.now + 1)
+    ensures present { OnErr result (HasSomeUnder prefix.now from.now.shape) }
+    ensures counted { CountsUpTo
+        (path_bound from.now.shape prefix.now + path_bound root.old.shape prefix.now)
         (path_bound root.old.shape prefix.now + 2) work.old work.new }
+    ensures counted_where_none { IfOk result (λ any. any ≡ false
+        → CountsUpTo (path_bound from.now.shape prefix.now) 0 work.old work.new) }
     ensures entered { work.old.entered < work.new.entered }
+    ensures absent_makes_none { HasNoneUnder prefix.now from.now.shape
+        → work.new.made ≡ work.old.made }
 {
-    let node = part.open(work);
-    put_below(alloc, root, &Part { prefix, node }, 0, version, work)
-}
-
-/// A copy of a node with these bytes before its own. Its children are shared.
-fn lift<P: Partial, V: Clone + Drop>(
-    alloc: Global,
-    node: &VersionedNode<P, V>,
-    above: &[u8],
-    version: u64,
-) -> Result<VersionedNode<P, V>, AllocError>
-    requires clones { ClonesEqual V.is_clone }
-    requires short { IsAdmitted P.MAXIMUM_SIZE (length above.now) }
-    requires admitted { IsAdmitted P.MAXIMUM_SIZE
-        (length above.now + length (prefix_of node.now.shape)) }
-    ensures lifted { IfOk result (λ it. it.shape
-        ≡ with_prefix (above.now ++ prefix_of node.now.shape) node.now.shape) }
-{
-    let above: P = P::new_from_slice(alloc, above)?;
-    let prefix = above.partial_extended_with(alloc, node.prefix())?;
-    node.copy_under(alloc, version, prefix)
+    let Some(end) = prefix_end(from, prefix, work) else {
+        return Ok(false);
+    };
+    put_below(alloc, root, &end, 0, version, work)?;
+    Ok(true)
 }
 
 /// Takes out all that stands under a prefix. Where nothing else stands there, the root stays as it

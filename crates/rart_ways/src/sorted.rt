@@ -22,7 +22,8 @@ use std::alloc::{AllocError, Global};
 /// them out of the list. No node is entered. Refused for memory, there is no tree, and some of the
 /// pairs are gone.
 ///
-/// It calls itself at most as deep as the longest key has bytes.
+/// It calls itself at most as deep as the longest key has bytes. What makes a prefix is not inlined,
+/// so that a level takes little of the machine's stack.
 pub fn tree_of<K: KeyTrait, V: Drop>(
     alloc: Global,
     pairs: &mut Vec<(K, V)>,
@@ -81,6 +82,7 @@ fn take_own<K: KeyTrait, V>(pairs: &mut Vec<(K, V)>, from: usize) -> Option<V>
 
 /// What the first of the pairs and the last have in common behind the first `depth` bytes of their
 /// keys, and the place behind it.
+#[inline(never)]
 fn prefix_for<K: KeyTrait, V>(
     alloc: Global,
     pairs: &[(K, V)],

@@ -1,12 +1,15 @@
 // Ported from rart 0.11.0 (Apache-2.0), and rewritten.
 //! The way along a prefix, to the node that has all that the prefix begins.
-ghost use Rattle.std.specs.Prelude.{◌≡◌, ◌+◌, ◌<◌, ◌≤◌, IfNone, IfSome};
+ghost use Rattle.std.specs.Prelude.{◌≡◌, ◌+◌, ◌<◌, ◌≤◌, ◌++◌, IfNone, IfOk, IfSome, drop, length, take};
+ghost use Rattle.rart_below.specs.Clones.{ClonesEqual};
 ghost use Rattle.rart_node.specs.Counts.{CountsUpTo};
+ghost use Rattle.rart_node.specs.Shape.{prefix_of};
 ghost use Rattle.rart_node.specs.Trees.{IsTree, path_bound};
-ghost use Rattle.rart_ways.specs.Prefixes.{HasNoneUnder, IsTurn, StandsUnder};
+ghost use Rattle.rart_ways.specs.Prefixes.{HasNoneUnder, IsPart, IsTurn, StandsUnder, part_of, tail_of};
 
 use rart_below::Partial;
 use rart_node::{NodeRef, VersionedNode, Work, rest_of};
+use std::alloc::{AllocError, Global};
 
 /// What the rest of a prefix finds at a node.
 #[derive(Drop)]
@@ -22,6 +25,7 @@ pub(crate) enum Turn<'a, 'k, P: Partial, V> {
 /// The node that has all that a prefix begins.
 #[derive(Drop)]
 pub(crate) struct PrefixEnd<'a, P: Partial, V> {
+    pub prefix: &'a [u8],
     pub at: &'a NodeRef<P, V>,
     pub node: &'a VersionedNode<P, V>,
     /// How many bytes of the prefix stand above the node.
@@ -30,15 +34,72 @@ pub(crate) struct PrefixEnd<'a, P: Partial, V> {
     pub steps: usize,
 }
 
+impl<'a, P: Partial, V: Clone + Drop> PrefixEnd<'a, P, V> {
+    /// All that the prefix begins, behind so many of its first bytes. What is below the node is
+    /// shared; and the node too, where just these bytes stand above it. Refused for memory, there
+    /// is none.
+    pub(crate) fn behind(
+        &self,
+        alloc: Global,
+        count: usize,
+        version: u64,
+        work: &mut Work,
+    ) -> Result<NodeRef<P, V>, AllocError>
+        requires clones { ClonesEqual V.is_clone }
+        requires part { IsPart P.MAXIMUM_SIZE self.now }
+        requires within { count ≤ length self.now.prefix.now }
+        ensures shown { IfOk result (λ it. it.shape ≡ tail_of count (part_of self.now)) }
+        ensures counted { CountsUpTo 0 1 work.old work.new }
+    {
+        if count == self.above {
+            return self.at.copy();
+        }
+        let node = self.node_behind(alloc, count, version)?;
+        NodeRef::new(alloc, node, work)
+    }
+
+    /// The same as a node, which is a copy.
+    pub(crate) fn node_behind(
+        &self,
+        alloc: Global,
+        count: usize,
+        version: u64,
+    ) -> Result<VersionedNode<P, V>, AllocError>
+        requires clones { ClonesEqual V.is_clone }
+        requires part { IsPart P.MAXIMUM_SIZE self.now }
+        requires within { count ≤ length self.now.prefix.now }
+        ensures { IfOk result (λ it. it.shape ≡ tail_of count (part_of self.now)) }
+    {
+        let prefix = self.bytes_behind(alloc, count)?;
+        self.node.copy_under(alloc, version, prefix)
+    }
+
+    /// The bytes above the node and its own, behind so many of them.
+    fn bytes_behind(&self, alloc: Global, count: usize) -> Result<P, AllocError>
+        requires part { IsPart P.MAXIMUM_SIZE self.now }
+        requires within { count ≤ length self.now.prefix.now }
+        ensures { IfOk result (λ it. P.bytes it ≡ drop count
+            (take self.now.above self.now.prefix.now ++ prefix_of self.now.node.now.shape)) }
+    {
+        let own = self.node.prefix();
+        if count < self.above {
+            let above: P = P::new_from_slice(alloc, &self.prefix[..self.above][count..])?;
+            return above.partial_extended_with(alloc, own);
+        }
+        own.partial_after(alloc, count - self.above)
+    }
+}
+
 /// The node below a root that has all that a prefix begins, or `None` where it begins no key.
 ///
 /// Each node on the way is entered once. It takes no memory.
 pub(crate) fn prefix_end<'a, P: Partial, V: Drop>(
     root: &'a NodeRef<P, V>,
-    prefix: &[u8],
+    prefix: &'a [u8],
     work: &mut Work,
 ) -> Option<PrefixEnd<'a, P, V>>
     requires tree { IsTree root.now.shape }
+    ensures prefix { IfSome result (λ end. end.prefix.now ≡ prefix.now) }
     ensures stands { IfSome result (λ end. StandsUnder prefix.now root.now.shape
         end.steps end.above end.at.now.shape) }
     ensures node { IfSome result (λ end. end.node.now.shape ≡ end.at.now.shape) }
@@ -55,6 +116,7 @@ pub(crate) fn prefix_end<'a, P: Partial, V: Drop>(
         match turn_at(node, rest) {
             Turn::Under => {
                 return Some(PrefixEnd {
+                    prefix,
                     at,
                     node,
                     above: prefix.len() - rest.len(),

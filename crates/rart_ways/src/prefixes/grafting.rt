@@ -7,41 +7,34 @@ ghost use Rattle.rart_below.specs.Clones.{ClonesEqual};
 ghost use Rattle.rart_node.specs.Counts.{CountsUpTo};
 ghost use Rattle.rart_node.specs.Shape.{IsAscending, children_of, prefix_of, widenings, with_added};
 ghost use Rattle.rart_node.specs.Trees.{IsTree, cut_at, found, path_bound};
-ghost use Rattle.rart_ways.specs.Prefixes.{IsGrafted, tail_of};
+ghost use Rattle.rart_ways.specs.Prefixes.{IsGrafted, IsPart, part_of, tail_of};
 
+use super::ending::PrefixEnd;
 use crate::insertion::cut;
 use rart_below::Partial;
 use rart_node::{NodeRef, VersionedNode, Work, rest_of};
 use std::alloc::{AllocError, Global};
 
-/// All that is to stand under a prefix: a node of its own, whose prefix begins with it.
-#[derive(Drop)]
-pub(crate) struct Part<'a, P: Partial, V> {
-    pub prefix: &'a [u8],
-    pub node: &'a VersionedNode<P, V>,
-}
-
-/// Puts a part below a pointer in place of all that stands there under its prefix, of which `above`
-/// bytes stand above the pointer. What is below the part's node is shared. Refused for memory, the
-/// pointer shows what it showed.
+/// Puts all that a prefix begins below a pointer, in place of all that stands there under the
+/// prefix, of which `above` bytes stand above the pointer. What is below its node is shared. Refused
+/// for memory, the pointer shows what it showed.
 ///
 /// It calls itself once for each node of the way along the prefix. `put_beside`, which only the
 /// last of them may call, is not inlined, so that a level takes little of the machine's stack.
 pub(crate) fn put_below<P: Partial, V: Clone + Drop>(
     alloc: Global,
     at: &mut NodeRef<P, V>,
-    part: &Part<'_, P, V>,
+    part: &PrefixEnd<'_, P, V>,
     above: usize,
     version: u64,
     work: &mut Work,
 ) -> Result<(), AllocError>
     requires clones { ClonesEqual V.is_clone }
     requires tree { IsTree at.old.shape }
-    requires part { IsTree part.now.node.now.shape }
-    requires begun { IsTrue (begins part.now.prefix.now (prefix_of part.now.node.now.shape)) }
+    requires part { IsPart P.MAXIMUM_SIZE part.now }
     requires within { above ≤ length part.now.prefix.now }
     ensures grafted { OnOk result (IsGrafted (drop above part.now.prefix.now)
-        (λ rest. found part.now.node.now.shape (part.now.prefix.now ++ rest))
+        (λ rest. found (part_of part.now) (part.now.prefix.now ++ rest))
         at.old.shape at.new.shape) }
     ensures refused { OnErr result (at.new.shape ≡ at.old.shape) }
     ensures counted { CountsUpTo (path_bound at.old.shape (drop above part.now.prefix.now))
@@ -52,7 +45,7 @@ pub(crate) fn put_below<P: Partial, V: Clone + Drop>(
     let rest = rest_of(part.prefix, above);
     let common = node.prefix().prefix_length_slice(rest);
     if common == rest.len() {
-        *node = tail(alloc, part.node, above, version)?;
+        *node = part.node_behind(alloc, above, version)?;
         return Ok(());
     }
     let below = above + common;
@@ -72,7 +65,7 @@ fn put_beside<P: Partial, V: Clone + Drop>(
     alloc: Global,
     node: &mut VersionedNode<P, V>,
     common: usize,
-    part: &Part<'_, P, V>,
+    part: &PrefixEnd<'_, P, V>,
     above: usize,
     version: u64,
     work: &mut Work,
@@ -80,12 +73,12 @@ fn put_beside<P: Partial, V: Clone + Drop>(
     requires clones { ClonesEqual V.is_clone }
     requires tree { IsTree node.old.shape }
     requires inside { common < length (prefix_of node.old.shape) }
-    requires begun { IsTrue (begins part.now.prefix.now (prefix_of part.now.node.now.shape)) }
+    requires part { IsPart P.MAXIMUM_SIZE part.now }
     requires within { above < length part.now.prefix.now }
     requires absent { child_at (slice_index part.now.prefix.now above)
         (children_of (cut_at common node.old.shape)) ≡ None }
     ensures put { OnOk result (node.new.shape ≡ with_added (slice_index part.now.prefix.now above)
-        (tail_of above part.now.node.now.shape) (cut_at common node.old.shape)) }
+        (tail_of above (part_of part.now)) (cut_at common node.old.shape)) }
     ensures refused { OnErr result (node.new.shape ≡ node.old.shape) }
     ensures counted { CountsUpTo 0 2 work.old work.new }
 {
@@ -100,39 +93,23 @@ fn put_beside<P: Partial, V: Clone + Drop>(
 fn add_part<P: Partial, V: Clone + Drop>(
     alloc: Global,
     node: &mut VersionedNode<P, V>,
-    part: &Part<'_, P, V>,
+    part: &PrefixEnd<'_, P, V>,
     above: usize,
     version: u64,
     work: &mut Work,
 ) -> Result<(), AllocError>
     requires clones { ClonesEqual V.is_clone }
     requires order { IsAscending node.old.shape }
-    requires begun { IsTrue (begins part.now.prefix.now (prefix_of part.now.node.now.shape)) }
+    requires part { IsPart P.MAXIMUM_SIZE part.now }
     requires within { above < length part.now.prefix.now }
     requires absent { child_at (slice_index part.now.prefix.now above)
         (children_of node.old.shape) ≡ None }
     ensures added { OnOk result (node.new.shape ≡ with_added
-        (slice_index part.now.prefix.now above) (tail_of above part.now.node.now.shape)
+        (slice_index part.now.prefix.now above) (tail_of above (part_of part.now))
         node.old.shape) }
     ensures refused { OnErr result (node.new.shape ≡ node.old.shape) }
     ensures counted { CountsUpTo 0 (widenings node.old.shape + 1) work.old work.new }
 {
-    let child = tail(alloc, part.node, above, version)?;
-    let child = NodeRef::new(alloc, child, work)?;
+    let child = part.behind(alloc, above, version, work)?;
     node.add_child(alloc, part.prefix[above], child, work)
-}
-
-/// A copy of a node without the first `above` bytes of its prefix. Its children are shared.
-fn tail<P: Partial, V: Clone + Drop>(
-    alloc: Global,
-    node: &VersionedNode<P, V>,
-    above: usize,
-    version: u64,
-) -> Result<VersionedNode<P, V>, AllocError>
-    requires clones { ClonesEqual V.is_clone }
-    requires within { above ≤ length (prefix_of node.now.shape) }
-    ensures tail { IfOk result (λ it. it.shape ≡ tail_of above node.now.shape) }
-{
-    let prefix = node.prefix().partial_after(alloc, above)?;
-    node.copy_under(alloc, version, prefix)
 }

@@ -3,7 +3,7 @@ use Rattle.rart_node.specs.Shape.{prefix_of, with_added}
 use Rattle.rart_node.specs.Trees.{IsPut}
 use Rattle.rart_node.proofs.FindLemmas.{ascending}
 use Rattle.rart_node.proofs.InsertionLemmas.{put-end, put-leaf}
-use Rattle.rart_node.proofs.PrefixLemmas.{no-first}
+use Rattle.rart_node.proofs.PrefixRestLemmas.{no-first}
 use Rattle.rart_ways.proofs.InsertionStepLemmas.{found-at-end, found-at-leaf, ending-more}
 use Rattle.rart_ways.proofs.insertion.finish.Goals as goal
 

@@ -4,7 +4,7 @@ use Rattle.rart_below.specs.Children.{child_at}
 use Rattle.rart_node.specs.Shape.{Shape, prefix_of, children_of}
 use Rattle.rart_node.specs.Trees.{IsOrdered, IsPut, found, cut_at, ending}
 use Rattle.rart_node.proofs.CountingLemmas.{counts-then, ending-cut}
-use Rattle.rart_ways.proofs.CutLemmas.{cut-ordered, cut-child, cut-absent, put-cut}
+use Rattle.rart_ways.proofs.CutNodeLemmas.{cut-ordered, cut-child, cut-absent, put-cut}
 use Rattle.rart_ways.proofs.InsertionStepLemmas.{common-fits, rest-admitted, found-at-cut}
 use Rattle.rart_ways.proofs.insertion.split.Goals as goal
 

@@ -1,7 +1,7 @@
 use Rattle.std.proofs.Common.{refl}
 use Rattle.rart_ways.proofs.EditLemmas.{on-any}
 use Rattle.rart_ways.proofs.PlanLemmas.{not-none}
-use Rattle.rart_ways.proofs.PrefixLemmas.{stands-some, stands-whole}
+use Rattle.rart_ways.proofs.UnderPrefixLemmas.{stands-some, stands-whole}
 use Rattle.rart_ways.proofs.prefixes.clear_below.Goals as goal
 
 pub returns-then-steps-eq0-clause-cleared : goal.returns-then-steps-eq0-clause-cleared

@@ -1,7 +1,7 @@
 use Rattle.std.proofs.Common.{◌≡◌, Option, None, Some, is_some, true, sym, ◌∙◌}
 use Rattle.std.specs.Prelude.{IfSome}
 use Rattle.std.proofs.lemmas.Bool.{false≢true}
-use Rattle.rart_ways.proofs.PrefixLemmas.{stands-some}
+use Rattle.rart_ways.proofs.UnderPrefixLemmas.{stands-some}
 use Rattle.rart_ways.proofs.prefixes.has_under.Goals as goal
 
 -- what holds of an option's value, where it has one

@@ -7,7 +7,7 @@ use Rattle.rart_below.proofs.AscendingLemmas.{child_at-below}
 use Rattle.rart_node.specs.Shape.{bare, children_of, entries_of, node, prefix_of, width_for}
 use Rattle.rart_node.specs.Trees.{BeginsWith, IsTree, pairs_of}
 use Rattle.rart_ways.specs.Runs.{AllBegin, AllLong, EndsBesides, run_from, runs, shared}
-use Rattle.rart_ways.proofs.RunLemmas.{long-under, under-none}
+use Rattle.rart_ways.proofs.AscendingRunLemmas.{long-under, under-none}
 use Rattle.rart_ways.proofs.BuildingLemmas.{Building, building-more, run-sorted, taken-run}
 use Rattle.rart_ways.proofs.NodeRunLemmas.{begun, building-none, done-none, done-some, falls, first-most, front-at, long-child, pair-at, run-first}
 use Rattle.rart_ways.proofs.sorted.+tree_of.Goals as goal

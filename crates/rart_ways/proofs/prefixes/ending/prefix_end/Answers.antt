@@ -3,7 +3,7 @@ use Rattle.rart_below.specs.Bytes.{begins}
 use Rattle.rart_node.specs.Shape.{Shape, prefix_of}
 use Rattle.rart_ways.specs.Paths.{step}
 use Rattle.rart_ways.specs.Prefixes.{HasNoneUnder}
-use Rattle.rart_ways.proofs.PrefixLemmas.{search-few, search-fits, search-stands, search-none, search-counts, search-lower, search-steps-fit, search-goes}
+use Rattle.rart_ways.proofs.UnderPrefixLemmas.{search-few, search-fits, search-stands, search-none, search-counts, search-lower, search-steps-fit, search-goes}
 use Rattle.rart_ways.proofs.prefixes.ending.prefix_end.Goals as goal
 
 pub overflow_sub-result : goal.overflow_sub-result

@@ -1,5 +1,5 @@
 use Rattle.rart_node.specs.Shape.{height}
-use Rattle.rart_ways.proofs.PrefixLemmas.{IsPrefixSearch}
+use Rattle.rart_ways.proofs.UnderPrefixLemmas.{IsPrefixSearch}
 use Rattle.rart_ways.proofs.prefixes.ending.prefix_end.Given as goal
 
 abbrev pub invariant-down : goal.invariant-down

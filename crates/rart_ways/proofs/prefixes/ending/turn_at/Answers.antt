@@ -1,8 +1,8 @@
 use Rattle.std.proofs.Common.{Some, length, refl, arith, sym, ap, ◌∙◌}
 use Rattle.rart_below.specs.Bytes.{common_length}
 use Rattle.rart_node.specs.Shape.{prefix_of}
-use Rattle.rart_node.proofs.PrefixLemmas.{common-within}
-use Rattle.rart_ways.proofs.PrefixLemmas.{common-begins, turn-apart, turn-missing, turn-down}
+use Rattle.rart_node.proofs.PrefixRestLemmas.{common-within}
+use Rattle.rart_ways.proofs.UnderPrefixLemmas.{common-begins, turn-apart, turn-missing, turn-down}
 use Rattle.rart_ways.proofs.prefixes.ending.turn_at.Goals as goal
 
 pub returns-then-common-rest : goal.returns-then-common-rest

@@ -6,34 +6,28 @@ use Rattle.rart_node.specs.Shape.{children_of, prefix_of, with_added, with_repla
 use Rattle.rart_node.specs.Trees.{cut_at, found}
 use Rattle.rart_node.proofs.FindLemmas.{branch, ordered}
 use Rattle.rart_node.proofs.InsertionLemmas.{replaced-same}
-use Rattle.rart_ways.specs.Prefixes.{IsGrafted, tail_of}
+use Rattle.rart_ways.specs.Prefixes.{IsGrafted, part_of, tail_of}
 use Rattle.rart_ways.proofs.EditLemmas.{on-ok, on-err}
 use Rattle.rart_ways.proofs.InsertionStepLemmas.{matched, child-here, child-replaced, is-whole}
-use Rattle.rart_ways.proofs.PartLemmas.{begun-long, level-within, level-over, level-inside, level-absent, level-beside, level-added, level-down, level-path, widenings-most, counts-end, counts-down}
+use Rattle.rart_ways.proofs.PutPartLemmas.{level-within, level-over, level-inside, level-absent, level-beside, level-added, level-down, level-path, widenings-most, counts-end, counts-down}
 use Rattle.rart_ways.proofs.prefixes.grafting.+put_below.Goals as goal
 
 -- ---- the prefix ends at the node
-
-pub tail-requires-clause-within : goal.tail-requires-clause-within
-tail-requires-clause-within g t c =
-    let long = begun-long c.args.part.now.prefix.now _ c.requires.begun in
-    let within = c.requires.within in
-    omega (arith, long, within)
 
 pub returns-then-common-rest-clause-grafted : goal.returns-then-common-rest-clause-grafted
 returns-then-common-rest-clause-grafted g t c =
     let s = c.args.at.now.shape in
     let p = c.args.part.now.prefix.now in
-    let part = c.args.part.now.node.now.shape in
+    let part = part_of c.args.part.now in
     let common = c.prefix_length_slice-common.result in
     let bytes = g.P.Partial.bytes c.prefix.result.now in
     let is = matched (drop c.args.above p) c.in_ok-node.ensures.shown c.prefix.ensures
     (c.prefix_length_slice-common.ensures ∙ ap (common_length bytes) c.rest_of-rest.ensures) in
     subst (IsGrafted (drop c.args.above p) (λ rest. found part (p ++ rest)) s)
     (sym (c.open_mut.follows.holds c.in_ok-node-2.field-0 (search rules)
-    ∙ c.in_ok-node-2.ensures.tail))
-    (level-over s part p c.args.above common is c.requires.tree c.requires.within c.requires.part
-    c.requires.begun (c.if-common-rest.true ∙ ap length c.rest_of-rest.ensures))
+    ∙ c.in_ok-node-2.ensures))
+    (level-over s part p c.args.above common is c.requires.tree c.requires.within c.requires.part.tree
+    c.requires.part.begun (c.if-common-rest.true ∙ ap length c.rest_of-rest.ensures))
 
 -- ---- the prefix goes on
 
@@ -45,7 +39,7 @@ overflow_add-below g t c =
     let bytes = g.P.Partial.bytes c.prefix.result.now in
     let is = matched (drop c.args.above p) c.in_ok-node.ensures.shown c.prefix.ensures
     (c.prefix_length_slice-common.ensures ∙ ap (common_length bytes) c.rest_of-rest.ensures) in
-    let within = level-within s c.args.part.now.node.now.shape p c.args.above common is
+    let within = level-within s (part_of c.args.part.now) p c.args.above common is
     c.requires.tree c.requires.within in
     omega (arith, within)
 
@@ -57,7 +51,7 @@ put_beside-requires-clause-within g t c =
     let bytes = g.P.Partial.bytes c.prefix.result.now in
     let is = matched (drop c.args.above p) c.in_ok-node.ensures.shown c.prefix.ensures
     (c.prefix_length_slice-common.ensures ∙ ap (common_length bytes) c.rest_of-rest.ensures) in
-    level-inside s c.args.part.now.node.now.shape p c.args.above common is c.requires.tree
+    level-inside s (part_of c.args.part.now) p c.args.above common is c.requires.tree
     c.requires.within (λ all. c.if-common-rest.false (all ∙ sym (ap length c.rest_of-rest.ensures)))
 
 pub bounds-part-below : goal.bounds-part-below
@@ -68,7 +62,7 @@ bounds-part-below g t c =
     let bytes = g.P.Partial.bytes c.prefix.result.now in
     let is = matched (drop c.args.above p) c.in_ok-node.ensures.shown c.prefix.ensures
     (c.prefix_length_slice-common.ensures ∙ ap (common_length bytes) c.rest_of-rest.ensures) in
-    level-inside s c.args.part.now.node.now.shape p c.args.above common is c.requires.tree
+    level-inside s (part_of c.args.part.now) p c.args.above common is c.requires.tree
     c.requires.within (λ all. c.if-common-rest.false (all ∙ sym (ap length c.rest_of-rest.ensures)))
 
 pub add_part-requires-clause-within : goal.add_part-requires-clause-within
@@ -79,7 +73,7 @@ add_part-requires-clause-within g t c =
     let bytes = g.P.Partial.bytes c.prefix.result.now in
     let is = matched (drop c.args.above p) c.in_ok-node.ensures.shown c.prefix.ensures
     (c.prefix_length_slice-common.ensures ∙ ap (common_length bytes) c.rest_of-rest.ensures) in
-    level-inside s c.args.part.now.node.now.shape p c.args.above common is c.requires.tree
+    level-inside s (part_of c.args.part.now) p c.args.above common is c.requires.tree
     c.requires.within (λ all. c.if-common-rest.false (all ∙ sym (ap length c.rest_of-rest.ensures)))
 
 -- ---- the prefix leaves the node's
@@ -97,7 +91,7 @@ put_beside-requires-clause-absent g t c =
     let lt = c.if-common-len.true in
     let long = c.len.ensures ∙ ap length (c.prefix-2.ensures ∙ ap prefix_of same) in
     ap (λ z. child_at byte (children_of (cut_at common z))) same
-    ∙ level-absent s c.args.part.now.node.now.shape p c.args.above common is c.requires.tree
+    ∙ level-absent s (part_of c.args.part.now) p c.args.above common is c.requires.tree
     c.requires.within
     (λ all. c.if-common-rest.false (all ∙ sym (ap length c.rest_of-rest.ensures)))
     (omega (arith, lt, long))
@@ -106,7 +100,7 @@ pub returns-then-common-len-clause-grafted : goal.returns-then-common-len-clause
 returns-then-common-len-clause-grafted g t c =
     let s = c.args.at.now.shape in
     let p = c.args.part.now.prefix.now in
-    let part = c.args.part.now.node.now.shape in
+    let part = part_of c.args.part.now in
     let same = c.in_ok-node.ensures.shown in
     let common = c.prefix_length_slice-common.result in
     let byte = slice_index_or p (c.args.above + common) 0 in
@@ -121,7 +115,7 @@ returns-then-common-len-clause-grafted g t c =
     ∙ ap (λ z. with_added byte (tail_of (c.args.above + common) part) (cut_at common z)) same))
     (level-beside s part p c.args.above common is c.requires.tree c.requires.within
     (λ all. c.if-common-rest.false (all ∙ sym (ap length c.rest_of-rest.ensures)))
-    c.requires.part c.requires.begun (omega (arith, lt, long))))
+    c.requires.part.tree c.requires.part.begun (omega (arith, lt, long))))
     c.put_beside.ensures.put
 
 pub returns-then-common-len-clause-counted : goal.returns-then-common-len-clause-counted
@@ -135,7 +129,7 @@ pub returns-in-None-clause-grafted : goal.returns-in-None-clause-grafted
 returns-in-None-clause-grafted g t c =
     let s = c.args.at.now.shape in
     let p = c.args.part.now.prefix.now in
-    let part = c.args.part.now.node.now.shape in
+    let part = part_of c.args.part.now in
     let same = c.seek_child_mut.follows.holds-at-none ∙ c.in_ok-node.ensures.shown in
     let common = c.prefix_length_slice-common.result in
     let byte = slice_index_or p (c.args.above + common) 0 in
@@ -150,7 +144,7 @@ returns-in-None-clause-grafted g t c =
     ∙ ap (with_added byte (tail_of (c.args.above + common) part)) same))
     (level-added s part p c.args.above common is c.requires.tree c.requires.within
     (λ all. c.if-common-rest.false (all ∙ sym (ap length c.rest_of-rest.ensures))) le
-    c.requires.part c.requires.begun
+    c.requires.part.tree c.requires.part.begun
     (ap (λ z. child_at byte (children_of z)) (sym c.in_ok-node.ensures.shown)
     ∙ sym c.in-None.ensures.value)))
     c.add_part.ensures.added
@@ -176,7 +170,7 @@ put_below-requires g t c κs within =
     let known = branch s byte _ (ordered s c.requires.tree)
     (child-here byte same c.in-Some.ensures.value) in
     let lower = known.lower in
-    let fits = level-within s c.args.part.now.node.now.shape p c.args.above common is
+    let fits = level-within s (part_of c.args.part.now) p c.args.above common is
     c.requires.tree c.requires.within in (
       omega (arith, lower, c.decreases),
       (
@@ -185,7 +179,7 @@ put_below-requires g t c κs within =
           within.1,
           (
             c.requires.clones,
-            (known.tree, (c.requires.part, (c.requires.begun, fits))),
+            (known.tree, (c.requires.part, fits)),
           ),
         ),
       ),
@@ -195,7 +189,7 @@ pub returns-in-Some-clause-grafted : goal.returns-in-Some-clause-grafted
 returns-in-Some-clause-grafted g t c =
     let s = c.args.at.now.shape in
     let p = c.args.part.now.prefix.now in
-    let part = c.args.part.now.node.now.shape in
+    let part = part_of c.args.part.now in
     let same = c.in_ok-node.ensures.shown in
     let common = c.prefix_length_slice-common.result in
     let byte = slice_index_or p (c.args.above + common) 0 in
@@ -245,7 +239,7 @@ returns-in-Some-clause-counted g t c =
     c.if-common-len.false in
     counts-down s c.in-Some.child.now.shape (drop c.args.above p) _ c.in_ok-node.ensures.work
     c.put_below.ensures.counted
-    (level-path s c.args.part.now.node.now.shape p c.args.above common is c.requires.tree
+    (level-path s (part_of c.args.part.now) p c.args.above common is c.requires.tree
     c.requires.within
     (λ all. c.if-common-rest.false (all ∙ sym (ap length c.rest_of-rest.ensures))) le
     c.in-Some.child.now.shape (child-here byte same c.in-Some.ensures.value))

@@ -4,11 +4,11 @@ use Rattle.rart_below.specs.Bytes.{common_length}
 use Rattle.rart_below.specs.Children.{child_at, children_below}
 use Rattle.rart_node.specs.Shape.{prefix_of, children_of, value_of}
 use Rattle.rart_node.proofs.CountingLemmas.{counts-then}
-use Rattle.rart_node.proofs.PrefixLemmas.{common_fits}
+use Rattle.rart_node.proofs.PrefixRestLemmas.{common_fits}
 use Rattle.rart_node.specs.PairsBehind.{behind_path, pairs_of_all, pending_pair}
 use Rattle.rart_node.proofs.PartingLemmas.{goes-on, goes-some}
 use Rattle.rart_ways.specs.Lasts.{EndAt, IsEnd, end_shape}
-use Rattle.rart_ways.proofs.BackLemmas.{IsBackAt, back-all, back-child, back-missing, back-own, back-start, passed_on, to_high}
+use Rattle.rart_ways.proofs.LastUpToLemmas.{IsBackAt, back-all, back-child, back-missing, back-own, back-start, passed_on, to_high}
 use Rattle.rart_ways.proofs.SeekStartLemmas.{children-turns, front-deeper, seek-start}
 use Rattle.rart_ways.proofs.SeekStepLemmas.{step-child, step-counted, step-entered, step-lower, step_passed, whole}
 use Rattle.rart_ways.proofs.seeking.end.find_end.Goals as goal

@@ -1,7 +1,7 @@
 use Rattle.std.proofs.Common.{ℕ, List}
 use Rattle.rart_node.specs.Shape.{height}
 use Rattle.rart_ways.specs.Lasts.{EndAt, IsDeepEnd, end_shape}
-use Rattle.rart_ways.proofs.BackLemmas.{IsBackAt}
+use Rattle.rart_ways.proofs.LastUpToLemmas.{IsBackAt}
 use Rattle.rart_ways.proofs.SeekStartLemmas.{IsSeekAt}
 use Rattle.rart_ways.proofs.seeking.end.find_end.Given as goal
 

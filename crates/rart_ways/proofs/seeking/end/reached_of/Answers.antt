@@ -1,7 +1,7 @@
 use Rattle.std.proofs.Common.{◌<◌, ◌≤◌, length, arith, ap, subst, ◌∙◌}
 use Rattle.std.specs.Prelude.{slice_index_or}
 use Rattle.rart_node.specs.Shape.{prefix_of}
-use Rattle.rart_node.proofs.PrefixLemmas.{common-within}
+use Rattle.rart_node.proofs.PrefixRestLemmas.{common-within}
 use Rattle.rart_node.proofs.PartingLemmas.{common-front, parts-at}
 use Rattle.rart_ways.proofs.FromLemmas.{end-whole}
 use Rattle.rart_ways.proofs.ToLemmas.{ends-before, ends-behind, ends-inside-prefix, ends-own, ends-strict}

@@ -7,7 +7,7 @@ use Rattle.rart_ways.proofs.SeekStartLemmas.{from_low, seek-start, ends-with-all
 use Rattle.rart_ways.proofs.SeekStepLemmas.{step_passed, step-counted, step-entered, step-lower, step-missing, step-child, step-turns, step-brief, step-turn}
 use Rattle.rart_ways.proofs.TurnLemmas.{found-turn}
 use Rattle.rart_node.proofs.CountingLemmas.{counts-most}
-use Rattle.rart_node.proofs.PrefixLemmas.{common_fits}
+use Rattle.rart_node.proofs.PrefixRestLemmas.{common_fits}
 use Rattle.rart_node.proofs.PartingLemmas.{goes-on, goes-some}
 use Rattle.rart_ways.proofs.seeking.start.find_start.Goals as goal
 

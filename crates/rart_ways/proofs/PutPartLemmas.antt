@@ -1,14 +1,14 @@
 -- A part that is put under a prefix: what it has, and what becomes of the node that it is put at.
 use Rattle.std.proofs.Common.{◌≡◌, ℕ, suc, ◌+◌, ◌<◌, ◌≤◌, List, [], ◌∷◌, ◌++◌, Option, Some, None, is_some, slice_get, length, take, drop, length-drop, cond, true, false, refl, arith, sym, ap, subst, ◌∙◌, append_assoc}
-use Rattle.std.specs.Prelude.{◌==◌, IsTrue, T, slice_index_or}
+use Rattle.std.specs.Prelude.{◌-◌, ◌==◌, IsTrue, T, slice_index_or}
 use Rattle.std.specs.Option.{option_and_then}
 use Rattle.std.specs.FinMap.Entries.{length-put}
 use Rattle.std.specs.Ordering.{nat_cmp}
-use Rattle.std.proofs.Math.Seq.{drop-cons}
+use Rattle.std.proofs.Math.Seq.{drop-append-add, drop-append_seam, drop-cons}
 use Rattle.std.proofs.lemmas.Bool.{and_parts, eqb-true, false≢true}
 use Rattle.std.proofs.lemmas.Cmp.{nat_cmp_total}
-use Rattle.std.proofs.lemmas.List.{drop-append-le, drop-drop, length-append, take-append-drop}
-use Rattle.rart_below.specs.Bytes.{begins, common_length}
+use Rattle.std.proofs.lemmas.List.{drop-append-le, drop-drop, length-append, length-take-le, take-append-drop}
+use Rattle.rart_below.specs.Bytes.{IsAdmitted, begins, common_length}
 use Rattle.rart_below.specs.Children as children
 use Rattle.rart_below.specs.Children.{child_at, with_child}
 use Rattle.rart_maps.proofs.OrderLemmas.{begins-append, begins-rest}
@@ -18,14 +18,24 @@ use Rattle.rart_node.specs.Trees.{strip_prefix, BeginsWith, found, IsTree, IsOrd
 use Rattle.rart_node.proofs.CountingLemmas.{counts-opened, counts-then, path-one}
 use Rattle.rart_node.proofs.FindLemmas.{branch, ordered, tree-some}
 use Rattle.rart_node.proofs.InsertionLemmas.{in-child, ascending-with, branches-with}
-use Rattle.rart_node.proofs.PrefixLemmas.{strip_prefix-own, strip_prefix-is, split-common, common-within, begins-common}
+use Rattle.rart_node.proofs.PrefixRestLemmas.{strip_prefix-own, strip_prefix-is, split-common, common-within, begins-common}
 use Rattle.rart_node.proofs.AlongLemmas.{begins-along}
-use Rattle.rart_ways.specs.Prefixes.{IsGrafted, tail_of, under_or}
-use Rattle.rart_ways.proofs.CutLemmas.{cut-absent, cut-child, cut-found, cut-ordered}
+use Rattle.rart_ways.specs.Prefixes.{IsGrafted, IsPart, IsUnderAlone, StandsUnder, part_of, tail_of, under_or}
+use Rattle.rart_ways.specs.Removals.{AreAdmitted}
+use Rattle.rart_ways.specs.declared.prefixes.ending.PrefixEnd.{PrefixEnd}
+use Rattle.rart_ways.proofs.CutNodeLemmas.{cut-absent, cut-child, cut-found, cut-ordered}
 use Rattle.rart_ways.proofs.GraftLemmas.{look, below-changed, node-changed, child_at-with, grafted-child}
 use Rattle.rart_ways.proofs.InsertionStepLemmas.{path-down, whole-key}
-use Rattle.rart_ways.proofs.PrefixLemmas.{common-begins, strip-begins, lifted-found, not-begun}
+use Rattle.rart_ways.proofs.UnderPrefixLemmas.{common-begins, strip-begins, lifted-alone, lifted-found, not-begun, stands-admitted}
 use Rattle.rart_ways.proofs.RemovalLemmas.{fork-is}
+
+-- Behind more than the bytes above there is less of its own.
+pub drop-above : (p own : List ℕ) (above count : ℕ) → above ≤ length p → above ≤ count
+    → drop count (take above p ++ own) ≡ drop (count - above) own
+drop-above p own above count within ge =
+    let long = length-take-le above p within in
+    let is : count ≡ length (take above p) + (count - above) = omega (arith, long, ge) in
+    ap (λ n. drop n (take above p ++ own)) is ∙ drop-append-add (take above p) own (count - above)
 
 -- What a string begins with, each string begins with that it begins.
 first-begun : (p q : List ℕ) (b : ℕ) → begins p q ≡ true → BeginsWith b p → BeginsWith b q
@@ -45,7 +55,7 @@ holds is = subst T (sym is) tt
 
 module _ {V : Type 0} where
   -- All that the tree has stands under r, and is what `under` has behind that.
-  pub record IsPart (r : List ℕ) (under : List ℕ → Option V) (t : Shape V) : Type 0 where
+  pub record IsAllUnder (r : List ℕ) (under : List ℕ → Option V) (t : Shape V) : Type 0 where
     pub tree : IsTree t
     pub begun : begins r (prefix_of t) ≡ true
     pub finds : (q : List ℕ) → found t q ≡ under_or (strip_prefix r q) under None
@@ -53,7 +63,7 @@ module _ {V : Type 0} where
   -- Without what stands above, it stands under the rest of the prefix.
   pub part-tail : (part : Shape V) (p : List ℕ) (above : ℕ) → IsTree part
       → begins p (prefix_of part) ≡ true → above ≤ length p
-      → IsPart (drop above p) (λ rest. found part (p ++ rest)) (tail_of above part)
+      → IsAllUnder (drop above p) (λ rest. found part (p ++ rest)) (tail_of above part)
   part-tail (node prefix value width forest) p above tree begun within =
       let r = drop above p in
       let front = take above p in
@@ -83,22 +93,32 @@ module _ {V : Type 0} where
             ] refl;
       }
 
-  -- ---- what a root of its own begins with
-  with_prefix-is : (prefix : List ℕ) (s : Shape V) → prefix_of (with_prefix prefix s) ≡ prefix
-  with_prefix-is prefix (node old value width forest) = refl
+  -- ---- behind some of the bytes above it
+  pub tail-lifted : (s : Shape V) (front : List ℕ) (count : ℕ)
+      → tail_of count (with_prefix (front ++ prefix_of s) s)
+      ≡ with_prefix (drop count (front ++ prefix_of s)) s
+  tail-lifted (node prefix value width forest) front count = refl
 
-  pub lifted-begun : (end opened : Shape V) (p front : List ℕ) (above : ℕ) (shown : Shape V)
-      → begins (drop above p) (prefix_of end) ≡ true → opened ≡ end → front ≡ take above p
-      → shown ≡ with_prefix (front ++ prefix_of opened) opened
-      → begins p (prefix_of shown) ≡ true
-  lifted-begun end opened p front above shown begun same is shows =
-      ap (λ z. begins p (prefix_of z)) shows
-      ∙ ap (begins p) (with_prefix-is (front ++ prefix_of opened) opened)
-      ∙ (λ i. begins (sym (take-append-drop above p) i) (is i ++ prefix_of (same i)))
-      ∙ begins-along (take above p) (drop above p) (prefix_of end) ∙ begun
+  -- What begins it is no longer than these bytes and its own.
+  pub own-long : (s : Shape V) (p : List ℕ) (above : ℕ) → above ≤ length p
+      → begins p (prefix_of (with_prefix (take above p ++ prefix_of s) s)) ≡ true
+      → length p ≤ above + length (prefix_of s)
+  own-long (node prefix value width forest) p above within begun =
+      let long = begun-long p (take above p ++ prefix) begun in
+      let both = length-append (take above p) prefix in
+      let front = length-take-le above p within in
+      omega (arith, long, both, front)
+
+  -- behind just those
+  pub tail-own : (s : Shape V) (p : List ℕ) (above : ℕ) → above ≤ length p
+      → tail_of above (with_prefix (take above p ++ prefix_of s) s) ≡ s
+  tail-own (node prefix value width forest) p above within =
+      ap (λ z. node z value width forest)
+      (subst (λ n. drop n (take above p ++ prefix) ≡ prefix) (length-take-le above p within)
+      (drop-append_seam (take above p) prefix))
 
   -- ---- in the place of a node
-  pub put-over : (s t : Shape V) (r : List ℕ) (under : List ℕ → Option V) → IsPart r under t
+  pub put-over : (s t : Shape V) (r : List ℕ) (under : List ℕ → Option V) → IsAllUnder r under t
       → begins r (prefix_of s) ≡ true → IsGrafted r under s t
   put-over s t r under part begun =
       record {
@@ -127,7 +147,7 @@ module _ {V : Type 0} where
   pub put-added : (s t : Shape V) (p : List ℕ) (byte : ℕ) (rest : List ℕ)
       (under : List ℕ → Option V) → IsOrdered s
       → (value_of s ≡ None → 0 < length (children_of s)) → p ≡ prefix_of s ++ (byte ∷ rest)
-      → child_at byte (children_of s) ≡ None → IsPart (byte ∷ rest) under t
+      → child_at byte (children_of s) ≡ None → IsAllUnder (byte ∷ rest) under t
       → IsGrafted p under s (with_added byte t s)
   put-added (node prefix value width forest) t p byte rest under order some is absent part =
       let entries = entries_of forest in
@@ -175,7 +195,7 @@ module _ {V : Type 0} where
 
   pub put-cut_at : (s t : Shape V) (at : ℕ) (r : List ℕ) (byte : ℕ) (rest : List ℕ)
       (under : List ℕ → Option V) → IsTree s → at ≡ common_length (prefix_of s) r
-      → at < length (prefix_of s) → drop at r ≡ byte ∷ rest → IsPart (byte ∷ rest) under t
+      → at < length (prefix_of s) → drop at r ≡ byte ∷ rest → IsAllUnder (byte ∷ rest) under t
       → IsGrafted r under s (with_added byte t (cut_at at s))
   put-cut_at s t at r byte rest under tree is lt next part =
       let whole : r ≡ prefix_of (cut_at at s) ++ (byte ∷ rest) =
@@ -222,9 +242,9 @@ module _ {V : Type 0} where
       left = drop-drop common above p ∙ next
 
       lower : IsTree part → begins p (prefix_of part) ≡ true
-          → IsPart (byte ∷ drop (suc (above + common)) p) under (tail_of (above + common) part)
+          → IsAllUnder (byte ∷ drop (suc (above + common)) p) under (tail_of (above + common) part)
       lower whole begun =
-          subst (λ z. IsPart z under (tail_of (above + common) part)) next
+          subst (λ z. IsAllUnder z under (tail_of (above + common) part)) next
           (part-tail part p (above + common) whole begun level-within)
 
       pub level-absent : common < length (prefix_of s)
@@ -294,3 +314,58 @@ module _ {V : Type 0} where
   counts-down {start} {between} s child key rest opens later lower =
       counts-then (counts-opened start between opens) later (omega (arith, lower))
       (omega (arith, lower))
+
+-- ---- all that a prefix begins, where it stands below a root
+module _ {V : Type 0} where
+  with_prefix-is : (prefix : List ℕ) (s : Shape V) → prefix_of (with_prefix prefix s) ≡ prefix
+  with_prefix-is prefix (node old value width forest) = refl
+
+  pub tail-none : (s : Shape V) → tail_of 0 s ≡ s
+  tail-none (node prefix value width forest) = refl
+
+module _ {P V : Type 0} (end : PrefixEnd P V) (p : List ℕ) (root : Shape V) (tree : IsTree root)
+    (stands : StandsUnder p root end.steps end.above end.at.now.shape)
+    (same : end.node.now.shape ≡ end.at.now.shape) (is : end.prefix.now ≡ p) where
+  begun : begins p (prefix_of (part_of end)) ≡ true
+  begun =
+      let s = end.node.now.shape in
+      let above = end.above in
+      ap (begins p) (with_prefix-is (take above end.prefix.now ++ prefix_of s) s)
+      ∙ (λ i. begins (sym (take-append-drop above p) i) (take above (is i) ++ prefix_of (same i)))
+      ∙ begins-along (take above p) (drop above p) (prefix_of end.at.now.shape) ∙ stands.begun
+
+  pub part-alone : IsUnderAlone p root (Some (part_of end))
+  part-alone =
+      subst (λ z. IsUnderAlone p root (Some z))
+      (λ i. with_prefix (take end.above (sym is i) ++ prefix_of (sym same i)) (sym same i))
+      (lifted-alone root end.at.now.shape p end.steps end.above tree stands)
+
+  pub part-stands : (most : Option ℕ) → AreAdmitted most root → IsPart most end
+  part-stands most lengths =
+      record {
+        within = subst (λ z. end.above ≤ length z) (sym is) stands.within;
+        tree = part-alone.0;
+        begun = subst (λ z. begins z (prefix_of (part_of end)) ≡ true) (sym is) begun;
+        same = sym same;
+        admitted = subst (λ z. IsAdmitted most (end.above + length (prefix_of z))) (sym same)
+            (stands-admitted most root end.at.now.shape p end.steps end.above tree stands lengths);
+      }
+
+  pub part-put : (before after : Shape V)
+      → IsGrafted end.prefix.now (λ rest. found (part_of end) (end.prefix.now ++ rest)) before after
+      → IsGrafted p (λ rest. found root (p ++ rest)) before after
+  part-put before after put =
+      let grafted = subst (λ z. IsGrafted z (λ rest. found (part_of end) (z ++ rest)) before after)
+      is put in
+      record {
+        tree = grafted.tree;
+        finds = λ q. grafted.finds q
+            ∙ elim (strip_prefix p q) as (λ o.
+            under_or o (λ rest. found (part_of end) (p ++ rest)) (found before q)
+            ≡ under_or o (λ rest. found root (p ++ rest)) (found before q)) [
+              | None ↦ refl
+              | Some w ↦ part-alone.1 (p ++ w)
+                  ∙ ap (λ t. cond t (found root (p ++ w)) None) (begins-append p w)
+            ];
+        first = grafted.first;
+      }

@@ -13,7 +13,7 @@ use Rattle.rart_node.specs.Shape.{Shape, Forest, node, prefix_of, children_of, e
 use Rattle.rart_node.specs.Counts.{Counts, CountsUpTo}
 use Rattle.rart_node.specs.Trees.{strip_prefix, found, IsTree, path_bound}
 use Rattle.rart_node.proofs.CountingLemmas.{path-one, path-most, path-step}
-use Rattle.rart_node.proofs.PrefixLemmas.{strip_prefix-own, strip_prefix-is, strip_prefix-whole, split-whole, behind-append, begins-long, begins-first, common-within, eqb-sym}
+use Rattle.rart_node.proofs.PrefixRestLemmas.{strip_prefix-own, strip_prefix-is, strip_prefix-whole, split-whole, behind-append, begins-long, begins-first, common-within, eqb-sym}
 use Rattle.rart_node.proofs.FindLemmas.{IsBranch, branch, ordered}
 use Rattle.rart_node.proofs.InsertionLemmas.{inside}
 use Rattle.rart_node.proofs.KeyLemmas.{tree-has-key}
@@ -441,27 +441,6 @@ module _ {V : Type 0} where
         ∙ ap (λ z. Some (child, z)) (sym left-is)
 
   -- ---- a root of its own
-  with_own : (s : Shape V) → with_prefix (prefix_of s) s ≡ s
-  with_own (node prefix value width forest) = refl
-
-  -- Where nothing stands above it the node itself has that alone.
-  pub shared-alone : (root end : Shape V) (p : List ℕ) (steps above : ℕ) (shown : Shape V)
-      → IsTree root → StandsUnder p root steps above end → above ≡ 0 → shown ≡ end
-      → IsUnderAlone p root (Some shown)
-  shared-alone root end p steps above shown tree stands none shows =
-      subst (λ z. IsUnderAlone p root (Some z))
-      (ap (λ n. with_prefix (take n p ++ prefix_of end) end) none ∙ with_own end ∙ sym shows)
-      (lifted-alone root end p steps above tree stands)
-
-  pub lift-alone : (root end opened : Shape V) (p front : List ℕ) (steps above : ℕ)
-      (shown : Shape V) → IsTree root → StandsUnder p root steps above end → opened ≡ end
-      → front ≡ take above p → shown ≡ with_prefix (front ++ prefix_of opened) opened
-      → IsUnderAlone p root (Some shown)
-  lift-alone root end opened p front steps above shown tree stands same is shows =
-      subst (λ z. IsUnderAlone p root (Some z))
-      (sym (shows ∙ λ i. with_prefix (is i ++ prefix_of (same i)) (same i)))
-      (lifted-alone root end p steps above tree stands)
-
   -- What stands above it and its prefix are within some key.
   pub stands-admitted : (most : Option ℕ) (root end : Shape V) (p : List ℕ) (steps above : ℕ)
       → IsTree root → StandsUnder p root steps above end → AreAdmitted most root

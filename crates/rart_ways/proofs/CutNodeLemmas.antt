@@ -10,7 +10,7 @@ use Rattle.rart_below.specs.Bytes.{common_length}
 use Rattle.rart_below.specs.Children.{child_at}
 use Rattle.rart_node.specs.Shape.{Shape, node, prefix_of, children_of}
 use Rattle.rart_node.specs.Trees.{strip_prefix, BeginsWith, found, IsTree, IsOrdered, IsPut, cut_at}
-use Rattle.rart_node.proofs.PrefixLemmas.{behind-append, split-common, differs-strip_prefix, begins-drop, begins-common}
+use Rattle.rart_node.proofs.PrefixRestLemmas.{behind-append, split-common, differs-strip_prefix, begins-drop, begins-common}
 use Rattle.rart_node.proofs.OnlyChildLemmas.{along}
 use Rattle.rart_node.proofs.InsertionLemmas.{inside}
 

@@ -1,0 +1,43 @@
+-- What two trees make together: picked, at each byte string, from what either has there.
+use Rattle.std.specs.Prelude.{◌≡◌, ℕ, List, ◌++◌, Option, Some, None}
+use Rattle.rart_node.specs.Shape.{Shape, prefix_of}
+use Rattle.rart_node.specs.Trees.{BeginsWith, IsTree, found}
+use Rattle.rart_algebra.specs.declared.made.Made.{Made}
+use Rattle.rart_algebra.specs.declared.made.Made.TheVariants.{Same, Nothing, Node}
+
+-- what is picked from two that may be there
+abbrev pub Pick : Type 0 → Type 0
+Pick V = Option V → Option V → Option V
+
+-- the one, where there is no other
+abbrev pub unless : {V : Type 0} → Pick V
+unless one None = one
+unless one (Some other) = None
+
+module _ {V : Type 0} where
+  -- The tree has what is picked from two others. It takes the place of the left one: a first byte
+  -- of that one's prefix stays.
+  pub record IsPicked (pick : Pick V) (left right after : Shape V) : Type 0 where
+    pub tree : IsTree after
+    pub finds : (q : List ℕ) → found after q ≡ pick (found left q) (found right q)
+    pub first : (byte : ℕ) → BeginsWith byte (prefix_of left) → BeginsWith byte (prefix_of after)
+
+  -- The tree, or none where nothing is picked.
+  abbrev pub IsPickedOr : Pick V → Shape V → Shape V → Option (Shape V) → Type 0
+  IsPickedOr pick left right None =
+      (q : List ℕ) → pick (found left q) (found right q) ≡ None
+  IsPickedOr pick left right (Some after) = IsPicked pick left right after
+
+  -- Behind these bytes the one tree has what the other has, or nothing where there is no other.
+  abbrev pub LeadsTo : List ℕ → Shape V → Option (Shape V) → Type 0
+  LeadsTo path s None = (q : List ℕ) → found s (path ++ q) ≡ None
+  LeadsTo path s (Some end) = IsTree end × ((q : List ℕ) → found s (path ++ q) ≡ found end q)
+
+-- What becomes of the left tree: it has what is picked already, nothing is picked, or this takes
+-- its place.
+abbrev pub Becomes : {P V : Type 0} → Pick V → Shape V → Shape V → Made P V → Type 0
+Becomes pick left right Same =
+    (q : List ℕ) → pick (found left q) (found right q) ≡ found left q
+Becomes pick left right Nothing =
+    (q : List ℕ) → pick (found left q) (found right q) ≡ None
+Becomes pick left right (Node after) = IsPicked pick left right after.shape

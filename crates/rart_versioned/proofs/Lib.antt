@@ -1,7 +1,8 @@
 pub mod BackWalkLemmas
+pub mod CommonUntilLemmas
 pub mod CursorLawLemmas
-pub mod DiffEndLemmas
 pub mod EndPairLemmas
+pub mod EndedDiffLemmas
 pub mod ExtendLemmas
 pub mod KeptUpdateLemmas
 pub mod KeyLengthLemmas
@@ -29,6 +30,7 @@ pub mod VersionFoundLemmas
 pub mod VersionIterationLemmas
 pub mod VersionKeyLemmas
 pub mod VersionMapLemmas
+pub mod VersionPartLemmas
 pub mod VersionPrefixLemmas
 pub mod VersionRemovalLemmas
 pub mod VersionVisitLemmas

@@ -1,6 +1,6 @@
 -- A visit under a prefix that its closure ends at a key: what there is up to that key.
 use Rattle.std.proofs.Common.{◌≡◌, ◌⊎◌, ◌+◌, ◌*◌, ◌<◌, ◌≤◌, ◌&&◌, ⊎_elim, inl, inr, ℕ, Bool, true, false, cond, List, [], ◌∷◌, ◌++◌, length, arith, refl, sym, ap, subst, ◌∙◌}
-use Rattle.std.specs.Prelude.{◌==◌, Contains, count_by}
+use Rattle.std.specs.Prelude.{◌==◌, Contains, count_by, filter}
 use Rattle.std.specs.Ordering.{as_partial_cmp, is_lt}
 use Rattle.std.specs.Range.Bound.{bounds_contain}
 use Rattle.std.specs.Str.{bytes_eq}
@@ -252,3 +252,17 @@ module _ {V : Type 0} where
           };
           at_least = omega (arith, least, at_hand);
         }
+
+  -- A visit of a walk over all pairs is one under the prefix that is empty.
+  pub ends-soon-of-all : (m : Map V) (front rest : List (List ℕ × V)) (last : List ℕ × V)
+      → pairs m ≡ front ++ last ∷ rest
+      → (paths : List (List ℕ)) (hand : ℕ) (before way after : Counts)
+      → CountsUpTo 1 0 before way → before.entered + hand ≤ way.entered
+      → ((high : Bound (List ℕ)) → count_by (is_below high) paths
+      ≤ bound_length high + 1 + 2 * length (within m (Included []) high))
+      → EntersUpTo paths hand way after front last → EndsSoon [] before after front last
+  ends-soon-of-all m front rest last is = ends-soon m [] front rest last (all (pairs m) ∙ is)
+    where
+      all : (list : List (List ℕ × V)) → filter (λ pair. begins [] pair.0) list ≡ list
+      all [] = refl
+      all (x ∷ list) = ap (λ rest. x ∷ rest) (all list)

@@ -5,7 +5,7 @@ use Rattle.std.specs.Prelude.{filter}
 use Rattle.rart_node.specs.Shape.{Shape, node, prefix_of, value_of, height}
 use Rattle.rart_node.specs.Trees.{strip_prefix, IsTree}
 use Rattle.rart_below.specs.Bytes.{begins}
-use Rattle.rart_node.proofs.PrefixLemmas.{strip_prefix-is}
+use Rattle.rart_node.proofs.PrefixRestLemmas.{strip_prefix-is}
 use Rattle.rart_node.proofs.FindLemmas.{branch, ordered}
 use Rattle.rart_ways.specs.Steps.{child_under}
 use Rattle.rart_ways.proofs.StepLemmas.{take-front, own-first, under}

@@ -13,14 +13,14 @@ use Rattle.rart_maps.proofs.PrefixLemmas.{same_map, get-with_prefix_of, key-has-
 use Rattle.rart_node.specs.Shape.{Shape, prefix_of}
 use Rattle.rart_node.specs.Trees.{strip_prefix, found, IsTree}
 use Rattle.rart_node.proofs.KeyLemmas.{tree-has-key}
-use Rattle.rart_node.proofs.PrefixLemmas.{strip_prefix-is}
+use Rattle.rart_node.proofs.PrefixRestLemmas.{strip_prefix-is}
 use Rattle.rart_ways.specs.Prefixes.{HasNoneUnder, IsGrafted, under_or}
-use Rattle.rart_ways.proofs.PrefixLemmas.{strip-begins, not-begun}
+use Rattle.rart_ways.proofs.UnderPrefixLemmas.{strip-begins, not-begun}
 use Rattle.rart_versioned.specs.Roots.{found_in, map_of, HasSomeIn, IsReplacedUnder, IsTreeIn, IsUnderIn, IsSound}
 use Rattle.rart_versioned.proofs.SoundLemmas.{tree-in, few, admitted}
 use Rattle.rart_versioned.proofs.VersionDiffLemmas.{entries-few}
 use Rattle.rart_versioned.proofs.VersionMapLemmas.{get-found}
-use Rattle.rart_versioned.proofs.VersionPrefixLemmas.{cond-none, none-begun, len-under, len-without}
+use Rattle.rart_versioned.proofs.VersionPrefixLemmas.{cond-none, none-begun, len-under, len-without, under-root}
 
 module _ {V : Type 0} where
   -- ---- below the root
@@ -37,18 +37,6 @@ module _ {V : Type 0} where
           | Some w ↦ λ is. ap (found part) (sym (strip_prefix-is p q w is))
         ] refl
         ∙ ap (λ t. cond t (found part q) (found root q)) (sym (strip-begins p q)),
-  )
-
-  -- A part has nothing else.
-  pub part-alone : (p : List ℕ) (part : Shape V) → IsTree part → begins p (prefix_of part) ≡ true
-      → IsReplacedUnder p (Some part) None (Some part)
-  part-alone p part tree begun = (
-    tree,
-    λ q. elim (begins p q) as (λ t. begins p q ≡ t
-        → found part q ≡ cond t (found part q) None) [
-          | true ↦ λ _. refl
-          | false ↦ λ apart. not-begun part p q begun apart
-        ] refl,
   )
 
   pub none-emptied : (p : List ℕ) → IsReplacedUnder {V = V} p None None None
@@ -71,7 +59,7 @@ module _ {V : Type 0} where
   twice true x y = refl
   twice false x y = refl
 
-  pub restored-in : (p : List ℕ) (from part before after : Option (Shape V))
+  restored-in : (p : List ℕ) (from part before after : Option (Shape V))
       → IsUnderIn p from part → IsReplacedUnder p part before after
       → IsReplacedUnder p from before after
   restored-in p from part before after under replaced = (
@@ -79,6 +67,13 @@ module _ {V : Type 0} where
     λ q. replaced.1 q ∙ ap (λ o. cond (begins p q) o (found_in before q)) (under.1 q)
         ∙ twice (begins p q) (found_in from q) (found_in before q),
   )
+
+  -- Where that has nothing there, nothing is put there.
+  pub none-restored : (p : List ℕ) (from : Shape V) (before after : Option (Shape V))
+      → HasNoneUnder p from → IsReplacedUnder p None before after
+      → IsReplacedUnder p (Some from) before after
+  none-restored p from before after none =
+      restored-in p (Some from) None before after (under-root p from None none)
 
   pub map-restored : (p : List ℕ) (from before after : Option (Shape V)) → IsTreeIn from
       → IsTreeIn before → IsReplacedUnder p from before after
@@ -135,18 +130,3 @@ module _ {V : Type 0} where
     some-in some =
         key-has-under v p (p ++ some.0) (begins-append p some.0)
         (ap is_some (values (p ++ some.0)) ∙ some.1)
-
-    -- What a part has stood under the prefix.
-    pub part-there : (part : Option (Shape V)) → IsSome part → IsUnderIn p root part
-        → has_under v p ≡ true
-    part-there None some under = absurd (false≢true some)
-    part-there (Some part) some under =
-        let has = tree-has-key part under.0 in
-        let there : is_some (cond (begins p has.key) (found_in root has.key) None) ≡ true =
-        ap is_some (sym (under.1 has.key)) ∙ has.there in
-        elim (begins p has.key) as (λ t. begins p has.key ≡ t
-        → is_some (cond t (found_in root has.key) None) ≡ true → has_under v p ≡ true) [
-          | true ↦ λ begun found. key-has-under v p has.key begun
-              (ap is_some (values has.key) ∙ found)
-          | false ↦ λ apart found. absurd (false≢true found)
-        ] refl there

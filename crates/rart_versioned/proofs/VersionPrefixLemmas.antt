@@ -8,7 +8,7 @@ use Rattle.rart_below.specs.Bytes.{begins}
 use Rattle.rart_node.specs.Shape.{Shape}
 use Rattle.rart_node.specs.Trees.{strip_prefix, found}
 use Rattle.rart_ways.specs.Prefixes.{HasNoneUnder, HasSomeUnder, IsUnderAlone, IsCleared, under_or}
-use Rattle.rart_ways.proofs.PrefixLemmas.{strip-begins}
+use Rattle.rart_ways.proofs.UnderPrefixLemmas.{strip-begins}
 use Rattle.rart_maps.specs.Pairs.{pairs}
 use Rattle.rart_maps.specs.Prefixes.{pairs_under, without_prefix, has_under, after_prefix_removal}
 use Rattle.rart_maps.specs.Versions.{Map, Version, value_at}
@@ -21,7 +21,7 @@ use Rattle.rart_versioned.proofs.SoundLemmas.{tree-in, few, admitted}
 
 module _ {V : Type 0} where
   -- ---- how many keys
-  filter-fewer : (test : List ℕ × V → Bool) (list : List (List ℕ × V))
+  pub filter-fewer : (test : List ℕ × V → Bool) (list : List (List ℕ × V))
       → length (filter test list) ≤ length list
   filter-fewer test list =
       let same = length-filter test list in

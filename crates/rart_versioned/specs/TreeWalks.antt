@@ -1,5 +1,5 @@
 -- What a call that makes a walk over a tree tells: what the walk has left, and the nodes entered.
-use Rattle.std.specs.Prelude.{◌≡◌, ◌+◌, ◌*◌, ◌<◌, ◌≤◌, ◌^◌, ℕ, Bool, false, All, List, Option, None, Result, IfOk, OnErr, count_by, filter, length}
+use Rattle.std.specs.Prelude.{◌≡◌, ◌+◌, ◌*◌, ◌<◌, ◌≤◌, ◌^◌, ℕ, Bool, false, All, List, [], Option, None, Result, IfOk, OnErr, count_by, filter, length}
 use Rattle.std.specs.Ordering.{as_partial_cmp}
 use Rattle.std.specs.Range.Bound.{is_from_start, is_up_to_end}
 use Rattle.std.specs.declared.ops.Bound.{Bound}
@@ -31,13 +31,17 @@ AreAdmitted most pairs = All (λ pair. IsAdmitted most (length pair.0)) pairs
 module _ {P V T E : Type 0} {partial : _} (holds : T → List (List ℕ) → Type 0)
     (extent : List (List ℕ) → ℕ) (greatest most : Option ℕ) (v : Version V)
     (result : Result (Walk P V T partial) E) (start now : Counts) where
-  -- A walk over all pairs: one node is entered at most, and the walk has the others left.
+  -- A walk over all pairs: one node is entered at most, and the walk has the others left, of which
+  -- those up to a bound are few.
   pub record WalksAll : Type 0 where
     pub walk : IfOk result (IsWalk holds extent greatest)
     pub pairs : IfOk result (λ walk. (cursor walk).pairs ≡ pairs v.content)
     pub admitted : IfOk result (λ walk. AreAdmitted most (cursor walk).pairs)
     pub nodes : IfOk result (λ walk. now.entered + length (cursor walk).paths
         ≡ start.entered + node_count v.content)
+    pub few_up_to : IfOk result (λ walk. (high : Bound (List ℕ))
+        → count_by (is_up_to_end (as_partial_cmp byte_order) high) (cursor walk).paths
+        ≤ bound_length high + 1 + 2 * length (within v.content (Included []) high))
     pub counted : CountsUpTo (node_count v.content) 0 start now
     pub to : IfOk result (λ walk. (key : List ℕ) → now.entered
         + count_by (is_up_to_first (pairs_from key (cursor walk).pairs)) (cursor walk).paths

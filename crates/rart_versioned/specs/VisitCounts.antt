@@ -1,13 +1,17 @@
 -- How a visit that its closure ends raises the counts: under a prefix, and of changes.
-use Rattle.std.specs.Prelude.{◌≡◌, ℕ, ◌+◌, ◌*◌, ◌≤◌, List, [], ◌∷◌, length}
+use Rattle.std.specs.Prelude.{◌≡◌, ℕ, ◌+◌, ◌*◌, ◌≤◌, Bool, List, [], ◌∷◌, Result, length, ⊤}
+use Rattle.std.specs.Fn.{Mut}
 use Rattle.std.specs.FinSet as set
-use Rattle.rart_maps.specs.ChangeLists.{Change}
+use Rattle.rart_below.specs.declared.slot.Refusal.{Refusal}
+use Rattle.rart_below.specs.declared.visit.VisitControl.{VisitControl}
+use Rattle.rart_maps.specs.ChangeLists.{Change, changes}
 use Rattle.rart_walks.specs.DiffEnds.{pairs_from, is_up_to_first}
 use Rattle.rart_maps.specs.Bounds.{node_count}
 use Rattle.rart_maps.specs.Pairs.{pairs}
 use Rattle.rart_maps.specs.Points.{points}
 use Rattle.rart_maps.specs.Versions.{Map}
 use Rattle.rart_node.specs.Counts.{Counts, CountsUpTo}
+use Rattle.rart_walks.specs.Ends.{Ends}
 
 -- the most nodes that are entered under p up to the key k, where a number of values are visited
 abbrev pub end_bound : List ℕ → List ℕ → ℕ → ℕ
@@ -40,3 +44,33 @@ module _ {V : Type 0} where
       after.entered ≡ before.entered + (node_count old + node_count new)
   EndsAtFirst old new before after (first ∷ changes) =
       DiffEndsSoon old new before after [] first
+
+module _ {F A V E : Type 0} (callback : Mut F A (Result VisitControl E))
+    (Shows : A → List ℕ × V → Type 0) where
+  -- What a visit of these pairs, whose keys p begins, has entered by its answer: one node at least
+  -- for each pair where it went through all of them, and few where its closure ended it.
+  abbrev pub CountsVisit : List ℕ → F → List (List ℕ × V) → Result (Unit {0}) (Refusal E) → F
+      → Counts → Counts → Type 0
+  CountsVisit p f pairs result f' before after =
+      Ends callback Shows (before.entered + length pairs ≤ after.entered) (EndsSoon p before after)
+      result f pairs f'
+
+module _ {F A V E : Type 0} (callback : Mut F A (Result VisitControl E))
+    (Shows : A → Change V → Type 0) (same : V → V → Bool) where
+  -- What a diff of two maps has entered by its answer: each node of both where it went through all
+  -- changes, and few where its closure ended it.
+  abbrev pub CountsDiff : F → Map V → Map V → Result (Unit {0}) (Refusal E) → F
+      → Counts → Counts → Type 0
+  CountsDiff f old new result f' before after =
+      Ends callback Shows (after.entered ≡ before.entered + (node_count old + node_count new))
+      (DiffEndsSoon old new before after) result f (changes same old new) f'
+
+module _ {F A V E : Type 0} (callback : Mut F A (Result VisitControl E))
+    (Shows : A → List ℕ × V × V → Type 0) where
+  -- What an intersection has entered by its answer: two nodes at least for each common key where it
+  -- went through all of them. Of one that its closure ended nothing is said here.
+  abbrev pub CountsCommon : F → List (List ℕ × V × V) → Result (Unit {0}) (Refusal E) → F
+      → Counts → Counts → Type 0
+  CountsCommon f entries result f' before after =
+      Ends callback Shows (before.entered + 2 * length entries ≤ after.entered) (λ front last. ⊤)
+      result f entries f'

@@ -1,6 +1,7 @@
 // Ported from rart 0.11.0 (Apache-2.0), and rewritten.
 //! Whatever counts into a `Work` that it is handed, or counts nothing.
 
+mod algebra;
 mod change;
 mod diff;
 mod first;

@@ -2,6 +2,7 @@
 //! Whatever makes a `Work` of its own, or calls what does: the forms that count nothing, and the
 //! iterators, whose `next` makes one.
 
+mod algebra;
 mod count;
 mod debug;
 mod diff;

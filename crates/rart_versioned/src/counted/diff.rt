@@ -8,9 +8,8 @@ ghost use Rattle.rart_maps.specs.Versions.{has_no_key};
 ghost use Rattle.rart_maps.specs.Visits.{Visits, Visitable, VisitsUntil, VisitableUntil};
 ghost use Rattle.rart_node.specs.Counts.{CountsUpTo};
 ghost use Rattle.rart_versioned.specs.TreeWalks.{AreWalks};
-ghost use Rattle.rart_versioned.specs.VisitCounts.{DiffEndsSoon, EndsAtFirst, node_count_to};
+ghost use Rattle.rart_versioned.specs.VisitCounts.{CountsDiff, EndsAtFirst, node_count_to};
 ghost use Rattle.rart_walks.specs.DiffEnds.{nodes_to};
-ghost use Rattle.rart_walks.specs.Ends.{Ends};
 ghost use Rattle.rart_walks.specs.WalkFields.{at_hand, cursor};
 
 use crate::counted::tree::VersionedAdaptiveRadixTree;
@@ -91,11 +90,8 @@ impl<K: KeyTrait, V: Clone + Drop + Eq> VersionedAdaptiveRadixTree<K, V> {
             work.old work.new }
         ensures entered { has_no_key self.now ≡ false → work.old.entered < work.new.entered }
         ensures entered_other { has_no_key other.now ≡ false → work.old.entered < work.new.entered }
-        ensures ends { let through = work.new.entered ≡ work.old.entered
-            + (node_count self.now.content + node_count other.now.content) in
-            let ended = DiffEndsSoon self.now.content other.now.content work.old work.new in
-            Ends F.FnMut ByViewChange through ended result f.old
-            (changes V.eq self.now.content other.now.content) f.new }
+        ensures ends { CountsDiff F.FnMut ByViewChange V.eq f.old self.now.content
+            other.now.content result f.new work.old work.new }
     {
         match self.both_walks(other, work) {
             Ok((old, new)) => visit_changed_views_until(old, new, f, work),

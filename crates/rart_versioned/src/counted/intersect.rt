@@ -4,14 +4,16 @@ ghost use Rattle.std.specs.Prelude.{◌≡◌, ◌+◌, ◌*◌, ◌≤◌, fals
 ghost use Rattle.rart_maps.specs.Bounds.{meet_bound};
 ghost use Rattle.rart_maps.specs.Pairs.{common};
 ghost use Rattle.rart_maps.specs.Versions.{has_no_key};
-ghost use Rattle.rart_maps.specs.Visits.{ByKeyPair, ByValuePair, ByViewPair, Visit, Visits, Visitable};
+ghost use Rattle.rart_maps.specs.Visits.{ByKeyPair, ByValuePair, ByViewPair, Visit, Visits, Visitable, VisitsUntil, VisitableUntil};
 ghost use Rattle.rart_node.specs.Counts.{CountsUpTo};
 ghost use Rattle.rart_versioned.specs.Meets.{AreRoots, HaveNoCommon};
+ghost use Rattle.rart_versioned.specs.VisitCounts.{CountsCommon};
 
 use crate::counted::tree::VersionedAdaptiveRadixTree;
-use rart_below::{KeyTrait, LendingKeyView, Partial};
+use rart_below::{KeyTrait, LendingKeyView, Partial, Refusal, VisitControl};
 use rart_lockstep::{
-    ViewsPath, count_common, visit_common, visit_common_keys, visit_common_values,
+    Ended, ViewsPath, count_common, visit_common, visit_common_keys, visit_common_values,
+    without_stop,
 };
 use rart_node::{KeyPath, NodeRef, Work};
 use std::alloc::AllocError;
@@ -65,8 +67,40 @@ impl<K: KeyTrait, V: Clone + Drop> VersionedAdaptiveRadixTree<K, V> {
         match self.both_roots(other) {
             None => Ok(()),
             Some((left, right)) => {
-                let key_path: ViewsPath<'a, V> = ViewsPath::new(self.alloc);
+                let key_path: ViewsPath<'a, V, AllocError> = ViewsPath::new(self.alloc);
                 visit_common(key_path, left, right, f, work)
+            }
+        }
+    }
+
+    /// As `try_intersect_lending_with`, with the nodes entered counted into `work`: at most as many
+    /// as in `intersect_with_counted`. At least two where both maps have a key, and two for each
+    /// common key where it went through all of them.
+    pub fn try_intersect_lending_with_counted<
+        'a,
+        F: FnMut(LendingKeyView<'a, '_>, &'a V, &'a V) -> Result<VisitControl, AllocError>,
+    >(
+        &'a self,
+        other: &'a VersionedAdaptiveRadixTree<K, V>,
+        f: &mut F,
+        work: &mut Work,
+    ) -> Result<(), Refusal<AllocError>>
+        requires visitable { VisitableUntil F.FnMut ByViewPair f.old
+            (common self.now.content other.now.content) }
+        ensures visits { VisitsUntil F.FnMut ByViewPair result f.old
+            (common self.now.content other.now.content) f.new }
+        ensures counted { CountsUpTo (meet_bound self.now.content other.now.content) 0
+            work.old work.new }
+        ensures entered { has_no_key self.now ≡ false → has_no_key other.now ≡ false
+            → work.old.entered + 2 ≤ work.new.entered }
+        ensures ends { CountsCommon F.FnMut ByViewPair f.old
+            (common self.now.content other.now.content) result f.new work.old work.new }
+    {
+        match self.both_roots(other) {
+            None => Ok(()),
+            Some((left, right)) => {
+                let key_path: ViewsPath<'a, V, Ended<AllocError>> = ViewsPath::new(self.alloc);
+                without_stop(visit_common(key_path, left, right, f, work))
             }
         }
     }

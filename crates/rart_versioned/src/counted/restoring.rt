@@ -1,14 +1,13 @@
 // Ported from rart 0.11.0 (Apache-2.0), and rewritten.
 //! All that another version has under a prefix, put in place of what stands there.
-ghost use Rattle.std.specs.Prelude.{◌≡◌, ◌⊎◌, ◌+◌, ◌*◌, ◌<◌, ℕ, List, IfOk, IfSome, IsSome, IsTrue, None, OnErr, OnOk, false, length};
-ghost use Rattle.rart_below.specs.Bytes.{IsAdmitted, begins};
+ghost use Rattle.std.specs.Prelude.{◌≡◌, ◌⊎◌, ◌+◌, ◌*◌, ◌<◌, ℕ, List, IsSome, IsTrue, None, OnErr, OnOk, false, length};
+ghost use Rattle.rart_below.specs.Bytes.{IsAdmitted};
 ghost use Rattle.rart_below.specs.Clones.{ClonesEqual};
 ghost use Rattle.rart_maps.specs.Bounds.{change_bound, lookup_bound};
 ghost use Rattle.rart_maps.specs.Prefixes.{after_prefix_restoring, has_under};
 ghost use Rattle.rart_maps.specs.Versions.{HasRoom, has_no_key};
 ghost use Rattle.rart_node.specs.Counts.{CountsUpTo};
-ghost use Rattle.rart_node.specs.Shape.{prefix_of};
-ghost use Rattle.rart_versioned.specs.Roots.{HasSomeIn, IsReplacedUnder, IsTreeIn, IsUnderIn, below_root, found_in};
+ghost use Rattle.rart_versioned.specs.Roots.{HasSomeIn, IsReplacedUnder, IsTreeIn, below_root, found_in};
 
 use crate::counted::tree::VersionedAdaptiveRadixTree;
 use rart_below::{KeyTrait, Partial};
@@ -19,7 +18,7 @@ use std::alloc::{AllocError, Global};
 impl<K: KeyTrait, V: Clone + Drop> VersionedAdaptiveRadixTree<K, V> {
     /// As `restore_prefix`, with the nodes entered and made counted into `work`: in both versions
     /// together at most three more entered than three times the bytes of the prefix, and at most
-    /// four more made than it has. One is entered at least where either map has a key.
+    /// three more made than it has. One is entered at least where either map has a key.
     pub fn restore_prefix_counted(
         &mut self,
         prefix: &[u8],
@@ -33,53 +32,32 @@ impl<K: KeyTrait, V: Clone + Drop> VersionedAdaptiveRadixTree<K, V> {
         ensures refused { OnErr result (self.new ≡ self.old) }
         ensures present { OnErr result (IsTrue (has_under self.old prefix.now)
             ⊎ IsTrue (has_under from.now prefix.now)) }
-        ensures counted { CountsUpTo (3 * lookup_bound prefix.now) (change_bound prefix.now + 2)
+        ensures counted { CountsUpTo (3 * lookup_bound prefix.now) (change_bound prefix.now + 1)
             work.old work.new }
         ensures entered { has_no_key self.old ≡ false → work.old.entered < work.new.entered }
         ensures entered_other { has_no_key from.now ≡ false → work.old.entered < work.new.entered }
     {
         let version = self.version + from.version;
-        let part = part_under(self.alloc, &from.root, prefix, version, work)?;
-        replace_under(self.alloc, &mut self.root, prefix, part, version, work)?;
+        restore_under(
+            self.alloc,
+            &mut self.root,
+            prefix,
+            &from.root,
+            version,
+            work,
+        )?;
         self.version = version;
         Ok(())
     }
 }
 
-/// A root of its own for all that stands under a prefix below a root, or the lack of one.
-fn part_under<P: Partial, V: Clone + Drop>(
-    alloc: Global,
-    root: &Option<NodeRef<P, V>>,
-    prefix: &[u8],
-    version: u64,
-    work: &mut Work,
-) -> Result<Option<NodeRef<P, V>>, AllocError>
-    requires clones { ClonesEqual V.is_clone }
-    requires tree { IsTreeIn (below_root root.now) }
-    requires lengths { (key : List ℕ) → IsSome (found_in (below_root root.now) key)
-        → IsAdmitted P.MAXIMUM_SIZE (length key) }
-    ensures kept { IfOk result (λ part. IsUnderIn prefix.now (below_root root.now)
-        (below_root part)) }
-    ensures begun { IfOk result (λ part. IfSome part (λ it.
-        IsTrue (begins prefix.now (prefix_of it.shape)))) }
-    ensures present { OnErr result (HasSomeIn prefix.now (below_root root.now)) }
-    ensures counted { CountsUpTo (lookup_bound prefix.now) 1 work.old work.new }
-    ensures entered { IsSome root.now → work.old.entered < work.new.entered }
-    ensures entered_refused { OnErr result (work.old.entered < work.new.entered) }
-{
-    match root {
-        None => Ok(None),
-        Some(root) => keep_under(alloc, root, prefix, version, work),
-    }
-}
-
-/// Puts a part in place of all that stands under a prefix below a root, or the lack of one. Without
-/// a part, nothing stands there then. Refused for memory, all is as before.
-fn replace_under<P: Partial, V: Clone + Drop>(
+/// Puts all that stands under a prefix below one root, or the lack of one, in place of all that
+/// stands there below another. Refused for memory, all is as before.
+fn restore_under<P: Partial, V: Clone + Drop>(
     alloc: Global,
     root: &mut Option<NodeRef<P, V>>,
     prefix: &[u8],
-    part: Option<NodeRef<P, V>>,
+    from: &Option<NodeRef<P, V>>,
     version: u64,
     work: &mut Work,
 ) -> Result<(), AllocError>
@@ -87,27 +65,30 @@ fn replace_under<P: Partial, V: Clone + Drop>(
     requires tree { IsTreeIn (below_root root.old) }
     requires lengths { (key : List ℕ) → IsSome (found_in (below_root root.old) key)
         → IsAdmitted P.MAXIMUM_SIZE (length key) }
-    requires part { IsTreeIn (below_root part) }
-    requires begun { IfSome part (λ it. IsTrue (begins prefix.now (prefix_of it.shape))) }
-    ensures replaced { OnOk result (IsReplacedUnder prefix.now (below_root part)
+    requires tree_from { IsTreeIn (below_root from.now) }
+    requires lengths_from { (key : List ℕ) → IsSome (found_in (below_root from.now) key)
+        → IsAdmitted P.MAXIMUM_SIZE (length key) }
+    ensures replaced { OnOk result (IsReplacedUnder prefix.now (below_root from.now)
         (below_root root.old) (below_root root.new)) }
     ensures refused { OnErr result (below_root root.new ≡ below_root root.old) }
-    ensures present { OnErr result
-        (IsSome (below_root part) ⊎ HasSomeIn prefix.now (below_root root.old)) }
-    ensures counted { CountsUpTo (2 * lookup_bound prefix.now) (change_bound prefix.now + 1)
+    ensures present { OnErr result (HasSomeIn prefix.now (below_root root.old)
+        ⊎ HasSomeIn prefix.now (below_root from.now)) }
+    ensures counted { CountsUpTo (3 * lookup_bound prefix.now) (change_bound prefix.now + 1)
         work.old work.new }
     ensures entered { IsSome root.old → work.old.entered < work.new.entered }
+    ensures entered_from { IsSome from.now → work.old.entered < work.new.entered }
 {
-    let Some(part) = part else {
+    let Some(from) = from else {
         return empty_under(alloc, root, prefix, version, work);
     };
-    match root {
-        None => {
-            *root = Some(part);
-            Ok(())
-        }
-        Some(root) => put_under(alloc, root, prefix, &part, version, work),
+    let Some(own) = root else {
+        *root = keep_under(alloc, from, prefix, version, work)?;
+        return Ok(());
+    };
+    if put_under(alloc, own, prefix, from, version, work)? {
+        return Ok(());
     }
+    empty_under(alloc, root, prefix, version, work)
 }
 
 /// Takes out all that stands under a prefix below a root, or the lack of one. Refused for memory,

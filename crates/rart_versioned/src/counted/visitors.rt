@@ -1,21 +1,22 @@
 // Ported from rart 0.11.0 (Apache-2.0), and rewritten.
 //! Visitors over a tree, and their counts.
-ghost use Rattle.std.specs.Prelude.{◌≡◌, ◌+◌, ◌<◌, ◌≤◌, false, length, map, OnOk};
+ghost use Rattle.std.specs.Prelude.{◌≡◌, ◌+◌, ◌<◌, ◌≤◌, [], false, length, map, OnOk};
 ghost use Rattle.std.specs.Range.Bound.{bound_map};
 ghost use Rattle.rart_maps.specs.Bounds.{lookup_bound, node_count, range_bound, reach_bound, reach_by_pairs};
 ghost use Rattle.rart_maps.specs.Pairs.{pairs, prefix_matches, under, within};
 ghost use Rattle.rart_maps.specs.Versions.{has_no_key};
 ghost use Rattle.rart_maps.specs.Visits.{BySlice, ByValue, ByView, Visit, Visits, Visitable, VisitsUntil, VisitableUntil};
 ghost use Rattle.rart_node.specs.Counts.{CountsUpTo};
-ghost use Rattle.rart_walks.specs.Ends.{ByPairValue, Ends};
-ghost use Rattle.rart_versioned.specs.VisitCounts.{EndsSoon};
+ghost use Rattle.rart_walks.specs.Ends.{ByPairValue};
+ghost use Rattle.rart_versioned.specs.VisitCounts.{CountsVisit};
 
 use crate::counted::tree::VersionedAdaptiveRadixTree;
 use crate::counted::walks::bytes_of;
 use rart_below::{KeyTrait, LendingKeyView, Partial, Refusal, VisitControl};
 use rart_node::{NodeRef, Work};
 use rart_walks::{
-    NoPath, SegmentsPath, Walk, visit_values, visit_values_until, visit_views, visit_views_up_to,
+    NoPath, SegmentsPath, Walk, visit_values, visit_values_until, visit_views, visit_views_until,
+    visit_views_up_to,
 };
 use rart_ways::visit_prefix_matches;
 use std::alloc::AllocError;
@@ -93,10 +94,8 @@ impl<K: KeyTrait, V: Clone + Drop> VersionedAdaptiveRadixTree<K, V> {
         ensures counted_by_pairs { CountsUpTo (reach_by_pairs self.now.content
             (K.bytes prefix.now)) 0 work.old work.new }
         ensures entered { has_no_key self.now ≡ false → work.old.entered < work.new.entered }
-        ensures ends { let pairs = under self.now.content (K.bytes prefix.now) in
-            let through = work.old.entered + length pairs ≤ work.new.entered in
-            let ended = EndsSoon (K.bytes prefix.now) work.old work.new in
-            Ends F.FnMut ByPairValue through ended result f.old pairs f.new }
+        ensures ends { CountsVisit F.FnMut ByPairValue (K.bytes prefix.now) f.old
+            (under self.now.content (K.bytes prefix.now)) result f.new work.old work.new }
     {
         let walk: Result<Walk<'_, K::PartialType, V, NoPath>, AllocError> = self.walk_under(
             prefix.as_ref(),
@@ -126,6 +125,30 @@ impl<K: KeyTrait, V: Clone + Drop> VersionedAdaptiveRadixTree<K, V> {
     {
         let walk = self.whole_walk(work)?;
         visit_views(walk, f, work)
+    }
+
+    /// As `try_for_each_view`, with the nodes entered counted into `work`: at most as many as in
+    /// `for_each_view_counted`. Where the closure ends it, none is entered behind the key that it
+    /// was called on last: at most one for each byte of that key, two for each pair that it was
+    /// called on, and two. One at least where there is a key in the map, and, where it isn't
+    /// refused, one for each pair that it was called on.
+    pub fn try_for_each_view_counted<
+        E: Drop,
+        F: FnMut(LendingKeyView<'_, '_>, &V) -> Result<VisitControl, E>,
+    >(&self, f: &mut F, work: &mut Work) -> Result<(), Refusal<E>>
+        requires visitable { VisitableUntil F.FnMut ByView f.old (pairs self.now.content) }
+        ensures visits { VisitsUntil F.FnMut ByView result f.old (pairs self.now.content) f.new }
+        ensures counted { CountsUpTo (node_count self.now.content) 0 work.old work.new }
+        ensures entered { has_no_key self.now ≡ false → work.old.entered < work.new.entered }
+        ensures ends { CountsVisit F.FnMut ByView [] f.old (pairs self.now.content) result f.new
+            work.old work.new }
+    {
+        let walk: Result<Walk<'_, K::PartialType, V, SegmentsPath<'_>>, AllocError> =
+            self.whole_walk(work);
+        match walk {
+            Ok(walk) => visit_views_until(walk, f, work),
+            Err(refused) => Err(Refusal::Memory(refused)),
+        }
     }
 
     /// As `for_each_range_view`, with the nodes entered counted into `work`: at most one for each

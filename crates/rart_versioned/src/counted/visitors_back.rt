@@ -1,12 +1,11 @@
 //! Visitors over a tree from the last key to the first, and their counts. rart has none.
-ghost use Rattle.std.specs.Prelude.{◌≡◌, ◌+◌, ◌<◌, ◌≤◌, [], false, length, reverse, OnOk};
+ghost use Rattle.std.specs.Prelude.{◌≡◌, ◌+◌, ◌<◌, [], false, reverse, OnOk};
 ghost use Rattle.rart_maps.specs.Bounds.{node_count};
 ghost use Rattle.rart_maps.specs.Pairs.{pairs};
 ghost use Rattle.rart_maps.specs.Versions.{has_no_key};
 ghost use Rattle.rart_maps.specs.Visits.{ByView, Visits, Visitable, VisitsUntil, VisitableUntil};
 ghost use Rattle.rart_node.specs.Counts.{CountsUpTo};
-ghost use Rattle.rart_walks.specs.Ends.{Ends};
-ghost use Rattle.rart_versioned.specs.VisitCounts.{EndsSoon};
+ghost use Rattle.rart_versioned.specs.VisitCounts.{CountsVisit};
 
 use crate::counted::tree::VersionedAdaptiveRadixTree;
 use rart_below::{KeyTrait, LendingKeyView, Refusal, VisitControl};
@@ -49,10 +48,8 @@ impl<K: KeyTrait, V: Clone + Drop> VersionedAdaptiveRadixTree<K, V> {
             (reverse (pairs self.now.content)) f.new }
         ensures counted { CountsUpTo (node_count self.now.content) 0 work.old work.new }
         ensures entered { has_no_key self.now ≡ false → work.old.entered < work.new.entered }
-        ensures ends { let left = reverse (pairs self.now.content) in
-            let through = work.old.entered + length left ≤ work.new.entered in
-            let ended = EndsSoon [] work.old work.new in
-            Ends F.FnMut ByView through ended result f.old left f.new }
+        ensures ends { CountsVisit F.FnMut ByView [] f.old (reverse (pairs self.now.content))
+            result f.new work.old work.new }
     {
         let walk: Result<WalkBack<'_, K::PartialType, V, SegmentsPath<'_>>, AllocError> =
             self.whole_walk_back(work);

@@ -2,10 +2,10 @@
 //! Intersections of two trees, with no count.
 ghost use Rattle.std.specs.Prelude.{◌≡◌, length, map};
 ghost use Rattle.rart_maps.specs.Pairs.{common};
-ghost use Rattle.rart_maps.specs.Visits.{ByKeyPair, ByValuePair, ByViewPair, Visit, Visits, Visitable};
+ghost use Rattle.rart_maps.specs.Visits.{ByKeyPair, ByValuePair, ByViewPair, Visit, Visits, Visitable, VisitsUntil, VisitableUntil};
 
 use crate::counted::VersionedAdaptiveRadixTree;
-use rart_below::{KeyTrait, LendingKeyView};
+use rart_below::{KeyTrait, LendingKeyView, Refusal, VisitControl};
 use rart_node::Work;
 use std::alloc::AllocError;
 
@@ -56,6 +56,39 @@ impl<K: KeyTrait, V: Clone + Drop> VersionedAdaptiveRadixTree<K, V> {
             (common self.now.content other.now.content) f.new }
     {
         self.intersect_lending_with_counted(other, f, &mut Work::new())
+    }
+
+    /// As `intersect_lending_with`, up to the first key on which the closure answers `Stop`, or that
+    /// memory was refused to it. That is answered as `Refusal::Callback`, and then the visit has
+    /// ended there too. rart has none.
+    ///
+    /// Where memory is refused to the call itself, the answer is `Refusal::Memory`: it has called
+    /// the closure on a prefix of the keys, and each time the closure answered `Continue`.
+    ///
+    /// ```
+    /// let mut is_shared = false;
+    /// left.try_intersect_lending_with(
+    ///     &right,
+    ///     &mut |_key: LendingKeyView<'_, '_>, _l: &u64, _r: &u64| -> Result<VisitControl, AllocError> {
+    ///         is_shared = true;
+    ///         Ok(VisitControl::Stop)
+    ///     },
+    /// )?;
+    /// ```
+    pub fn try_intersect_lending_with<
+        'a,
+        F: FnMut(LendingKeyView<'a, '_>, &'a V, &'a V) -> Result<VisitControl, AllocError>,
+    >(
+        &'a self,
+        other: &'a VersionedAdaptiveRadixTree<K, V>,
+        f: &mut F,
+    ) -> Result<(), Refusal<AllocError>>
+        requires visitable { VisitableUntil F.FnMut ByViewPair f.old
+            (common self.now.content other.now.content) }
+        ensures { VisitsUntil F.FnMut ByViewPair result f.old
+            (common self.now.content other.now.content) f.new }
+    {
+        self.try_intersect_lending_with_counted(other, f, &mut Work::new())
     }
 
     /// As `intersect_with`, with the values alone. It can't be refused.

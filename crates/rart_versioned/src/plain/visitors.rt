@@ -34,6 +34,32 @@ impl<K: KeyTrait, V: Clone + Drop> VersionedAdaptiveRadixTree<K, V> {
         self.for_each_view_counted(f, &mut Work::new())
     }
 
+    /// As `for_each_view`, up to the first pair on which the closure answers `Stop` or an error. Its
+    /// error is answered as `Refusal::Callback`, and then the visit has ended there too. rart has
+    /// none.
+    ///
+    /// Refused for memory, the answer is `Refusal::Memory`: it has called the closure on a prefix
+    /// of the pairs, and each time the closure answered `Continue`.
+    ///
+    /// ```
+    /// let mut shortest = 0;
+    /// tree.try_for_each_view(
+    ///     &mut |key: LendingKeyView<'_, '_>, _value: &u64| -> Result<VisitControl, Overflow> {
+    ///         shortest = key.len();
+    ///         Ok(VisitControl::Stop)
+    ///     },
+    /// )?;
+    /// ```
+    pub fn try_for_each_view<
+        E: Drop,
+        F: FnMut(LendingKeyView<'_, '_>, &V) -> Result<VisitControl, E>,
+    >(&self, f: &mut F) -> Result<(), Refusal<E>>
+        requires visitable { VisitableUntil F.FnMut ByView f.old (pairs self.now.content) }
+        ensures { VisitsUntil F.FnMut ByView result f.old (pairs self.now.content) f.new }
+    {
+        self.try_for_each_view_counted(f, &mut Work::new())
+    }
+
     /// As `for_each_view`, for the pairs within a lower and an upper bound. Both compare by bytes,
     /// and bounds the other way round have no pair between them.
     ///

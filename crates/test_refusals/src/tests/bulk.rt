@@ -16,6 +16,7 @@ pub enum Bulk {
     RemovePrefix,
     TakePrefix,
     RestorePrefix,
+    Difference,
 }
 
 impl Bulk {
@@ -41,7 +42,12 @@ impl Bulk {
                 Ok(ours.remove_prefix(b"ee")? && tell(ours) == [Some(4), None, None])
             }
             Bulk::TakePrefix => take(ours),
-            Bulk::RestorePrefix => restore(ours, &begun.base),
+            Bulk::RestorePrefix => restore(alloc, ours, &begun.base),
+            Bulk::Difference => {
+                let part = ours.difference(&begun.theirs)?;
+                let alone = number_of(part.get_bytes(b"abc"));
+                Ok(alone == Some(2) && tell(&part) == [None, None, None])
+            }
         }
     }
 }
@@ -89,11 +95,14 @@ fn take(ours: &mut Version) -> Result<bool, AllocError>
     Ok(tell(&part) == [None, Some(5), Some(6)] && tell(ours) == [Some(4), None, None])
 }
 
-// The base has `c`, ours has not.
-fn restore(ours: &mut Version, base: &Version) -> Result<bool, AllocError> {
-    if base.version() > u64::MAX - ours.version() {
+// The base has `c`, ours has not, and its node is shared. In the base `ee` is below `e`, and in an
+// empty version it is not, so that its node is copied with more bytes.
+fn restore(alloc: Global, ours: &mut Version, base: &Version) -> Result<bool, AllocError> {
+    let mut empty = Version::new(alloc);
+    if base.version() > u64::MAX - ours.version().max(empty.version()) {
         return Ok(false);
     }
+    empty.restore_prefix(b"ee", base)?;
     ours.restore_prefix(b"c", base)?;
-    Ok(number_of(ours.get_bytes(b"c")) == Some(3))
+    Ok(number_of(ours.get_bytes(b"c")) == Some(3) && tell(&empty) == [None, Some(5), Some(6)])
 }

@@ -43,7 +43,8 @@ const TRACKED: &[(Call, &str, u64)] = &[
 ];
 
 // Likewise, and one of the value in the first node under a prefix, which becomes a root of its own
-// where what is under it is answered, or put into another version.
+// where what is under it is answered, or has other bytes in another version. And one of the value in
+// each node that has children and loses its key or one of them, whether or not it goes whole.
 const BULK: &[(Bulk, &str, u64)] = &[
     (Bulk::Extend, "extend", 3),
     (Bulk::Retain, "retain", 4),
@@ -51,6 +52,7 @@ const BULK: &[(Bulk, &str, u64)] = &[
     (Bulk::RemovePrefix, "remove_prefix", 1),
     (Bulk::TakePrefix, "take_prefix", 2),
     (Bulk::RestorePrefix, "restore_prefix", 1),
+    (Bulk::Difference, "difference", 6),
 ];
 
 const READINGS: &[(Reading, &str)] = &[

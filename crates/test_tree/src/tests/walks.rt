@@ -75,7 +75,7 @@ fn common_keys_are_made(rt: HostRuntime) -> Result<(), Fail> {
 fn common_keys_are_viewed(rt: HostRuntime) -> Result<(), Fail> {
     let root = leaf(rt.alloc(), b"abc", 7)?;
     let mut shown = 0;
-    let key_path: ViewsPath<'_, u64> = ViewsPath::new(rt.alloc());
+    let key_path: ViewsPath<'_, u64, AllocError> = ViewsPath::new(rt.alloc());
     visit_common(
         key_path,
         &root,

@@ -10,7 +10,7 @@ ghost use Rattle.rart_walks.proofs.DescendLemmas.{down_to-past};
 ghost use Rattle.rart_walks.specs.BackFields.{IsWalkBack, back_cursor, path_to};
 
 use super::{KeyWalker, RangeWalker, Walker};
-use rart_below::{Partial, compare_bytes};
+use rart_below::{Partial, is_from};
 use rart_node::Work;
 use rart_walks::{BytesPath, NoPath, WalkBack};
 use std::alloc::AllocError;
@@ -47,11 +47,7 @@ impl<'a, P: Partial, V: Drop> RangeWalker<V> for WalkBack<'a, P, V, BytesPath> {
     ghost is_within = { is_from_start (as_partial_cmp byte_order) };
 
     fn meets(end: Bound<&[u8]>, bytes: &[u8]) -> bool {
-        match end {
-            Bound::Included(low) => compare_bytes(low, bytes).is_le(),
-            Bound::Excluded(low) => compare_bytes(low, bytes).is_lt(),
-            Bound::Unbounded => true,
-        }
+        is_from(bytes, end)
     }
 
     ghost past = { down_to-past };

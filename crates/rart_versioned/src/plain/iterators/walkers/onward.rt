@@ -10,7 +10,7 @@ ghost use Rattle.rart_node.specs.KeyPaths.{HoldsBytes, HoldsNothing, extent_in_b
 ghost use Rattle.rart_walks.specs.WalkFields.{IsWalk, cursor, path_to};
 
 use super::{KeyWalker, RangeWalker, Walker};
-use rart_below::{Partial, compare_bytes};
+use rart_below::{Partial, is_up_to};
 use rart_node::Work;
 use rart_walks::{BytesPath, NoPath, Walk};
 use std::alloc::AllocError;
@@ -47,11 +47,7 @@ impl<'a, P: Partial, V: Drop> RangeWalker<V> for Walk<'a, P, V, BytesPath> {
     ghost is_within = { is_up_to_end (as_partial_cmp byte_order) };
 
     fn meets(end: Bound<&[u8]>, bytes: &[u8]) -> bool {
-        match end {
-            Bound::Included(high) => compare_bytes(bytes, high).is_le(),
-            Bound::Excluded(high) => compare_bytes(bytes, high).is_lt(),
-            Bound::Unbounded => true,
-        }
+        is_up_to(bytes, end)
     }
 
     ghost past = { up_to-past };

@@ -3,7 +3,7 @@ use Rattle.std.proofs.lemmas.Result.{IfOk-weaker}
 use Rattle.rart_node.proofs.CountingLemmas.{entered-then}
 use Rattle.rart_maps.specs.ChangeLists.{changes}
 use Rattle.rart_walks.specs.DiffEnds.{EntersToFirst}
-use Rattle.rart_versioned.proofs.DiffEndLemmas.{diff-first}
+use Rattle.rart_versioned.proofs.EndedDiffLemmas.{diff-first}
 use Rattle.rart_versioned.proofs.VersionVisitLemmas.{OnOk-weaker, counts-through}
 use Rattle.rart_versioned.proofs.counted.tree.VersionedAdaptiveRadixTree.equals_counted.Goals as goal
 

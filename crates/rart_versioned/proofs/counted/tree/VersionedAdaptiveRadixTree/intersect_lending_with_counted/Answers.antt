@@ -1,5 +1,6 @@
 use Rattle.std.proofs.Common.{refl, sym, subst, ap, arith, length}
-use Rattle.rart_maps.specs.Visits.{ByViewPair, Visitable}
+use Rattle.rart_maps.specs.Visits.{ByViewPair, Visitable, Visits}
+use Rattle.rart_lockstep.proofs.EndingLemmas.{visits-plain}
 use Rattle.rart_versioned.proofs.VersionVisitLemmas.{OnOk-weaker}
 use Rattle.rart_versioned.proofs.counted.tree.VersionedAdaptiveRadixTree.intersect_lending_with_counted.Goals as goal
 
@@ -23,6 +24,13 @@ visit_common-requires g c κs =
         ),
       ),
     )
+
+pub returns-in-Some-clause-visits : goal.returns-in-Some-clause-visits
+returns-in-Some-clause-visits g c =
+    subst (λ members. Visits g.F.FnMut ByViewPair c.visit_common.result c.args.f.now members
+    c.visit_common.new.f) c.in-Some.ensures.both.common_pairs_are
+    (visits-plain g.F.FnMut ByViewPair c.visit_common.result c.args.f.now c.visit_common.new.f _
+    c.visit_common.ensures.visits)
 
 pub returns-in-Some-clause-each : goal.returns-in-Some-clause-each
 returns-in-Some-clause-each g c =

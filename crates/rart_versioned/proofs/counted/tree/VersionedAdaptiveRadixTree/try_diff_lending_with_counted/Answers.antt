@@ -8,7 +8,7 @@ use Rattle.rart_walks.specs.TwoWalks.{nodes_ahead}
 use Rattle.rart_maps.specs.Visits.{VisitableUntil, VisitsUntil}
 use Rattle.rart_maps.proofs.VisitLemmas.{up_to-start}
 use Rattle.rart_node.proofs.CountingLemmas.{entered-then}
-use Rattle.rart_versioned.proofs.DiffEndLemmas.{diff-soon}
+use Rattle.rart_versioned.proofs.EndedDiffLemmas.{diff-soon}
 use Rattle.rart_versioned.proofs.VersionVisitLemmas.{counts-through, ends-weaker}
 use Rattle.rart_versioned.proofs.counted.tree.VersionedAdaptiveRadixTree.try_diff_lending_with_counted.Goals as goal
 

@@ -1,15 +1,17 @@
-use Rattle.std.proofs.Common.{ℕ, cond, rules, length, arith, refl, sym, ap, subst, ◌∙◌}
+use Rattle.std.proofs.Common.{ℕ, [], cond, rules, length, arith, refl, sym, ap, subst, ◌∙◌}
 use Rattle.std.specs.FinSet as set
 use Rattle.std.specs.Option.{is_some}
 use Rattle.std.specs.Prelude.{count_by}
 use Rattle.std.proofs.lemmas.Result.{IfOk-weaker}
 use Rattle.rart_walks.specs.DiffEnds.{pairs_from, is_up_to_first}
 use Rattle.rart_maps.specs.Points.{points}
+use Rattle.rart_maps.proofs.RangeLemmas.{is_below}
 use Rattle.rart_node.specs.Seen.{shape_of}
 use Rattle.rart_node.specs.Trees.{pairs_of}
 use Rattle.rart_versioned.specs.VisitCounts.{node_count_to}
-use Rattle.rart_versioned.proofs.DiffEndLemmas.{one-hand, whole-to}
-use Rattle.rart_versioned.proofs.NodePointLemmas.{nodes-kept}
+use Rattle.rart_walks.proofs.BackCountLemmas.{end-counts}
+use Rattle.rart_versioned.proofs.EndedDiffLemmas.{one-hand, whole-to}
+use Rattle.rart_versioned.proofs.NodePointLemmas.{nodes-kept, nodes-under-to}
 use Rattle.rart_versioned.specs.TreeWalks.{AreAdmitted}
 use Rattle.rart_versioned.proofs.VersionIterationLemmas.{content-admitted, no-pairs, root-sound, root-pairs, root-short}
 use Rattle.rart_versioned.proofs.VersionVisitLemmas.{OnErr-always, content-found, none-keyed, none-walk, root-walk, some-node}
@@ -42,6 +44,9 @@ returns-in-None g c =
           c.self.invariant c.self.view_is c.in-None.is in
           let left = ap (λ stand. length stand.paths) c.new.ensures.ended in
           omega (arith, none, left);
+      few_up_to = λ high.
+          let none = ap (λ stand. count_by (is_below high) stand.paths) c.new.ensures.ended in
+          omega (arith, none);
       counted = search rules;
       to = λ key.
           let none = ap (λ stand. count_by (is_up_to_first (pairs_from key stand.pairs))
@@ -85,6 +90,19 @@ returns-in-Some g c =
           let entered = ap (λ counts. counts.entered) c.whole.ensures.work in
           IfOk-weaker c.whole.result _ _ (λ walk left. omega (arith, all, left, entered))
           c.whole.ensures.nodes;
+      few_up_to =
+          let most = g.K.KeyTrait.MAXIMUM_SIZE in
+          let s = c.in-Some.root.shape in
+          let tree = (root-sound shape_of most c.self.inside.version c.self.inside.root
+          c.args.self.now c.self.invariant c.self.view_is c.in-Some.root c.in-Some.is).0 in
+          let found = content-found shape_of most c.self.inside.version c.self.inside.root
+          c.args.self.now c.self.invariant c.self.view_is c.in-Some.root c.in-Some.is in
+          IfOk-weaker c.whole.result _ _
+          (λ walk end high.
+          let fewer = end-counts (is_below high) end in
+          let few = nodes-under-to c.args.self.now.content s tree found [] high in
+          omega (arith, fewer, few))
+          c.whole.ensures.paths;
       counted =
           let root = c.in-Some.root.shape in
           let all = root-walk shape_of

@@ -1,0 +1,229 @@
+-- What a version has that another one lacks, and that all stays in order.
+use Rattle.std.proofs.Common.{◌≡◌, ℕ, ◌+◌, ◌*◌, ◌≤◌, ◌⊎◌, inl, inr, ⊎_elim, List, [], ◌∷◌, ◌++◌, Option, Some, None, IsSome, is_some, length, map, cond, not, Bool, true, false, refl, arith, sym, ap, subst, ◌∙◌}
+use Rattle.std.specs.FinMap as finite
+use Rattle.std.specs.FinSet as set
+use Rattle.std.specs.Prelude.{Contains}
+use Rattle.std.proofs.lemmas.Bool.{and_from, false≢true}
+use Rattle.std.proofs.lemmas.Cmp.{nat_list_cmp_total}
+use Rattle.std.proofs.lemmas.List.{length-map}
+use Rattle.rart_below.specs.Bytes.{begins, byte_order}
+use Rattle.rart_maps.specs.Bounds.{difference_bound, difference_makes}
+use Rattle.rart_maps.specs.MapParts.{common_part, without}
+use Rattle.rart_maps.specs.Pairs.{pairs, starts, shared}
+use Rattle.rart_maps.specs.Points.{places, points}
+use Rattle.rart_maps.specs.StartLaws.{with_byte}
+use Rattle.rart_maps.specs.ChangeLists.{joined}
+use Rattle.rart_maps.specs.Versions.{Map}
+use Rattle.rart_maps.proofs.ElementLemmas.{Contains-map}
+use Rattle.rart_maps.proofs.FoundLemmas.{Contains-pairs}
+use Rattle.rart_maps.proofs.MapPartLemmas.{get-common_part, get-without, no_key_cuts_nothing, other_part_has_these_pairs}
+use Rattle.rart_maps.proofs.ChangeLemmas.{or_else, get-joined}
+use Rattle.rart_maps.proofs.PlaceLawLemmas.{places_are_shared_points}
+use Rattle.rart_maps.proofs.PairLawLemmas.{contains-shared}
+use Rattle.rart_maps.proofs.PointLemmas.{in-list, points_are_keys_and_partings}
+use Rattle.rart_maps.proofs.PrefixLemmas.{same_map}
+use Rattle.rart_maps.proofs.StartLemmas.{starts_begin_keys}
+use Rattle.rart_node.specs.Counts.{Counts, CountsUpTo}
+use Rattle.rart_node.specs.Shape.{Shape}
+use Rattle.rart_node.specs.Trees.{found, IsTree}
+use Rattle.rart_node.proofs.CountingLemmas.{counts-most}
+use Rattle.rart_algebra.specs.Ahead.{ArePartedAt, EitherHas, IsPlace, IsShared, IsCommonKey, BeginsCommon, HasAll, GoesUpTo}
+use Rattle.rart_algebra.specs.Picks.{IsPickedOr, unless}
+use Rattle.rart_versioned.specs.Roots.{found_in, map_of, IsTreeIn, IsSound}
+use Rattle.rart_versioned.proofs.SoundLemmas.{tree-in, few, admitted}
+use Rattle.rart_versioned.proofs.VersionMapLemmas.{get-found}
+use Rattle.rart_versioned.proofs.VersionPrefixLemmas.{filter-fewer}
+
+-- A list has as many strings at least as the set of them.
+list-few : (list : List (List ℕ)) → set.len (set.from_list {R = byte_order} list) ≤ length list
+list-few [] = let none = set.len-empty byte_order in omega (arith, none)
+list-few (s ∷ list) =
+    let rest = list-few list in
+    let more = set.len-insert nat_list_cmp_total (set.from_list {R = byte_order} list) s in
+    let P : Bool → Type 0 = λ t. cond t (set.len (set.from_list {R = byte_order} list))
+    (set.len (set.from_list {R = byte_order} list) + 1) ≤ length (s ∷ list) in
+    let both : (t : Bool) → P t =
+    elim [ true ↦ omega (arith, rest) | false ↦ omega (arith, rest) ] in
+    let last = both (set.contains (set.from_list {R = byte_order} list) s) in
+    omega (arith, more, last)
+
+module _ {V : Type 0} where
+  -- ---- the map of what is left
+  -- After, below the root, if there still is one, is what was there and the other one lacks.
+  abbrev pub IsWithoutIn : Option (Shape V) → Option (Shape V) → Option (Shape V) → Type 0
+  IsWithoutIn before other after =
+      IsTreeIn after
+      × ((q : List ℕ) → found_in after q ≡ unless (found_in before q) (found_in other q))
+
+  pub picked-in : (left right : Shape V) (o : Option (Shape V))
+      → IsPickedOr unless left right o → IsWithoutIn (Some left) (Some right) o
+  picked-in left right None none = (tt, λ q. sym (none q))
+  picked-in left right (Some after) picked = (picked.tree, picked.finds)
+
+  -- The empty map has nothing to lose, and takes nothing.
+  pub none-without : (other : Map V) → map_of {V = V} None ≡ without (map_of {V = V} None) other
+  none-without other =
+      same_map (map_of None) (without (map_of None) other) (λ q.
+      finite.get-empty byte_order q
+      ∙ sym (get-without (map_of None) other q
+      ∙ ap (cond (finite.contains_key other q) None) (finite.get-empty byte_order q)
+      ∙ cond-same (finite.contains_key other q)))
+    where
+      cond-same : (t : Bool) → ◌≡◌ {A = Option V} (cond t None None) None
+      cond-same true = refl
+      cond-same false = refl
+
+  pub without-none : (m : Map V) → m ≡ without m (map_of {V = V} None)
+  without-none m = sym (no_key_cuts_nothing V V m).0
+
+  unless-cond : (one other : Option V) → unless one other ≡ cond (is_some other) None one
+  unless-cond one None = refl
+  unless-cond one (Some other) = refl
+
+  pub map-without : (before other after : Option (Shape V)) → IsTreeIn before → IsTreeIn other
+      → IsWithoutIn before other after → map_of after ≡ without (map_of before) (map_of other)
+  map-without before other after tree also left =
+      same_map (map_of after) (without (map_of before) (map_of other)) (λ q.
+      get-found after q left.0 ∙ left.1 q
+      ∙ (λ i. unless (sym (get-found before q tree) i) (sym (get-found other q also) i))
+      ∙ unless-cond (finite.get (map_of before) q) (finite.get (map_of other) q)
+      ∙ sym (get-without (map_of before) (map_of other) q))
+
+  len-without_map : (m other : Map V) → finite.len (without m other) ≤ finite.len m
+  len-without_map m other =
+      let kept = finite.len-entries (without m other)
+      ∙ ap length (other_part_has_these_pairs V V m other) in
+      let all = finite.len-entries m in
+      let fewer = filter-fewer (λ pair. not (finite.contains_key other pair.0)) (pairs m) in
+      omega (arith, kept, all, fewer)
+
+  unless-some : (one other : Option V) → IsSome (unless one other) → IsSome one
+  unless-some one None some = some
+  unless-some one (Some other) some = absurd (false≢true some)
+
+  pub sound-without : (most : Option ℕ) (count later : ℕ) (before other after : Option (Shape V))
+      → IsSound most count before → count ≤ later → IsTreeIn other
+      → IsWithoutIn before other after → IsSound most later after
+  sound-without most count later before other None sound le also left = tt
+  sound-without most count later before other (Some root) sound le also left =
+      let same = map-without before other (Some root) (tree-in most count before sound) also left in
+      let fewer = len-without_map (map_of before) (map_of other) in
+      let all = few most count before sound in (
+        left.0,
+        (λ q there. admitted most count before sound q
+            (unless-some (found_in before q) (found_in other q) (subst IsSome (left.1 q) there))),
+        subst (λ m. finite.len m ≤ later) (sym same) (omega (arith, fewer, all, le)),
+      )
+
+  -- ---- what is ahead, in the words of maps
+  module _ (left right : Shape V) (tree : IsTree left) (also : IsTree right) where
+    one_map : Map V
+    one_map = map_of (Some left)
+
+    other_map : Map V
+    other_map = map_of (Some right)
+
+    has-left : (key : List ℕ) → IsSome (found left key) → finite.contains_key one_map key ≡ true
+    unfolding one_map
+    has-left key some = ap is_some (get-found (Some left) key tree) ∙ some
+
+    has-right : (key : List ℕ) → IsSome (found right key)
+        → finite.contains_key other_map key ≡ true
+    unfolding other_map
+    has-right key some = ap is_some (get-found (Some right) key also) ∙ some
+
+    both-common : (key : List ℕ) → IsCommonKey left right key
+        → finite.contains_key (common_part one_map other_map) key ≡ true
+    both-common key common =
+        ap is_some (get-common_part one_map other_map key
+        ∙ ap (λ t. cond t (finite.get one_map key) None) (has-right key common.1))
+        ∙ has-left key common.0
+
+    shared-all : (u : List ℕ) → IsShared left right u
+        → set.contains (shared one_map other_map) u ≡ true
+    shared-all u is =
+        contains-shared one_map other_map u
+        ∙ and_from (set.contains (starts one_map) u) (set.contains (starts other_map) u)
+        ((starts_begin_keys V one_map u).1
+        (is.one, is.begins_one, has-left is.one is.in_left))
+        ((starts_begin_keys V other_map u).1
+        (is.other, is.begins_other, has-right is.other is.in_right))
+
+    has-either : (key : List ℕ) → EitherHas left right key
+        → finite.contains_key (joined one_map other_map) key ≡ true
+    has-either key has =
+        ap is_some (get-joined one_map other_map key)
+        ∙ ⊎_elim
+        (λ one. or-left (finite.get one_map key) (finite.get other_map key) (has-left key one))
+        (λ other. or-right (finite.get one_map key) (finite.get other_map key)
+        (has-right key other)) has
+      where
+        or-left : (x y : Option V) → is_some x ≡ true → is_some (or_else x y) ≡ true
+        or-left None y is = absurd (false≢true is)
+        or-left (Some x) None is = refl
+        or-left (Some x) (Some y) is = refl
+
+        or-right : (x y : Option V) → is_some y ≡ true → is_some (or_else x y) ≡ true
+        or-right x None is = absurd (false≢true is)
+        or-right None (Some y) is = refl
+        or-right (Some x) (Some y) is = refl
+
+    points-all : (u : List ℕ) → EitherHas left right u ⊎ ArePartedAt left right u
+        → set.contains (points (joined one_map other_map)) u ≡ true
+    points-all u is =
+        (points_are_keys_and_partings V (joined one_map other_map) u).1
+        (⊎_elim (λ key. inl (has-either u key))
+        (λ parted. inr (
+          parted.byte,
+          parted.next,
+          parted.differ,
+          (starts_begin_keys V (joined one_map other_map) (with_byte u parted.byte)).1
+              (parted.one, parted.begins_one, has-either parted.one parted.has_one),
+          (starts_begin_keys V (joined one_map other_map) (with_byte u parted.next)).1
+              (parted.other, parted.begins_other, has-either parted.other parted.has_other),
+        )) is)
+
+    places-all : HasAll (places one_map other_map) [] (IsPlace left right)
+    places-all u place =
+        (places_are_shared_points V one_map other_map u).1
+        (shared-all u place.0, points-all u place.1)
+
+    starts-all : HasAll (starts (common_part one_map other_map)) [] (BeginsCommon left right)
+    starts-all u is =
+        (starts_begin_keys V (common_part one_map other_map) u).1
+        (is.key, is.begun, both-common is.key is.common)
+
+    common_keys : List (List ℕ)
+    common_keys = map (λ pair. pair.0) (pairs (common_part one_map other_map))
+
+    keys-all : HasAll (set.from_list common_keys) [] (IsCommonKey left right)
+    unfolding common_keys
+    keys-all u common =
+        let value = some-value (finite.get (common_part one_map other_map) u)
+        (both-common u common) in
+        (in-list common_keys u).1
+        (Contains-map (λ pair. pair.0) (pairs (common_part one_map other_map)) (u, value.0)
+        ((Contains-pairs (common_part one_map other_map) u value.0).1 value.1))
+      where
+        some-value : (o : Option V) → is_some o ≡ true → (x : V) × (o ≡ Some x)
+        some-value None is = absurd (false≢true is)
+        some-value (Some x) is = (x, refl)
+
+    keys-few : set.len (set.from_list {R = byte_order} common_keys)
+        ≤ finite.len (common_part one_map other_map)
+    unfolding common_keys
+    keys-few =
+        let most = list-few common_keys in
+        let all = finite.len-entries (common_part one_map other_map) in
+        let same = length-map (pairs (common_part one_map other_map)) (λ pair. pair.0) in
+        omega (arith, most, all, same)
+
+    pub goes-maps : (before after : Counts) → GoesUpTo left right before after
+        → CountsUpTo (difference_bound (map_of (Some left)) (map_of (Some right)))
+        (difference_makes (map_of (Some left)) (map_of (Some right))) before after
+    unfolding one_map other_map
+    goes-maps before after goes =
+        let few = keys-few in
+        counts-most (goes (places one_map other_map) (set.from_list common_keys)
+        (starts (common_part one_map other_map)) places-all keys-all starts-all)
+        (omega (arith, few)) (omega arith)

@@ -1,0 +1,57 @@
+//! What two versions make together: what one of them has and the other lacks. A subtree that the
+//! one has alone is shared, so no call goes further than the two are alike. rart has none.
+ghost use Rattle.std.specs.Prelude.{◌≡◌, ◌+◌, ◌*◌, ◌≤◌, false, length, IfOk, OnOk};
+ghost use Rattle.rart_below.specs.Clones.{ClonesEqual};
+ghost use Rattle.rart_maps.specs.Bounds.{difference_bound, difference_makes};
+ghost use Rattle.rart_maps.specs.MapParts.{version_without};
+ghost use Rattle.rart_maps.specs.Pairs.{common};
+ghost use Rattle.rart_maps.specs.Versions.{HasRoom, has_no_key};
+ghost use Rattle.rart_node.specs.Counts.{CountsUpTo};
+
+use crate::counted::tree::VersionedAdaptiveRadixTree;
+use rart_algebra::difference_below;
+use rart_below::{KeyTrait, Partial};
+use rart_node::Work;
+use std::alloc::AllocError;
+
+impl<K: KeyTrait, V: Clone + Drop> VersionedAdaptiveRadixTree<K, V> {
+    /// As `difference`, with the nodes entered and made counted into `work`: at most two entered
+    /// for each place of the two, and one for each common key; at least two where both have a key,
+    /// and, where it isn't refused, two for each common key. At most one is made for each string
+    /// that begins a common key. A place is a string that begins keys of both, at which one of the
+    /// two has a key, or keys of either part.
+    pub fn difference_counted(
+        &self,
+        other: &VersionedAdaptiveRadixTree<K, V>,
+        work: &mut Work,
+    ) -> Result<VersionedAdaptiveRadixTree<K, V>, AllocError>
+        requires clones { ClonesEqual V.is_clone }
+        requires room { HasRoom self.now 1 }
+        ensures difference { IfOk result (λ it. it ≡ version_without self.now other.now) }
+        ensures counted { CountsUpTo (difference_bound self.now.content other.now.content)
+            (difference_makes self.now.content other.now.content) work.old work.new }
+        ensures entered { has_no_key self.now ≡ false → has_no_key other.now ≡ false
+            → work.old.entered + 2 ≤ work.new.entered }
+        ensures each { OnOk result (work.old.entered
+            + 2 * length (common self.now.content other.now.content) ≤ work.new.entered) }
+    {
+        let version = self.version + 1;
+        let alloc = self.alloc;
+        let Some(left) = &self.root else {
+            return Ok(VersionedAdaptiveRadixTree::new_at(alloc, version));
+        };
+        let Some(right) = &other.root else {
+            return Ok(VersionedAdaptiveRadixTree {
+                alloc,
+                root: Some(left.copy()?),
+                version,
+            });
+        };
+        let root = difference_below(alloc, left, right, version, work)?;
+        Ok(VersionedAdaptiveRadixTree {
+            alloc,
+            root,
+            version,
+        })
+    }
+}

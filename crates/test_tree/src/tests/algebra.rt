@@ -1,0 +1,58 @@
+//! What one tree has and another lacks, in each form.
+ghost use Rattle.rart_maps.specs.Versions.{HasRoom};
+
+use crate::tests::trees::{Tree, four, has_room, tree_of};
+use rart_versioned::Work;
+use std::alloc::{AllocError, Global};
+use std::process::Abort;
+use std::test::Fail;
+
+// The pairs of another tree, and what "a" 1, "abc" 2, "abd" 3 and "b" 4 are without its keys.
+const DIFFERENCES: &[(&[(&[u8], u64)], &[(&[u8], u64)])] = &[
+    (&[], &[(b"a", 1), (b"abc", 2), (b"abd", 3), (b"b", 4)]),
+    (&[(b"a", 9)], &[(b"abc", 2), (b"abd", 3), (b"b", 4)]),
+    (
+        &[(b"ab", 5), (b"abc", 2)],
+        &[(b"a", 1), (b"abd", 3), (b"b", 4)],
+    ),
+    (
+        &[(b"", 1), (b"abcd", 2), (b"c", 3)],
+        &[(b"a", 1), (b"abc", 2), (b"abd", 3), (b"b", 4)],
+    ),
+    (&[(b"abc", 1), (b"abd", 2), (b"b", 3)], &[(b"a", 1)]),
+    (&[(b"a", 4), (b"abc", 3), (b"abd", 2), (b"b", 1)], &[]),
+];
+
+fn cut(tree: &Tree, form: usize, other: &Tree) -> Result<Tree, AllocError>
+    requires { HasRoom tree.now 2 }
+{
+    match form {
+        0 => tree.difference(other),
+        _ => tree.difference_counted(other, &mut Work::new()),
+    }
+}
+
+// Four pairs without the keys of another tree are these.
+fn assert_cut(
+    rt: &impl Abort,
+    alloc: Global,
+    form: usize,
+    others: &[(&[u8], u64)],
+    left: &[(&[u8], u64)],
+) -> Result<(), AllocError> {
+    let tree = four(rt, alloc)?;
+    assert!(rt; has_room(&tree));
+    let part = cut(&tree, form, &tree_of(rt, alloc, others)?)?;
+    assert!(rt; part.equals(&tree_of(rt, alloc, left)?)?);
+    Ok(())
+}
+
+#[test]
+fn one_tree_is_cut_by_another(rt: HostRuntime) -> Result<(), Fail> {
+    for (others, left) in DIFFERENCES {
+        for form in 0..2 {
+            assert_cut(&rt, rt.alloc(), form, others, left)?;
+        }
+    }
+    Ok(())
+}

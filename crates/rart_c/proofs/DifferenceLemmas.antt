@@ -23,7 +23,7 @@ use Rattle.rart_maps.specs.FoundLaws.{KeysAscend}
 use Rattle.rart_maps.specs.Order.{IsBefore}
 use Rattle.rart_maps.specs.Pairs.{common, pairs}
 use Rattle.rart_maps.specs.Versions.{Map}
-use Rattle.rart_maps.specs.Visits.{CalledOn, Visit}
+use Rattle.rart_maps.specs.Visits.{Answers, CalledOn}
 use Rattle.rart_versioned.specs.declared.VectorKey.{VectorKey}
 
 -- ---- the pairs of a map whose keys pass a test
@@ -282,16 +282,16 @@ module _ {V E : Type 0} (combine : Map V → Map V → Map V) (tree other before
       ∙ (λ i. of_content tree (combine (same i).version.content (also i).version.content))
 
 -- ---- a visit that keeps of each member what it shows, if anything, until it gives up
-module _ {F A X Y : Type 0} (g : Mut F A (Unit {0})) (Shows : A → X → Type 0) (Goes : F → Type 0)
-    (seen : F → List Y) (shown : X → Option Y)
-    (each : (f : F) (x : X) (j : F) → CalledOn g Shows f x tt j → Goes j
+module _ {F A R X Y : Type 0} (g : Mut F A R) (Shows : A → X → Type 0) (answer : R)
+    (Goes : F → Type 0) (seen : F → List Y) (shown : X → Option Y)
+    (each : (f : F) (x : X) (j : F) → CalledOn g Shows f x answer j → Goes j
     → Goes f × (seen j ≡ seen f ++ cons_option (shown x) [])) where
   behind : (o : Option Y) (ys : List Y) → cons_option o [] ++ ys ≡ cons_option o ys
   behind None ys = refl
   behind (Some y) ys = refl
 
-  pub visit-collects : (members : List X) (f last : F) → Visit g Shows f members last → Goes last
-      → Goes f × (seen last ≡ seen f ++ filter_map shown members)
+  pub visit-collects : (members : List X) (f last : F) → Answers g Shows answer f members last
+      → Goes last → Goes f × (seen last ≡ seen f ++ filter_map shown members)
   visit-collects [] f last visit goes =
       (subst Goes (sym visit) goes, ap seen (sym visit) ∙ sym (append-nil (seen f)))
   visit-collects (x ∷ xs) f last visit goes =

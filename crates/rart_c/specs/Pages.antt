@@ -3,7 +3,6 @@ use Rattle.std.specs.Prelude.{◌≡◌, ◌+◌, ◌<◌, ◌⊎◌, ◌++◌, 
 use Rattle.std.specs.Borrow.{Bor}
 use Rattle.std.specs.List.{flat_map}
 use Rattle.std.specs.Option.{ForSome}
-use Rattle.std.specs.declared.cmp.Ordering.{Ordering}
 use Rattle.std.specs.declared.ops.Bound.{Bound}
 use Rattle.std.specs.declared.ops.Bound.TheVariants.{Included, Excluded, Unbounded}
 use Rattle.rart_c.specs.declared.answer.TheConstants.{DONE, ABSENT, TOO_SMALL, NO_ENTRIES}
@@ -134,11 +133,6 @@ module _ {V : Type 0} where
 abbrev pub bound_behind : Option (ℕ × ℕ) → Bound (List ℕ) → List ℕ → Bound (List ℕ)
 bound_behind None from written = from
 bound_behind (Some last) from written = Excluded (drop last.0 (take last.1 written))
-
--- how a key stands to another one, in an order
-abbrev pub compared : Order → List ℕ → List ℕ → Ordering
-compared Ascending key other = byte_order key other
-compared Descending key other = byte_order other key
 
 -- whether a key meets the bound to which pairs go in an order
 abbrev pub is_before_end : Order → Bound (List ℕ) → List ℕ → Bool

@@ -1,6 +1,6 @@
 //! The part of a table's pairs that another table lacks, and the part that it has too, each as a
 //! table of its own: what differs is found by one walk through both, and built in order.
-ghost use Rattle.std.specs.Prelude.{◌≡◌, ◌∷◌, ◌++◌, [], IfOk, IsOk, OnOk};
+ghost use Rattle.std.specs.Prelude.{◌≡◌, ◌∷◌, ◌++◌, [], IfOk, OnOk};
 ghost use Rattle.std.specs.List.{cons_option};
 ghost use Rattle.std.specs.Option.{option_copied};
 ghost use Rattle.rart_below.specs.Clones.{ClonesEqual};
@@ -8,9 +8,12 @@ ghost use Rattle.rart_c.specs.Differences.{ArePairsOf, by_key, difference, inter
 ghost use Rattle.rart_c.specs.Shown.{shown};
 ghost use Rattle.rart_c.specs.Trees.{of_content};
 ghost use Rattle.rart_maps.specs.Pairs as maps;
+ghost use Rattle.rart_versioned.specs.VisitControl.TheVariants.{Continue};
 
 use crate::table::{Table, or_empty};
-use rart_versioned::{LendingKeyView, SortedError, VectorKey, VersionedAdaptiveRadixTree};
+use rart_versioned::{
+    LendingKeyView, SortedError, VectorKey, VersionedAdaptiveRadixTree, VisitControl,
+};
 use std::alloc::{AllocError, Global};
 
 /// The pairs alone whose key another table lacks, or has with another value; the number stays.
@@ -96,20 +99,23 @@ fn pairs_that_differ<V: Clone + Drop + Eq>(
     ensures { IfOk result (λ found. by_key found.items
         ≡ maps.pairs (difference V.eq tree.now.content other.now.content)) }
 {
-    let mut found = Found::new(alloc);
-    tree.diff_lending_with(
+    let mut pairs = Vec::new(alloc);
+    tree.try_diff_lending_with::<AllocError, _>(
         other,
         &mut |key: LendingKeyView<'_, '_>, value: Option<&V>, _theirs: Option<&V>|
             requires { ClonesEqual V.is_clone }
-            ensures { IsOk found.exit.kept → IsOk found.entry.kept
-                × (by_key found.exit.pairs.items ≡ by_key found.entry.pairs.items
+            ensures goes_on { IfOk result (λ control. control ≡ Continue) }
+            ensures keeps { OnOk result (by_key pairs.exit.items ≡ by_key pairs.entry.items
                 ++ cons_option (pair_at key.entry (option_copied value.entry)) []) }
         {
-            found.keep(&key, value);
+            if let Some(value) = value {
+                push(alloc, &mut pairs, &key, value)?;
+            }
+            Ok(VisitControl::Continue)
         },
-    )?;
-    found.kept?;
-    Ok(found.pairs)
+    )
+    .map_err(|_| AllocError)?;
+    Ok(pairs)
 }
 
 /// The pairs of a tree whose key another tree has too, in order.
@@ -122,54 +128,25 @@ fn pairs_in_both<V: Clone + Drop>(
     ensures { IfOk result (λ found. by_key found.items
         ≡ maps.pairs (intersection tree.now.content other.now.content)) }
 {
-    let mut found = Found::new(alloc);
-    tree.intersect_lending_with(
+    let mut pairs = Vec::new(alloc);
+    tree.try_intersect_lending_with(
         other,
-        &mut |key: LendingKeyView<'_, '_>, value: &V, _theirs: &V| {
-            found.keep(&key, Some(value));
+        &mut |key: LendingKeyView<'_, '_>, value: &V, _theirs: &V|
+            requires { ClonesEqual V.is_clone }
+            ensures goes_on { IfOk result (λ control. control ≡ Continue) }
+            ensures keeps { OnOk result (by_key pairs.exit.items
+                ≡ by_key pairs.entry.items ++ (key.entry, value.entry.now) ∷ []) }
+        {
+            push(alloc, &mut pairs, &key, value)?;
+            Ok(VisitControl::Continue)
         },
-    )?;
-    found.kept?;
-    Ok(found.pairs)
+    )
+    .map_err(|_| AllocError)?;
+    Ok(pairs)
 }
 
-/// Copies of the pairs that a visit was called on so far, or that memory for one of them was
-/// refused: then no more are kept.
-#[derive(Drop)]
-struct Found<V: Clone + Drop> {
-    alloc: Global,
-    pairs: Vec<(VectorKey, V)>,
-    kept: Result<(), AllocError>,
-}
-
-impl<V: Clone + Drop> Found<V> {
-    fn new(alloc: Global) -> Found<V>
-        ensures pairs { result.pairs.items ≡ [] }
-        ensures kept { IsOk result.kept }
-    {
-        Found {
-            alloc,
-            pairs: Vec::new(alloc),
-            kept: Ok(()),
-        }
-    }
-
-    /// Keeps a key with a copy of its value, where there is one.
-    fn keep(&mut self, key: &LendingKeyView<'_, '_>, value: Option<&V>)
-        requires clones { ClonesEqual V.is_clone }
-        ensures { IsOk self.new.kept → IsOk self.old.kept
-            × (by_key self.new.pairs.items ≡ by_key self.old.pairs.items
-            ++ cons_option (pair_at key.now (option_copied value.entry)) []) }
-    {
-        let Some(value) = value else {
-            return;
-        };
-        if self.kept.is_ok() {
-            self.kept = push(self.alloc, &mut self.pairs, key, value);
-        }
-    }
-}
-
+// (a closure that is called on the way down two trees takes little of the machine's stack so)
+#[inline(never)]
 fn push<V: Clone + Drop>(
     alloc: Global,
     pairs: &mut Vec<(VectorKey, V)>,

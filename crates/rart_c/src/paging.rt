@@ -4,7 +4,7 @@ ghost use Rattle.std.specs.Option.{ForSome};
 ghost use Rattle.std.specs.Range.Bound.{bound_map};
 ghost use Rattle.std.specs.declared.ops.Bound.{Bound};
 ghost use Rattle.std.specs.declared.ops.Bound.TheVariants.{Excluded, Unbounded};
-ghost use Rattle.rart_c.specs.Pages.{FindsFirst, IsAt, IsCursorFor, TellsPage, WritesPage, bound_behind, bound_of, compared, first_length, is_before_end, pairs_from, range_in, start_of};
+ghost use Rattle.rart_c.specs.Pages.{FindsFirst, IsAt, IsCursorFor, TellsPage, WritesPage, bound_behind, bound_of, first_length, is_before_end, pairs_from, range_in, start_of};
 ghost use Rattle.rart_c.specs.Shown.{shown};
 ghost use Rattle.rart_maps.specs.Pairs.{within};
 ghost use Rattle.rart_maps.specs.Versions.{Map};
@@ -17,9 +17,8 @@ use crate::handle::RartTree;
 use crate::lent;
 use crate::paging::cursor::PageCursor;
 use crate::table::Table;
-use rart_below::compare_bytes;
+use rart_below::{is_from, is_up_to};
 use std::alloc::AllocError;
-use std::cmp::Ordering;
 use std::ops::Bound;
 
 /// The bound is a key that meets it.
@@ -366,19 +365,8 @@ fn write_key(key: &[u8], room: &mut [u8])
 fn meets(key: &[u8], order: Order, to: Bound<&[u8]>) -> bool
     ensures { result ≡ is_before_end order (bound_map (λ to. to.now) to.entry) key.now }
 {
-    match to {
-        Bound::Included(end) => compared(order, key, end).is_le(),
-        Bound::Excluded(end) => compared(order, key, end).is_lt(),
-        Bound::Unbounded => true,
-    }
-}
-
-/// How a key stands to another one, in an order.
-fn compared(order: Order, key: &[u8], other: &[u8]) -> Ordering
-    ensures { result ≡ compared order key.now other.now }
-{
     match order {
-        Order::Ascending => compare_bytes(key, other),
-        Order::Descending => compare_bytes(other, key),
+        Order::Ascending => is_up_to(key, to),
+        Order::Descending => is_from(key, to),
     }
 }

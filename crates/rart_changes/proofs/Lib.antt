@@ -4,7 +4,7 @@ pub mod ConflictLemmas
 pub mod MergedVersionLemmas
 pub mod PatchLemmas
 pub mod RebaseLemmas
-pub mod SettingLemmas
+pub mod SetKeyLemmas
 pub mod SettlingLemmas
 pub mod ShowLemmas
 pub mod TouchedKeyLemmas

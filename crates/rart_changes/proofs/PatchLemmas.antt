@@ -18,7 +18,7 @@ use Rattle.rart_maps.proofs.ChangeLemmas.{changes-ascend, changes-from, patched-
 use Rattle.rart_changes.specs.Patching.{IsPatched}
 use Rattle.rart_changes.specs.Setting.{IsSetTo}
 use Rattle.rart_changes.proofs.CallLemmas.{holds-of_all, holds-up_to}
-use Rattle.rart_changes.proofs.SettingLemmas.{apart-before, patched-append}
+use Rattle.rart_changes.proofs.SetKeyLemmas.{apart-before, patched-append}
 
 module _ {V : Type 0} (start : Version V) where
   pub patched-start : (now : Version V) → now ≡ start → IsPatched start [] now

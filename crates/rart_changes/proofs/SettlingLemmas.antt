@@ -29,7 +29,7 @@ use Rattle.rart_changes.specs.Settling.{Askable, AskableIn, Settles, SettlesIn}
 use Rattle.rart_changes.proofs.CallLemmas.{holds-of_all, holds-up_to}
 use Rattle.rart_changes.proofs.MergedVersionLemmas.{at_conflict, conflict_at, conflict_at-is, conflicts-of_theirs, conflicts_in, three_at}
 use Rattle.rart_changes.proofs.PatchLemmas.{room-next}
-use Rattle.rart_changes.proofs.SettingLemmas.{apart-before, get-with_value-itself, get-with_value-other, patched-append, patched-with_value, with_value-again}
+use Rattle.rart_changes.proofs.SetKeyLemmas.{apart-before, get-with_value-itself, get-with_value-other, patched-append, patched-with_value, with_value-again}
 
 -- Of keys whose values stay, as many are there.
 held-same : {V : Type 0} (start now after : Map V) (cs : List (Change V))

@@ -1,9 +1,10 @@
+pub mod CallerLemmas
 pub mod CollectionLemmas
 pub mod CountdownLemmas
 pub mod LawLemmas
+pub mod OutOfMemoryLemmas
 pub mod PlaceLemmas
 pub mod ReadLemmas
 pub mod RunLemmas
-pub mod OutOfMemoryLemmas
 pub mod WorkedCostLemmas
 pub mod WorkedRunLemmas

@@ -28,7 +28,7 @@ use Rattle.rart_saved.specs.declared.error.LoadError.{LoadError}
 use Rattle.rart_saved.specs.Values.{LacksValue}
 use Rattle.rart_saved.proofs.EntryLemmas.{IsChain, IsListed, before-trans, behind, chain-sorted}
 use Rattle.rart_saved.proofs.ListedLemmas.{closed, closed-apart, closed-then, listed_body}
-use Rattle.rart_saved.proofs.PartLemmas.{part-join}
+use Rattle.rart_saved.proofs.BytePartLemmas.{part-join}
 use Rattle.rart_saved.proofs.SavedLemmas.{memory_alone, saved-then}
 
 -- ---- which values there are

@@ -11,7 +11,7 @@ use Rattle.rart_maps.proofs.ElementLemmas.{AllPairs-first, AllPairs-rest, Contai
 use Rattle.rart_maps.proofs.OrderLemmas.{before-lt, lt-before}
 use Rattle.rart_saved.specs.Forms.{key_form, entry, entries}
 use Rattle.rart_saved.specs.Keys.{IsNext}
-use Rattle.rart_saved.proofs.KeyLemmas.{key_form-apart}
+use Rattle.rart_saved.proofs.SharedKeyLemmas.{key_form-apart}
 
 pub behind : (before key : List ℕ) → IsNext false before key → IsBefore before key
 behind before key next = ⊎_elim (λ first. absurd (false≢true first)) (λ is. is) next

@@ -3,7 +3,7 @@ use Rattle.std.proofs.Common.{◌≡◌, ◌≢◌, ℕ, suc, List, [], ◌∷�
 use Rattle.std.proofs.lemmas.List.{take_all}
 use Rattle.rart_below.specs.Bytes.{common_length}
 use Rattle.rart_saved.specs.Parts.{HasPart}
-use Rattle.rart_saved.proofs.KeyLemmas.{common-same, common-within_key, key-whole}
+use Rattle.rart_saved.proofs.SharedKeyLemmas.{common-same, common-within_key, key-whole}
 
 common-start : (w rest : List ℕ) → common_length w (w ++ rest) ≡ length w
 common-start [] rest = refl

@@ -4,7 +4,7 @@ use Rattle.std.specs.Int.{from_bool}
 use Rattle.std.specs.Prelude.{Contains}
 use Rattle.std.specs.FinMap as finite
 use Rattle.std.proofs.lemmas.Cmp.{nat_list_cmp_total}
-use Rattle.rart_changes.proofs.SettingLemmas.{set-by-deletion}
+use Rattle.rart_changes.proofs.SetKeyLemmas.{set-by-deletion}
 use Rattle.rart_maps.specs.Changes.{after_removal}
 use Rattle.rart_maps.specs.Lookups.{with_value}
 use Rattle.rart_maps.specs.Pairs.{pairs}

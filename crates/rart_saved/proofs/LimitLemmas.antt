@@ -13,7 +13,7 @@ use Rattle.rart_saved.specs.Forms.{IsVersionOf, saved}
 use Rattle.rart_saved.specs.Keys.{narrowed}
 use Rattle.rart_saved.specs.Loads.{GivesBackWithin, HasKeysWithin, LacksVersion}
 use Rattle.rart_saved.specs.Refusals.{IsTooLong, OnErrWithin, limit_of}
-use Rattle.rart_saved.proofs.KeyLemmas.{both-narrowed}
+use Rattle.rart_saved.proofs.SharedKeyLemmas.{both-narrowed}
 use Rattle.rart_saved.proofs.SavedLemmas.{forms-of_one, memory_alone, too_long-other}
 
 -- What is so of the one of the keys' type and of the lesser is so of it, whatever the error.

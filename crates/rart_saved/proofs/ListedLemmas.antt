@@ -15,7 +15,7 @@ use Rattle.rart_saved.specs.Loads.{LacksPair}
 use Rattle.rart_saved.specs.Numbers.{leb}
 use Rattle.rart_saved.specs.Parts.{HasPart}
 use Rattle.rart_saved.proofs.EntryLemmas.{IsChain, last_key, last_key-next, chain-from, chain-next, chain-seam, entries-front, entries-next}
-use Rattle.rart_saved.proofs.PartLemmas.{part-front, part-join}
+use Rattle.rart_saved.proofs.BytePartLemmas.{part-front, part-join}
 
 no_pair : {X : Type 0} → (xs : List X) → length xs ≡ 0 → xs ≡ []
 no_pair [] is = refl

@@ -25,8 +25,8 @@ use Rattle.rart_saved.specs.Loads.{HasKeysWithin, LacksPair, LacksPairs}
 use Rattle.rart_saved.specs.Parts.{HasPart}
 use Rattle.rart_saved.specs.Refusals.{OnOtherErr}
 use Rattle.rart_saved.proofs.EntryLemmas.{last_key, IsChain, before-trans, behind, last_key-next, chain-from, chain-seam, entries-front, entries-next}
-use Rattle.rart_saved.proofs.KeyLemmas.{key_form-apart}
-use Rattle.rart_saved.proofs.PartLemmas.{part-join}
+use Rattle.rart_saved.proofs.SharedKeyLemmas.{key_form-apart}
+use Rattle.rart_saved.proofs.BytePartLemmas.{part-join}
 
 -- An error is passed on.
 pub other_passed : {T : Type 0} (r : Result T LoadError) (e : LoadError) (P : Type 0)

@@ -7,7 +7,7 @@ use Rattle.rart_saved.specs.FamilyLoads.{LacksMark}
 use Rattle.rart_saved.specs.Laws.{same_first, same_rest}
 use Rattle.rart_saved.specs.Parts.{HasPart}
 use Rattle.rart_saved.specs.Values.{LacksValue}
-use Rattle.rart_saved.proofs.PartLemmas.{part-join}
+use Rattle.rart_saved.proofs.BytePartLemmas.{part-join}
 
 module _ {V : Type 0} (written : V → List ℕ) where
   pub none-written : (one two : List ℕ) → two ≡ one ++ 0 ∷ [] → two ≡ one ++ optional written None

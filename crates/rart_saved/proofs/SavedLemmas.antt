@@ -17,7 +17,7 @@ use Rattle.rart_saved.specs.Numbers.{leb}
 use Rattle.rart_saved.specs.Parts.{HasPart}
 use Rattle.rart_saved.specs.SavedLaws.{FormsAreOfOne, FormsStandApart}
 use Rattle.rart_saved.proofs.EntryLemmas.{last_key, entries-front}
-use Rattle.rart_saved.proofs.PartLemmas.{part-front, part-join}
+use Rattle.rart_saved.proofs.BytePartLemmas.{part-front, part-join}
 
 no_pair : {X : Type 0} → (xs : List X) → length xs ≡ 0 → xs ≡ []
 no_pair [] is = refl

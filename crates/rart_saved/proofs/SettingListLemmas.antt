@@ -1,98 +1,66 @@
 -- Changes that are listed by a closure, one after the other.
-use Rattle.std.proofs.Common.{◌≡◌, ◌+◌, ◌≤◌, ℕ, Bool, List, [], ◌∷◌, ◌++◌, length, map, Option, sym, ap, subst, ◌∙◌, arith}
-use Rattle.std.specs.Prelude.{Contains, Result, IsOk}
-use Rattle.std.specs.Borrow.{Bor}
-use Rattle.std.specs.Fn.{Called, Mut}
-use Rattle.std.specs.declared.alloc.AllocError.{AllocError}
-use Rattle.std.specs.FinMap as finite
+use Rattle.std.proofs.Common.{◌≡◌, ◌+◌, ◌≤◌, ℕ, List, [], ◌∷◌, ◌++◌, length, map, sym, ap, subst, ◌∙◌, arith}
+use Rattle.std.specs.Fn.{Mut, Takes}
 use Rattle.std.proofs.lemmas.List.{length-map, map-append}
-use Rattle.std.proofs.lemmas.List.Elements.{Contains-append_right}
 use Rattle.rart_changes.proofs.CallLemmas.{holds-of_all, holds-up_to}
-use Rattle.rart_maps.specs.ChangeLists.{Change, changes}
-use Rattle.rart_maps.specs.ChangeVisits.{ByKeyChange}
-use Rattle.rart_maps.specs.Versions.{Map}
-use Rattle.rart_maps.specs.Visits.{AnswersUpTo, CalledOn, Visit}
-use Rattle.rart_maps.proofs.ChangeLemmas.{changes-from}
-use Rattle.rart_maps.proofs.ElementLemmas.{Contains-here}
+use Rattle.rart_maps.specs.ChangeLists.{Change}
+use Rattle.rart_maps.specs.Visits.{Answers, AnswersUpTo, CallableInTurn, CalledOn}
 use Rattle.rart_saved.specs.FamilyForms.{as_setting, optional}
 use Rattle.rart_saved.specs.Forms.{entries, entry}
 use Rattle.rart_saved.proofs.EntryLemmas.{IsListed, listed-next, listed-none}
-use Rattle.rart_saved.proofs.LengthLemmas.{entries-long}
+use Rattle.rart_saved.proofs.FormLengthLemmas.{entries-long}
 
--- What a closure makes of a list to which it adds each key that it is shown, with what the new map
--- has there, unless memory was refused.
-module _ {S K V : Type 0}
-    (closure : Mut S (K × (Option (Bor V) × (Option (Bor V) × Unit {0}))) (Unit {0}))
-    (bytes : K → List ℕ) (written : V → List ℕ) (made : S → Result (Unit {0}) AllocError)
-    (listed before : S → List ℕ) (count : S → ℕ) (side : S → Map V)
-    (adds : (s : S) (a : K × (Option (Bor V) × (Option (Bor V) × Unit {0}))) (s' : S)
-    → Called closure s a tt s' → IsOk (made s')
-    → IsOk (made s)
-    × (listed s' ≡ listed s
-    ++ entry (optional written) (before s) (bytes a.0, finite.get (side s) (bytes a.0)))
-    × (count s' ≡ count s + 1) × (before s' ≡ bytes a.0))
-    (keeps : (s : S) (a : K × (Option (Bor V) × (Option (Bor V) × Unit {0}))) (s' : S)
-    → Called closure s a tt s' → side s' ≡ side s)
-    (same : V → V → Bool) (old new : Map V) where
-  abbrev all : List (Change V)
-  all = changes same old new
-
-  -- These were listed so far, unless memory was refused.
-  pub record IsUnderWay (front : List (Change V)) (s : S) : Type 0 where
-    pub lists : IsOk (made s)
-        → IsListed (optional written) [] (listed s) (before s) (count s) (map as_setting front)
-    pub kept : side s ≡ new
+-- What a closure makes of a list to which it adds each key that it is shown, with what is there
+-- now, where it answers so.
+module _ {S A R V : Type 0} (closure : Mut S A R) (Shows : A → Change V → Type 0) (answer : R)
+    (written : V → List ℕ) (listed before : S → List ℕ) (count : S → ℕ)
+    (adds : (s : S) (c : Change V) (s' : S) → CalledOn closure Shows s c answer s'
+    → (listed s' ≡ listed s ++ entry (optional written) (before s) (as_setting c))
+    × (before s' ≡ c.0) × (count s' ≡ count s + 1))
+    (all : List (Change V)) where
+  -- These were listed so far.
+  abbrev AreListed : List (Change V) → S → Type 0
+  AreListed front s =
+      IsListed (optional written) [] (listed s) (before s) (count s) (map as_setting front)
 
   step : (front : List (Change V)) (c : Change V) (rest : List (Change V)) (s s' : S)
-      → all ≡ front ++ c ∷ rest → IsUnderWay front s
-      → CalledOn closure (ByKeyChange bytes) s c tt s' → IsUnderWay (front ++ c ∷ []) s'
-  step front c rest s s' parts under called =
-      let there = subst (λ cs. Contains cs c) (sym parts)
-      (Contains-append_right front (c ∷ rest) c (Contains-here c rest)) in
-      let value = (λ i. finite.get (under.kept i) (called.2.0 i))
-      ∙ (changes-from same old new c there).1 in
-      record {
-        lists = λ ok.
-            let added = adds s called.0 s' called.1 ok in
-            subst (λ pairs. IsListed (optional written) [] (listed s') (before s') (count s') pairs)
-            (sym (map-append as_setting front (c ∷ [])))
-            (listed-next (optional written) [] (listed s) (before s) (listed s') (before s')
-            (count s) (count s') (map as_setting front) c.0 c.2 (under.lists added.0)
-            (added.1 ∙ (λ i. listed s
-            ++ entry (optional written) (before s) (called.2.0 i, value i)))
-            (added.3 ∙ called.2.0) added.2);
-        kept = keeps s called.0 s' called.1 ∙ under.kept;
-      }
+      → all ≡ front ++ c ∷ rest → AreListed front s
+      → CalledOn closure Shows s c answer s' → AreListed (front ++ c ∷ []) s'
+  step front c rest s s' parts is called =
+      let added = adds s c s' called in
+      subst (λ pairs. IsListed (optional written) [] (listed s') (before s') (count s') pairs)
+      (sym (map-append as_setting front (c ∷ [])))
+      (listed-next (optional written) [] (listed s) (before s) (listed s') (before s') (count s)
+      (count s') (map as_setting front) c.0 c.2 is added.0 added.1 added.2)
 
-  begun : (first : S) → listed first ≡ [] → before first ≡ [] → count first ≡ 0
-      → side first ≡ new → IsUnderWay [] first
-  begun first none start zeroed sided =
-      record {
-        lists = λ ok. listed-none (optional written) [] (listed first) (before first) (count first)
-            none start zeroed;
-        kept = sided;
-      }
+  module _ (first : S) (empty : listed first ≡ []) (start : before first ≡ [])
+      (zeroed : count first ≡ 0) where
+    begun : AreListed [] first
+    begun =
+        listed-none (optional written) [] (listed first) (before first) (count first) empty start
+        zeroed
 
-  pub settings-listed : (first s : S) → Visit closure (ByKeyChange bytes) first all s
-      → listed first ≡ [] → before first ≡ [] → count first ≡ 0 → side first ≡ new → IsOk (made s)
-      → (listed s ≡ entries (optional written) [] (map as_setting all)) × (count s ≡ length all)
-  settings-listed first s visit none start zeroed sided ok =
-      let is =
-      (holds-of_all closure (ByKeyChange bytes) tt all IsUnderWay step first s
-      (begun first none start zeroed sided) visit).lists ok in
-      (is.listed, is.counted ∙ length-map all as_setting)
+    pub settings-listed : (s : S) → Answers closure Shows answer first all s
+        → (listed s ≡ entries (optional written) [] (map as_setting all))
+        × (count s ≡ length all)
+    settings-listed s calls =
+        let is = holds-of_all closure Shows answer all AreListed step first s begun calls in
+        (is.listed, is.counted ∙ length-map all as_setting)
 
-  pub settings-room : (first : S) (c : Change V) (rest : List (Change V)) (s : S)
-      → AnswersUpTo closure (ByKeyChange bytes) tt first all (c ∷ rest) s
-      → listed first ≡ [] → before first ≡ [] → count first ≡ 0 → side first ≡ new → IsOk (made s)
-      → count s ≤ length (listed s)
-  settings-room first c rest s calls none start zeroed sided ok =
-      let is =
-      (holds-up_to closure (ByKeyChange bytes) tt all IsUnderWay step (c ∷ rest) first s
-      (begun first none start zeroed sided) calls).lists ok in
-      omega (
-        arith,
-        is.counted,
-        ap length is.listed,
-        entries-long (optional written) [] (map as_setting calls.0),
-      )
+    room : (rest : List (Change V)) (s : S) → AnswersUpTo closure Shows answer first all rest s
+        → count s ≤ length (listed s)
+    room rest s calls =
+        let is = holds-up_to closure Shows answer all AreListed step rest first s begun calls in
+        omega (
+          arith,
+          is.counted,
+          ap length is.listed,
+          entries-long (optional written) [] (map as_setting calls.0),
+        )
+
+    -- Before each call there is room to count one more.
+    pub settings-callable : ((s : S) (c : Change V) (a : A) → count s ≤ length (listed s)
+        → Shows a c → Takes closure s a)
+        → CallableInTurn closure Shows answer first all
+    settings-callable takes =
+        record { at = λ c rest s calls a shown. takes s c a (room (c ∷ rest) s calls) shown }

@@ -7,7 +7,7 @@ use Rattle.rart_saved.specs.Laws.{leb-apart}
 use Rattle.rart_saved.specs.Numbers.{leb, LacksNumber}
 use Rattle.rart_saved.specs.Parts.{HasPart}
 use Rattle.rart_saved.specs.Values.{bytes_of, eight_bytes, sized, LacksValue}
-use Rattle.rart_saved.proofs.PartLemmas.{part-join}
+use Rattle.rart_saved.proofs.BytePartLemmas.{part-join}
 
 -- ---- numbers
 

@@ -59,22 +59,24 @@ module _ {V : Type 0} (written : V → List ℕ) (same : V → V → Bool) (most
   LacksFamily kind bytes = (family : Family V) → IsFamilyOf most family
       → bytes ≢ saved_family written same kind family
 
+module _ {V : Type 0} (written : V → List ℕ) (same : V → V → Bool) (kind : ℕ) where
   -- Where the bytes are a family's whose keys have at most this length, the answer is that family,
   -- or memory was refused.
-  abbrev pub GivesBackFamily : ℕ → Result (Family V) LoadError → List ℕ → Type 0
-  GivesBackFamily kind result bytes = (family : Family V) → IsFamilyOf most family
+  abbrev pub GivesBackFamily : Option ℕ → Result (Family V) LoadError → List ℕ → Type 0
+  GivesBackFamily most result bytes = (family : Family V) → IsFamilyOf most family
       → bytes ≡ saved_family written same kind family
       → MatchResult result (λ found. found ≡ family) (λ error. error ≡ Memory)
 
   -- The same; or a key is longer than a limit, and the answer says so.
-  abbrev pub GivesBackFamilyWithin : ℕ → Option ℕ → Result (Family V) LoadError → List ℕ → Type 0
-  GivesBackFamilyWithin kind longest result bytes = (family : Family V) → IsFamilyOf most family
+  abbrev pub GivesBackFamilyWithin : Option ℕ → Option ℕ → Result (Family V) LoadError → List ℕ
+      → Type 0
+  GivesBackFamilyWithin longest most result bytes = (family : Family V) → IsFamilyOf most family
       → bytes ≡ saved_family written same kind family
       → MatchResult result (λ found. found ≡ family)
       (λ error. (error ≡ Memory) ⊎ (IsTooLong error × ¬ (HasVersionsWithin longest family)))
 
   -- The same as `GivesBackFamily`, or reading failed.
-  abbrev pub GivesBackFamilyUnlessIo : ℕ → Result (Family V) LoadError → List ℕ → Type 0
-  GivesBackFamilyUnlessIo kind result bytes = (family : Family V) → IsFamilyOf most family
+  abbrev pub GivesBackFamilyUnlessIo : Option ℕ → Result (Family V) LoadError → List ℕ → Type 0
+  GivesBackFamilyUnlessIo most result bytes = (family : Family V) → IsFamilyOf most family
       → bytes ≡ saved_family written same kind family
       → MatchResult result (λ found. found ≡ family) (λ error. (error ≡ Memory) ⊎ (error ≡ Io))

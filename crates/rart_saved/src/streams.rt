@@ -158,7 +158,7 @@ pub fn load_family<K: KeyTrait, V: SavedValue + Eq, R: Read>(
     ensures read { IfOk result (λ family. IfSome (R.remaining reader.old)
         (λ bytes. bytes ≡ saved_family V.written V.eq V.KIND family)) }
     ensures gives_back { IfSome (R.remaining reader.old)
-        (GivesBackFamilyUnlessIo V.written V.eq K.MAXIMUM_SIZE V.KIND result) }
+        (GivesBackFamilyUnlessIo V.written V.eq V.KIND K.MAXIMUM_SIZE result) }
 {
     let bytes = read_bytes(alloc, reader)?;
     load_family_slice(alloc, bytes.as_slice())

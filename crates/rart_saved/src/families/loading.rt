@@ -37,7 +37,7 @@ pub fn load_family_slice<K: KeyTrait, V: SavedValue + Eq>(
     requires decides { Decides V.eq }
     ensures read { IfOk result (λ family. bytes.now
         ≡ saved_family V.written V.eq V.KIND family) }
-    ensures gives_back { GivesBackFamily V.written V.eq K.MAXIMUM_SIZE V.KIND result bytes.now }
+    ensures gives_back { GivesBackFamily V.written V.eq V.KIND K.MAXIMUM_SIZE result bytes.now }
     ensures points { IfErr result (PointsInto bytes.now) }
 {
     read_family(alloc, bytes, None)
@@ -61,7 +61,7 @@ pub fn load_family_slice_within<K: KeyTrait, V: SavedValue + Eq>(
     ensures read { IfOk result (λ family. bytes.now
         ≡ saved_family V.written V.eq V.KIND family) }
     ensures short { IfOk result (HasVersionsWithin (Some longest)) }
-    ensures gives_back { GivesBackFamilyWithin V.written V.eq K.MAXIMUM_SIZE V.KIND (Some longest)
+    ensures gives_back { GivesBackFamilyWithin V.written V.eq V.KIND (Some longest) K.MAXIMUM_SIZE
         result bytes.now }
     ensures points { IfErr result (PointsInto bytes.now) }
 {

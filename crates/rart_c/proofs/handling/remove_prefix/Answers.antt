@@ -1,4 +1,4 @@
-use Rattle.rart_c.proofs.PrefixLemmas.{none-at-first}
+use Rattle.rart_c.proofs.CountUnderLemmas.{none-at-first}
 use Rattle.rart_c.proofs.handling.remove_prefix.Goals as goal
 
 pub returns-in-None-clause-changes : goal.returns-in-None-clause-changes

@@ -1,5 +1,5 @@
 use Rattle.std.proofs.Common.{refl}
-use Rattle.rart_c.proofs.LimitLemmas.{KeepsLimit-empty}
+use Rattle.rart_c.proofs.KeyLimitLemmas.{KeepsLimit-empty}
 use Rattle.rart_c.proofs.lent.longest_key.Goals as goal
 use Rattle.rart_c.specs.declared.limits.TheConstants.{LONGEST_KEY}
 use Rattle.rart_maps.specs.Versions.{empty_at}

@@ -1,7 +1,7 @@
 use Rattle.std.proofs.Common.{drop, ap, ◌∙◌, inl, inr, arith}
 use Rattle.std.proofs.lemmas.Bool.{ltb-true, ltb-false}
-use Rattle.rart_saved.proofs.PartLemmas.{drop-byte, drop-past}
-use Rattle.rart_saved.proofs.KeyLemmas.{common-within, follows-some, follows-first, lacks-rest, lacks-greater}
+use Rattle.rart_saved.proofs.BytePartLemmas.{drop-byte, drop-past}
+use Rattle.rart_saved.proofs.SharedKeyLemmas.{common-within, follows-some, follows-first, lacks-rest, lacks-greater}
 use Rattle.rart_saved.proofs.keys.does_follow.Goals as goal
 
 pub returns-then-shared-before-clause-no : goal.returns-then-shared-before-clause-no

@@ -1,6 +1,6 @@
 use Rattle.std.proofs.Common.{◌++◌, ap, ◌∙◌, drop, arith}
 use Rattle.std.proofs.lemmas.List.{length-drop, take_all}
-use Rattle.rart_saved.proofs.KeyLemmas.{key-written}
+use Rattle.rart_saved.proofs.SharedKeyLemmas.{key-written}
 use Rattle.rart_saved.proofs.keys.put_key.Goals as goal
 
 pub returns : goal.returns

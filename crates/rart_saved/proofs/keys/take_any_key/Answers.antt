@@ -1,8 +1,8 @@
 use Rattle.std.proofs.Common.{◌≡◌, ◌≢◌, ◌<◌, ◌≤◌, ◌^◌, ◌+◌, ◌-◌, ◌++◌, ℕ, List, drop, take, length, subst, ap, ◌∙◌, rules, arith}
 use Rattle.rart_below.specs.Bytes.{common_length}
 use Rattle.rart_saved.specs.Keys.{Follows, IsNext, LacksKey}
-use Rattle.rart_saved.proofs.KeyLemmas.{lacks-shared, lacks-count, lacks-bytes, lacks-next, key-read}
-use Rattle.rart_saved.proofs.PartLemmas.{other_error, part-counted, long-counted}
+use Rattle.rart_saved.proofs.SharedKeyLemmas.{lacks-shared, lacks-count, lacks-bytes, lacks-next, key-read}
+use Rattle.rart_saved.proofs.BytePartLemmas.{other_error, part-counted, long-counted}
 use Rattle.rart_saved.proofs.keys.take_any_key.Goals as goal
 
 pub returns-in_err-shared-clause-refused : goal.returns-in_err-shared-clause-refused

@@ -3,8 +3,8 @@ use Rattle.std.proofs.lemmas.Bool.{false≢true}
 use Rattle.rart_below.specs.Bytes.{IsAdmitted}
 use Rattle.rart_saved.specs.Forms.{key_form}
 use Rattle.rart_saved.specs.Keys.{LacksAdmittedKey}
-use Rattle.rart_saved.proofs.KeyLemmas.{key_form-apart, narrowed-both}
-use Rattle.rart_saved.proofs.LengthLemmas.{key_form-long, part-inside}
+use Rattle.rart_saved.proofs.SharedKeyLemmas.{key_form-apart, narrowed-both}
+use Rattle.rart_saved.proofs.FormLengthLemmas.{key_form-long, part-inside}
 use Rattle.rart_saved.proofs.LimitLemmas.{within_passed}
 use Rattle.rart_saved.proofs.keys.take_key.Goals as goal
 

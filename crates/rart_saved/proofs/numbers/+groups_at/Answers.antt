@@ -1,7 +1,7 @@
 use Rattle.std.proofs.Common.{◌≡◌, ◌+◌, ◌-◌, ◌∷◌, ◌<◌, ◌^◌, ◌++◌, suc, drop, sym, ap, ◌∙◌, arith, rules, inl, inr}
 use Rattle.rart_saved.specs.Numbers.{groups, LacksGroups}
-use Rattle.rart_saved.proofs.NumberLemmas.{read-small, read-more, lacks-last, lacks-more, lacks-high, lacks-none}
-use Rattle.rart_saved.proofs.PartLemmas.{drop-byte, drop-past, each_error}
+use Rattle.rart_saved.proofs.SevenBitLemmas.{read-small, read-more, lacks-last, lacks-more, lacks-high, lacks-none}
+use Rattle.rart_saved.proofs.BytePartLemmas.{drop-byte, drop-past, each_error}
 use Rattle.rart_saved.proofs.numbers.+groups_at.Goals as goal
 use Rattle.rart_saved.proofs.numbers.+groups_at.Goals.{then-high-eq0-via-then-high-eq0, then-high-eq0-via-else-high-eq0+then-high}
 

@@ -1,6 +1,6 @@
 use Rattle.std.proofs.Common.{drop, arith}
 use Rattle.rart_saved.specs.Numbers.{leb, LacksGroups, LacksNumber}
-use Rattle.rart_saved.proofs.PartLemmas.{error_on}
+use Rattle.rart_saved.proofs.BytePartLemmas.{error_on}
 use Rattle.rart_saved.proofs.numbers.number_at.Goals as goal
 
 pub returns-clause-read : goal.returns-clause-read

@@ -1,5 +1,5 @@
 use Rattle.std.proofs.Common.{arith}
-use Rattle.rart_saved.proofs.NumberLemmas.{written-on, written-last}
+use Rattle.rart_saved.proofs.SevenBitLemmas.{written-on, written-last}
 use Rattle.rart_saved.proofs.numbers.put_number.Goals as goal
 
 pub loop-left-preserved : goal.loop-left-preserved

@@ -1,6 +1,6 @@
 use Rattle.std.proofs.Common.{◌-◌, ◌<◌, ◌≤◌, ◌^◌, ◌+◌, drop, length, take, rules, arith}
 use Rattle.rart_saved.specs.Values.{sized, LacksValue}
-use Rattle.rart_saved.proofs.PartLemmas.{each_error, part-counted, long-counted}
+use Rattle.rart_saved.proofs.BytePartLemmas.{each_error, part-counted, long-counted}
 use Rattle.rart_saved.proofs.ValueLemmas.{lacks-length, lacks-rest, sized-read}
 use Rattle.rart_saved.proofs.value.sized_at.Goals as goal
 

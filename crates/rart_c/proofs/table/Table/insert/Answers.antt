@@ -1,6 +1,6 @@
 use Rattle.std.proofs.Common.{◌∙◌, ◌+◌, ◌≤◌, ap, length, subst, sym}
-use Rattle.rart_c.proofs.LengthLemmas.{as-many, one-more}
-use Rattle.rart_c.proofs.LimitLemmas.{KeepsLimit-with_key}
+use Rattle.rart_c.proofs.KeyCountLemmas.{as-many, one-more}
+use Rattle.rart_c.proofs.KeyLimitLemmas.{KeepsLimit-with_key}
 use Rattle.rart_c.proofs.table.Table.insert.Goals as goal
 
 pub invariant_of-self-then-is_none : goal.invariant_of-self-then-is_none

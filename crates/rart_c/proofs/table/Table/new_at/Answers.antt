@@ -1,7 +1,7 @@
 use Rattle.std.proofs.Common.{◌∙◌, ap, sym}
 use Rattle.std.specs.FinMap as finite
 use Rattle.rart_c.proofs.EmptyLemmas.{no-length}
-use Rattle.rart_c.proofs.LimitLemmas.{KeepsLimit-empty}
+use Rattle.rart_c.proofs.KeyLimitLemmas.{KeepsLimit-empty}
 use Rattle.rart_c.proofs.table.Table.new_at.Goals as goal
 
 pub invariant_of-result : goal.invariant_of-result

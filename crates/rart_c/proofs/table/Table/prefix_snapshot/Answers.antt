@@ -1,6 +1,6 @@
 use Rattle.std.proofs.Common.{◌∙◌, ap, sym}
 use Rattle.std.specs.FinMap as finite
-use Rattle.rart_c.proofs.PrefixLemmas.{KeepsLimit-under, len-under}
+use Rattle.rart_c.proofs.CountUnderLemmas.{KeepsLimit-under, len-under}
 use Rattle.rart_c.proofs.table.Table.prefix_snapshot.Goals as goal
 
 pub invariant_of-result : goal.invariant_of-result

@@ -1,6 +1,6 @@
 use Rattle.std.proofs.Common.{◌∙◌, ◌-◌, ◌≤◌, ap, subst, sym}
-use Rattle.rart_c.proofs.LengthLemmas.{a-key, one-less}
-use Rattle.rart_c.proofs.LimitLemmas.{KeepsLimit-after_removal}
+use Rattle.rart_c.proofs.KeyCountLemmas.{a-key, one-less}
+use Rattle.rart_c.proofs.KeyLimitLemmas.{KeepsLimit-after_removal}
 use Rattle.rart_c.proofs.table.Table.remove.Goals as goal
 
 pub overflow_sub-self : goal.overflow_sub-self

@@ -1,5 +1,5 @@
 use Rattle.std.proofs.Common.{◌≡◌, arith, length, subst, sym}
-use Rattle.rart_c.proofs.PrefixLemmas.{KeepsLimit-without, few-under, len-after, none-removed}
+use Rattle.rart_c.proofs.CountUnderLemmas.{KeepsLimit-without, few-under, len-after, none-removed}
 use Rattle.rart_c.proofs.table.Table.remove_prefix.Goals as goal
 use Rattle.rart_maps.specs.Pairs.{under}
 use Rattle.rart_maps.specs.Prefixes.{after_prefix_removal}

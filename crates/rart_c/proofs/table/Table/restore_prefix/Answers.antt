@@ -1,6 +1,6 @@
 use Rattle.std.proofs.Common.{◌≤◌, ap, arith, subst, sym}
 use Rattle.std.specs.FinMap as finite
-use Rattle.rart_c.proofs.PrefixLemmas.{KeepsLimit-restored, few-under, len-restored}
+use Rattle.rart_c.proofs.CountUnderLemmas.{KeepsLimit-restored, few-under, len-restored}
 use Rattle.rart_c.proofs.table.Table.restore_prefix.Goals as goal
 
 pub overflow_sub-self : goal.overflow_sub-self

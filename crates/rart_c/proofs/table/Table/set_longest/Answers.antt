@@ -1,5 +1,5 @@
 use Rattle.std.proofs.Common.{IsTrue, subst, sym}
-use Rattle.rart_c.proofs.LimitLemmas.{KeepsLimit-no_key}
+use Rattle.rart_c.proofs.KeyLimitLemmas.{KeepsLimit-no_key}
 use Rattle.rart_c.proofs.table.Table.set_longest.Goals as goal
 use Rattle.rart_maps.specs.Versions.{has_no_key}
 

@@ -1,4 +1,4 @@
-use Rattle.rart_changes.proofs.SettingLemmas.{set-by-insertion, set-by-deletion}
+use Rattle.rart_changes.proofs.SetKeyLemmas.{set-by-insertion, set-by-deletion}
 use Rattle.rart_changes.proofs.merging.setting.put.Goals as goal
 
 pub returns-in_ok-insert-in-Some : goal.returns-in_ok-insert-in-Some

@@ -7,7 +7,7 @@ use Rattle.rart_saved.specs.Parts.{HasPart}
 use Rattle.rart_saved.proofs.ChangeFormLemmas.{both-apart, changes-begin, changes-closed, lacks-listed}
 use Rattle.rart_saved.proofs.ListedLemmas.{closed-all, closed-counted, closed-read, closed-started}
 use Rattle.rart_saved.proofs.LoadLemmas.{other_passed}
-use Rattle.rart_saved.proofs.PartLemmas.{other_error}
+use Rattle.rart_saved.proofs.BytePartLemmas.{other_error}
 use Rattle.rart_saved.proofs.changes.loading.read_changes.Goals as goal
 
 pub returns-in_err-at-clause-refused : goal.returns-in_err-at-clause-refused

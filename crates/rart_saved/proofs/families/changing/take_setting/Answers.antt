@@ -7,7 +7,7 @@ use Rattle.rart_saved.specs.FamilyForms.{optional}
 use Rattle.rart_saved.specs.FamilyLoads.{LacksSetting}
 use Rattle.rart_saved.specs.Forms.{entry}
 use Rattle.rart_saved.proofs.EntryLemmas.{entry-apart}
-use Rattle.rart_saved.proofs.LengthLemmas.{entry-long, part-end, part-inside}
+use Rattle.rart_saved.proofs.FormLengthLemmas.{entry-long, part-end, part-inside}
 use Rattle.rart_saved.proofs.LimitLemmas.{within_passed}
 use Rattle.rart_saved.proofs.OptionalLemmas.{optional-apart}
 use Rattle.rart_saved.proofs.families.changing.take_setting.Goals as goal

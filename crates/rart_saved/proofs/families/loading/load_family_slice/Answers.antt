@@ -1,4 +1,4 @@
-use Rattle.rart_saved.proofs.PlaceLemmas.{family-given}
+use Rattle.rart_saved.proofs.FamilyReadLemmas.{family-given}
 use Rattle.rart_saved.proofs.families.loading.load_family_slice.Goals as goal
 
 pub returns-clause-gives_back : goal.returns-clause-gives_back

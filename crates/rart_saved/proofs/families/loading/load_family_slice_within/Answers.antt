@@ -1,5 +1,5 @@
 use Rattle.std.proofs.Common.{Some}
-use Rattle.rart_saved.proofs.PlaceLemmas.{family-given_within}
+use Rattle.rart_saved.proofs.FamilyReadLemmas.{family-given_within}
 use Rattle.rart_saved.proofs.families.loading.load_family_slice_within.Goals as goal
 
 pub returns-clause-gives_back : goal.returns-clause-gives_back

@@ -4,7 +4,7 @@ use Rattle.rart_saved.specs.FamilyLoads.{HasVersionsWithin, LacksFamily}
 use Rattle.rart_saved.specs.Parts.{HasPart}
 use Rattle.rart_saved.proofs.FamilyFormLemmas.{saved_family-then}
 use Rattle.rart_saved.proofs.LimitLemmas.{within_each, within_passed}
-use Rattle.rart_saved.proofs.PlaceLemmas.{family-read, few-places, opened-family, opened-places, opened-sum}
+use Rattle.rart_saved.proofs.FamilyReadLemmas.{family-read, few-places, opened-family, opened-places, opened-sum}
 use Rattle.rart_saved.proofs.families.loading.read_family.Goals as goal
 
 pub returns-in_err-at-clause-refused : goal.returns-in_err-at-clause-refused

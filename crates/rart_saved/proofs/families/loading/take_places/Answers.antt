@@ -3,7 +3,7 @@ use Rattle.rart_saved.specs.FamilyLoads.{HasVersionsWithin, LacksPlaces}
 use Rattle.rart_saved.specs.Refusals.{limit_of}
 use Rattle.rart_saved.proofs.LimitLemmas.{within_memory, within_passed}
 use Rattle.rart_saved.proofs.LoadLemmas.{within-none}
-use Rattle.rart_saved.proofs.PlaceLemmas.{IsPlaced, lacks-places, placed-next, placed-none, versions-next, versions-none}
+use Rattle.rart_saved.proofs.FamilyReadLemmas.{IsPlaced, lacks-places, placed-next, placed-none, versions-next, versions-none}
 use Rattle.rart_saved.proofs.families.loading.take_places.Goals as goal
 
 pub placing-init : goal.placing-init

@@ -1,6 +1,6 @@
 use Rattle.rart_saved.specs.FamilyLoads.{HasVersionsWithin}
 use Rattle.rart_saved.specs.Loads.{HasKeysWithin}
-use Rattle.rart_saved.proofs.PlaceLemmas.{IsPlaced}
+use Rattle.rart_saved.proofs.FamilyReadLemmas.{IsPlaced}
 use Rattle.rart_saved.proofs.families.loading.take_places.Given as goal
 
 abbrev pub invariant-placing : goal.invariant-placing

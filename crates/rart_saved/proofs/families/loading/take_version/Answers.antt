@@ -10,9 +10,9 @@ use Rattle.rart_saved.specs.Numbers.{leb}
 use Rattle.rart_saved.specs.Parts.{HasPart}
 use Rattle.rart_saved.specs.Refusals.{limit_of}
 use Rattle.rart_saved.proofs.FamilyFormLemmas.{settings, version_behind-then}
-use Rattle.rart_saved.proofs.LengthLemmas.{part-end}
+use Rattle.rart_saved.proofs.FormLengthLemmas.{part-end}
 use Rattle.rart_saved.proofs.LimitLemmas.{within_each, within_passed}
-use Rattle.rart_saved.proofs.PlaceLemmas.{few-changes, opened-changes, opened-content, opened-version, version_behind-read}
+use Rattle.rart_saved.proofs.FamilyReadLemmas.{few-changes, opened-changes, opened-content, opened-version, version_behind-read}
 use Rattle.rart_saved.proofs.families.loading.take_version.Goals as goal
 
 pub returns-in_err-number-clause-refused : goal.returns-in_err-number-clause-refused

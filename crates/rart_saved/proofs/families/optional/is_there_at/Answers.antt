@@ -1,6 +1,6 @@
 use Rattle.std.proofs.Common.{length, sym, ap, ◌∙◌, arith}
 use Rattle.rart_saved.proofs.OptionalLemmas.{lacks-mark, mark-read}
-use Rattle.rart_saved.proofs.PartLemmas.{drop-byte, drop-past}
+use Rattle.rart_saved.proofs.BytePartLemmas.{drop-byte, drop-past}
 use Rattle.rart_saved.proofs.families.optional.is_there_at.Goals as goal
 
 pub returns-in_default-clause-refused : goal.returns-in_default-clause-refused

@@ -1,5 +1,5 @@
 use Rattle.std.proofs.Common.{◌∙◌}
-use Rattle.rart_saved.proofs.PlaceLemmas.{version_behind-written}
+use Rattle.rart_saved.proofs.FamilyReadLemmas.{version_behind-written}
 use Rattle.rart_saved.proofs.families.saving.put_version.Goals as goal
 
 pub returns : goal.returns

@@ -5,7 +5,7 @@ use Rattle.rart_maps.specs.Versions.{Version}
 use Rattle.rart_family.specs.Families.{Family}
 use Rattle.rart_saved.specs.FamilyForms.{family_head}
 use Rattle.rart_saved.specs.Numbers.{leb}
-use Rattle.rart_saved.proofs.PlaceLemmas.{IsWritten, family-written, places-taken, unwrapped, written-next, written-none}
+use Rattle.rart_saved.proofs.FamilyReadLemmas.{IsWritten, family-written, places-taken, unwrapped, written-next, written-none}
 use Rattle.rart_saved.proofs.families.saving.save_family_slice.Goals as goal
 
 pub placing-init : goal.placing-init

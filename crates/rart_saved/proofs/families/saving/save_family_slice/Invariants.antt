@@ -1,7 +1,7 @@
 use Rattle.std.proofs.Common.{◌++◌, length, take}
 use Rattle.rart_saved.specs.FamilyForms.{family_head}
 use Rattle.rart_saved.specs.Numbers.{leb}
-use Rattle.rart_saved.proofs.PlaceLemmas.{IsWritten}
+use Rattle.rart_saved.proofs.FamilyReadLemmas.{IsWritten}
 use Rattle.rart_saved.proofs.families.saving.save_family_slice.Given as goal
 
 abbrev pub invariant-placing : goal.invariant-placing

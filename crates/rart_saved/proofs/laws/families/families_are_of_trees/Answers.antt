@@ -4,7 +4,7 @@ use Rattle.std.specs.Prelude.{IfSome}
 use Rattle.rart_family.specs.Families.{Family}
 use Rattle.rart_saved.specs.FamilyForms.{IsFamilyOf}
 use Rattle.rart_saved.specs.Forms.{IsVersionOf}
-use Rattle.rart_saved.proofs.PlaceLemmas.{family-more, family-none}
+use Rattle.rart_saved.proofs.FamilyReadLemmas.{family-more, family-none}
 use Rattle.rart_saved.proofs.laws.families.families_are_of_trees.Goals as goal
 
 pub knowing-init : goal.knowing-init

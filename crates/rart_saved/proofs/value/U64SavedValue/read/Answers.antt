@@ -1,6 +1,6 @@
 use Rattle.std.proofs.Common.{◌<◌, ◌≤◌, ◌+◌, ◌-◌, ℕ, get_or, length, subst, sym, arith, rules}
 use Rattle.rart_saved.specs.Parts.{HasPart}
-use Rattle.rart_saved.proofs.PartLemmas.{part-slice, small-part}
+use Rattle.rart_saved.proofs.BytePartLemmas.{part-slice, small-part}
 use Rattle.rart_saved.proofs.ValueLemmas.{eight-read, lacks-eight}
 use Rattle.rart_saved.proofs.value.U64SavedValue.read.Goals as goal
 

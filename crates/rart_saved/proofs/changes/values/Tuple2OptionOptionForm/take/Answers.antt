@@ -3,7 +3,7 @@ use Rattle.rart_saved.specs.ChangeForms.{both_written}
 use Rattle.rart_saved.specs.Values.{LacksValue}
 use Rattle.rart_saved.proofs.ChangeFormLemmas.{deed-is, lacks-after, lacks-before, lacks-deed, lacks-no_byte, values-read}
 use Rattle.rart_saved.proofs.LoadLemmas.{other_passed}
-use Rattle.rart_saved.proofs.PartLemmas.{drop-byte, drop-past}
+use Rattle.rart_saved.proofs.BytePartLemmas.{drop-byte, drop-past}
 use Rattle.rart_saved.proofs.changes.values.Tuple2OptionOptionForm.take.Goals as goal
 
 pub returns-in_default-clause-refused : goal.returns-in_default-clause-refused

@@ -3,7 +3,7 @@ use Rattle.rart_saved.specs.FamilyForms.{optional}
 use Rattle.rart_saved.specs.Values.{LacksValue}
 use Rattle.rart_saved.proofs.LoadLemmas.{other_passed}
 use Rattle.rart_saved.proofs.OptionalLemmas.{lacks-marked, lacks-value, none-read, some-read}
-use Rattle.rart_saved.proofs.PartLemmas.{other_error}
+use Rattle.rart_saved.proofs.BytePartLemmas.{other_error}
 use Rattle.rart_saved.proofs.families.optional.OptionForm.take.Goals as goal
 
 pub returns-in_err-is_there-clause-refused : goal.returns-in_err-is_there-clause-refused

@@ -11,7 +11,7 @@ use Rattle.rart_saved.specs.Forms.{key_form}
 use Rattle.rart_saved.specs.Keys.{Follows, IsNext, LacksKey, narrowed}
 use Rattle.rart_saved.specs.Numbers.{leb, LacksNumber}
 use Rattle.rart_saved.specs.Parts.{HasPart}
-use Rattle.rart_saved.proofs.PartLemmas.{part-join}
+use Rattle.rart_saved.proofs.BytePartLemmas.{part-join}
 use Rattle.rart_saved.specs.Laws.{leb-apart, same_first, split-same}
 
 -- ---- the longest common start

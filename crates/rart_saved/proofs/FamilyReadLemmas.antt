@@ -24,11 +24,11 @@ use Rattle.rart_saved.specs.Parts.{HasPart}
 use Rattle.rart_saved.specs.Refusals.{OnErrWithin}
 use Rattle.rart_saved.specs.declared.error.LoadError.{LoadError}
 use Rattle.rart_saved.proofs.FamilyFormLemmas.{difference-then, families-of_one, last_content, last_content-next, last_content-none, map-of-settings, places-front, places-next, same-places, saved_family-then, settings, version_behind-then}
-use Rattle.rart_saved.proofs.LengthLemmas.{entries-long, front-within}
+use Rattle.rart_saved.proofs.FormLengthLemmas.{entries-long, front-within}
 use Rattle.rart_saved.proofs.LimitLemmas.{limit-none, refused-told, version-narrowed}
 use Rattle.rart_saved.proofs.ListedLemmas.{same-entries}
 use Rattle.rart_saved.proofs.OptionalLemmas.{optional-apart, optional-long}
-use Rattle.rart_saved.proofs.PartLemmas.{part-front, part-join}
+use Rattle.rart_saved.proofs.BytePartLemmas.{part-front, part-join}
 use Rattle.rart_saved.proofs.SavedLemmas.{memory_alone}
 use Rattle.rart_saved.proofs.SettingReadLemmas.{contains-last}
 
@@ -378,7 +378,7 @@ module _ {V : Type 0} (written : V → List ℕ) (same : V → V → Bool) where
       pub family-given : (r : Result (Family V) LoadError) (bytes : List ℕ)
           → IfOk r (λ found. bytes ≡ saved_family written same kind found)
           → OnErrWithin None most r (λ m. LacksFamily written same m kind bytes)
-          → GivesBackFamily written same most kind r bytes
+          → GivesBackFamily written same kind most r bytes
       family-given (Ok found) bytes read refused family is stands =
           families-of_one written same kind apart decides found family (sym read ∙ stands)
       family-given (Err e) bytes read refused family is stands =
@@ -388,7 +388,7 @@ module _ {V : Type 0} (written : V → List ℕ) (same : V → V → Bool) where
       pub family-given_within : (longest : Option ℕ) (r : Result (Family V) LoadError)
           (bytes : List ℕ) → IfOk r (λ found. bytes ≡ saved_family written same kind found)
           → OnErrWithin longest most r (λ m. LacksFamily written same m kind bytes)
-          → GivesBackFamilyWithin written same most kind longest r bytes
+          → GivesBackFamilyWithin written same kind longest most r bytes
       family-given_within longest (Ok found) bytes read refused family is stands =
           families-of_one written same kind apart decides found family (sym read ∙ stands)
       family-given_within longest (Err e) bytes read refused family is stands =
@@ -397,7 +397,7 @@ module _ {V : Type 0} (written : V → List ℕ) (same : V → V → Bool) where
           (λ other narrow. refused other family narrow stands)
 
       pub family-given_io : (r : Result (Family V) LoadError) (bytes : List ℕ)
-          → GivesBackFamily written same most kind r bytes
-          → GivesBackFamilyUnlessIo written same most kind r bytes
+          → GivesBackFamily written same kind most r bytes
+          → GivesBackFamilyUnlessIo written same kind most r bytes
       family-given_io (Ok found) bytes back family is stands = back family is stands
       family-given_io (Err e) bytes back family is stands = inl (back family is stands)

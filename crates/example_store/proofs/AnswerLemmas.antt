@@ -7,7 +7,7 @@ use Rattle.std.specs.Io.KnownBytes.{Appends, Keeps}
 use Rattle.rart_family.specs.Replies.{Reply, NoMemory}
 use Rattle.rart_family.specs.Families.{Family, call_of, reply_to}
 use Rattle.rart_family.specs.Laws.{OnlyReads}
-use Rattle.rart_family.proofs.ReadLemmas.{reads_leave_family}
+use Rattle.rart_family.proofs.CallerLemmas.{reads_leave_family}
 use Rattle.vtree_lines.specs.Grammar.{Said, IsLineOf, IsBad}
 use Rattle.vtree_lines.specs.ReplyTexts.{reply_line, bad_line}
 use Rattle.vtree_lines.specs.ServingLaws.{IsRefusal}

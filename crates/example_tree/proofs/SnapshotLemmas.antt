@@ -12,7 +12,7 @@ use Rattle.rart_family.specs.declared.family.command.Command.TheVariants.{New, S
 use Rattle.rart_family.specs.Replies.{Reply, Value, NoMemory}
 use Rattle.rart_family.specs.Families.{Family, reply_to, after}
 use Rattle.rart_family.specs.Runs.{Run}
-use Rattle.rart_family.proofs.LawLemmas.{own_replies}
+use Rattle.rart_family.proofs.CallerLemmas.{own_replies}
 
 module _ {K V : Type 0} (bytes : K → List ℕ) where
   abbrev pub commands : K → K → K → V → V → List (Command K V)

@@ -7,7 +7,7 @@ use Rattle.std.proofs.lemmas.Bool.{cases_order}
 use Rattle.std.proofs.lemmas.List.Elements.{All-nil, All-cons}
 use Rattle.rart_below.specs.Bytes.{byte_order}
 use Rattle.rart_maps.specs.Order.{IsBefore}
-use Rattle.rart_maps.proofs.OrderLemmas.{IsBefore-back, IsBefore-itself, before-lt, lt-before}
+use Rattle.rart_maps.proofs.CallerLemmas.{IsBefore-back, IsBefore-itself, before-lt, lt-before}
 use Rattle.tuple_index.specs.Tuples.{bytes_of}
 use Rattle.tuple_index.proofs.ColumnLemmas.{columns-order}
 use Rattle.example_uses.specs.Timelines.{KeysAreInTimeOrder, beginning, record_key}

@@ -13,9 +13,7 @@ use Rattle.rart_maps.specs.FoundLaws.{KeysAscend}
 use Rattle.rart_maps.specs.Order.{IsAtMost, IsBefore, MeetsHigh}
 use Rattle.rart_maps.specs.Pairs.{within}
 use Rattle.rart_maps.specs.Versions.{Version, has_key, value_at}
-use Rattle.rart_maps.proofs.ElementLemmas.{Contains-nil, Contains-here, Contains-later, Contains-cases, AllPairs-first, AllPairs-rest}
-use Rattle.rart_maps.proofs.FoundLemmas.{within_ascends, within_is_found}
-use Rattle.rart_maps.proofs.OrderLemmas.{begins-append}
+use Rattle.rart_maps.proofs.CallerLemmas.{AllPairs-first, AllPairs-rest, Contains-cases, Contains-here, Contains-later, Contains-nil, begins-append, within_ascends, within_is_found}
 use Rattle.example_uses.specs.declared.timeline.Record.{Record}
 use Rattle.example_uses.specs.Timelines.{IsLastPair, IsLastUnder, beginning, if_begun, record_key}
 

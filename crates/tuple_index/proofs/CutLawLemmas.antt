@@ -5,9 +5,8 @@ use Rattle.std.specs.FinMap as finite
 use Rattle.std.specs.FinMap.Entries.{find}
 use Rattle.std.specs.Ordering.{eq_by_cmp}
 use Rattle.std.proofs.lemmas.Bool.{and_parts, and_from, false≢true, ne_eqb}
-use Rattle.rart_maps.proofs.ElementLemmas.{Contains-entries, Contains-here, Contains-nil}
+use Rattle.rart_maps.proofs.CallerLemmas.{Contains-entries, Contains-here, Contains-nil, begins_is_of_rest}
 use Rattle.tuple_index.specs.declared.tuple.Tuple.{Tuple}
-use Rattle.rart_maps.proofs.OrderLemmas.{begins_is_of_rest}
 use Rattle.tuple_index.specs.CutLaws.{ColumnsAreFirst, KeptBringsBack, RestoredHas, SomeWithIsATuple, TuplesFixTheSet, WithHas, WithoutHas}
 use Rattle.tuple_index.specs.Tuples.{Tuples, columns_of, has_columns, has_tuple, tuple_order, tuples_of_either, tuples_with, tuples_without, with_tuples_of}
 use Rattle.tuple_index.proofs.IndexLemmas.{own-columns, total}

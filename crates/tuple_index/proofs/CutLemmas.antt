@@ -11,8 +11,7 @@ use Rattle.std.specs.Cmp.Lexicographic.{nat_list_cmp_total}
 use Rattle.std.specs.FinMap as finite
 use Rattle.std.specs.FinMap.Entries.{where_key, find-where_key, is_sorted-where_key, same_entries}
 use Rattle.rart_versioned.specs.Bytes.{begins, byte_order}
-use Rattle.rart_maps.proofs.OrderLemmas.{byte_order-IsAntisymmetric}
-use Rattle.rart_maps.proofs.PrefixLemmas.{get-without_prefix, same_map, value_at-prefix_removal}
+use Rattle.rart_maps.proofs.CallerLemmas.{byte_order-IsAntisymmetric, get-without_prefix, same_map, value_at-prefix_removal}
 use Rattle.rart_maps.specs.Pairs.{pairs}
 use Rattle.rart_maps.specs.Prefixes.{after_prefix_removal, after_prefix_restoring, has_under, pairs_under, under_prefix, with_prefix_of, without_prefix}
 use Rattle.rart_maps.specs.Versions.{Map, Version}

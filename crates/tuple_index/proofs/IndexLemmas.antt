@@ -15,8 +15,7 @@ use Rattle.std.specs.Ordering.{eq_by_cmp, is_eq, is_lt}
 use Rattle.std.specs.declared.cmp.Ordering.{Ordering}
 use Rattle.std.specs.declared.cmp.Ordering.TheVariants.{Less, Equal, Greater}
 use Rattle.rart_versioned.specs.Bytes.{begins, byte_order}
-use Rattle.rart_maps.proofs.OrderLemmas.{byte_order-IsAntisymmetric}
-use Rattle.rart_maps.proofs.PairLawLemmas.{pairs-empty}
+use Rattle.rart_maps.proofs.CallerLemmas.{byte_order-IsAntisymmetric, pairs-empty}
 use Rattle.rart_maps.specs.Changes.{after_removal}
 use Rattle.rart_maps.specs.Pairs.{pairs, under, common}
 use Rattle.rart_maps.specs.Versions.{Map, Version, has_key, with_key, without_key}

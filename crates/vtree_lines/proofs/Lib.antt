@@ -1,4 +1,4 @@
-pub mod NumberLemmas
+pub mod NumberTextLemmas
 pub mod GrammarLemmas
 pub mod WordLemmas
 pub mod FormLemmas

@@ -16,7 +16,7 @@ use Rattle.vtree_lines.specs.Lines.{words, value_from, number_of}
 use Rattle.vtree_lines.specs.Grammar.{Said, Word, Number, Key, Included, Excluded, Text, Bytes, word_of, form_of, IsLineOf}
 use Rattle.vtree_lines.specs.OwnLines.{text_of, line_of, Fits, WordStands, CanStand, Each}
 use Rattle.vtree_lines.specs.Laws.{WordsAreOneCommand, OwnLinesAreRead}
-use Rattle.vtree_lines.proofs.NumberLemmas.{some_number}
+use Rattle.vtree_lines.proofs.NumberTextLemmas.{some_number}
 use Rattle.vtree_lines.proofs.GrammarLemmas.{and_left, and_right, same_command, line_is_one_command}
 use Rattle.vtree_lines.proofs.WordLemmas.{Shows, shown, number_word, words_are_read}
 use Rattle.vtree_lines.proofs.FormLemmas.{IsOwn, forms_are_own, form_few, form_some}

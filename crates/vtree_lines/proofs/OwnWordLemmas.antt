@@ -8,7 +8,7 @@ use Rattle.vtree_lines.specs.Lines.{value_from, number_of}
 use Rattle.vtree_lines.specs.Grammar.{Word, Number, word_of, form_of}
 use Rattle.vtree_lines.specs.OwnLines.{text_of, Fits, WordStands, Each}
 use Rattle.vtree_lines.specs.Laws.{IsOwnWord, AreOwnWords, OwnWordsAreGood}
-use Rattle.vtree_lines.proofs.NumberLemmas.{some_number}
+use Rattle.vtree_lines.proofs.NumberTextLemmas.{some_number}
 use Rattle.vtree_lines.proofs.WordLemmas.{number_word}
 use Rattle.vtree_lines.proofs.FormLemmas.{IsOwn, forms_are_own}
 use Rattle.vtree_lines.proofs.OwnLineLemmas.{own_numerals, number_is, word_is}

@@ -8,9 +8,7 @@ use Rattle.std.specs.declared.option.Option.TheVariants.{Some, None}
 use Rattle.rart_maps.specs.Versions.{Version}
 use Rattle.rart_family.specs.Replies.{Reply, Place, Discarded, Number, Flag, Value, Entries, Values, Stopped, Pairs, ValuePairs, Count, Failed, NoVersion, NoRoom, NoMemory}
 use Rattle.rart_family.specs.Families.{Family, Outcome, Call, Makes, Copies, Discards, Reads, Meets, Changes, version_at, call_outcome, with_room, placement, called, call_of, outcome}
-use Rattle.rart_family.proofs.LawLemmas.{no_want}
-use Rattle.rart_family.proofs.RunLemmas.{is_refusal, Answers, command_answers}
-use Rattle.rart_family.proofs.OutOfMemoryLemmas.{no_want_without_memory, no_want_before_lack}
+use Rattle.rart_family.proofs.CallerLemmas.{Answers, command_answers, is_refusal, no_want, no_want_before_lack, no_want_without_memory}
 use Rattle.vtree_lines.specs.Lines.{lines_of}
 use Rattle.vtree_lines.specs.Grammar.{Said}
 use Rattle.vtree_lines.specs.ReplyTexts.{number_text, entry_text, pair_text, value_pair_text, line, reply_line}

@@ -4,7 +4,7 @@ use Rattle.std.proofs.lemmas.Bool.Decides.{leb_tells}
 use Rattle.std.specs.Prelude.{◌⊎◌}
 use Rattle.rart_family.specs.Replies.{Reply, NoMemory}
 use Rattle.rart_family.specs.Families.{Family, reply_to, after}
-use Rattle.rart_family.proofs.LawLemmas.{own_replies}
+use Rattle.rart_family.proofs.CallerLemmas.{own_replies}
 use Rattle.vtree_lines.specs.Grammar.{Said, word_of, form_of, IsLineOf}
 use Rattle.vtree_lines.specs.Lines.{words}
 use Rattle.vtree_lines.specs.ReplyTexts.{reply_line, bad_line}

@@ -17,7 +17,7 @@ use Rattle.vtree_lines.specs.Lines.{number_of, value_from}
 use Rattle.vtree_lines.specs.Grammar.{Word, Number, Key, Included, Excluded, Text, Bytes, IsKeyText, word_of, key_behind, is_key_text}
 use Rattle.vtree_lines.specs.Words.{IsShort, AreShort}
 use Rattle.vtree_lines.specs.Laws.{WordsAreRead}
-use Rattle.vtree_lines.proofs.NumberLemmas.{none_from, and_none}
+use Rattle.vtree_lines.proofs.NumberTextLemmas.{none_from, and_none}
 use Rattle.vtree_lines.proofs.GrammarLemmas.{and_left, and_right}
 
 graphic_byte : (byte : ℕ) → is_ascii_graphic byte ≡ true → byte < 128

@@ -1,5 +1,5 @@
 use Rattle.std.proofs.Common.{◌∙◌, ap, sym, map}
-use Rattle.rart_maps.proofs.PairLawLemmas.{common_swaps}
+use Rattle.rart_maps.proofs.CallerLemmas.{common_swaps}
 use Rattle.example_tree.proofs.in_common.prices_both_ways.Goals as goal
 
 pub returns : goal.returns

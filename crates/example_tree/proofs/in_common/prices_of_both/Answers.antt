@@ -1,6 +1,6 @@
 use Rattle.std.proofs.Common.{◌≡◌, refl, rules, of_calls}
 use Rattle.std.specs.Result.{IsOk}
-use Rattle.rart_maps.proofs.VisitLemmas.{answers-collect, answers-keep}
+use Rattle.rart_maps.proofs.CallerLemmas.{answers-collect, answers-keep}
 use Rattle.example_tree.specs.InCommon.{named}
 use Rattle.example_tree.proofs.in_common.prices_of_both.Goals as goal
 

@@ -2,7 +2,7 @@ use Rattle.std.proofs.Common.{◌∷◌, ℕ, [], refl}
 use Rattle.std.proofs.lemmas.List.{map-append}
 use Rattle.std.specs.Prelude.{Result, Ok, Err, OnErr}
 use Rattle.rart_maps.specs.Pairs.{pairs}
-use Rattle.rart_maps.proofs.IterationLemmas.{taken-pair}
+use Rattle.rart_maps.proofs.CallerLemmas.{taken-pair}
 use Rattle.rart_versioned.specs.declared.VectorKey.{VectorKey}
 use Rattle.example_tree.specs.Listing.{line_of}
 use Rattle.example_tree.proofs.listing.list_into.Goals as goal

@@ -1,6 +1,6 @@
 use Rattle.std.proofs.Common.{◌∷◌, ℕ, []}
 use Rattle.std.proofs.lemmas.List.{map-append}
-use Rattle.rart_maps.proofs.IterationLemmas.{taken-pair}
+use Rattle.rart_maps.proofs.CallerLemmas.{taken-pair}
 use Rattle.rart_versioned.specs.declared.VectorKey.{VectorKey}
 use Rattle.example_tree.specs.Listing.{line_of}
 use Rattle.example_tree.proofs.listing.listing_under.Goals as goal

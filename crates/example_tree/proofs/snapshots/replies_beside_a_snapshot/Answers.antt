@@ -3,7 +3,7 @@ use Rattle.std.specs.Prelude.{map}
 use Rattle.std.proofs.lemmas.Result.{IfOk-weaker}
 use Rattle.std.proofs.lemmas.List.{length-map}
 use Rattle.rart_family.specs.Replies.{reply_value}
-use Rattle.rart_family.proofs.LawLemmas.{one_each}
+use Rattle.rart_family.proofs.CallerLemmas.{one_each}
 use Rattle.example_tree.proofs.SnapshotLemmas.{commands, run_of, snapshot_replies}
 use Rattle.example_tree.proofs.snapshots.replies_beside_a_snapshot.Goals as goal
 

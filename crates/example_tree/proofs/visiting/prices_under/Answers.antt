@@ -1,6 +1,6 @@
 use Rattle.std.proofs.Common.{◌≡◌, refl, rules, of_calls}
 use Rattle.std.specs.Result.{IsOk}
-use Rattle.rart_maps.proofs.VisitLemmas.{answers-collect, answers-keep}
+use Rattle.rart_maps.proofs.CallerLemmas.{answers-collect, answers-keep}
 use Rattle.example_tree.proofs.visiting.prices_under.Goals as goal
 
 pub returns : goal.returns

@@ -1,7 +1,7 @@
 use Rattle.std.proofs.Common.{◌≡◌, ◌∙◌, ℕ, List, Result, Ok, Err, None, ap, cond}
 use Rattle.std.specs.Prelude.{IfOk}
 use Rattle.rart_below.specs.Bytes.{begins}
-use Rattle.rart_maps.proofs.PrefixLemmas.{value_at-under_prefix}
+use Rattle.rart_maps.proofs.CallerLemmas.{value_at-under_prefix}
 use Rattle.rart_maps.specs.Prefixes.{under_prefix}
 use Rattle.rart_maps.specs.Versions.{Version, value_at}
 use Rattle.example_uses.proofs.policies.export_tenant.Goals as goal

@@ -1,6 +1,6 @@
 use Rattle.std.proofs.Common.{◌≡◌, ℕ, List, refl, rules, of_calls}
 use Rattle.std.specs.Result.{IsOk}
-use Rattle.rart_maps.proofs.VisitLemmas.{answers-keep}
+use Rattle.rart_maps.proofs.CallerLemmas.{answers-keep}
 use Rattle.tuple_index.specs.Decoding.{tuple_at}
 use Rattle.tuple_index.proofs.JoinLemmas.{answers-mapped}
 use Rattle.tuple_index.proofs.index.tuples_of_both.Goals as goal

@@ -1,6 +1,6 @@
 use Rattle.std.proofs.Common.{[], ◌∷◌, ◌++◌, sym, ap, ◌∙◌}
 use Rattle.std.proofs.lemmas.List.{map-append}
-use Rattle.rart_maps.proofs.IterationLemmas.{taken-pair}
+use Rattle.rart_maps.proofs.CallerLemmas.{taken-pair}
 use Rattle.rart_versioned.specs.declared.ArrayKey.{ArrayKey}
 use Rattle.tuple_index.specs.Decoding.{tuple_at}
 use Rattle.tuple_index.specs.Indexes.{Pair}

@@ -1,6 +1,6 @@
 use Rattle.std.proofs.Common.{sym, ◌∙◌, ◌+◌, arith, length}
 use Rattle.std.proofs.lemmas.Bool.{eqb-false}
-use Rattle.vtree_lines.proofs.NumberLemmas.{none_by_digit, none_by_value, some_number, digits_next, value_next}
+use Rattle.vtree_lines.proofs.NumberTextLemmas.{none_by_digit, none_by_value, some_number, digits_next, value_next}
 use Rattle.vtree_lines.proofs.words.number_of.Goals as goal
 
 pub returns-then-not-is_ascii_digit : goal.returns-then-not-is_ascii_digit

@@ -11,6 +11,9 @@ use std::alloc::{AllocError, Global};
 /// Contracts see a key as its bytes. The laws say that every key's length is admitted, that
 /// prefixes may be as long as keys, and that equality and order of keys are those of their bytes. A
 /// key is copied by `K::new_from_slice(alloc, key.as_ref())`.
+///
+/// A key type that has `AsSlice<u8>` as well must lend the same bytes by it, since calls that take
+/// whatever lends bytes take what it lends. No clause says so.
 pub trait KeyTrait: Eq + Ord + Drop {
     /// What a node stores of such keys.
     type PartialType: Partial;

@@ -14,7 +14,7 @@ use Rattle.rart_maps.specs.Merges.{Answers, Conflict, answered, conflicts, in_co
 use Rattle.rart_maps.proofs.ChangeLemmas.{KeysAscend-kept, changes-ascend, changes-from, changes-to}
 use Rattle.rart_maps.proofs.MergeLemmas.{conflicts_are_found, conflicts_ascend}
 use Rattle.rart_versioned.specs.Replies.{Replies}
-use Rattle.rart_versioned.proofs.ReplyLemmas.{asked-up_to, replies-asked}
+use Rattle.rart_versioned.proofs.ReplyLemmas.{replies-asked}
 use Rattle.rart_changes.specs.Merging.{AnswersAreKept, AnswersAreMerged, AnswersBy, AsksInOrder, KeepsReplies, Reply, change_for}
 
 module _ {V : Type 0} (same : V → V → Bool) (ours : Map V) where
@@ -97,12 +97,9 @@ module _ {F A V : Type 0} (g : Mut F A (Option V)) (Shows : A → Conflict V →
       ∙ ap (map (answered answers)) merges.asked)
 
   pub asks_in_order : (same : V → V → Bool) → AsksInOrder g Shows same
-  asks_in_order same asked keeps f f' = (
-    λ base ours theirs after merges.
-        replies-asked g Shows asked keeps merges.replies f f' merges.calls
-        ∙ ap (λ list. asked f ++ list) merges.asked,
-    asked-up_to g Shows asked keeps f f',
-  )
+  asks_in_order same asked keeps f f' base ours theirs after merges =
+      replies-asked g Shows asked keeps merges.replies f f' merges.calls
+      ∙ ap (λ list. asked f ++ list) merges.asked
 
   replies-kept : (kept : F → List (Reply V)) → KeepsReplies g Shows kept
       → (replies : List (Reply V)) (f f' : F) → Replies g Shows f replies f'

@@ -9,7 +9,7 @@ use Rattle.rart_maps.specs.Versions.{Map}
 use Rattle.rart_maps.specs.Visits.{CalledOn}
 use Rattle.rart_maps.specs.ChangeLists.{Change, changes, patched}
 use Rattle.rart_maps.specs.Merges.{Conflict, Answers, conflicts, merged}
-use Rattle.rart_versioned.specs.Replies.{IsAskedUpTo, KeepsAsked, Replies}
+use Rattle.rart_versioned.specs.Replies.{KeepsAsked, Replies}
 use Rattle.rart_changes.specs.ConflictVisits.{ByConflict}
 
 -- a conflict, as `ByConflict` shows it, by a reference to the key
@@ -66,14 +66,12 @@ module _ {F A V : Type 0} (g : Mut F A (Option V)) (Shows : A → Conflict V →
       (base ours theirs after : Map V) (f f' : F) →
       MergesTo same f base ours theirs f' after → after ≡ merged same answers base ours theirs
 
-  -- What a closure was asked that keeps the conflicts which it was asked about: a merge asks about
-  -- each conflict once, in order; a merge that is refused, about those of a prefix.
+  -- A closure that keeps the conflicts which it was asked about: a merge asks about each conflict
+  -- once, in order.
   abbrev pub AsksInOrder : (V → V → Bool) → Type 0
-  AsksInOrder same = (asked : F → List (Conflict V)) → KeepsAsked g Shows asked → (f f' : F) →
-      ((base ours theirs after : Map V) → MergesTo same f base ours theirs f' after
-      → asked f' ≡ asked f ++ conflicts same base ours theirs)
-      × ((all : List (Conflict V)) → IsAskedUpTo g Shows f all f'
-      → (rest : List (Conflict V)) × (asked f ++ all ≡ asked f' ++ rest))
+  AsksInOrder same = (asked : F → List (Conflict V)) → KeepsAsked g Shows asked → (f f' : F)
+      (base ours theirs after : Map V) → MergesTo same f base ours theirs f' after
+      → asked f' ≡ asked f ++ conflicts same base ours theirs
 
   -- To say what it answered: a closure that keeps each conflict with its answer. What a merge
   -- leaves has these answers.

@@ -2,7 +2,7 @@
 use Rattle.std.proofs.Common.{◌≡◌, List, [], ◌∷◌, ◌++◌, map, append_assoc, append-nil, refl, sym, ap, subst, ◌∙◌}
 use Rattle.std.specs.Fn.{Mut}
 use Rattle.rart_maps.specs.Visits.{CallableOn, CalledOn}
-use Rattle.rart_versioned.specs.Replies.{Answerable, AnswerableStepByStep, IsAskedUpTo, KeepsAsked, Replies, RepliesUpTo}
+use Rattle.rart_versioned.specs.Replies.{Answerable, AnswerableStepByStep, AsksFirstMembers, KeepsAsked, Replies, RepliesUpTo}
 
 abbrev head-or : {A : Type 0} → A → List A → A
 head-or x [] = x
@@ -23,9 +23,8 @@ module _ {F A R X : Type 0} (g : Mut F A R) (Shows : A → X → Type 0) where
       ∙ append_assoc (asked f) (reply.0 ∷ []) (map (λ r. r.0) replies)
 
   -- Refused, it was asked about a prefix.
-  pub asked-up_to : (asked : F → List X) → KeepsAsked g Shows asked → (f f' : F) (all : List X)
-      → IsAskedUpTo g Shows f all f' → (rest : List X) × (asked f ++ all ≡ asked f' ++ rest)
-  asked-up_to asked keeps f f' all up_to = (
+  pub asks_first_members : AsksFirstMembers g Shows
+  asks_first_members asked keeps f f' all up_to = (
     up_to.1,
     ap (λ list. asked f ++ list) up_to.2.asked
         ∙ sym (append_assoc (asked f) (map (λ reply. reply.0) up_to.0) up_to.1)

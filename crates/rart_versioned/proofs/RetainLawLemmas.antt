@@ -8,7 +8,7 @@ use Rattle.rart_maps.specs.Pairs.{pairs}
 use Rattle.rart_versioned.specs.Replies.{Replies}
 use Rattle.rart_versioned.specs.RetainLaws.{AnswersBy, AsksInOrder, PairsAreFiltered, WorkedReplies}
 use Rattle.rart_versioned.specs.Retained.{count_dropped, kept_pairs}
-use Rattle.rart_versioned.proofs.ReplyLemmas.{asked-up_to, replies-asked}
+use Rattle.rart_versioned.proofs.ReplyLemmas.{replies-asked}
 
 module _ {V : Type 0} (keeps : List ℕ × V → Bool) where
   abbrev answered : List (List ℕ × V) → List ((List ℕ × V) × Bool)
@@ -52,12 +52,9 @@ module _ {F A V : Type 0} (g : Mut F A Bool) (Shows : A → List ℕ × V → Ty
       )
 
   pub asks_in_order : AsksInOrder g Shows
-  asks_in_order asked keeps f f' = (
-    λ before after retains.
-        replies-asked g Shows asked keeps retains.replies f f' retains.calls
-        ∙ ap (λ list. asked f ++ list) retains.asked,
-    asked-up_to g Shows asked keeps f f',
-  )
+  asks_in_order asked keeps f f' before after retains =
+      replies-asked g Shows asked keeps retains.replies f f' retains.calls
+      ∙ ap (λ list. asked f ++ list) retains.asked
 
 pub worked_replies : WorkedReplies
 worked_replies = (refl, refl)

@@ -33,6 +33,11 @@ module _ {F A R X : Type 0} (g : Mut F A R) (Shows : A → X → Type 0) where
   KeepsAsked asked = (f : F) (x : X) (reply : R) (f' : F) →
       CalledOn g Shows f x reply f' → asked f' ≡ asked f ++ x ∷ []
 
+  -- Where such a closure was asked about a prefix of these members, it keeps these first ones.
+  abbrev pub AsksFirstMembers : Type 0
+  AsksFirstMembers = (asked : F → List X) → KeepsAsked asked → (f f' : F) (all : List X) →
+      IsAskedUpTo f all f' → (rest : List X) × (asked f ++ all ≡ asked f' ++ rest)
+
   -- What may be asked about the members may be asked about the first, and, whatever that leaves,
   -- about the others.
   abbrev pub AnswerableStepByStep : Type 0

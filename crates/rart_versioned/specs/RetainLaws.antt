@@ -5,7 +5,7 @@ use Rattle.std.specs.List.{count_by}
 use Rattle.rart_maps.specs.Pairs.{pairs}
 use Rattle.rart_maps.specs.Versions.{Version}
 use Rattle.rart_maps.specs.Visits.{CalledOn}
-use Rattle.rart_versioned.specs.Replies.{IsAskedUpTo, KeepsAsked}
+use Rattle.rart_versioned.specs.Replies.{KeepsAsked}
 use Rattle.rart_versioned.specs.Retained.{Retains, count_dropped, kept_pairs}
 
 module _ {F A V : Type 0} (g : Mut F A Bool) (Shows : A → List ℕ × V → Type 0) where
@@ -22,14 +22,12 @@ module _ {F A V : Type 0} (g : Mut F A Bool) (Shows : A → List ℕ × V → Ty
       × (after.number
       ≡ before.number + count_by (λ pair. not (keeps pair)) (pairs before.content))
 
-  -- What a closure was asked that keeps the pairs which it was asked about: `retain` asks about
-  -- each pair once, in order; where `retain` is refused, about those of a prefix.
+  -- A closure that keeps the pairs which it was asked about: `retain` asks about each pair once, in
+  -- order.
   abbrev pub AsksInOrder : Type 0
-  AsksInOrder = (asked : F → List (List ℕ × V)) → KeepsAsked g Shows asked → (f f' : F) →
-      ((before after : Version V) → Retains g Shows f before f' after
-      → asked f' ≡ asked f ++ pairs before.content)
-      × ((all : List (List ℕ × V)) → IsAskedUpTo g Shows f all f'
-      → (rest : List (List ℕ × V)) × (asked f ++ all ≡ asked f' ++ rest))
+  AsksInOrder = (asked : F → List (List ℕ × V)) → KeepsAsked g Shows asked → (f f' : F)
+      (before after : Version V) → Retains g Shows f before f' after
+      → asked f' ≡ asked f ++ pairs before.content
 
 -- Of three pairs the second is not kept.
 abbrev pub WorkedReplies : Type 0

@@ -2,7 +2,7 @@
 //! nothing. rart has none.
 ghost use Rattle.rart_maps.specs.Visits.{BySlice};
 ghost use Rattle.rart_versioned.specs.ExtendLaws.{LastPairStays, ListedPairsArePutIn, OtherKeysStay, PairsAreInsertions, PairsGoPartByPart, WorkedExtension};
-ghost use Rattle.rart_versioned.specs.Replies.{AnswerableStepByStep};
+ghost use Rattle.rart_versioned.specs.Replies.{AnswerableStepByStep, AsksFirstMembers};
 ghost use Rattle.rart_versioned.specs.RetainLaws.{AsksInOrder, PairsAreFiltered, WorkedReplies};
 
 pub mod counting;
@@ -39,6 +39,7 @@ pub fn retained_pairs_are_filtered<V, F: FnMut(&[u8], &V) -> bool>()
 /// the first pair, and then, whatever it leaves, the others.
 pub fn retain_asks_in_order<V, F: FnMut(&[u8], &V) -> bool>()
     ensures asked { AsksInOrder F.FnMut BySlice }
+    ensures refused { AsksFirstMembers F.FnMut BySlice }
     ensures answerable { AnswerableStepByStep F.FnMut BySlice }
 {}
 

@@ -1,5 +1,5 @@
 //! What the words on merges mean: laws, each the contract of a function that does nothing.
-ghost use Rattle.rart_versioned.specs.Replies.{AnswerableStepByStep};
+ghost use Rattle.rart_versioned.specs.Replies.{AnswerableStepByStep, AsksFirstMembers};
 ghost use Rattle.rart_changes.specs.Merging.{AnswersAreKept, AnswersAreMerged, ArgumentsShowTheirConflicts, AsksInOrder, ByLentConflict};
 
 use rart_below::KeyTrait;
@@ -24,6 +24,7 @@ pub fn merges_ask_in_order<
     F: FnMut(&K, Option<&V>, Option<&V>, Option<&V>) -> Option<V>,
 >()
     ensures asked { AsksInOrder F.FnMut (ByLentConflict K.bytes) V.eq }
+    ensures refused { AsksFirstMembers F.FnMut (ByLentConflict K.bytes) }
     ensures kept { AnswersAreKept F.FnMut (ByLentConflict K.bytes) V.eq }
     ensures answerable { AnswerableStepByStep F.FnMut (ByLentConflict K.bytes) }
 {}

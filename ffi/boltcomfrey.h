@@ -416,7 +416,8 @@ rart_answer rart_replace(
 // RART_NO_ENTRIES says that entries has no room for one that is there, RART_TOO_SMALL that the
 // first key is longer than bytes, and writes its length to needed. A bound is of the kind
 // RART_INCLUDED, RART_EXCLUDED or RART_UNBOUNDED. Memory that it takes to walk it gives back, and
-// where it lacks some it searches from key to key: it is never refused.
+// where it lacks some it searches from key to key: it is never refused. A program that calls this
+// defines RART_PAGES before it includes this header.
 RART_NONNULL_AT(1, 12, 13) RART_MUST_USE RART_CHANGES(1) RART_READS(2, 3) RART_READS(5, 6)
 RART_WRITES(8, 9) RART_WRITES(10, 11) RART_WRITES(12) RART_WRITES(13)
 rart_answer rart_page(
@@ -437,7 +438,8 @@ rart_answer rart_page(
 
 // As rart_page, from the last pair back: the last pairs within two bounds, descending, as many as
 // there is room for. The next page has a copy of the key that was written last for its high, which
-// is RART_EXCLUDED then.
+// is RART_EXCLUDED then. A program that calls this defines RART_PAGES before it includes this
+// header.
 RART_NONNULL_AT(1, 12, 13) RART_MUST_USE RART_CHANGES(1) RART_READS(2, 3) RART_READS(5, 6)
 RART_WRITES(8, 9) RART_WRITES(10, 11) RART_WRITES(12) RART_WRITES(13)
 rart_answer rart_page_back(
@@ -720,7 +722,8 @@ rart_answer rart_bytes_intersection(
 // each key and its value behind it, an entry of each pair to the front of entries, and how many
 // they are to count. What bytes has behind them is unspecified; entries is as before there. Answers
 // as rart_page, but where RART_TOO_SMALL says that the first key and its value are longer than
-// bytes: then it writes both lengths.
+// bytes: then it writes both lengths. A program that calls this defines RART_PAGES before it
+// includes this header.
 RART_NONNULL_AT(1, 12, 13, 14) RART_MUST_USE RART_CHANGES(1) RART_READS(2, 3) RART_READS(5, 6)
 RART_WRITES(8, 9) RART_WRITES(10, 11) RART_WRITES(12) RART_WRITES(13) RART_WRITES(14)
 rart_answer rart_bytes_page(
@@ -741,7 +744,8 @@ rart_answer rart_bytes_page(
 );
 
 // As rart_bytes_page, from the last pair back: the last pairs within two bounds, descending, as
-// rart_page_back has them.
+// rart_page_back has them. A program that calls this defines RART_PAGES before it includes this
+// header.
 RART_NONNULL_AT(1, 12, 13, 14) RART_MUST_USE RART_CHANGES(1) RART_READS(2, 3) RART_READS(5, 6)
 RART_WRITES(8, 9) RART_WRITES(10, 11) RART_WRITES(12) RART_WRITES(13) RART_WRITES(14)
 rart_answer rart_bytes_page_back(
@@ -1299,6 +1303,12 @@ static inline bool rart_bytes_walk_next(rart_bytes_walk *walk) {
 
 #ifdef __cplusplus
 }
+#endif
+
+// A loop over pages that doesn't move its bound never ends, and no compiler tells of it: so where
+// RART_PAGES isn't defined, a program that calls for a page doesn't compile. A walk always ends.
+#if defined(__GNUC__) && !defined(RART_PAGES)
+#pragma GCC poison rart_page rart_page_back rart_bytes_page rart_bytes_page_back
 #endif
 
 #endif

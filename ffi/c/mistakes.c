@@ -48,5 +48,12 @@ rart_answer call(rart_tree *tree, uint8_t room[8]) {
     return rart_get(NULL, tea, 3, &value);
 #elif MISTAKE == 14 // a new snapshot in its own tree, which would be lost
     return rart_snapshot_new(tree, tree);
+#elif MISTAKE == 15 // a loop over pages that never ends
+    size_t count;
+    rart_entry entry;
+    while (rart_page(tree, NULL, 0, RART_INCLUDED, NULL, 0, RART_UNBOUNDED, room, 8, &entry, 1,
+                     &count, &len) == RART_DONE) {
+    }
+    return RART_DONE;
 #endif
 }

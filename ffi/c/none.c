@@ -1,5 +1,6 @@
 // That each call that takes bytes or entries takes a null pointer for none of them: what it answers
 // is what it answers for a pointer to some place. A tree's first key here has no byte.
+#define RART_PAGES
 #include "boltcomfrey.h"
 #include "expect.h"
 

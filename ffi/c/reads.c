@@ -1,6 +1,7 @@
 // That a read stores nothing in the tree that it reads: each read of trees in memory that can't be
 // written, of one tree given twice too. And that one that is cleared is all zeros.
 #define _DEFAULT_SOURCE // (for mmap's MAP_ANONYMOUS)
+#define RART_PAGES
 #include "boltcomfrey.h"
 #include "expect.h"
 #include <stdlib.h>

@@ -4,6 +4,7 @@
 #ifndef SHARED_H
 #define SHARED_H
 
+#define RART_PAGES
 #include "boltcomfrey.h"
 #include "expect.h"
 #include "random.h"

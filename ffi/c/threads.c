@@ -2,6 +2,7 @@
 // once, by each call that reads. (They are only read so here, and by the Rust crate's `Unshared`: what
 // comes from one tree stays on one thread.) And that trees
 // that have nothing to do with each other may be on several: each thread changes two of its own.
+#define RART_PAGES
 #include "boltcomfrey.h"
 #include "expect.h"
 #include <pthread.h>

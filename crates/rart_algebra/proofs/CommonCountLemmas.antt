@@ -24,7 +24,11 @@ use Rattle.rart_lockstep.proofs.CommonLemmas.{pairs-matched, with_prefix-is}
 use Rattle.rart_lockstep.proofs.LeastCountLemmas.{EntersLeast, least-start, least-next, least-end, leaves-few}
 use Rattle.rart_lockstep.proofs.PairStepLemmas.{prefix-with, tree-with}
 use Rattle.rart_algebra.specs.Ahead.{EntersForCommon}
-use Rattle.rart_algebra.proofs.DescentLemmas.{ended-next}
+use Rattle.rart_algebra.proofs.CarriedLemmas.{ended-next}
+
+pub no-list : {A : Type 0} (list : List A) → length list ≡ 0 → list ≡ []
+no-list [] zero = refl
+no-list (a ∷ list) zero = absurd (omega (arith, zero))
 
 -- What holds whatever is answered.
 pub whatever : {A E P : Type 0} (result : Result A E) → P → OnOk result P
@@ -88,10 +92,6 @@ module _ {V : Type 0} where
   least-leaf s right before after none more =
       let few = leaves-few s right (no-list (children_of s) none) in
       omega (arith, few, more)
-    where
-      no-list : {A : Type 0} (list : List A) → length list ≡ 0 → list ≡ []
-      no-list [] zero = refl
-      no-list (a ∷ list) zero = absurd (omega (arith, zero))
 
   -- ---- child by child
   -- where the bytes lead that are still ahead

@@ -1,6 +1,9 @@
+pub mod AmongLemmas
+pub mod CarriedLemmas
 pub mod CommonCountLemmas
 pub mod DescentLemmas
 pub mod PackLemmas
+pub mod PaidLemmas
 pub mod PickLemmas
 pub mod ReachLemmas
 pub mod UnlessLemmas

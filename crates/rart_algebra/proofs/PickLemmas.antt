@@ -64,29 +64,48 @@ module _ {V : Type 0} (pick : Pick V) (none : (other : Option V) → pick None o
             (sym (leads rest) ∙ ap (found right) (sym (strip_prefix-is prefix q rest is)))
       ] refl
 
+  -- Where the right tree has no key behind the left prefix, what is picked has no other.
+  pub picked-apart : (s right : Shape V)
+      → ((q : List ℕ) → found right (prefix_of s ++ q) ≡ None) → (q : List ℕ)
+      → pick (found s q) (found right q) ≡ pick (found s q) None
+  picked-apart (node prefix value width forest) right apart q =
+      elim (strip_prefix prefix q) as (λ o. strip_prefix prefix q ≡ o
+      → pick (option_and_then (inside value forest) o) (found right q)
+      ≡ pick (option_and_then (inside value forest) o) None) [
+        | None ↦ λ _. none (found right q) ∙ sym (none None)
+        | Some rest ↦ λ is. ap (pick (inside value forest rest))
+            (ap (found right) (strip_prefix-is prefix q rest is) ∙ apart rest)
+      ] refl
+
   -- ---- the children, one after the other
   module _ (s t : Shape V) where
-    -- Where one of the two has nothing, what is picked is what the node has.
-    pub picked-start : ((one : Option V) → pick one None ≡ one) → (ahead : ByteSet)
-        → IsOrdered s
+    -- Where one of the two has nothing, what is picked is what is left of the node.
+    pub picked-start : (now : Shape V) (ahead : ByteSet) → IsOrdered now
+        → prefix_of now ≡ prefix_of s → value_of now ≡ value_of s
+        → ((byte : ℕ) → has_byte ahead byte ≡ true
+        → child_at byte (children_of now) ≡ child_at byte (children_of s))
+        → ((byte : ℕ) → has_byte ahead byte ≡ false → (q : List ℕ)
+        → look (byte ∷ q) (child_at byte (children_of now))
+        ≡ pick (look (byte ∷ q) (child_at byte (children_of s))) None)
         → ((byte : ℕ) → has_byte ahead byte ≡ false
         → (child_at byte (children_of s) ≡ None) ⊎ (child_at byte (next_children t) ≡ None))
-        → IsPickedUpTo pick s t ahead s
-    picked-start all ahead order apart = record {
+        → IsPickedUpTo pick s t ahead now
+    picked-start now ahead order prefix value kept alone apart = record {
       order = order;
-      prefix = refl;
-      value = refl;
-      kept = λ byte has. refl;
+      prefix = prefix;
+      value = value;
+      kept = kept;
       passed = λ byte gone q.
           let there = look (byte ∷ q) (child_at byte (children_of s)) in
           let other = found t (byte ∷ q) in
-          ⊎_elim
+          alone byte gone q
+          ∙ ⊎_elim
           (λ left.
           let is : there ≡ None = ap (look (byte ∷ q)) left in
-          is ∙ sym (none other) ∙ ap (λ x. pick x other) (sym is))
+          ap (λ x. pick x None) is ∙ none None ∙ sym (none other) ∙ ap (λ x. pick x other) (sym is))
           (λ right.
           let is : other ≡ None = found-next t byte q ∙ ap (look (byte ∷ q)) right in
-          sym (all there) ∙ ap (pick there) (sym is))
+          ap (pick there) (sym is))
           (apart byte gone);
     }
 

@@ -177,7 +177,7 @@ module _ {V : Type 0} where
     pub has_one : IsSome (found s (prefix_of s ++ (byte ∷ one)))
     pub has_other : IsSome (found s (prefix_of s ++ (next ∷ other)))
 
-  arm-found : (s child : Shape V) (byte : ℕ) (rest : List ℕ)
+  pub arm-found : (s child : Shape V) (byte : ℕ) (rest : List ℕ)
       → child_at byte (children_of s) ≡ Some child → IsSome (found child (byte ∷ rest))
       → IsSome (found s (prefix_of s ++ (byte ∷ rest)))
   arm-found s child byte rest here some =

@@ -1,59 +1,20 @@
 -- What the left of two trees has and the right one lacks.
-use Rattle.std.proofs.Common.{◌≡◌, ◌⊎◌, inl, inr, ℕ, Bool, true, false, ◌&&◌, cond, List, [], ◌∷◌, ◌++◌, Option, Some, None, IsSome, is_some, length, refl, sym, ap, ◌∙◌, arith}
+use Rattle.std.proofs.Common.{◌≡◌, ℕ, Bool, true, false, ◌&&◌, cond, List, [], ◌∷◌, ◌++◌, Option, Some, None, IsSome, is_some, length, refl, sym, ap, ◌∙◌, arith}
 use Rattle.std.specs.Prelude.{◌==◌}
-use Rattle.std.specs.Option.{option_and_then}
 use Rattle.std.proofs.lemmas.Bool.{eqb-true, false≢true}
-use Rattle.rart_below.specs.ByteSets.{has_byte, AreBytesOfBoth}
-use Rattle.rart_below.specs.Children.{child_at}
-use Rattle.rart_below.specs.declared.byte_set.ByteSet.{ByteSet}
-use Rattle.rart_lockstep.specs.Children.{HaveBoth}
 use Rattle.rart_lockstep.specs.TreeCursors.{value_here}
 use Rattle.rart_node.specs.Shape.{Shape, node, bare, grown, prefix_of, value_of, children_of, width_of, with_prefix, FitsWidth}
 use Rattle.rart_node.specs.Trees.{strip_prefix, found}
 use Rattle.rart_node.proofs.InsertionLemmas.{inside, nothing-left}
-use Rattle.rart_node.proofs.PrefixRestLemmas.{strip_prefix-is}
 use Rattle.rart_algebra.specs.Ahead.{IsCommonKey}
 use Rattle.rart_algebra.specs.Picks.{unless}
 use Rattle.rart_algebra.proofs.PickLemmas.{node-picked}
 use Rattle.rart_algebra.proofs.ReachLemmas.{found-here}
 
--- ---- a set of the bytes that lead on in both
-module _ {C : Type 0} (bytes : ByteSet) (left right : List (ℕ × C))
-    (are : AreBytesOfBoth bytes left right) where
-  pub bytes-apart : (byte : ℕ) → has_byte bytes byte ≡ false
-      → (child_at byte left ≡ None) ⊎ (child_at byte right ≡ None)
-  bytes-apart byte gone = apart (child_at byte left) (child_at byte right) (sym (are byte) ∙ gone)
-    where
-      apart : (x y : Option C) → (is_some x && is_some y) ≡ false → (x ≡ None) ⊎ (y ≡ None)
-      apart None y is = inl refl
-      apart (Some x) None is = inr refl
-      apart (Some x) (Some y) is = absurd (false≢true (sym is))
-
-  pub bytes-both : HaveBoth bytes left right
-  bytes-both byte has = both (child_at byte left) (child_at byte right) (sym (are byte) ∙ has)
-    where
-      both : (x y : Option C) → (is_some x && is_some y) ≡ true → IsSome x × IsSome y
-      both None y is = absurd (false≢true is)
-      both (Some x) None is = absurd (false≢true is)
-      both (Some x) (Some y) is = (refl, refl)
-
 module _ {V : Type 0} where
   pub unless-none : (other : Option V) → unless None other ≡ None
   unless-none None = refl
   unless-none (Some other) = refl
-
-  -- The right tree has no key behind the left prefix.
-  pub unless-apart : (s right : Shape V)
-      → ((q : List ℕ) → found right (prefix_of s ++ q) ≡ None) → (q : List ℕ)
-      → unless (found s q) (found right q) ≡ found s q
-  unless-apart (node prefix value width forest) right apart q =
-      elim (strip_prefix prefix q) as (λ o. strip_prefix prefix q ≡ o
-      → unless (option_and_then (inside value forest) o) (found right q)
-      ≡ option_and_then (inside value forest) o) [
-        | None ↦ λ _. unless-none (found right q)
-        | Some rest ↦ λ is. ap (unless (inside value forest rest))
-            (ap (found right) (strip_prefix-is prefix q rest is) ∙ apart rest)
-      ] refl
 
   both-some : (one other : Option V) → (is_some one && is_some other) ≡ true
       → unless one other ≡ None

@@ -86,15 +86,16 @@ module _ {V : Type 0} (left right : Shape V) where
         → after.entered + (if reaches then how_many_under strings (above ++ prefix_of left) else 1)
         ≤ before.entered + ahead_of_both strings above
 
+module _ {V : Type 0} (Pays : Shape V → Shape V → List ℕ → Type 0) (left right : Shape V) where
   -- On the way down from both, of which the right one was entered before, nodes were entered: two
-  -- for each place that is ahead and one for each common key, but so many fewer. And they were
-  -- made: one for each string ahead that begins a common key.
+  -- for each place that is ahead, and one for each string of the kind that pays for a merge, but so
+  -- many fewer. And they were made: one for each string ahead that begins a common key.
   pub record StepsBelow (spare : ℕ) (before after : Counts) : Type 0 where
     pub grows : before.entered < after.entered
-    pub entered : (strings keys : Strings) (above : List ℕ)
-        → HasAll strings above (IsPlace left right) → HasAll keys above (IsCommonKey left right)
-        → after.entered + 1 + spare ≤ before.entered + 2 * ahead_of_both strings above
-        + how_many_under keys (above ++ prefix_of left)
+    pub entered : (strings paying : Strings) (above : List ℕ)
+        → HasAll strings above (IsPlace left right) → HasAll paying above (Pays left right)
+        → after.entered + 1 + spare ≤ before.entered + 2 * ahead_of_both left right strings above
+        + how_many_under paying (above ++ prefix_of left)
     pub makes : before.made ≤ after.made
     pub made : (strings : Strings) (above : List ℕ)
         → HasAll strings above (BeginsCommon left right)
@@ -109,6 +110,13 @@ GoesUpTo left right before after =
     → HasAll strings [] (IsPlace left right) → HasAll keys [] (IsCommonKey left right)
     → HasAll starts [] (BeginsCommon left right)
     → CountsUpTo (2 * set.len strings + set.len keys) (set.len starts) before after
+
+-- The same with three for each place, and none for keys.
+abbrev pub MeetsUpTo : {V : Type 0} → Shape V → Shape V → Counts → Counts → Type 0
+MeetsUpTo left right before after =
+    (strings starts : Strings)
+    → HasAll strings [] (IsPlace left right) → HasAll starts [] (BeginsCommon left right)
+    → CountsUpTo (3 * set.len strings) (set.len starts) before after
 
 -- A tree of which nothing is left has a common key, and merges nothing for it.
 abbrev pub spare_of : {P V E : Type 0} → Result (Made P V) E → ℕ

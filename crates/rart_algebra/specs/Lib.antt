@@ -1,3 +1,4 @@
 pub mod Ahead
+pub mod Among
 pub mod Parts
 pub mod Picks

@@ -23,6 +23,12 @@ module _ {V : Type 0} where
   merges (node prefix None width (grown byte child bare)) = 1
   merges (node prefix None width (grown byte child (grown next other forest))) = 0
 
+  -- how many nodes are made to pack it: none where it has neither value nor child
+  abbrev pub packs : Shape V → ℕ
+  packs (node prefix (Some value) width forest) = 1
+  packs (node prefix None width bare) = 0
+  packs (node prefix None width (grown byte child forest)) = 1
+
   -- The tree has all that a node has, which itself may have no value and fewer than two children.
   -- None has it where there is nothing.
   pub record IsPacked (s after : Shape V) : Type 0 where

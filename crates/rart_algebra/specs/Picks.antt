@@ -14,6 +14,11 @@ abbrev pub unless : {V : Type 0} → Pick V
 unless one None = one
 unless one (Some other) = None
 
+-- the one, where there is another
+abbrev pub both : {V : Type 0} → Pick V
+both one None = None
+both one (Some other) = one
+
 module _ {V : Type 0} where
   -- The tree has what is picked from two others. It takes the place of the left one: a first byte
   -- of that one's prefix stays.

@@ -7,7 +7,7 @@ ghost use Rattle.rart_lockstep.specs.TreeCursorFields.{cursor_shape};
 ghost use Rattle.rart_node.specs.Seen.{shape_of};
 ghost use Rattle.rart_node.specs.Trees.{IsTree};
 ghost use Rattle.rart_ways.specs.Removals.{AreAdmitted};
-ghost use Rattle.rart_algebra.specs.Ahead.{EntersForCommon, GoesUpTo, HaveCommon, StepsBelow, spare_of};
+ghost use Rattle.rart_algebra.specs.Ahead.{EntersForCommon, GoesUpTo, HaveCommon, IsCommonKey, StepsBelow, spare_of};
 ghost use Rattle.rart_algebra.specs.Parts.{is_same};
 ghost use Rattle.rart_algebra.specs.Picks.{Becomes, IsPickedOr, unless};
 
@@ -69,8 +69,8 @@ pub(crate) fn subtract<P: Partial, V: Clone + Drop>(
         (cursor_shape right.entry) made) }
     ensures common { IfOk result (λ made. is_same made ≡ false
         → HaveCommon left.now.shape (cursor_shape right.entry)) }
-    ensures counted { StepsBelow left.now.shape (cursor_shape right.entry) (spare_of result)
-        work.old work.new }
+    ensures counted { StepsBelow IsCommonKey left.now.shape (cursor_shape right.entry)
+        (spare_of result) work.old work.new }
     ensures least { OnOk result (EntersForCommon left.now.shape (cursor_shape right.entry)
         work.old work.new) }
 {

@@ -5,6 +5,7 @@
 //! and pointers, and no key type.
 #![tactic(auto)]
 
+mod among;
 mod difference;
 mod made;
 mod part;

@@ -8,7 +8,7 @@ ghost use Rattle.rart_node.specs.Seen.{shape_of};
 ghost use Rattle.rart_node.specs.Shape.{IsAscending, children_of};
 ghost use Rattle.rart_node.specs.Trees.{IsOrdered};
 ghost use Rattle.rart_ways.specs.Removals.{AreAdmitted};
-ghost use Rattle.rart_algebra.specs.Parts.{IsPackedOr, IsSettled, is_same, losing, merges, shape_now, with_made};
+ghost use Rattle.rart_algebra.specs.Parts.{IsPackedOr, IsSettled, is_same, losing, merges, packs, shape_now, with_made};
 
 use crate::made::Made;
 use rart_below::Partial;
@@ -82,8 +82,8 @@ pub(crate) fn settle<P: Partial, V: Clone + Drop>(
         (losing goes (shape_now node.now.shape part)) }
     ensures settled { IfOk result (λ made. IsSettled node.now.shape
         (losing goes (shape_now node.now.shape part)) made) }
-    ensures counted { CountsUpTo (merges (losing goes (shape_now node.now.shape part))) 1
-        work.old work.new }
+    ensures counted { CountsUpTo (merges (losing goes (shape_now node.now.shape part)))
+        (packs (losing goes (shape_now node.now.shape part))) work.old work.new }
     ensures changed { IfOk result (λ made. is_same made ≡ false
         → (goes ≡ true) ⊎ (is_some part ≡ true)) }
     ensures still { goes ≡ false → is_some part ≡ false → work.new ≡ work.old }
@@ -113,7 +113,7 @@ fn pack<P: Partial, V: Clone + Drop>(
     requires order { IsOrdered node.shape }
     requires lengths { AreAdmitted P.MAXIMUM_SIZE node.shape }
     ensures packed { IfOk result (λ it. IsPackedOr node.shape (option_map shape_of it)) }
-    ensures counted { CountsUpTo (merges node.shape) 1 work.old work.new }
+    ensures counted { CountsUpTo (merges node.shape) (packs node.shape) work.old work.new }
 {
     if node.value().is_some() || node.num_children() > 1 {
         return Ok(Some(NodeRef::new(alloc, node, work)?));

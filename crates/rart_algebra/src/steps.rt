@@ -1,5 +1,5 @@
 //! The way down the right tree, along the prefixes and the bytes of the left one.
-ghost use Rattle.std.specs.Prelude.{◌≡◌, ◌⊎◌, ◌&&◌, ◌+◌, [], IsSome, is_some};
+ghost use Rattle.std.specs.Prelude.{◌≡◌, ◌⊎◌, ◌&&◌, ◌+◌, [], IsSome, is_some, not};
 ghost use Rattle.std.specs.Option.{option_map};
 ghost use Rattle.rart_below.specs.ByteSets.{AreBytesOfBoth};
 ghost use Rattle.rart_below.specs.Children.{child_at};
@@ -96,4 +96,15 @@ pub(crate) fn both_have_values<P: Partial, V: Drop>(
         && is_some (value_here (cursor_shape at.now))) }
 {
     node.value().is_some() && at.value_here().is_some()
+}
+
+/// Whether the key that ends with a node's prefix is there, and none ends at a cursor.
+pub(crate) fn has_value_alone<P: Partial, V: Drop>(
+    node: &VersionedNode<P, V>,
+    at: &TreeCursor<'_, P, V>,
+) -> bool
+    ensures { result ≡ (is_some (value_of node.now.shape)
+        && not (is_some (value_here (cursor_shape at.now)))) }
+{
+    node.value().is_some() && at.value_here().is_none()
 }

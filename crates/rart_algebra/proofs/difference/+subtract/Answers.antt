@@ -7,20 +7,23 @@ use Rattle.rart_below.specs.ByteSets.{has_byte}
 use Rattle.rart_lockstep.specs.TreeCursorFields.{cursor_shape}
 use Rattle.rart_lockstep.specs.TreeCursors.{next_children}
 use Rattle.rart_lockstep.proofs.LeastCountLemmas.{EntersLeast}
-use Rattle.rart_node.specs.Shape.{children_of, prefix_of, height, with_prefix}
+use Rattle.rart_node.specs.Shape.{Shape, children_of, prefix_of, height, with_prefix}
 use Rattle.rart_node.specs.Trees.{IsTree, found}
 use Rattle.rart_node.proofs.NodeMergeLemmas.{if-ok}
 use Rattle.rart_node.proofs.FindLemmas.{branch, ordered, ascending}
 use Rattle.rart_ways.specs.Removals.{AreAdmitted}
 use Rattle.rart_ways.proofs.RemovalLemmas.{admitted-child}
-use Rattle.rart_algebra.specs.Ahead.{EntersAlong, EntersForCommon, HaveCommon, StepsBelow, spare_of}
+use Rattle.rart_algebra.specs.Ahead.{BeginsCommon, EntersAlong, EntersForCommon, HaveCommon, IsCommonKey, StepsBelow, spare_of}
 use Rattle.rart_algebra.specs.Parts.{shape_now, losing, merges, is_same, with_made}
 use Rattle.rart_algebra.specs.Picks.{Becomes, LeadsTo, unless}
 use Rattle.rart_algebra.proofs.CommonCountLemmas.{whatever, steps_ahead, least-apart, least-leaf, least-none, least-step, least-all}
-use Rattle.rart_algebra.proofs.DescentLemmas.{StepsUpTo, common-ended, next-begins, made-less, err-spare, or-parts, paid-result, last-made, steps-apart, steps-none, steps-next, steps-end}
-use Rattle.rart_algebra.proofs.PickLemmas.{IsPickedUpTo, picked-start, picked-made, ordered-losing, admitted-losing, becomes-settled}
+use Rattle.rart_algebra.proofs.AmongLemmas.{bytes-apart, bytes-both, was-ahead}
+use Rattle.rart_algebra.proofs.CarriedLemmas.{common-child, common-ended, keys-carried, next-begins}
+use Rattle.rart_algebra.proofs.DescentLemmas.{StepsUpTo, begun-prefix, steps-apart, steps-none, steps-next, steps-end}
+use Rattle.rart_algebra.proofs.PaidLemmas.{lost, made-less, err-spare, or-parts, paid-result, last-changed}
+use Rattle.rart_algebra.proofs.PickLemmas.{IsPickedUpTo, picked-apart, picked-start, picked-made, ordered-losing, admitted-losing, becomes-settled}
 use Rattle.rart_algebra.proofs.WeightLemmas.{weigh-taken}
-use Rattle.rart_algebra.proofs.UnlessLemmas.{leaf-children, bytes-apart, bytes-both, unless-none, unless-apart, own-picked, own-common, leaf-gone, leaf-kept}
+use Rattle.rart_algebra.proofs.UnlessLemmas.{leaf-children, unless-none, own-picked, own-common, leaf-gone, leaf-kept}
 use Rattle.rart_algebra.proofs.difference.+subtract.Goals as goal
 use Rattle.rart_algebra.proofs.difference.+subtract.Goals.{then-goes, else-goes, in_default-2-via-in-Some+in_default, in_default-2-via-in_default}
 
@@ -28,16 +31,16 @@ pub returns-in_default-clause-becomes : goal.returns-in_default-clause-becomes
 returns-in_default-clause-becomes g t c =
     let right = cursor_shape c.args.right in
     let is = c.whole.ensures.shape ∙ c.open-node.ensures.shown in
-    unless-apart c.args.left.now.shape right
+    picked-apart unless unless-none c.args.left.now.shape right
     (subst (λ z. (q : List ℕ) → found right (prefix_of z ++ q) ≡ None) is
     c.in_default.ensures.leads)
 
 pub returns-in_default-clause-counted : goal.returns-in_default-clause-counted
 returns-in_default-clause-counted g t c =
     let right = cursor_shape c.args.right in
-    subst (λ z. StepsBelow z right 0 c.args.work.now c.reach.new.work)
+    subst (λ z. StepsBelow IsCommonKey z right 0 c.args.work.now c.reach.new.work)
     (c.whole.ensures.shape ∙ c.open-node.ensures.shown)
-    (steps-apart (cursor_shape c.whole.result) right c.args.work.now c.open-node.new.work
+    (steps-apart IsCommonKey (cursor_shape c.whole.result) right c.args.work.now c.open-node.new.work
     c.reach.new.work c.in_default.ensures.enters (ap (λ z. z.entered) c.open-node.ensures.work)
     (ap (λ z. z.made) c.open-node.ensures.work))
 
@@ -122,23 +125,25 @@ returns-then-is_leaf-clause-counted g t c =
     let goes = c.both_have_values-goes.result in
     let own = own-common s at goes c.both_have_values-goes.ensures in
     let no_bytes : ByteSet = record { words = [] } in
-    let end = λ (spare : ℕ) (paid : 0 + spare + length (children_of s)
-    ≤ cond goes 1 0 + length (children_of s)).
-    subst (λ z. StepsBelow z right spare c.args.work.now c.reach.new.work)
+    let end = λ (spare : ℕ) (paid : 0 + spare ≤ cond goes 1 0 + 0).
+    subst (λ z. StepsBelow IsCommonKey z right spare c.args.work.now c.reach.new.work)
     c.open-node.ensures.shown
-    (steps-end s right at s no_bytes goes false leads.1 tree leads.0 c.args.work.now
-    c.open-node.new.work c.reach.new.work c.reach.new.work c.reach.new.work along
-    (steps-none s at no_bytes c.reach.new.work) own
+    (steps-end IsCommonKey keys-carried s right at no_bytes goes 0 leads.1 tree leads.0
+    c.args.work.now c.open-node.new.work c.reach.new.work c.reach.new.work c.reach.new.work along
+    (steps-none IsCommonKey s at no_bytes c.reach.new.work) own
     (ap (λ z. z.entered) c.open-node.ensures.work) (ap (λ z. z.made) c.open-node.ensures.work)
     0 spare (omega arith) (omega arith) paid (omega arith) (inl refl)) in
     elim c.if-goes.branch [
-      | then-goes w ↦ subst (λ made. StepsBelow c.args.left.now.shape right
+      | then-goes w ↦ subst (λ made. StepsBelow IsCommonKey c.args.left.now.shape right
           (spare_of {E = AllocError} (Ok made)) c.args.work.now c.reach.new.work) (sym w.result-is)
           (end 1 (let one = ap {B = ℕ} (λ b. cond b 1 0) w.if-goes.true in omega (arith, one)))
-      | else-goes w ↦ subst (λ made. StepsBelow c.args.left.now.shape right
+      | else-goes w ↦ subst (λ made. StepsBelow IsCommonKey c.args.left.now.shape right
           (spare_of {E = AllocError} (Ok made)) c.args.work.now c.reach.new.work) (sym w.result-is)
           (end 0 (omega arith))
     ]
+
+none-lost : {V : Type 0} (s : Shape V) → 0 ≡ lost s s
+none-lost s = omega arith
 
 pub below-init : goal.below-init
 below-init g t c =
@@ -149,9 +154,14 @@ below-init g t c =
     let is = c.new-bytes.ensures in
     record {
       picked = subst (λ z. IsPickedUpTo unless s at z s) (sym is)
-          (picked-start unless unless-none s at (λ one. refl) c.common_bytes.result (ordered s tree)
+          (picked-start unless unless-none s at s c.common_bytes.result (ordered s tree) refl refl
+          (λ byte has. refl) (λ byte gone q. refl)
           (bytes-apart c.common_bytes.result (children_of s) (next_children at) are));
-      steps = steps-none s at c.new-bytes.result.left c.reach.new.work;
+      steps = subst (λ n. StepsUpTo IsCommonKey s at c.new-bytes.result.left n c.reach.new.work
+          c.reach.new.work) (none-lost s)
+          (steps-none IsCommonKey s at c.new-bytes.result.left c.reach.new.work);
+      fewer = omega arith;
+      common = λ never. absurd (false≢true never);
       least = subst (λ z. EntersLeast (with_prefix [] s) at 0 (steps_ahead s at z) c.reach.new.work
           c.reach.new.work) (sym is)
           (least-none s at tree c.common_bytes.result are c.reach.new.work);
@@ -216,10 +226,6 @@ below-smaller g t c =
     (children_of s) c.in-Some-take_first.ensures.0 (sym c.in-Some-Some.ensures) in
     omega (arith, less)
 
-was-ahead : (same had : Bool) → (not same && had) ≡ true → had ≡ true
-was-ahead true had is = absurd (false≢true is)
-was-ahead false had is = is
-
 pub below-preserved : goal.below-preserved
 below-preserved g t c =
     let s = c.open-node.result.now.shape in
@@ -245,16 +251,21 @@ below-preserved g t c =
       picked = subst (λ z. IsPickedUpTo unless s at after z) is
           (picked-made unless unless-none s at ahead after byte takes.2 now inv.picked takes.0 child
           next here there tree made c.in_ok-made.ensures.becomes);
-      steps = subst (λ z. StepsUpTo s at after z (is_some c.in_ok-part.part) c.reach.new.work
+      steps = subst (λ z. StepsUpTo IsCommonKey s at after (lost s z) c.reach.new.work
           c.subtract.new.work) is
-          (steps-next s at child next byte here there tree also ahead after takes.0 takes.2 now
-          (with_made byte made now) (is_some c.below.part) (is_some c.in_ok-part.part)
+          (steps-next IsCommonKey keys-carried s at child next byte here there tree also ahead after
+          takes.0 takes.2 (lost s now) (lost s (with_made byte made now))
           (spare_of {E = AllocError} (Ok made)) c.reach.new.work c.below.work
           c.branch-next.new.work c.subtract.new.work inv.steps c.in-Some-Some.ensures'.counted
-          c.in_ok-made.ensures.counted less.0 less.1
-          (λ changed. ⊎_elim (λ was. inl was) (λ differs. inr (c.in_ok-made.ensures.common differs))
+          c.in_ok-made.ensures.counted
+          (let few = inv.fewer in let some = less.0 in omega (arith, few, some)));
+      fewer = subst (λ z. length (children_of z) ≤ length (children_of s)) is
+          (let few = inv.fewer in let some = less.1 in omega (arith, few, some));
+      common = λ changed. ⊎_elim (λ was. inv.common was)
+          (λ differs. let key = c.in_ok-made.ensures.common differs in
+          (key.0, common-child s at child next byte here there tree also key.0 key.1))
           (or-parts (is_some c.below.part) (is_same made)
-          (sym c.in_ok-part.ensures.changed ∙ changed))));
+          (sym c.in_ok-part.ensures.changed ∙ changed));
       least = least-step s at tree ahead after byte child next takes here there c.reach.new.work
           c.below.work c.branch-next.new.work c.subtract.new.work inv.least
           (c.in-Some-Some.ensures'.entered refl) c.in_ok-made.ensures.least;
@@ -281,20 +292,19 @@ returns-in_err-made-clause-counted g t c =
     let now = shape_now s c.below.part in
     let inv = c.below.invariant in
     let goes = c.both_have_values-goes.result in
-    let steps = steps-next s at child next byte (sym c.in-Some-Some.ensures)
-    (sym c.in-Some-Some.ensures'.next) tree leads.0 ahead after takes.0 takes.2 now now
-    (is_some c.below.part) (is_some c.below.part) 0 c.reach.new.work c.below.work
+    let steps = steps-next IsCommonKey keys-carried s at child next byte
+    (sym c.in-Some-Some.ensures) (sym c.in-Some-Some.ensures'.next) tree leads.0 ahead after takes.0
+    takes.2 (lost s now) (lost s now) 0 c.reach.new.work c.below.work
     c.branch-next.new.work c.subtract.new.work inv.steps c.in-Some-Some.ensures'.counted
-    c.in_err-made.ensures.counted (omega arith) (omega arith) (λ changed. inl changed) in
-    let fewer = steps.fewer in
-    subst (λ z. StepsBelow c.args.left.now.shape right z c.args.work.now c.subtract.new.work)
+    c.in_err-made.ensures.counted (omega arith) in
+    subst (λ z. StepsBelow IsCommonKey c.args.left.now.shape right z c.args.work.now c.subtract.new.work)
     (sym (err-spare c.from_residual.result c.from_residual.ensures.0))
-    (subst (λ z. StepsBelow z right 0 c.args.work.now c.subtract.new.work) c.open-node.ensures.shown
-    (steps-end s right at now after goes (is_some c.below.part) leads.1 tree leads.0 c.args.work.now
-    c.open-node.new.work c.reach.new.work c.subtract.new.work c.subtract.new.work along steps
-    (own-common s at goes c.both_have_values-goes.ensures)
+    (subst (λ z. StepsBelow IsCommonKey z right 0 c.args.work.now c.subtract.new.work) c.open-node.ensures.shown
+    (steps-end IsCommonKey keys-carried s right at after goes (lost s now) leads.1 tree leads.0
+    c.args.work.now c.open-node.new.work c.reach.new.work c.subtract.new.work c.subtract.new.work
+    along steps (own-common s at goes c.both_have_values-goes.ensures)
     (ap (λ z. z.entered) c.open-node.ensures.work) (ap (λ z. z.made) c.open-node.ensures.work)
-    0 0 (omega arith) (omega arith) (omega (arith, fewer)) (omega arith) (inl refl)))
+    0 0 (omega arith) (omega arith) (omega arith) (omega arith) (inl refl)))
 
 pub returns-in_err-part-clause-counted : goal.returns-in_err-part-clause-counted
 returns-in_err-part-clause-counted g t c =
@@ -315,21 +325,20 @@ returns-in_err-part-clause-counted g t c =
     let now = shape_now s c.below.part in
     let inv = c.below.invariant in
     let goes = c.both_have_values-goes.result in
-    let steps = steps-next s at child next byte (sym c.in-Some-Some.ensures)
-    (sym c.in-Some-Some.ensures'.next) tree leads.0 ahead after takes.0 takes.2 now now
-    (is_some c.below.part) (is_some c.below.part) (spare_of {E = AllocError} (Ok c.in_ok-made.made))
+    let steps = steps-next IsCommonKey keys-carried s at child next byte
+    (sym c.in-Some-Some.ensures) (sym c.in-Some-Some.ensures'.next) tree leads.0 ahead after takes.0
+    takes.2 (lost s now) (lost s now) (spare_of {E = AllocError} (Ok c.in_ok-made.made))
     c.reach.new.work c.below.work
     c.branch-next.new.work c.subtract.new.work inv.steps c.in-Some-Some.ensures'.counted
-    c.in_ok-made.ensures.counted (omega arith) (omega arith) (λ changed. inl changed) in
-    let fewer = steps.fewer in
-    subst (λ z. StepsBelow c.args.left.now.shape right z c.args.work.now c.subtract.new.work)
+    c.in_ok-made.ensures.counted (omega arith) in
+    subst (λ z. StepsBelow IsCommonKey c.args.left.now.shape right z c.args.work.now c.subtract.new.work)
     (sym (err-spare c.from_residual-in_err-part.result c.from_residual-in_err-part.ensures.0))
-    (subst (λ z. StepsBelow z right 0 c.args.work.now c.subtract.new.work) c.open-node.ensures.shown
-    (steps-end s right at now after goes (is_some c.below.part) leads.1 tree leads.0 c.args.work.now
-    c.open-node.new.work c.reach.new.work c.subtract.new.work c.subtract.new.work along steps
-    (own-common s at goes c.both_have_values-goes.ensures)
+    (subst (λ z. StepsBelow IsCommonKey z right 0 c.args.work.now c.subtract.new.work) c.open-node.ensures.shown
+    (steps-end IsCommonKey keys-carried s right at after goes (lost s now) leads.1 tree leads.0
+    c.args.work.now c.open-node.new.work c.reach.new.work c.subtract.new.work c.subtract.new.work
+    along steps (own-common s at goes c.both_have_values-goes.ensures)
     (ap (λ z. z.entered) c.open-node.ensures.work) (ap (λ z. z.made) c.open-node.ensures.work)
-    0 0 (omega arith) (omega arith) (omega (arith, fewer)) (omega arith) (inl refl)))
+    0 0 (omega arith) (omega arith) (omega arith) (omega arith) (inl refl)))
 
 pub settle-requires-clause-order : goal.settle-requires-clause-order
 settle-requires-clause-order g t c =
@@ -396,7 +405,7 @@ returns-clause-common g t c =
     (λ made either differs. subst (λ z. HaveCommon z right) c.open-node.ensures.shown
     (common-ended s right at leads.1
     (⊎_elim (λ gone. ([], own-common s at goes c.both_have_values-goes.ensures gone))
-    (λ changed. inv.steps.common changed) (either differs)))) c.settle.ensures.changed
+    (λ changed. inv.common changed) (either differs)))) c.settle.ensures.changed
 
 pub returns-clause-counted : goal.returns-clause-counted
 returns-clause-counted g t c =
@@ -418,17 +427,19 @@ returns-clause-counted g t c =
     let order = ordered-losing unless unless-none s at right now c.below.bytes.left goes inv.picked
     all leads.1 own in
     let one = c.settle.ensures.counted in
-    subst (λ z. StepsBelow z right (spare_of c.settle.result) c.args.work.now c.settle.new.work)
+    subst (λ z. StepsBelow IsCommonKey z right (spare_of c.settle.result) c.args.work.now c.settle.new.work)
     c.open-node.ensures.shown
-    (steps-end s right at now c.below.bytes.left goes changed leads.1 tree leads.0 c.args.work.now
-    c.open-node.new.work c.reach.new.work c.below.work c.settle.new.work along inv.steps common
-    (ap (λ z. z.entered) c.open-node.ensures.work) (ap (λ z. z.made) c.open-node.ensures.work)
+    (steps-end IsCommonKey keys-carried s right at c.below.bytes.left goes (lost s now) leads.1 tree
+    leads.0 c.args.work.now c.open-node.new.work c.reach.new.work c.below.work c.settle.new.work
+    along inv.steps common (ap (λ z. z.entered) c.open-node.ensures.work)
+    (ap (λ z. z.made) c.open-node.ensures.work)
     (merges (losing goes now)) (spare_of c.settle.result) one.entered_grows one.entered_at_most
-    (paid-result c.settle.result s now goes tree inv.picked.value order inv.steps.fewer
+    (paid-result c.settle.result s now goes tree inv.picked.value order inv.fewer
     c.settle.ensures.settled) one.made_grows
-    (last-made goes changed (merges (losing goes now)) c.below.work c.settle.new.work
-    (with_prefix [] s) at one c.settle.ensures.still (λ gone. ([], common gone))
-    (λ is. inv.steps.common is)))
+    (last-changed {C = BeginsCommon s right (prefix_of s)} goes changed (losing goes now)
+    c.below.work c.settle.new.work one c.settle.ensures.still
+    (λ gone. begun-prefix s right at leads.1 ([], common gone))
+    (λ is. begun-prefix s right at leads.1 (inv.common is))))
 
 pub returns-clause-least : goal.returns-clause-least
 returns-clause-least g t c =

@@ -54,6 +54,9 @@ module _ {C : Type 0} (bytes : ByteSet) (left right : List (ℕ × C))
       both (Some x) None is = absurd (false≢true is)
       both (Some x) (Some y) is = (refl, refl)
 
+  pub bytes-have : HaveChild bytes left
+  bytes-have byte has = (bytes-both byte has).0
+
 none-yet : (ahead rest : ByteSet) (byte : ℕ) → TakesFirst ahead (Some byte) rest → (c : ℕ)
     → c ≤ byte → has_byte rest c ≡ false
 none-yet ahead rest byte takes c le =
@@ -169,7 +172,7 @@ module _ {C : Type 0} where
       among-next =
           let later = ascending-where_key (has_byte rest) children order in
           let below = below-all byte (children_among rest children) (λ c le.
-          at-among rest children c ∙ ap (λ t. cond t (child_at c children) None) 
+          at-among rest children c ∙ ap (λ t. cond t (child_at c children) None)
           (none-yet ahead rest byte takes c le)) in
           same_entries nat_cmp nat_cmp_total nat_cmp-IsAntisymmetric _ _
           (holds (ascending-where_key (has_byte ahead) children order))
@@ -238,11 +241,11 @@ module _ {V : Type 0} where
 
   -- Of the children under bytes of a set, those were put in whose bytes are no longer left.
   pub record IsFilled (s : Shape V) (bytes left : ByteSet) (count : ℕ) (now : Shape V) : Type 0
-      where
-    pub so_far : List (ℕ × Shape V)
-    pub is : now ≡ node_of (prefix_of s) (value_of s) (width_for count) so_far
-    pub together : so_far ++ children_among left (children_of s)
-        ≡ children_among bytes (children_of s)
+    where
+      pub so_far : List (ℕ × Shape V)
+      pub is : now ≡ node_of (prefix_of s) (value_of s) (width_for count) so_far
+      pub together : so_far ++ children_among left (children_of s)
+          ≡ children_among bytes (children_of s)
 
   module _ (s : Shape V) (bytes : ByteSet) (count : ℕ) where
     pub filled-none : (left : ByteSet) → ((byte : ℕ) → has_byte left byte ≡ has_byte bytes byte)
@@ -337,12 +340,12 @@ module _ {V : Type 0} where
       → IsOrdered now
   keeps-ordered bytes (node prefix value width forest) (node prefix' value' width' forest') order
       keeps = (
-    subst IsAscending (sym keeps.children)
-        (ascending-where_key (has_byte bytes) (entries_of forest) order.0),
-    subst AreBranches (ap forest_of (sym keeps.children) ∙ forest_of-entries_of forest')
-        (branches-among (has_byte bytes) (entries_of forest)
-        (subst AreBranches (sym (forest_of-entries_of forest)) order.1)),
-  )
+        subst IsAscending (sym keeps.children)
+            (ascending-where_key (has_byte bytes) (entries_of forest) order.0),
+        subst AreBranches (ap forest_of (sym keeps.children) ∙ forest_of-entries_of forest')
+            (branches-among (has_byte bytes) (entries_of forest)
+            (subst AreBranches (sym (forest_of-entries_of forest)) order.1)),
+      )
 
   pub at-kept : (bytes : ByteSet) (s now : Shape V) → KeepsAmong bytes s now → (byte : ℕ)
       → child_at byte (children_of now)

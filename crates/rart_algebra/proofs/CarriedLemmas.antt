@@ -19,7 +19,7 @@ use Rattle.rart_node.proofs.PrefixRestLemmas.{begins-common}
 use Rattle.rart_lockstep.specs.Steps.{common_start}
 use Rattle.rart_lockstep.specs.TreeCursors.{next_children}
 use Rattle.rart_lockstep.proofs.EnterLemmas.{ahead-first}
-use Rattle.rart_algebra.specs.Ahead.{ArePartedAt, BeginsCommon, EitherHas, HasAll, HaveCommon, IsCommonKey, IsPlace, IsShared, ahead_of_both}
+use Rattle.rart_algebra.specs.Ahead.{BeginsCommon, EitherHas, HasAll, HaveCommon, IsCommonKey, IsPlace, ahead_of_both}
 use Rattle.rart_algebra.proofs.ReachLemmas.{look, found-next, found-with, child-first}
 
 module _ {V : Type 0} where

@@ -19,8 +19,8 @@ use Rattle.rart_lockstep.specs.Steps.{common_start}
 use Rattle.rart_lockstep.specs.TreeCursors.{next_children}
 use Rattle.rart_lockstep.proofs.PairStepLemmas.{prefix-with, tree-with}
 use Rattle.rart_lockstep.proofs.SharedLemmas.{ahead-all, ahead-children, ahead-matched}
-use Rattle.rart_algebra.specs.Ahead.{BeginsCommon, EntersAlong, GoesUpTo, HasAll, HaveCommon, IsCommonKey, IsPlace, IsShared, MeetsUpTo, StepsBelow, ahead_of_both}
-use Rattle.rart_algebra.proofs.CarriedLemmas.{IsCarried, all-behind, all-below, ahead-byte, ahead-child, common-ended, keys-carried, places-carried, starts-carried}
+use Rattle.rart_algebra.specs.Ahead.{BeginsCommon, EntersAlong, GoesUpTo, HasAll, HaveCommon, IsCommonKey, IsPlace, MeetsUpTo, StepsBelow}
+use Rattle.rart_algebra.proofs.CarriedLemmas.{IsCarried, all-behind, all-below, ahead-byte, ahead-child, keys-carried, places-carried, starts-carried}
 use Rattle.rart_algebra.proofs.ReachLemmas.{key-begun, tree-forks}
 use Rattle.rart_algebra.proofs.WeightLemmas.{weigh, weigh_all, weigh-all, weigh-taken}
 
@@ -77,20 +77,20 @@ module _ {V : Type 0} (Pays : Shape V → Shape V → List ℕ → Type 0) where
   -- The children of s that are not ahead any more were gone through, from where t stands. So many
   -- are gone that have paid, for which nothing was merged.
   pub record StepsUpTo (s t : Shape V) (ahead : ByteSet) (gone : ℕ) (before after : Counts) : Type 0
-      where
-    pub grows : before.entered ≤ after.entered
-    pub entered : (strings paying : Strings) (path : List ℕ)
-        → HasAll strings path (IsPlace (with_prefix [] s) t)
-        → HasAll paying path (Pays (with_prefix [] s) t)
-        → after.entered + gone + 2 * weigh (under_byte strings path) ahead (children_of s)
-        + weigh (under_byte paying path) ahead (children_of s)
-        ≤ before.entered + 2 * weigh_all (under_byte strings path) (children_of s)
-        + weigh_all (under_byte paying path) (children_of s)
-    pub makes : before.made ≤ after.made
-    pub made : (strings : Strings) (path : List ℕ)
-        → HasAll strings path (BeginsCommon (with_prefix [] s) t)
-        → after.made + weigh (under_byte strings path) ahead (children_of s)
-        ≤ before.made + weigh_all (under_byte strings path) (children_of s)
+    where
+      pub grows : before.entered ≤ after.entered
+      pub entered : (strings paying : Strings) (path : List ℕ)
+          → HasAll strings path (IsPlace (with_prefix [] s) t)
+          → HasAll paying path (Pays (with_prefix [] s) t)
+          → after.entered + gone + 2 * weigh (under_byte strings path) ahead (children_of s)
+          + weigh (under_byte paying path) ahead (children_of s)
+          ≤ before.entered + 2 * weigh_all (under_byte strings path) (children_of s)
+          + weigh_all (under_byte paying path) (children_of s)
+      pub makes : before.made ≤ after.made
+      pub made : (strings : Strings) (path : List ℕ)
+          → HasAll strings path (BeginsCommon (with_prefix [] s) t)
+          → after.made + weigh (under_byte strings path) ahead (children_of s)
+          ≤ before.made + weigh_all (under_byte strings path) (children_of s)
 
   pub steps-none : (s t : Shape V) (ahead : ByteSet) (before : Counts)
       → StepsUpTo s t ahead 0 before before

@@ -1,4 +1,5 @@
 pub mod AmongLemmas
+pub mod BothLemmas
 pub mod CarriedLemmas
 pub mod CommonCountLemmas
 pub mod DescentLemmas

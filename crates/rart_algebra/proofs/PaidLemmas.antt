@@ -1,6 +1,6 @@
 -- What packing a node costs, and what pays for it.
 use Rattle.std.proofs.Common.{◌≡◌, ◌≤◌, ◌+◌, ◌-◌, ◌⊎◌, inl, inr, ⊎_elim, ℕ, Bool, true, false, not, ◌||◌, cond, List, [], ◌∷◌, ◌++◌, Some, None, Result, Ok, Err, IsSome, is_some, length, refl, sym, ap, subst, ◌∙◌, arith}
-use Rattle.std.specs.Prelude.{◌==◌, T}
+use Rattle.std.specs.Prelude.{T}
 use Rattle.std.specs.Option.{option_and_then}
 use Rattle.std.specs.Result.{IfOk, IsErr}
 use Rattle.std.specs.Ordering.{nat_cmp}
@@ -10,7 +10,7 @@ use Rattle.std.proofs.lemmas.Cmp.{nat_cmp_total}
 use Rattle.rart_below.specs.Children.{child_at, with_child}
 use Rattle.rart_below.proofs.AscendingLemmas.{child_at-here}
 use Rattle.rart_node.specs.Counts.{Counts, CountsUpTo}
-use Rattle.rart_node.specs.Shape.{Shape, node, bare, grown, prefix_of, value_of, children_of, entries_of, with_value, with_deleted, with_replaced, entries_of-forest_of}
+use Rattle.rart_node.specs.Shape.{Shape, node, bare, grown, prefix_of, value_of, children_of, entries_of, with_deleted, with_replaced, entries_of-forest_of}
 use Rattle.rart_node.specs.Trees.{found, IsTree, IsOrdered}
 use Rattle.rart_node.proofs.FindLemmas.{ascending}
 use Rattle.rart_node.proofs.InsertionLemmas.{inside}
@@ -46,8 +46,11 @@ module _ {V : Type 0} where
       → (packs s ≡ 0) ⊎ ((packs s ≡ 1) × ((key : List ℕ) × IsSome (found s (prefix_of s ++ key))))
   packs-key (node prefix (Some value) width forest) order = inr (
     refl,
-    ([], ap (λ o. is_some (option_and_then (inside (Some value) forest) o))
-        (strip_prefix-own prefix [])),
+    (
+      [],
+      ap (λ o. is_some (option_and_then (inside (Some value) forest) o))
+          (strip_prefix-own prefix []),
+    ),
   )
   packs-key (node prefix None width bare) order = inl refl
   packs-key (node prefix None width (grown byte child forest)) order =
@@ -56,9 +59,12 @@ module _ {V : Type 0} where
       let first = child-first child byte key.key order.1.0 key.there in
       inr (
         refl,
-        (byte ∷ first.0, arm-found s child byte first.0
-            (child_at-here byte byte child (entries_of forest) refl)
-            (subst (λ z. IsSome (found child z)) first.1 key.there)),
+        (
+          byte ∷ first.0,
+          arm-found s child byte first.0
+              (child_at-here byte byte child (entries_of forest) refl)
+              (subst (λ z. IsSome (found child z)) first.1 key.there),
+        ),
       )
 
   packs-few : (s : Shape V) → packs s ≤ 1

@@ -5,7 +5,7 @@ use Rattle.std.proofs.lemmas.Bool.{eqb-true, false≢true}
 use Rattle.rart_lockstep.specs.TreeCursors.{value_here}
 use Rattle.rart_node.specs.Shape.{Shape, node, bare, grown, prefix_of, value_of, children_of, width_of, with_prefix, FitsWidth}
 use Rattle.rart_node.specs.Trees.{strip_prefix, found}
-use Rattle.rart_node.proofs.InsertionLemmas.{inside, nothing-left}
+use Rattle.rart_node.proofs.InsertionLemmas.{nothing-left}
 use Rattle.rart_algebra.specs.Ahead.{IsCommonKey}
 use Rattle.rart_algebra.specs.Picks.{unless}
 use Rattle.rart_algebra.proofs.PickLemmas.{node-picked}

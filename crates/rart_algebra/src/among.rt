@@ -20,10 +20,7 @@ fn again(bytes: &ByteSet) -> ByteSet
 }
 
 /// How many children of a node stand under these bytes, each of which has one.
-pub(crate) fn count_among<P: Partial, V: Drop>(
-    node: &VersionedNode<P, V>,
-    bytes: &ByteSet,
-) -> usize
+pub(crate) fn count_among<P: Partial, V: Drop>(node: &VersionedNode<P, V>, bytes: &ByteSet) -> usize
     requires order { IsAscending node.now.shape }
     requires there { HaveChild bytes.now (children_of node.now.shape) }
     ensures { result ≡ length (children_among bytes.now (children_of node.now.shape)) }

@@ -1,14 +1,16 @@
-//! What two trees of nodes make together: here, what the one has and the other lacks.
+//! What two trees of nodes make together: what the one has and the other lacks, and what both have.
 //!
 //! One recursion goes down both trees, node beside node, as far as they are alike, and cuts the
-//! left one. What the left tree has alone is taken whole, as a shared pointer. It knows prefixes
-//! and pointers, and no key type.
+//! left one. What stays whole of that one is taken as a shared pointer. It knows prefixes and
+//! pointers, and no key type.
 #![tactic(auto)]
 
 mod among;
+mod common;
 mod difference;
 mod made;
 mod part;
 mod steps;
 
+pub use common::common_below;
 pub use difference::difference_below;

@@ -1,5 +1,5 @@
-use Rattle.std.proofs.Common.{◌≡◌, cond, ◌<◌, ◌≤◌, ◌+◌, inl, inr, ⊎_elim, ◌&&◌, ℕ, List, [], ◌++◌, Some, None, is_some, Ok, true, false, not, length, refl, sym, ap, subst, ◌∙◌, arith}
-use Rattle.std.specs.Prelude.{◌==◌, Bool}
+use Rattle.std.proofs.Common.{◌≡◌, cond, ◌<◌, ◌≤◌, ◌+◌, inl, ⊎_elim, ℕ, List, [], ◌++◌, Some, None, is_some, Ok, true, length, refl, sym, ap, subst, ◌∙◌, arith}
+use Rattle.std.specs.Prelude.{◌==◌}
 use Rattle.std.specs.declared.alloc.AllocError.{AllocError}
 use Rattle.std.proofs.lemmas.Bool.{false≢true}
 use Rattle.rart_below.specs.declared.byte_set.ByteSet.{ByteSet}

@@ -1,11 +1,11 @@
 -- What look-ups answer in the parts that another map cuts a map into, and the laws of these.
-use Rattle.std.proofs.Common.{◌≡◌, ℕ, Bool, true, false, cond, not, List, refl, sym, ap, ◌∙◌}
+use Rattle.std.proofs.Common.{◌≡◌, ◌&&◌, ℕ, Bool, true, false, cond, not, List, refl, sym, ap, ◌∙◌}
 use Rattle.std.specs.Prelude.{Option, Some, None, is_some}
 use Rattle.std.specs.FinMap as finite
 use Rattle.rart_below.specs.Bytes.{byte_order}
 use Rattle.rart_maps.specs.ChangeLists.{joined}
 use Rattle.rart_maps.specs.MapParts.{common_part, without}
-use Rattle.rart_maps.specs.MapPartLaws.{CommonPartAnswers, OtherPartAnswers, CommonPartHasThesePairs, OtherPartHasThesePairs, PartsAreTheMap, NoKeyCutsNothing, CuttingTwiceIsCuttingOnce, NothingIsLeftWithoutItself, KeysGoOneAfterTheOther}
+use Rattle.rart_maps.specs.MapPartLaws.{CommonPartAnswers, OtherPartAnswers, CommonPartHasThesePairs, OtherPartHasThesePairs, PartsAreTheMap, NoKeyCutsNothing, CuttingTwiceIsCuttingOnce, CommonKeysAreOfBoth, CommonIsLeftWithoutTheRest, NothingIsLeftWithoutItself, KeysGoOneAfterTheOther}
 use Rattle.rart_maps.specs.Versions.{Map}
 use Rattle.rart_maps.proofs.ChangeLemmas.{or_else, get-joined}
 use Rattle.rart_maps.proofs.OrderLemmas.{byte_order-IsAntisymmetric}
@@ -58,6 +58,17 @@ own-cut (Some x) = refl
 own-kept : {V : Type 0} (x : Option V) → cond (is_some x) x None ≡ x
 own-kept None = refl
 own-kept (Some x) = refl
+
+both-kept : {V : Type 0} (t : Bool) (x : Option V) → is_some (cond t x None) ≡ (is_some x && t)
+both-kept true None = refl
+both-kept true (Some x) = refl
+both-kept false None = refl
+both-kept false (Some x) = refl
+
+cut-rest : {V : Type 0} (t : Bool) (x : Option V)
+    → cond (is_some (cond t None x)) None x ≡ cond t x None
+cut-rest true x = refl
+cut-rest false x = own-cut x
 
 one-then-other : {V : Type 0} (x one other : Option V)
     → cond (is_some other) None (cond (is_some one) None x)
@@ -112,6 +123,18 @@ module _ (V W : Type 0) where
         ∙ cut-both (finite.contains_key other q) (finite.get m q)
         ∙ sym (finite.get-empty byte_order q)),
   )
+
+  pub common_keys_are_of_both : CommonKeysAreOfBoth V W
+  common_keys_are_of_both m other key =
+      ap is_some (get-common_part m other key)
+      ∙ both-kept (finite.contains_key other key) (finite.get m key)
+
+  pub common_is_left_without_the_rest : CommonIsLeftWithoutTheRest V W
+  common_is_left_without_the_rest m other =
+      same_map _ _ (λ q. get-without m (without m other) q
+      ∙ ap (λ x. cond (is_some x) None (finite.get m q)) (get-without m other q)
+      ∙ cut-rest (finite.contains_key other q) (finite.get m q)
+      ∙ sym (get-common_part m other q))
 
 module _ (V : Type 0) where
   pub nothing_is_left_without_itself : NothingIsLeftWithoutItself V

@@ -1,6 +1,6 @@
 -- The worked values of the bounds, by computation.
 use Rattle.std.proofs.Common.{◌*◌, refl, ap, inl, inr}
-use Rattle.rart_maps.specs.WorkedBounds.{LookupOfNoByte, LookupOfThreeBytes, ChangeOfNoByte, ChangeOfThreeBytes, TouchOfNoByte, TouchOfThreeBytes, MeetOfTwo, MeetBelowOne, MeetWithItself, MeetOfEmpty, ReachOfTwo, ReachOfAll, ReachOfNone, MeetOfDistinct, MeetInsideKeys, ReachOfFive, ReachOfOne, ReachPastKeys, WalkOfThree, WalkOfOneBelowOther, WalkOfNone, ReachByPairsOfTwo, ReachByPairsOfAll, ReachByPairsOfNone, ReachByPairsOfThree, RangeOfTwo, RangeOfAll, RangeReversed, RangeOfNone, RangeOfNoneBelow}
+use Rattle.rart_maps.specs.WorkedBounds.{LookupOfNoByte, LookupOfThreeBytes, ChangeOfNoByte, ChangeOfThreeBytes, TouchOfNoByte, TouchOfThreeBytes, MeetOfTwo, MeetBelowOne, MeetWithItself, MeetOfEmpty, ReachOfTwo, ReachOfAll, ReachOfNone, MeetOfDistinct, MeetInsideKeys, ReachOfFive, ReachOfOne, ReachPastKeys, WalkOfThree, WalkOfOneBelowOther, WalkOfNone, ReachByPairsOfTwo, ReachByPairsOfAll, ReachByPairsOfNone, ReachByPairsOfThree, RangeOfTwo, RangeOfAll, RangeReversed, RangeOfNone, RangeOfNoneBelow, IntersectionOfThree, IntersectionOfLong}
 use Rattle.rart_maps.proofs.MapLemmas.{maps, sets}
 use Rattle.rart_maps.proofs.PairLawLemmas.{shared_is_empty}
 use Rattle.std.specs.FinMap as finite
@@ -97,3 +97,9 @@ reach_by_pairs_of_three = simp maps refl
 
 pub range_of_none_below : RangeOfNoneBelow
 range_of_none_below = simp maps refl
+
+pub intersection_of_three : IntersectionOfThree
+intersection_of_three = simp (maps, sets) refl
+
+pub intersection_of_long : IntersectionOfLong
+intersection_of_long = simp (maps, sets) refl

@@ -32,7 +32,7 @@ abbrev pub bound_length : Bound (List ℕ) → ℕ
 bound_length bound = length (bound_string bound)
 
 module _ {V : Type 0} where
-  -- the most nodes that an intersection enters
+  -- the most nodes that a visit of the keys of both enters
   abbrev pub meet_bound : Map V → Map V → ℕ
   meet_bound left right = 2 * set.len (shared left right)
 
@@ -42,9 +42,13 @@ module _ {V : Type 0} where
   difference_bound left right =
       2 * set.len (places left right) + finite.len (common_part left right)
 
-  -- the most nodes that it makes: one for each string that begins a key of both
-  abbrev pub difference_makes : Map V → Map V → ℕ
-  difference_makes left right = set.len (starts (common_part left right))
+  -- the most nodes that an intersection enters: three for each place
+  abbrev pub intersection_bound : Map V → Map V → ℕ
+  intersection_bound left right = 3 * set.len (places left right)
+
+  -- the most nodes that either makes: one for each string that begins a key of both
+  abbrev pub cut_makes : Map V → Map V → ℕ
+  cut_makes left right = set.len (starts (common_part left right))
 
   -- the most nodes that a walk under p enters, told by the strings that begin keys
   abbrev pub reach_bound : Map V → List ℕ → ℕ

@@ -1,5 +1,5 @@
 -- Laws that show what the parts of a map are that another one cuts it into.
-use Rattle.std.specs.Prelude.{◌≡◌, ℕ, List, None, not, filter, if◌then◌else◌}
+use Rattle.std.specs.Prelude.{◌≡◌, ◌&&◌, ℕ, List, None, not, filter, if◌then◌else◌}
 use Rattle.std.specs.FinMap as finite
 use Rattle.rart_maps.specs.ChangeLists.{joined}
 use Rattle.rart_maps.specs.MapParts.{common_part, without}
@@ -45,6 +45,17 @@ module _ (V W : Type 0) where
   CuttingTwiceIsCuttingOnce = (m : Map V) (other : Map W) →
       (without (without m other) other ≡ without m other)
       × (common_part (without m other) other ≡ finite.empty)
+
+  -- A key of the common part is a key of both.
+  abbrev pub CommonKeysAreOfBoth : Type 0
+  CommonKeysAreOfBoth = (m : Map V) (other : Map W) (key : List ℕ) →
+      finite.contains_key (common_part m other) key
+      ≡ (finite.contains_key m key && finite.contains_key other key)
+
+  -- The common part is what is left without what is left.
+  abbrev pub CommonIsLeftWithoutTheRest : Type 0
+  CommonIsLeftWithoutTheRest = (m : Map V) (other : Map W) →
+      without m (without m other) ≡ common_part m other
 
 module _ (V : Type 0) where
   -- Without its own keys nothing is left of a map.

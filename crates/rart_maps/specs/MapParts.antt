@@ -16,3 +16,8 @@ module _ {V W : Type 0} where
   abbrev pub version_without : Version V → Version W → Version V
   version_without v other =
       record { content = without v.content other.content; number = v.number + 1 }
+
+  -- a version with the keys alone that another has too, its number one greater
+  abbrev pub version_common : Version V → Version W → Version V
+  version_common v other =
+      record { content = common_part v.content other.content; number = v.number + 1 }

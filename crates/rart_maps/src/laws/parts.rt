@@ -4,6 +4,7 @@ ghost use Rattle.rart_maps.specs.MapPartLaws.{CommonPartAnswers, OtherPartAnswer
 ghost use Rattle.rart_maps.specs.MapPartLaws.{CommonPartHasThesePairs, OtherPartHasThesePairs};
 ghost use Rattle.rart_maps.specs.MapPartLaws.{PartsAreTheMap, NoKeyCutsNothing};
 ghost use Rattle.rart_maps.specs.MapPartLaws.{CuttingTwiceIsCuttingOnce};
+ghost use Rattle.rart_maps.specs.MapPartLaws.{CommonKeysAreOfBoth, CommonIsLeftWithoutTheRest};
 ghost use Rattle.rart_maps.specs.MapPartLaws.{NothingIsLeftWithoutItself, KeysGoOneAfterTheOther};
 
 /// What each key has in either part. As maps that answer alike are the same, this is all that can
@@ -25,6 +26,13 @@ pub fn parts_are_the_map<V, W>()
     ensures together { PartsAreTheMap V W }
     ensures nothing { NoKeyCutsNothing V W }
     ensures twice { CuttingTwiceIsCuttingOnce V W }
+{}
+
+/// A key of the common part is a key of both, whichever of the two is cut. That part is what is left
+/// of a map without what is left of it.
+pub fn common_keys_are_of_both<V, W>()
+    ensures keys { CommonKeysAreOfBoth V W }
+    ensures rest { CommonIsLeftWithoutTheRest V W }
 {}
 
 /// Without its own keys nothing is left of a map. The keys of two maps go at once, or one after the

@@ -1,6 +1,6 @@
 //! Worked values of what is read off maps and of the bounds, found by hand.
 ghost use Rattle.rart_maps.specs.Disorders.{DisordersAreWorked};
-ghost use Rattle.rart_maps.specs.WorkedBounds.{LookupOfNoByte, LookupOfThreeBytes, ChangeOfNoByte, ChangeOfThreeBytes, TouchOfNoByte, TouchOfThreeBytes, MeetOfTwo, MeetBelowOne, MeetWithItself, MeetOfEmpty, ReachOfTwo, ReachOfAll, ReachOfNone, MeetOfDistinct, MeetInsideKeys, ReachOfFive, ReachOfOne, ReachPastKeys, WalkOfThree, WalkOfOneBelowOther, WalkOfNone, ReachByPairsOfTwo, ReachByPairsOfAll, ReachByPairsOfNone, ReachByPairsOfThree, RangeOfTwo, RangeOfAll, RangeReversed, RangeOfNone, RangeOfNoneBelow};
+ghost use Rattle.rart_maps.specs.WorkedBounds.{LookupOfNoByte, LookupOfThreeBytes, ChangeOfNoByte, ChangeOfThreeBytes, TouchOfNoByte, TouchOfThreeBytes, MeetOfTwo, MeetBelowOne, MeetWithItself, MeetOfEmpty, ReachOfTwo, ReachOfAll, ReachOfNone, MeetOfDistinct, MeetInsideKeys, ReachOfFive, ReachOfOne, ReachPastKeys, WalkOfThree, WalkOfOneBelowOther, WalkOfNone, ReachByPairsOfTwo, ReachByPairsOfAll, ReachByPairsOfNone, ReachByPairsOfThree, RangeOfTwo, RangeOfAll, RangeReversed, RangeOfNone, RangeOfNoneBelow, IntersectionOfThree, IntersectionOfLong};
 ghost use Rattle.rart_maps.specs.WorkedPairs.{WithinIncluded, WithinExcluded, WithinOtherKeys, WithinLowAlone, WithinHighAlone, WithinReversed, WithinOneKey, WithinNoKey, UnderTwo, UnderOne, UnderItself, UnderEmpty, UnderNone, PrefixMatchesShortestFirst, PrefixMatchesOfKey, PrefixMatchesNone, LongestInside, LongestIsItself, LongestIsEmpty, LongestNone, CommonLeftFirst, CommonNone, CommonOfTwo, CommonOfOne, CommonOfEmpty, SharedOfTwo, SharedOfOne, SharedOfEmpty};
 
 /// Worked values: the pairs within two bounds, that include or exclude their key, one bound alone,
@@ -100,4 +100,10 @@ pub fn worked_walks()
 /// Worked values: which of two keys is out of order.
 pub fn worked_disorders()
     ensures { DisordersAreWorked }
+{}
+
+/// Worked values: how many nodes an intersection that makes a map enters at most.
+pub fn worked_intersections()
+    ensures three { IntersectionOfThree }
+    ensures long { IntersectionOfLong }
 {}

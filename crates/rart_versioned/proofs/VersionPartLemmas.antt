@@ -1,13 +1,13 @@
--- What a version has that another one lacks, and that all stays in order.
+-- The two parts that another version cuts a version into, and that all stays in order there.
 use Rattle.std.proofs.Common.{◌≡◌, ℕ, ◌+◌, ◌*◌, ◌≤◌, ◌⊎◌, inl, inr, ⊎_elim, List, [], ◌∷◌, ◌++◌, Option, Some, None, IsSome, is_some, length, map, cond, not, Bool, true, false, refl, arith, sym, ap, subst, ◌∙◌}
 use Rattle.std.specs.FinMap as finite
 use Rattle.std.specs.FinSet as set
-use Rattle.std.specs.Prelude.{Contains}
+use Rattle.std.specs.Prelude.{Contains, filter}
 use Rattle.std.proofs.lemmas.Bool.{and_from, false≢true}
 use Rattle.std.proofs.lemmas.Cmp.{nat_list_cmp_total}
 use Rattle.std.proofs.lemmas.List.{length-map}
 use Rattle.rart_below.specs.Bytes.{begins, byte_order}
-use Rattle.rart_maps.specs.Bounds.{difference_bound, difference_makes}
+use Rattle.rart_maps.specs.Bounds.{cut_makes, difference_bound, intersection_bound}
 use Rattle.rart_maps.specs.MapParts.{common_part, without}
 use Rattle.rart_maps.specs.Pairs.{pairs, starts, shared}
 use Rattle.rart_maps.specs.Points.{places, points}
@@ -16,7 +16,7 @@ use Rattle.rart_maps.specs.ChangeLists.{joined}
 use Rattle.rart_maps.specs.Versions.{Map}
 use Rattle.rart_maps.proofs.ElementLemmas.{Contains-map}
 use Rattle.rart_maps.proofs.FoundLemmas.{Contains-pairs}
-use Rattle.rart_maps.proofs.MapPartLemmas.{get-common_part, get-without, no_key_cuts_nothing, other_part_has_these_pairs}
+use Rattle.rart_maps.proofs.MapPartLemmas.{get-common_part, get-without, no_key_cuts_nothing, common_part_has_these_pairs, other_part_has_these_pairs}
 use Rattle.rart_maps.proofs.ChangeLemmas.{or_else, get-joined}
 use Rattle.rart_maps.proofs.PlaceLawLemmas.{places_are_shared_points}
 use Rattle.rart_maps.proofs.PairLawLemmas.{contains-shared}
@@ -27,8 +27,8 @@ use Rattle.rart_node.specs.Counts.{Counts, CountsUpTo}
 use Rattle.rart_node.specs.Shape.{Shape}
 use Rattle.rart_node.specs.Trees.{found, IsTree}
 use Rattle.rart_node.proofs.CountingLemmas.{counts-most}
-use Rattle.rart_algebra.specs.Ahead.{ArePartedAt, EitherHas, IsPlace, IsShared, IsCommonKey, BeginsCommon, HasAll, GoesUpTo}
-use Rattle.rart_algebra.specs.Picks.{IsPickedOr, unless}
+use Rattle.rart_algebra.specs.Ahead.{ArePartedAt, EitherHas, IsPlace, IsShared, IsCommonKey, BeginsCommon, HasAll, GoesUpTo, MeetsUpTo}
+use Rattle.rart_algebra.specs.Picks.{IsPickedOr, Pick, both, unless}
 use Rattle.rart_versioned.specs.Roots.{found_in, map_of, IsTreeIn, IsSound}
 use Rattle.rart_versioned.proofs.SoundLemmas.{tree-in, few, admitted}
 use Rattle.rart_versioned.proofs.VersionMapLemmas.{get-found}
@@ -48,17 +48,79 @@ list-few (s ∷ list) =
     omega (arith, more, last)
 
 module _ {V : Type 0} where
-  -- ---- the map of what is left
-  -- After, below the root, if there still is one, is what was there and the other one lacks.
-  abbrev pub IsWithoutIn : Option (Shape V) → Option (Shape V) → Option (Shape V) → Type 0
-  IsWithoutIn before other after =
-      IsTreeIn after
-      × ((q : List ℕ) → found_in after q ≡ unless (found_in before q) (found_in other q))
+  -- ---- the map of what is picked
+  -- What is picked at each key is what a part of the first map has there, and no more than that one.
+  pub record IsCut (pick : Pick V) (part : Map V → Map V → Map V) : Type 0 where
+    pub answers : (m other : Map V) (q : List ℕ)
+        → finite.get (part m other) q ≡ pick (finite.get m q) (finite.get other q)
+    pub kept : (one other : Option V) → IsSome (pick one other) → IsSome one
+    pub fewer : (m other : Map V) → finite.len (part m other) ≤ finite.len m
 
-  pub picked-in : (left right : Shape V) (o : Option (Shape V))
-      → IsPickedOr unless left right o → IsWithoutIn (Some left) (Some right) o
-  picked-in left right None none = (tt, λ q. sym (none q))
-  picked-in left right (Some after) picked = (picked.tree, picked.finds)
+  -- After, below the root, if there still is one, is what is picked from what was below two.
+  abbrev pub IsPickedIn : Pick V → Option (Shape V) → Option (Shape V) → Option (Shape V) → Type 0
+  IsPickedIn pick before other after =
+      IsTreeIn after
+      × ((q : List ℕ) → found_in after q ≡ pick (found_in before q) (found_in other q))
+
+  pub picked-in : (pick : Pick V) (left right : Shape V) (o : Option (Shape V))
+      → IsPickedOr pick left right o → IsPickedIn pick (Some left) (Some right) o
+  picked-in pick left right None none = (tt, λ q. sym (none q))
+  picked-in pick left right (Some after) picked = (picked.tree, picked.finds)
+
+  module _ (pick : Pick V) (part : Map V → Map V → Map V) (cut : IsCut pick part) where
+    pub map-picked : (before other after : Option (Shape V)) → IsTreeIn before → IsTreeIn other
+        → IsPickedIn pick before other after → map_of after ≡ part (map_of before) (map_of other)
+    map-picked before other after tree also left =
+        same_map (map_of after) (part (map_of before) (map_of other)) (λ q.
+        get-found after q left.0 ∙ left.1 q
+        ∙ (λ i. pick (sym (get-found before q tree) i) (sym (get-found other q also) i))
+        ∙ sym (cut.answers (map_of before) (map_of other) q))
+
+    pub sound-picked : (most : Option ℕ) (count later : ℕ) (before other after : Option (Shape V))
+        → IsSound most count before → count ≤ later → IsTreeIn other
+        → IsPickedIn pick before other after → IsSound most later after
+    sound-picked most count later before other None sound le also left = tt
+    sound-picked most count later before other (Some root) sound le also left =
+        let same = map-picked before other (Some root) (tree-in most count before sound) also left
+        in
+        let fewer = cut.fewer (map_of before) (map_of other) in
+        let all = few most count before sound in (
+          left.0,
+          (λ q there. admitted most count before sound q
+              (cut.kept (found_in before q) (found_in other q) (subst IsSome (left.1 q) there))),
+          subst (λ m. finite.len m ≤ later) (sym same) (omega (arith, fewer, all, le)),
+        )
+
+  -- as many pairs at most as the list that is filtered
+  filtered-few : (p : List ℕ × V → Bool) (part m : Map V) → pairs part ≡ filter p (pairs m)
+      → finite.len part ≤ finite.len m
+  filtered-few p part m these =
+      let kept = finite.len-entries part ∙ ap length these in
+      let all = finite.len-entries m in
+      let fewer = filter-fewer p (pairs m) in
+      omega (arith, kept, all, fewer)
+
+  -- ---- without the other one's keys
+  unless-cond : (one other : Option V) → unless one other ≡ cond (is_some other) None one
+  unless-cond one None = refl
+  unless-cond one (Some other) = refl
+
+  unless-some : (one other : Option V) → IsSome (unless one other) → IsSome one
+  unless-some one None some = some
+  unless-some one (Some other) some = absurd (false≢true some)
+
+  pub cut-without : IsCut unless without
+  cut-without = record {
+    answers = λ m other q.
+        get-without m other q ∙ sym (unless-cond (finite.get m q) (finite.get other q));
+    kept = unless-some;
+    fewer = λ m other. filtered-few (λ pair. not (finite.contains_key other pair.0))
+        (without m other) m (other_part_has_these_pairs V V m other);
+  }
+
+  cond-none : (t : Bool) → ◌≡◌ {A = Option V} (cond t None None) None
+  cond-none true = refl
+  cond-none false = refl
 
   -- The empty map has nothing to lose, and takes nothing.
   pub none-without : (other : Map V) → map_of {V = V} None ≡ without (map_of {V = V} None) other
@@ -67,53 +129,41 @@ module _ {V : Type 0} where
       finite.get-empty byte_order q
       ∙ sym (get-without (map_of None) other q
       ∙ ap (cond (finite.contains_key other q) None) (finite.get-empty byte_order q)
-      ∙ cond-same (finite.contains_key other q)))
-    where
-      cond-same : (t : Bool) → ◌≡◌ {A = Option V} (cond t None None) None
-      cond-same true = refl
-      cond-same false = refl
+      ∙ cond-none (finite.contains_key other q)))
 
   pub without-none : (m : Map V) → m ≡ without m (map_of {V = V} None)
   without-none m = sym (no_key_cuts_nothing V V m).0
 
-  unless-cond : (one other : Option V) → unless one other ≡ cond (is_some other) None one
-  unless-cond one None = refl
-  unless-cond one (Some other) = refl
+  -- ---- with the other one's keys alone
+  both-cond : (one other : Option V) → both one other ≡ cond (is_some other) one None
+  both-cond one None = refl
+  both-cond one (Some other) = refl
 
-  pub map-without : (before other after : Option (Shape V)) → IsTreeIn before → IsTreeIn other
-      → IsWithoutIn before other after → map_of after ≡ without (map_of before) (map_of other)
-  map-without before other after tree also left =
-      same_map (map_of after) (without (map_of before) (map_of other)) (λ q.
-      get-found after q left.0 ∙ left.1 q
-      ∙ (λ i. unless (sym (get-found before q tree) i) (sym (get-found other q also) i))
-      ∙ unless-cond (finite.get (map_of before) q) (finite.get (map_of other) q)
-      ∙ sym (get-without (map_of before) (map_of other) q))
+  both-some : (one other : Option V) → IsSome (both one other) → IsSome one
+  both-some one None some = absurd (false≢true some)
+  both-some one (Some other) some = some
 
-  len-without_map : (m other : Map V) → finite.len (without m other) ≤ finite.len m
-  len-without_map m other =
-      let kept = finite.len-entries (without m other)
-      ∙ ap length (other_part_has_these_pairs V V m other) in
-      let all = finite.len-entries m in
-      let fewer = filter-fewer (λ pair. not (finite.contains_key other pair.0)) (pairs m) in
-      omega (arith, kept, all, fewer)
+  pub cut-common : IsCut both common_part
+  cut-common = record {
+    answers = λ m other q.
+        get-common_part m other q ∙ sym (both-cond (finite.get m q) (finite.get other q));
+    kept = both-some;
+    fewer = λ m other. filtered-few (λ pair. finite.contains_key other pair.0)
+        (common_part m other) m (common_part_has_these_pairs V V m other);
+  }
 
-  unless-some : (one other : Option V) → IsSome (unless one other) → IsSome one
-  unless-some one None some = some
-  unless-some one (Some other) some = absurd (false≢true some)
+  -- The empty map has nothing in common with any.
+  pub none-common : (other : Map V)
+      → map_of {V = V} None ≡ common_part (map_of {V = V} None) other
+  none-common other =
+      same_map (map_of None) (common_part (map_of None) other) (λ q.
+      finite.get-empty byte_order q
+      ∙ sym (get-common_part (map_of None) other q
+      ∙ ap (λ x. cond (finite.contains_key other q) x None) (finite.get-empty byte_order q)
+      ∙ cond-none (finite.contains_key other q)))
 
-  pub sound-without : (most : Option ℕ) (count later : ℕ) (before other after : Option (Shape V))
-      → IsSound most count before → count ≤ later → IsTreeIn other
-      → IsWithoutIn before other after → IsSound most later after
-  sound-without most count later before other None sound le also left = tt
-  sound-without most count later before other (Some root) sound le also left =
-      let same = map-without before other (Some root) (tree-in most count before sound) also left in
-      let fewer = len-without_map (map_of before) (map_of other) in
-      let all = few most count before sound in (
-        left.0,
-        (λ q there. admitted most count before sound q
-            (unless-some (found_in before q) (found_in other q) (subst IsSome (left.1 q) there))),
-        subst (λ m. finite.len m ≤ later) (sym same) (omega (arith, fewer, all, le)),
-      )
+  pub common-none : (m : Map V) → map_of {V = V} None ≡ common_part m (map_of {V = V} None)
+  common-none m = sym (no_key_cuts_nothing V V m).1
 
   -- ---- what is ahead, in the words of maps
   module _ (left right : Shape V) (tree : IsTree left) (also : IsTree right) where
@@ -220,10 +270,18 @@ module _ {V : Type 0} where
 
     pub goes-maps : (before after : Counts) → GoesUpTo left right before after
         → CountsUpTo (difference_bound (map_of (Some left)) (map_of (Some right)))
-        (difference_makes (map_of (Some left)) (map_of (Some right))) before after
+        (cut_makes (map_of (Some left)) (map_of (Some right))) before after
     unfolding one_map other_map
     goes-maps before after goes =
         let few = keys-few in
         counts-most (goes (places one_map other_map) (set.from_list common_keys)
         (starts (common_part one_map other_map)) places-all keys-all starts-all)
         (omega (arith, few)) (omega arith)
+
+    pub meets-maps : (before after : Counts) → MeetsUpTo left right before after
+        → CountsUpTo (intersection_bound (map_of (Some left)) (map_of (Some right)))
+        (cut_makes (map_of (Some left)) (map_of (Some right))) before after
+    unfolding one_map other_map
+    meets-maps before after meets =
+        meets (places one_map other_map) (starts (common_part one_map other_map)) places-all
+        starts-all

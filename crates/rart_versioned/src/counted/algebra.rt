@@ -1,15 +1,16 @@
-//! What two versions make together: what one of them has and the other lacks. A subtree that the
-//! one has alone is shared, so no call goes further than the two are alike. rart has none.
+//! What two versions make together: what one of them has and the other lacks, and what both have. A
+//! subtree that stays whole is shared, and no call goes further than the two are alike. rart has
+//! none.
 ghost use Rattle.std.specs.Prelude.{◌≡◌, ◌+◌, ◌*◌, ◌≤◌, false, length, IfOk, OnOk};
 ghost use Rattle.rart_below.specs.Clones.{ClonesEqual};
-ghost use Rattle.rart_maps.specs.Bounds.{difference_bound, difference_makes};
-ghost use Rattle.rart_maps.specs.MapParts.{version_without};
+ghost use Rattle.rart_maps.specs.Bounds.{cut_makes, difference_bound, intersection_bound};
+ghost use Rattle.rart_maps.specs.MapParts.{version_common, version_without};
 ghost use Rattle.rart_maps.specs.Pairs.{common};
 ghost use Rattle.rart_maps.specs.Versions.{HasRoom, has_no_key};
 ghost use Rattle.rart_node.specs.Counts.{CountsUpTo};
 
 use crate::counted::tree::VersionedAdaptiveRadixTree;
-use rart_algebra::difference_below;
+use rart_algebra::{common_below, difference_below};
 use rart_below::{KeyTrait, Partial};
 use rart_node::Work;
 use std::alloc::AllocError;
@@ -29,7 +30,7 @@ impl<K: KeyTrait, V: Clone + Drop> VersionedAdaptiveRadixTree<K, V> {
         requires room { HasRoom self.now 1 }
         ensures difference { IfOk result (λ it. it ≡ version_without self.now other.now) }
         ensures counted { CountsUpTo (difference_bound self.now.content other.now.content)
-            (difference_makes self.now.content other.now.content) work.old work.new }
+            (cut_makes self.now.content other.now.content) work.old work.new }
         ensures entered { has_no_key self.now ≡ false → has_no_key other.now ≡ false
             → work.old.entered + 2 ≤ work.new.entered }
         ensures each { OnOk result (work.old.entered
@@ -48,6 +49,41 @@ impl<K: KeyTrait, V: Clone + Drop> VersionedAdaptiveRadixTree<K, V> {
             });
         };
         let root = difference_below(alloc, left, right, version, work)?;
+        Ok(VersionedAdaptiveRadixTree {
+            alloc,
+            root,
+            version,
+        })
+    }
+
+    /// As `intersection`, with the nodes entered and made counted into `work`: at most three
+    /// entered for each place of the two, as `difference_counted` has them; at least two where both
+    /// have a key, and, where it isn't refused, two for each common key. At most one is made for
+    /// each string that begins a common key.
+    pub fn intersection_counted(
+        &self,
+        other: &VersionedAdaptiveRadixTree<K, V>,
+        work: &mut Work,
+    ) -> Result<VersionedAdaptiveRadixTree<K, V>, AllocError>
+        requires clones { ClonesEqual V.is_clone }
+        requires room { HasRoom self.now 1 }
+        ensures intersection { IfOk result (λ it. it ≡ version_common self.now other.now) }
+        ensures counted { CountsUpTo (intersection_bound self.now.content other.now.content)
+            (cut_makes self.now.content other.now.content) work.old work.new }
+        ensures entered { has_no_key self.now ≡ false → has_no_key other.now ≡ false
+            → work.old.entered + 2 ≤ work.new.entered }
+        ensures each { OnOk result (work.old.entered
+            + 2 * length (common self.now.content other.now.content) ≤ work.new.entered) }
+    {
+        let version = self.version + 1;
+        let alloc = self.alloc;
+        let Some(left) = &self.root else {
+            return Ok(VersionedAdaptiveRadixTree::new_at(alloc, version));
+        };
+        let Some(right) = &other.root else {
+            return Ok(VersionedAdaptiveRadixTree::new_at(alloc, version));
+        };
+        let root = common_below(alloc, left, right, version, work)?;
         Ok(VersionedAdaptiveRadixTree {
             alloc,
             root,

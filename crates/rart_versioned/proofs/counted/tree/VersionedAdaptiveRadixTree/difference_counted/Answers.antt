@@ -1,18 +1,19 @@
 use Rattle.std.proofs.Common.{◌+◌, None, Some, length, arith, sym, ap, subst, ◌∙◌}
 use Rattle.std.specs.Option.{option_map}
-use Rattle.rart_maps.specs.Bounds.{difference_bound, difference_makes}
+use Rattle.rart_maps.specs.Bounds.{cut_makes, difference_bound}
 use Rattle.rart_maps.specs.MapParts.{without, version_without}
 use Rattle.rart_maps.specs.Pairs.{common}
 use Rattle.rart_maps.specs.Versions.{Version}
 use Rattle.rart_maps.proofs.WorkedPairLemmas.{common_of_empty}
 use Rattle.rart_node.specs.Counts.{CountsUpTo}
 use Rattle.rart_node.specs.Seen.{shape_of}
+use Rattle.rart_algebra.specs.Picks.{unless}
 use Rattle.rart_versioned.specs.Roots.{map_of}
 use Rattle.rart_versioned.proofs.MeetLemmas.{empty-content, root-content}
 use Rattle.rart_versioned.proofs.SoundLemmas.{tree-in}
 use Rattle.rart_versioned.proofs.VersionCommonLemmas.{common-roots}
 use Rattle.rart_versioned.proofs.VersionIterationLemmas.{root-sound}
-use Rattle.rart_versioned.proofs.VersionPartLemmas.{IsWithoutIn, picked-in, without-none, none-without, map-without, sound-without, goes-maps}
+use Rattle.rart_versioned.proofs.VersionPartLemmas.{IsPickedIn, cut-without, picked-in, without-none, none-without, map-picked, sound-picked, goes-maps}
 use Rattle.rart_versioned.proofs.VersionVisitLemmas.{none-keyed}
 use Rattle.rart_versioned.proofs.counted.tree.VersionedAdaptiveRadixTree.difference_counted.Goals as goal
 
@@ -59,10 +60,10 @@ returns-in_err-root-clause-counted g c =
     let others = root-content shape_of c.other.inside.version c.other.inside.root c.args.other.now
     c.other.view_is c.in-Some-root.right c.in-Some-root.is in
     subst (λ m. CountsUpTo (difference_bound m c.args.other.now.content)
-    (difference_makes m c.args.other.now.content) c.args.work.now c.difference_below.new.work)
+    (cut_makes m c.args.other.now.content) c.args.work.now c.difference_below.new.work)
     (sym content)
     (subst (λ m. CountsUpTo (difference_bound (map_of (Some left)) m)
-    (difference_makes (map_of (Some left)) m) c.args.work.now c.difference_below.new.work)
+    (cut_makes (map_of (Some left)) m) c.args.work.now c.difference_below.new.work)
     (sym others)
     (goes-maps left right one.0 other.0 c.args.work.now c.difference_below.new.work
     c.difference_below.ensures.counted))
@@ -81,10 +82,10 @@ returns-clause-counted g c =
     let others = root-content shape_of c.other.inside.version c.other.inside.root c.args.other.now
     c.other.view_is c.in-Some-root.right c.in-Some-root.is in
     subst (λ m. CountsUpTo (difference_bound m c.args.other.now.content)
-    (difference_makes m c.args.other.now.content) c.args.work.now c.difference_below.new.work)
+    (cut_makes m c.args.other.now.content) c.args.work.now c.difference_below.new.work)
     (sym content)
     (subst (λ m. CountsUpTo (difference_bound (map_of (Some left)) m)
-    (difference_makes (map_of (Some left)) m) c.args.work.now c.difference_below.new.work)
+    (cut_makes (map_of (Some left)) m) c.args.work.now c.difference_below.new.work)
     (sym others)
     (goes-maps left right one.0 other.0 c.args.work.now c.difference_below.new.work
     c.difference_below.ensures.counted))
@@ -95,13 +96,13 @@ invariant_of-result-2 g c =
     let before = option_map shape_of c.self.inside.root in
     let beside = option_map shape_of c.other.inside.root in
     let after = option_map shape_of c.in_ok-root.root in
-    let part : IsWithoutIn before beside after =
-    subst (λ o. IsWithoutIn (option_map shape_of o) beside after) (sym c.in-Some.is)
-    (subst (λ o. IsWithoutIn (Some c.in-Some.left.shape) (option_map shape_of o) after)
+    let part : IsPickedIn unless before beside after =
+    subst (λ o. IsPickedIn unless (option_map shape_of o) beside after) (sym c.in-Some.is)
+    (subst (λ o. IsPickedIn unless (Some c.in-Some.left.shape) (option_map shape_of o) after)
     (sym c.in-Some-root.is)
-    (picked-in c.in-Some.left.shape c.in-Some-root.right.shape after
+    (picked-in unless c.in-Some.left.shape c.in-Some-root.right.shape after
     c.in_ok-root.ensures.picked)) in
-    sound-without most c.self.inside.version _ before beside after c.self.invariant (omega arith)
+    sound-picked unless without cut-without most c.self.inside.version _ before beside after c.self.invariant (omega arith)
     (tree-in most c.other.inside.version beside c.other.invariant) part
 
 pub returns-clause-difference : goal.returns-clause-difference
@@ -110,14 +111,14 @@ returns-clause-difference g c =
     let before = option_map shape_of c.self.inside.root in
     let beside = option_map shape_of c.other.inside.root in
     let after = option_map shape_of c.in_ok-root.root in
-    let part : IsWithoutIn before beside after =
-    subst (λ o. IsWithoutIn (option_map shape_of o) beside after) (sym c.in-Some.is)
-    (subst (λ o. IsWithoutIn (Some c.in-Some.left.shape) (option_map shape_of o) after)
+    let part : IsPickedIn unless before beside after =
+    subst (λ o. IsPickedIn unless (option_map shape_of o) beside after) (sym c.in-Some.is)
+    (subst (λ o. IsPickedIn unless (Some c.in-Some.left.shape) (option_map shape_of o) after)
     (sym c.in-Some-root.is)
-    (picked-in c.in-Some.left.shape c.in-Some-root.right.shape after
+    (picked-in unless c.in-Some.left.shape c.in-Some-root.right.shape after
     c.in_ok-root.ensures.picked)) in
     ap (λ m. record { content = m; number = c.self.inside.version + 1 })
-    (map-without before beside after
+    (map-picked unless without cut-without before beside after
     (tree-in most c.self.inside.version before c.self.invariant)
     (tree-in most c.other.inside.version beside c.other.invariant) part)
     ∙ (λ i. version_without (c.self.view_is i) (c.other.view_is i))

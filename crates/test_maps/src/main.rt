@@ -1,6 +1,6 @@
-//! Compares what changed between versions with std's maps: random diffs, differences, patches and
-//! merges, what stands under random prefixes, and trees of sorted pairs. What differs first ends
-//! the program.
+//! Compares what changed between versions with std's maps: random diffs, differences,
+//! intersections, patches and merges, what stands under random prefixes, and trees of sorted pairs.
+//! What differs first ends the program.
 #![tactic(auto)]
 
 mod draw;
@@ -12,7 +12,7 @@ mod version;
 
 use anyhow::bail;
 use draw::below;
-use parts::difference_agrees;
+use parts::parts_agree;
 use prefixes::{prefixes_agree, restored_agree};
 use rand_pcg::Pcg32;
 use sorted::sorted_agrees;
@@ -35,8 +35,9 @@ fn main(rt: HostRuntime) -> anyhow::Result<()> {
     Ok(())
 }
 
-// Whether a diff, a difference, a patch and a merge of versions drawn from a seed, what stands
-// under a prefix of one, and trees of the sorted pairs of two are as those of their maps.
+// Whether a diff, a difference, an intersection, a patch and a merge of versions drawn from a seed,
+// what stands under a prefix of one, and trees of the sorted pairs of two are as those of their
+// maps.
 fn is_met(alloc: Global, seed: u64) -> Result<bool, AllocError> {
     let mut words = Pcg32::new(seed, 35);
     let mut base = Version::new(alloc);
@@ -51,8 +52,8 @@ fn is_met(alloc: Global, seed: u64) -> Result<bool, AllocError> {
     theirs.change(&mut words, 30)?;
     Ok(
         diff_agrees(&base, &theirs)?
-            && difference_agrees(&ours, &theirs)?
-            && difference_agrees(&base, &ours)?
+            && parts_agree(&ours, &theirs)?
+            && parts_agree(&base, &ours)?
             && take_over_agrees(&base, &ours, &theirs, false)?
             && take_over_agrees(&base, &ours, &theirs, true)?
             && prefixes_agree(&mut words, alloc, &ours)?

@@ -17,6 +17,7 @@ pub enum Bulk {
     TakePrefix,
     RestorePrefix,
     Difference,
+    Intersection,
 }
 
 impl Bulk {
@@ -47,6 +48,11 @@ impl Bulk {
                 let part = ours.difference(&begun.theirs)?;
                 let alone = number_of(part.get_bytes(b"abc"));
                 Ok(alone == Some(2) && tell(&part) == [None, None, None])
+            }
+            Bulk::Intersection => {
+                let part = ours.intersection(&begun.theirs)?;
+                let alone = number_of(part.get_bytes(b"abc"));
+                Ok(alone.is_none() && tell(&part) == [Some(4), Some(5), Some(6)])
             }
         }
     }

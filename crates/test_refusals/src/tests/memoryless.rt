@@ -73,6 +73,8 @@ fn read(
         },
     );
     assert_eq!(rt; shown, 8);
+    assert!(rt; has_room(theirs));
+    assert!(rt; theirs.intersection(base).is_ok());
 }
 
 fn change_nothing(rt: &impl Abort, version: &mut Version, absent: &VectorKey) {

@@ -53,6 +53,7 @@ const BULK: &[(Bulk, &str, u64)] = &[
     (Bulk::TakePrefix, "take_prefix", 2),
     (Bulk::RestorePrefix, "restore_prefix", 1),
     (Bulk::Difference, "difference", 6),
+    (Bulk::Intersection, "intersection", 1),
 ];
 
 const READINGS: &[(Reading, &str)] = &[

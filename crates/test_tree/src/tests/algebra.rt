@@ -1,4 +1,4 @@
-//! What one tree has and another lacks, in each form.
+//! What one tree has and another lacks, and what both have, in each form.
 ghost use Rattle.rart_maps.specs.Versions.{HasRoom};
 
 use crate::tests::trees::{Tree, four, has_room, tree_of};
@@ -23,16 +23,38 @@ const DIFFERENCES: &[(&[(&[u8], u64)], &[(&[u8], u64)])] = &[
     (&[(b"a", 4), (b"abc", 3), (b"abd", 2), (b"b", 1)], &[]),
 ];
 
+// Likewise, and what they are with its keys alone.
+const INTERSECTIONS: &[(&[(&[u8], u64)], &[(&[u8], u64)])] = &[
+    (&[], &[]),
+    (&[(b"a", 9)], &[(b"a", 1)]),
+    (&[(b"ab", 5), (b"abc", 2)], &[(b"abc", 2)]),
+    (&[(b"", 1), (b"abcd", 2), (b"c", 3)], &[]),
+    (
+        &[(b"abc", 1), (b"abd", 2), (b"b", 3)],
+        &[(b"abc", 2), (b"abd", 3), (b"b", 4)],
+    ),
+    (
+        &[(b"a", 4), (b"abc", 3), (b"abd", 2), (b"b", 1)],
+        &[(b"a", 1), (b"abc", 2), (b"abd", 3), (b"b", 4)],
+    ),
+    (
+        &[(b"a", 0), (b"aa", 0), (b"b", 0), (b"bb", 0)],
+        &[(b"a", 1), (b"b", 4)],
+    ),
+];
+
 fn cut(tree: &Tree, form: usize, other: &Tree) -> Result<Tree, AllocError>
     requires { HasRoom tree.now 2 }
 {
     match form {
         0 => tree.difference(other),
-        _ => tree.difference_counted(other, &mut Work::new()),
+        1 => tree.difference_counted(other, &mut Work::new()),
+        2 => tree.intersection(other),
+        _ => tree.intersection_counted(other, &mut Work::new()),
     }
 }
 
-// Four pairs without the keys of another tree are these.
+// Four pairs, cut by the keys of another tree, are these.
 fn assert_cut(
     rt: &impl Abort,
     alloc: Global,
@@ -52,6 +74,16 @@ fn one_tree_is_cut_by_another(rt: HostRuntime) -> Result<(), Fail> {
     for (others, left) in DIFFERENCES {
         for form in 0..2 {
             assert_cut(&rt, rt.alloc(), form, others, left)?;
+        }
+    }
+    Ok(())
+}
+
+#[test]
+fn two_trees_are_met(rt: HostRuntime) -> Result<(), Fail> {
+    for (others, common) in INTERSECTIONS {
+        for form in 2..4 {
+            assert_cut(&rt, rt.alloc(), form, others, common)?;
         }
     }
     Ok(())

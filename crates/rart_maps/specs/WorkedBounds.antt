@@ -3,7 +3,7 @@ use Rattle.std.specs.Prelude.{◌≡◌, ℕ, List, [], ◌∷◌, map, codes}
 use Rattle.std.specs.declared.ops.Bound.TheVariants.{Included, Excluded, Unbounded}
 use Rattle.std.specs.FinMap as finite
 use Rattle.rart_maps.specs.Versions.{Map}
-use Rattle.rart_maps.specs.Bounds.{lookup_bound, change_bound, enter_bound, meet_bound, intersection_bound, reach_bound, reach_by_pairs, range_bound, node_count}
+use Rattle.rart_maps.specs.Bounds.{lookup_bound, change_bound, enter_bound, meet_bound, difference_bound, intersection_bound, cut_makes, reach_bound, reach_by_pairs, range_bound, node_count}
 
 -- a map of these keys: on values no bound depends
 abbrev pub map_of : List (List ℕ) → Map ℕ
@@ -133,14 +133,28 @@ RangeOfNone = range_bound (map_of []) (Excluded (codes "abc")) Unbounded ≡ 5
 abbrev pub RangeOfNoneBelow : Type 0
 RangeOfNoneBelow = range_bound (map_of []) Unbounded (Included (codes "abc")) ≡ 5
 
--- Places are "" and a, at which keys part, and the keys ac and ad.
+abbrev pub of_three : Map ℕ
+of_three = map_of (codes "ac" ∷ codes "ad" ∷ codes "b" ∷ [])
+
+abbrev pub of_two : Map ℕ
+of_two = map_of (codes "ac" ∷ codes "ade" ∷ [])
+
+-- Places are "" and a, at which keys part, and the keys ac and ad; ac is a key of both.
+abbrev pub DifferenceOfThree : Type 0
+DifferenceOfThree = difference_bound of_three of_two ≡ 9
+
 abbrev pub IntersectionOfThree : Type 0
-IntersectionOfThree = intersection_bound
-    (map_of (codes "ac" ∷ codes "ad" ∷ codes "b" ∷ []))
-    (map_of (codes "ac" ∷ codes "ade" ∷ []))
-    ≡ 12
+IntersectionOfThree = intersection_bound of_three of_two ≡ 12
+
+-- The strings "", a and ac begin ac.
+abbrev pub CutOfThree : Type 0
+CutOfThree = cut_makes of_three of_two ≡ 3
 
 -- The place of abcd and abcde is abcd alone, though five strings begin both.
+abbrev pub DifferenceOfLong : Type 0
+DifferenceOfLong =
+    difference_bound (map_of (codes "abcd" ∷ [])) (map_of (codes "abcde" ∷ [])) ≡ 2
+
 abbrev pub IntersectionOfLong : Type 0
 IntersectionOfLong =
     intersection_bound (map_of (codes "abcd" ∷ [])) (map_of (codes "abcde" ∷ [])) ≡ 3

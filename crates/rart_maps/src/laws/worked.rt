@@ -1,6 +1,6 @@
 //! Worked values of what is read off maps and of the bounds, found by hand.
 ghost use Rattle.rart_maps.specs.Disorders.{DisordersAreWorked};
-ghost use Rattle.rart_maps.specs.WorkedBounds.{LookupOfNoByte, LookupOfThreeBytes, ChangeOfNoByte, ChangeOfThreeBytes, TouchOfNoByte, TouchOfThreeBytes, MeetOfTwo, MeetBelowOne, MeetWithItself, MeetOfEmpty, ReachOfTwo, ReachOfAll, ReachOfNone, MeetOfDistinct, MeetInsideKeys, ReachOfFive, ReachOfOne, ReachPastKeys, WalkOfThree, WalkOfOneBelowOther, WalkOfNone, ReachByPairsOfTwo, ReachByPairsOfAll, ReachByPairsOfNone, ReachByPairsOfThree, RangeOfTwo, RangeOfAll, RangeReversed, RangeOfNone, RangeOfNoneBelow, IntersectionOfThree, IntersectionOfLong};
+ghost use Rattle.rart_maps.specs.WorkedBounds.{LookupOfNoByte, LookupOfThreeBytes, ChangeOfNoByte, ChangeOfThreeBytes, TouchOfNoByte, TouchOfThreeBytes, MeetOfTwo, MeetBelowOne, MeetWithItself, MeetOfEmpty, ReachOfTwo, ReachOfAll, ReachOfNone, MeetOfDistinct, MeetInsideKeys, ReachOfFive, ReachOfOne, ReachPastKeys, WalkOfThree, WalkOfOneBelowOther, WalkOfNone, ReachByPairsOfTwo, ReachByPairsOfAll, ReachByPairsOfNone, ReachByPairsOfThree, RangeOfTwo, RangeOfAll, RangeReversed, RangeOfNone, RangeOfNoneBelow, DifferenceOfThree, IntersectionOfThree, CutOfThree, DifferenceOfLong, IntersectionOfLong};
 ghost use Rattle.rart_maps.specs.WorkedPairs.{WithinIncluded, WithinExcluded, WithinOtherKeys, WithinLowAlone, WithinHighAlone, WithinReversed, WithinOneKey, WithinNoKey, UnderTwo, UnderOne, UnderItself, UnderEmpty, UnderNone, PrefixMatchesShortestFirst, PrefixMatchesOfKey, PrefixMatchesNone, LongestInside, LongestIsItself, LongestIsEmpty, LongestNone, CommonLeftFirst, CommonNone, CommonOfTwo, CommonOfOne, CommonOfEmpty, SharedOfTwo, SharedOfOne, SharedOfEmpty};
 
 /// Worked values: the pairs within two bounds, that include or exclude their key, one bound alone,
@@ -102,8 +102,11 @@ pub fn worked_disorders()
     ensures { DisordersAreWorked }
 {}
 
-/// Worked values: how many nodes an intersection that makes a map enters at most.
-pub fn worked_intersections()
-    ensures three { IntersectionOfThree }
-    ensures long { IntersectionOfLong }
+/// Worked values: how many nodes a difference and an intersection enter and make at most.
+pub fn worked_cuts()
+    ensures without_three { DifferenceOfThree }
+    ensures common_three { IntersectionOfThree }
+    ensures made { CutOfThree }
+    ensures without_long { DifferenceOfLong }
+    ensures common_long { IntersectionOfLong }
 {}

@@ -118,7 +118,8 @@ enum {
 };
 
 // Whether a change was not refused. What was to be taken out may have been absent, and what was to
-// be new may have been there: by RART_DONE and RART_ABSENT the answer says which.
+// be new may have been there: by RART_DONE and RART_ABSENT the answer says which. It is for changes
+// alone: a read that finds nothing answers RART_ABSENT too, and writes no value.
 #define RART_OK(answer) ((answer) <= RART_ABSENT)
 
 // What an answer says, in a few words.
@@ -176,7 +177,9 @@ typedef struct rattle_block {
     void *at;
 } rattle_block;
 
-// What the library asks for memory by: heap.c has it over malloc, and a program may have its own.
+// What the library asks for memory by: heap.c has it over malloc, and a program that links the
+// archive may have its own in the place of heap.c. The shared library has these functions within it,
+// and never calls a program's.
 // - rattle_alloc gives a block of size bytes, of some where size is 0, at a multiple of align,
 //   which is a power of two, 16 at most.
 // - rattle_realloc gives such a block in place of another, which it takes back. The first kept bytes
@@ -209,10 +212,10 @@ static inline size_t rart_prefix_end(uint8_t *prefix, size_t len) {
 // - no pointer that a call writes to overlaps another: two trees of it are two, and no key that is
 //   handed in lies in the room that the call writes to;
 // - a buffer for keys is as long as rart_longest_key, which rart_clear and rart_new_at set back and
-//   a copy has from its tree, or RART_TOO_SMALL is looked for: pages have told all where one
-//   answers RART_ABSENT;
-// - a loop over pages sets each next bound behind the last key, and ends at any other answer than
-//   RART_DONE: rart_walk does so, and pages are for programs that keep their own buffers;
+//   a copy has from its tree; where it is shorter, the program looks for RART_TOO_SMALL;
+// - a loop over pages sets each next bound behind the last key, and has seen all pairs only where it
+//   ended by RART_ABSENT: rart_walk does so, and pages are for programs that keep their own buffers
+//   (FFI.md has such a loop);
 // - trees that come from one tree, or have had pairs of another put back, also through others, stay
 //   on one thread, as their nodes count who shares them; trees that have nothing to do with each
 //   other may be on two;
@@ -1139,7 +1142,8 @@ static inline void rart_walk_bound_past(rart_walk_bounds *bounds, const uint8_t 
 // RART_WALK_ROOM, RART_TOO_SMALL that the next key has, whose length is needed; a program may define
 // RART_WALK_ROOM before it includes this header. It is never refused for memory. The tree may be
 // changed meanwhile: each pair that is there all the time is given once, and one that is set or taken
-// out meanwhile may be given as it was. A walk is tested, and not proved; the pages under it are
+// out meanwhile may be given as it was. A walk may be copied by =; the key of the copy stands in the
+// first one until the copy's next step. A walk is tested, and not proved; the pages under it are
 // proved.
 typedef struct rart_walk {
     const uint8_t *key;
@@ -1177,9 +1181,17 @@ static inline void rart_walk_all(rart_walk *walk, rart_tree *tree) {
     rart_walk_range(walk, tree, NULL, 0, NULL, 0);
 }
 
-// Has a walk that has given no pair yet go from the last one back.
+// Over the pairs behind a key, which need not be there: a program that keeps the last key of a walk
+// goes on with it later.
+static inline void rart_walk_after(rart_walk *walk, rart_tree *tree, const void *key,
+                                   size_t key_len) {
+    rart_walk_range(walk, tree, key, key_len, NULL, 0);
+    walk->bounds.low_kind = RART_EXCLUDED;
+}
+
+// Has a walk go from the last pair back. One that has given a pair goes on as before.
 static inline void rart_walk_back(rart_walk *walk) {
-    walk->bounds.goes_back = true;
+    walk->bounds.goes_back = walk->bounds.goes_back || walk->count == 0;
 }
 
 // Goes on to the next pair, and tells whether there is one.
@@ -1190,7 +1202,8 @@ static inline bool rart_walk_next(rart_walk *walk) {
             return false;
         }
         if (walk->count > 0) {
-            rart_walk_bound_past(bounds, walk->key, walk->key_len);
+            const uint8_t *last = walk->bytes + (walk->start - walk->key_len);
+            rart_walk_bound_past(bounds, last, walk->key_len);
         }
         walk->answer = (bounds->goes_back ? rart_page_back : rart_page)(
             walk->tree, bounds->low, bounds->low_len, bounds->low_kind, bounds->high,
@@ -1255,8 +1268,14 @@ static inline void rart_bytes_walk_all(rart_bytes_walk *walk, rart_bytes *tree, 
     rart_bytes_walk_range(walk, tree, room, room_len, NULL, 0, NULL, 0);
 }
 
+static inline void rart_bytes_walk_after(rart_bytes_walk *walk, rart_bytes *tree, void *room,
+                                         size_t room_len, const void *key, size_t key_len) {
+    rart_bytes_walk_range(walk, tree, room, room_len, key, key_len, NULL, 0);
+    walk->bounds.low_kind = RART_EXCLUDED;
+}
+
 static inline void rart_bytes_walk_back(rart_bytes_walk *walk) {
-    walk->bounds.goes_back = true;
+    walk->bounds.goes_back = walk->bounds.goes_back || walk->count == 0;
 }
 
 // Gives a walk that has ended for want of room another one, of which it goes on.
@@ -1308,7 +1327,20 @@ static inline bool rart_bytes_walk_next(rart_bytes_walk *walk) {
 // A loop over pages that doesn't move its bound never ends, and no compiler tells of it: so where
 // RART_PAGES isn't defined, a program that calls for a page doesn't compile. A walk always ends.
 #if defined(__GNUC__) && !defined(RART_PAGES)
+#if defined(__clang__) || __GNUC__ >= 12
+#define RART_NO_PAGES                                                                              \
+    __attribute__((unavailable("take rart_walk, or define RART_PAGES before boltcomfrey.h is "     \
+                               "included for the first time")))
+#pragma GCC diagnostic push
+#pragma GCC diagnostic ignored "-Wredundant-decls"
+RART_NO_PAGES __typeof__(rart_page) rart_page;
+RART_NO_PAGES __typeof__(rart_page_back) rart_page_back;
+RART_NO_PAGES __typeof__(rart_bytes_page) rart_bytes_page;
+RART_NO_PAGES __typeof__(rart_bytes_page_back) rart_bytes_page_back;
+#pragma GCC diagnostic pop
+#else
 #pragma GCC poison rart_page rart_page_back rart_bytes_page rart_bytes_page_back
+#endif
 #endif
 
 #endif

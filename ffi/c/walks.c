@@ -70,12 +70,35 @@ static void try_either_way(rart_tree *numbers, rart_bytes *strings, bool goes_ba
     expect_numbers(&walk, 256, KEYS - 1, goes_back);
     rart_walk_prefix(&walk, numbers, low, 1);
     expect_numbers(&walk, 0, 255, goes_back);
+    rart_walk_after(&walk, numbers, low, sizeof low);
+    expect_numbers(&walk, 101, KEYS - 1, goes_back);
+    rart_walk_after(&walk, numbers, low, 1); // (no key is its end)
+    expect_numbers(&walk, 0, KEYS - 1, goes_back);
     rart_bytes_walk_all(&texts, strings, room, sizeof room);
     expect_strings(&texts, 0, KEYS - 1, goes_back);
     rart_bytes_walk_range(&texts, strings, room, sizeof room, low, sizeof low, high, sizeof high);
     expect_strings(&texts, 100, 455, goes_back);
     rart_bytes_walk_prefix(&texts, strings, room, sizeof room, end, sizeof end);
     expect_strings(&texts, 256, KEYS - 1, goes_back);
+    rart_bytes_walk_after(&texts, strings, room, sizeof room, low, sizeof low);
+    expect_strings(&texts, 101, KEYS - 1, goes_back);
+}
+
+// A walk that is copied goes on by itself, when its first one is gone; and one that has given a pair
+// isn't turned.
+static void try_copies(rart_tree *numbers) {
+    rart_walk *walk = malloc(sizeof *walk);
+    EXPECT(walk != NULL);
+    rart_walk_all(walk, numbers);
+    EXPECT(rart_walk_next(walk));
+    rart_walk_back(walk);
+    rart_walk copy = *walk;
+    memset(walk, 0, sizeof *walk);
+    free(walk);
+    for (size_t number = 1; number < KEYS; number++) {
+        EXPECT(rart_walk_next(&copy) && copy.value == number && number_of(copy.key) == number);
+    }
+    EXPECT(!rart_walk_next(&copy) && copy.answer == RART_ABSENT);
 }
 
 // Bounds the other way round, one that nothing is at, and trees without a key.
@@ -151,6 +174,7 @@ int main(void) {
     try_either_way(&numbers, &strings, false);
     try_either_way(&numbers, &strings, true);
     try_nothing(&numbers, &strings);
+    try_copies(&numbers);
     try_changes(&numbers);
     try_rooms();
     rart_clear(&numbers);

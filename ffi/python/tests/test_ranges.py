@@ -1,6 +1,7 @@
 """Ranges and prefixes: views that can be read, counted, walked both ways and taken out."""
 
 import unittest
+from itertools import product
 
 from boltcomfrey import Range
 from kinds import Numbers, Strings
@@ -44,6 +45,25 @@ class Ranges:
             self.assertEqual((b"a" in found, b"b" in found), inclusive)
         self.assertEqual(len(self.map.range()), len(KEYS))
         self.assertEqual(list(self.map.range(stop=b"", inclusive=(True, True))), [b""])
+
+    def test_ranges_of_ranges(self):
+        bounds = (None, b"", b"a", b"a\xff", b"b")
+        kinds = [(low, high) for low in (False, True) for high in (False, True)]
+        for start, stop in product(bounds, bounds):
+            for outer, inner in product(kinds, kinds):
+                for low, high in product(bounds, bounds):
+                    around = self.map.range(start, stop, inclusive=outer)
+                    found = around.range(low, high, inclusive=inner)
+                    alone = self.map.range(low, high, inclusive=inner)
+                    self.assertEqual([*found], [it for it in around if it in alone])
+        self.assertEqual([*self.map.prefix(b"a")[b"ab":]], [b"ab", b"a\xff", b"a\xff\xff"])
+        behind = self.map.prefix(b"a").range(b"ab", inclusive=(False, False))
+        self.assertEqual([*behind], [b"a\xff", b"a\xff\xff"])
+
+    def test_inclusive_is_a_pair(self):
+        for inclusive in (True, (), (True,), "[]", (1, 0)):
+            with self.assertRaisesRegex(TypeError, "pair"):
+                self.map.range(b"a", inclusive=inclusive)
 
     def test_prefixes(self):
         for prefix in (*KEYS, b"c", b"a\xff\xff\xff"):

@@ -35,10 +35,13 @@ from ._errors import (
     UnsupportedFormat,
     WrongSum,
 )
+from ._library import Bytes
+from ._map import Map
 from ._numbers import NumberMap
 from ._ordered import Change, Range
 
 __all__ = [
+    "Bytes",
     "BytesMap",
     "Change",
     "Error",
@@ -47,6 +50,7 @@ __all__ = [
     "LastNumber",
     "LoadError",
     "Malformed",
+    "Map",
     "NumberMap",
     "Range",
     "Truncated",

@@ -187,5 +187,6 @@ def as_bytes(what: str, given: object) -> bytes:
         return given
     if isinstance(given, (bytearray, memoryview)):
         return bytes(given)
-    hint = ": encode it, as by .encode()" if isinstance(given, str) else ""
+    is_text = isinstance(given, str) and what != "saved map"
+    hint = ": encode it, as by .encode()" if is_text else ""
     raise TypeError(f"a {what} is bytes, not {type(given).__name__}{hint}")

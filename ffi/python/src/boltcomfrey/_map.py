@@ -65,7 +65,8 @@ class Map(Ordered[V], MutableMapping[bytes, V]):
     def from_bytes(cls, data: Bytes, *, longest_key: int = library.LONGEST_KEY) -> Self:
         """The map that `to_bytes` wrote, its number too. The bytes may be a stranger's.
 
-        Raises a `LoadError` where they are no map's of this kind, and `KeyTooLong` where a key of
+        How long a key may be isn't among the bytes: a map that had another limit is loaded with it.
+        Maps that are loaded share nothing. Raises a `LoadError` where they are no map's of this kind, and `KeyTooLong` where a key of
         them is longer than `longest_key`.
         """
         data = library.as_bytes("saved map", data)
@@ -161,7 +162,10 @@ class Map(Ordered[V], MutableMapping[bytes, V]):
 
     @property
     def number(self) -> int:
-        """The map's number: each change raises it, and a snapshot's is one greater."""
+        """The map's number: each change raises it, and a snapshot's is one greater.
+
+        It counts changes, and names no version: two copies that go on have the same numbers.
+        """
         with library.lock:
             return self._calls.version(self._tree)
 
@@ -332,7 +336,9 @@ class Map(Ordered[V], MutableMapping[bytes, V]):
         """Puts another map's pairs under a prefix in place of all that are there.
 
         The others stay. The number is then the sum of both: a map that is restored from its own
-        snapshots doubles it each time. To undo all, keep the snapshot in the map's place.
+        snapshots doubles it each time, so after some 60 times each more is refused by `LastNumber`.
+        A new map of its pairs, as `BytesMap(map)`, has a small number again. To undo all, keep the
+        snapshot in the map's place.
         """
         prefix = library.as_bytes("prefix", prefix)
         with library.lock:
@@ -369,7 +375,7 @@ class Map(Ordered[V], MutableMapping[bytes, V]):
     # Two maps.
 
     def __eq__(self, other: object) -> bool:
-        """Whether both have the same pairs, whatever their numbers."""
+        """Whether both have the same pairs, whatever their numbers. It takes time by all pairs."""
         if not isinstance(other, Map) or other._calls is not self._calls:
             return super().__eq__(other)
         with library.lock:
@@ -394,7 +400,8 @@ class Map(Ordered[V], MutableMapping[bytes, V]):
     def diff(self, after: Map[V]) -> Iterator[Change[V]]:
         """What differs from this map to a later one: each key at which they do, in order.
 
-        It walks over both maps whole, now: later changes of them don't show.
+        It walks over both maps whole, now, also where they share most: a program that asks often
+        for what it changed itself keeps those keys. Later changes of the maps don't show.
         """
         with library.lock:
             gone, come = self.difference(after), after.difference(self)

@@ -5,9 +5,10 @@ from __future__ import annotations
 import reprlib
 from collections.abc import ItemsView, Iterator, KeysView, Mapping, ValuesView
 from itertools import chain, islice
-from typing import TYPE_CHECKING, Generic, NamedTuple, TypeVar
+from typing import TYPE_CHECKING, Any, Generic, NamedTuple, TypeVar, overload
 
 from . import _library as library
+from ._library import Bytes
 
 if TYPE_CHECKING:
     from ._map import Map
@@ -37,6 +38,14 @@ class Bounds(NamedTuple):
         high = (key <= self.high, key < self.high, True)[self.high_kind]
         return low and high
 
+    def within(self, other: Bounds) -> Bounds:
+        """What meets these bounds and two others."""
+        both = (self, other)
+        low = max(both, key=lambda it: (it.low_kind != library.UNBOUNDED, it.low, it.low_kind))
+        # (of two ends that are one key the excluded one is the nearer)
+        high = min(both, key=lambda it: (it.high_kind == library.UNBOUNDED, it.high, -it.high_kind))
+        return Bounds(low.low, low.low_kind, high.high, high.high_kind)
+
     def behind(self, key: bytes, is_back: bool) -> Bounds:
         """What is left of the range behind a key, or before it on the way back."""
         if is_back:
@@ -49,6 +58,8 @@ EVERY = Bounds(b"", library.UNBOUNDED, b"", library.UNBOUNDED)
 
 def bounds_between(start: object, stop: object, inclusive: tuple[bool, bool]) -> Bounds:
     """The bounds of a range: None has no bound on its side."""
+    if not (isinstance(inclusive, tuple) and [type(it) for it in inclusive] == [bool, bool]):
+        raise TypeError(f"inclusive is a pair, as (True, False), not {inclusive!r}")
     low, low_kind = _bound(start, inclusive[0])
     high, high_kind = _bound(stop, inclusive[1])
     return Bounds(low, low_kind, high, high_kind)
@@ -120,7 +131,10 @@ class Range(Ordered[V]):
     """The pairs of a map within two bounds, as the map is when they are asked for.
 
     A mapping that can be read: `len` counts the pairs, `reversed` begins with the last one, and
-    `keys`, `items` and `values` are views. `map[start:stop]`, `map.range` and `map.prefix` make it.
+    `keys`, `items` and `values` are views. `map[start:stop]`, `map.range` and `map.prefix` make it,
+    and so do `range[start:stop]` and `range.range`, of the pairs that are in the range too: a
+    listing under a prefix goes on behind a key by
+    `map.prefix(prefix).range(key, inclusive=(False, False))`.
     """
 
     __slots__ = ("_between", "_of")
@@ -134,10 +148,27 @@ class Range(Ordered[V]):
     def _bounds(self) -> Bounds:
         return self._between
 
-    def __getitem__(self, key: bytes) -> V:
+    @overload
+    def __getitem__(self, key: Bytes, /) -> V: ...
+    @overload
+    def __getitem__(self, key: slice, /) -> Range[V]: ...
+    def __getitem__(self, key: Any, /) -> Any:
+        """The value of a key; of a slice of keys the range, as `range` gives it."""
+        if isinstance(key, slice):
+            return Range(self._of, self._between.within(slice_bounds(key)))
         if not self._between.holds(library.as_bytes("key", key)):
             raise KeyError(key)
         return self._of[key]
+
+    def range(
+        self,
+        start: Bytes | None = None,
+        stop: Bytes | None = None,
+        *,
+        inclusive: tuple[bool, bool] = (True, False),
+    ) -> Range[V]:
+        """Those of the pairs whose keys are within two bounds, as a view; None is no bound."""
+        return Range(self._of, self._between.within(bounds_between(start, stop, inclusive)))
 
     def __contains__(self, key: object) -> bool:
         return self._between.holds(library.as_bytes("key", key)) and key in self._of

@@ -266,6 +266,20 @@ impl<'a, V: Value> Lent<'a, V> {
     /// assert_eq!(list, b"milk is 100\ntea is 300\n");
     /// # Ok::<(), std::io::Error>(())
     /// ```
+    ///
+    /// Where the closure names no type of errors, the answer does:
+    ///
+    /// ```
+    /// # use boltcomfrey::{Refusal, VersionedMap};
+    /// # let prices = VersionedMap::from([("tea", 300), ("milk", 100)]);
+    /// let mut count = 0;
+    /// prices.iter().lent().try_for_each(|_, _| {
+    ///     count += 1;
+    ///     Ok::<(), Refusal>(())
+    /// })?;
+    /// assert_eq!(count, 2);
+    /// # Ok::<(), Refusal>(())
+    /// ```
     pub fn try_for_each<E: From<Refusal>>(
         &mut self,
         f: impl FnMut(&[u8], &V::Lent) -> Result<(), E>,

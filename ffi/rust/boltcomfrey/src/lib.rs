@@ -20,6 +20,8 @@
 //!
 //! Where memory lacks, a call that answers a `Result` answers [`Refusal::NoMemory`], be it that the
 //! library is refused or a copy of a key, of a value or of a page. A call that answers none panics.
+//! The library's nodes are of C's `malloc`: a `#[global_allocator]` neither serves, counts nor limits
+//! them. Copies and pages are of Rust's allocator.
 //!
 //! A map and all that came from it stay on one thread, and maps that have nothing to do with each
 //! other may be on several. An [`Unshared`] map goes to other threads, and several can read it. It runs on Linux on x86-64-v2, with Rust 1.85 or later.

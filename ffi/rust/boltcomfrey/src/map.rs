@@ -26,6 +26,7 @@ mod walking;
 /// fn shares<T: Sync>(_: T) {}
 /// shares(boltcomfrey::VersionedMap::new());
 /// ```
+#[must_use = "a map that nobody keeps is freed at once"]
 pub struct Map<V: Value> {
     pub(crate) tree: Tree<<V as Calls>::Handle>,
 }
@@ -45,7 +46,6 @@ impl<V: Value> Map<V> {
     /// let prices = const { VersionedMap::new() };
     /// assert!(prices.is_empty());
     /// ```
-    #[must_use]
     pub const fn new() -> Map<V> {
         Map { tree: Tree::new() }
     }

@@ -33,19 +33,20 @@ use std::ops::Bound;
 /// assert_eq!(PRICES.lock().unwrap().len(), 2);
 /// ```
 ///
-/// Many threads read one map, with no lock. A new version is made beside it and put in its place:
+/// Many threads read one map, with no lock. A new version is made beside it and put in its place.
+/// (`unshare` copies all nodes; `examples/published.rs` publishes with no copy.)
 ///
 /// ```
 /// # use boltcomfrey::{Refusal, Unshared, VersionedMap};
 /// use std::sync::Arc;
-/// let mut routes = VersionedMap::from([("10.0", 1), ("10.0.7", 2)]);
+/// let mut routes = VersionedMap::from([([10, 0].to_vec(), 1), ([10, 0, 7].to_vec(), 2)]);
 /// let read = Arc::new(routes.unshare()?);
 /// let reader = std::thread::spawn({
 ///     let read = Arc::clone(&read);
-///     move || read.longest_prefix("10.0.3")
+///     move || read.longest_prefix([10, 0, 3, 9])
 /// });
-/// routes.insert("10.0.3", 3)?;
-/// assert_eq!(reader.join().unwrap(), Some((4, 1)));
+/// routes.insert([10, 0, 3], 3)?;
+/// assert_eq!(reader.join().unwrap(), Some((2, 1)));
 /// # Ok::<(), Refusal>(())
 /// ```
 ///
@@ -70,7 +71,7 @@ pub struct Unshared<V: Value> {
 // SAFETY: each node of the map is its own. `new`, `with_longest_key`, `from_bytes` and
 // `Map::unshare` make all nodes anew; no method takes a map in or gives one out but `into_map`, which
 // ends this one. So no thread but the one that has it reaches a count of its nodes. The library has
-// no state of a thread, and its memory is of Rust's allocator, which any thread may free.
+// no state of a thread, and its memory is of C's `malloc`, which any thread may free.
 #[allow(unsafe_code)]
 unsafe impl<V: Value> Send for Unshared<V> {}
 
@@ -135,7 +136,6 @@ impl<V: Value> Unshared<V> {
     /// assert_eq!(yesterday.get("tea"), Some(300));
     /// # Ok::<(), Refusal>(())
     /// ```
-    #[must_use]
     pub fn into_map(self) -> Map<V> {
         self.map
     }

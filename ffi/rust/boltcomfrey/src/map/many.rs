@@ -112,7 +112,6 @@ impl<V: Value> Map<V> {
     /// let all = prices.union(VersionedMap::from([("tea", 350), ("milk", 100)]));
     /// assert_eq!(all, VersionedMap::from([("milk", 100), ("tea", 300)]));
     /// ```
-    #[must_use]
     pub fn union(self, other: Map<V>) -> Map<V>
     where
         V: Given<V>,

@@ -62,10 +62,12 @@ impl<V: Value> Map<V> {
     ///
     /// ```
     /// # use boltcomfrey::VersionedMap;
-    /// let routes = VersionedMap::from([("10.0", 1), ("10.0.7", 2)]);
-    /// assert_eq!(routes.longest_prefix("10.0.3"), Some((4, 1)));
-    /// assert_eq!(routes.longest_prefix("192.168"), None);
+    /// let routes = VersionedMap::from([([10, 0].to_vec(), 1), ([10, 0, 7].to_vec(), 2)]);
+    /// assert_eq!(routes.longest_prefix([10, 0, 3, 9]), Some((2, 1)));
+    /// assert_eq!(routes.longest_prefix([192, 168, 0, 1]), None);
     /// ```
+    ///
+    /// The keys are an address's bytes here, and not its text: the text `10.1` begins `10.12.0.1`.
     #[must_use]
     pub fn longest_prefix(&self, probe: impl AsRef<[u8]>) -> Option<(usize, V)> {
         unrefused(self.try_longest_prefix(probe))

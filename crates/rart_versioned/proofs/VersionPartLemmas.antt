@@ -1,12 +1,12 @@
 -- The two parts that another version cuts a version into, and that all stays in order there.
-use Rattle.std.proofs.Common.{◌≡◌, ℕ, ◌+◌, ◌*◌, ◌≤◌, ◌⊎◌, inl, inr, ⊎_elim, List, [], ◌∷◌, ◌++◌, Option, Some, None, IsSome, is_some, length, map, cond, not, Bool, true, false, refl, arith, sym, ap, subst, ◌∙◌}
+use Rattle.std.proofs.Common.{◌≡◌, ℕ, ◌+◌, ◌≤◌, ◌⊎◌, inl, inr, ⊎_elim, List, [], ◌∷◌, Option, Some, None, IsSome, is_some, length, map, cond, not, Bool, true, false, refl, arith, sym, ap, subst, ◌∙◌}
 use Rattle.std.specs.FinMap as finite
 use Rattle.std.specs.FinSet as set
-use Rattle.std.specs.Prelude.{Contains, filter}
+use Rattle.std.specs.Prelude.{filter}
 use Rattle.std.proofs.lemmas.Bool.{and_from, false≢true}
 use Rattle.std.proofs.lemmas.Cmp.{nat_list_cmp_total}
 use Rattle.std.proofs.lemmas.List.{length-map}
-use Rattle.rart_below.specs.Bytes.{begins, byte_order}
+use Rattle.rart_below.specs.Bytes.{byte_order}
 use Rattle.rart_maps.specs.Bounds.{cut_makes, difference_bound, intersection_bound}
 use Rattle.rart_maps.specs.MapParts.{common_part, without}
 use Rattle.rart_maps.specs.Pairs.{pairs, starts, shared}

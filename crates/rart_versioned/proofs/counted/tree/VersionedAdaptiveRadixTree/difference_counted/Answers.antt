@@ -1,4 +1,4 @@
-use Rattle.std.proofs.Common.{◌+◌, None, Some, length, arith, sym, ap, subst, ◌∙◌}
+use Rattle.std.proofs.Common.{◌+◌, Some, length, arith, sym, ap, subst, ◌∙◌}
 use Rattle.std.specs.Option.{option_map}
 use Rattle.rart_maps.specs.Bounds.{cut_makes, difference_bound}
 use Rattle.rart_maps.specs.MapParts.{without, version_without}

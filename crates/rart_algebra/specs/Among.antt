@@ -17,7 +17,7 @@ module _ {C : Type 0} where
   HaveChild bytes children =
       (byte : ℕ) → has_byte bytes byte ≡ true → IsSome (child_at byte children)
 
--- Of a node's children those are left that stand under bytes of the set.
+-- Of a node those children are left that stand under bytes of the set, with its prefix and value.
 pub record KeepsAmong {V : Type 0} (bytes : ByteSet) (s now : Shape V) : Type 0 where
   pub prefix : prefix_of now ≡ prefix_of s
   pub value : value_of now ≡ value_of s

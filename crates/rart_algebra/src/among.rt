@@ -35,8 +35,8 @@ pub(crate) fn count_among<P: Partial, V: Drop>(node: &VersionedNode<P, V>, bytes
     count
 }
 
-/// What becomes of a node of whose children those alone are kept that stand under these bytes, so
-/// many: nothing where all do.
+/// What becomes of a node that keeps its children under these bytes alone, so many of them. Nothing
+/// is copied where these are all.
 #[inline(never)]
 pub(crate) fn keep_among<P: Partial, V: Clone + Drop>(
     alloc: Global,
@@ -60,8 +60,8 @@ pub(crate) fn keep_among<P: Partial, V: Clone + Drop>(
     Ok(Some(made_among(alloc, node, bytes, count, version, work)?))
 }
 
-/// A node with the prefix and the value of another one, and with the children that this one has
-/// under these bytes, so many. It has room for these, so that it is never widened.
+/// A node with the prefix and the value of another, and with that one's children under these bytes,
+/// so many of them. It has room for as many, so that it is never widened.
 fn made_among<P: Partial, V: Clone + Drop>(
     alloc: Global,
     node: &VersionedNode<P, V>,

@@ -1,6 +1,6 @@
 // Ported from rart 0.11.0 (Apache-2.0), and rewritten.
 //! The node: a prefix, an optional value, and children under bytes.
-ghost use Rattle.std.specs.Prelude.{◌≡◌, ◌<◌, ◌==◌, ◌+◌, ◌↔◌, ℕ, IsErrOf, IsOk, IsSome, IsTrue, IfOk, OnOk, OnErr, Some, None, [], length, not};
+ghost use Rattle.std.specs.Prelude.{nat_le, ◌≡◌, ◌<◌, ◌==◌, ◌+◌, ◌↔◌, ℕ, IsErrOf, IsOk, IsSome, IsTrue, IfOk, OnOk, OnErr, Some, None, [], length, not};
 ghost use Rattle.std.specs.Option.{option_map, option_copied};
 ghost use Rattle.rart_below.specs.ByteSets.{AreBytesOf, AreBytesOfBoth};
 ghost use Rattle.rart_below.specs.Children.{child_at, children_below, children_from, first_of, IsLastOf, TakesEntry, TakesFirst, TakesLast};
@@ -196,6 +196,13 @@ impl<P: Partial, V: Drop> VersionedNode<P, V> {
         ensures width { FitsWidth self.now.shape }
     {
         self.content.is_full()
+    }
+
+    /// Whether the width has room for so many children, so that none of them asks for the next.
+    pub fn has_room_for(&self, count: usize) -> bool
+        ensures { result ≡ nat_le count (width_of self.now.shape) }
+    {
+        count <= self.content.width()
     }
 
     /// The pointer under the byte.

@@ -46,7 +46,7 @@ some-strip_prefix : {V : Type 0} (o : Option (List ℕ)) (values : List ℕ → 
 some-strip_prefix None values some = some
 some-strip_prefix (Some rest) values some = refl
 
-shorter : (most : Option ℕ) (m n : ℕ) → m ≤ n → IsAdmitted most n → IsAdmitted most m
+pub shorter : (most : Option ℕ) (m n : ℕ) → m ≤ n → IsAdmitted most n → IsAdmitted most m
 shorter None m n le admitted = tt
 shorter (Some most) m n le admitted = omega (arith, le, admitted)
 

@@ -118,7 +118,7 @@ fn finish<P: Partial, V: Clone + Drop>(
 }
 
 /// A copy of a node, cut inside its prefix: one node made, that below the cut.
-pub(crate) fn cut<P: Partial, V: Clone + Drop>(
+pub fn cut<P: Partial, V: Clone + Drop>(
     alloc: Global,
     node: &VersionedNode<P, V>,
     at: usize,

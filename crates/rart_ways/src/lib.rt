@@ -15,7 +15,7 @@ mod search;
 mod seeking;
 mod sorted;
 
-pub use insertion::{insert_below, leaf_of};
+pub use insertion::{cut, insert_below, leaf_of};
 pub use lending::lend_below;
 pub use prefixes::{Cleared, clear_below, has_under, keep_under, put_under};
 pub use removal::{Removed, remove_below};

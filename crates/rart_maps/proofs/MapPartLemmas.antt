@@ -1,11 +1,11 @@
 -- What look-ups answer in the parts that another map cuts a map into, and the laws of these.
-use Rattle.std.proofs.Common.{◌≡◌, ◌&&◌, ℕ, Bool, true, false, cond, not, List, refl, sym, ap, ◌∙◌}
+use Rattle.std.proofs.Common.{◌≡◌, ◌&&◌, ◌||◌, ℕ, Bool, true, false, cond, not, List, refl, sym, ap, ◌∙◌}
 use Rattle.std.specs.Prelude.{Option, Some, None, is_some}
 use Rattle.std.specs.FinMap as finite
 use Rattle.rart_below.specs.Bytes.{byte_order}
 use Rattle.rart_maps.specs.ChangeLists.{joined}
-use Rattle.rart_maps.specs.MapParts.{common_part, without}
-use Rattle.rart_maps.specs.MapPartLaws.{CommonPartAnswers, OtherPartAnswers, CommonPartHasThesePairs, OtherPartHasThesePairs, PartsAreTheMap, NoKeyCutsNothing, CuttingTwiceIsCuttingOnce, CommonKeysAreOfBoth, CommonIsLeftWithoutTheRest, NothingIsLeftWithoutItself, KeysGoOneAfterTheOther}
+use Rattle.rart_maps.specs.MapParts.{apart, common_part, without}
+use Rattle.rart_maps.specs.MapPartLaws.{CommonPartAnswers, OtherPartAnswers, CommonPartHasThesePairs, OtherPartHasThesePairs, PartsAreTheMap, NoKeyCutsNothing, CuttingTwiceIsCuttingOnce, CommonKeysAreOfBoth, CommonIsLeftWithoutTheRest, NothingIsLeftWithoutItself, KeysGoOneAfterTheOther, JoinedAnswers, JoinedKeysAreOfEither, JoinedWithItself, ApartAnswers, ApartEitherWay, ApartIsJoinedWithoutCommon}
 use Rattle.rart_maps.specs.Versions.{Map}
 use Rattle.rart_maps.proofs.ChangeLemmas.{or_else, get-joined}
 use Rattle.rart_maps.proofs.OrderLemmas.{byte_order-IsAntisymmetric}
@@ -77,6 +77,46 @@ one-then-other x None None = refl
 one-then-other x None (Some other) = refl
 one-then-other x (Some one) None = refl
 one-then-other x (Some one) (Some other) = refl
+
+or-cond : {V : Type 0} (x y : Option V) → or_else x y ≡ cond (is_some x) x y
+or-cond None y = refl
+or-cond (Some x) y = refl
+
+or-some : {V : Type 0} (x y : Option V) → is_some (or_else x y) ≡ (is_some x || is_some y)
+or-some None y = refl
+or-some (Some x) y = refl
+
+or-own : {V : Type 0} (x : Option V) → or_else x x ≡ x
+or-own None = refl
+or-own (Some x) = refl
+
+or-none : {V : Type 0} (x : Option V) → or_else x None ≡ x
+or-none None = refl
+or-none (Some x) = refl
+
+one-alone : {V : Type 0} (x y : Option V)
+    → or_else (cond (is_some y) None x) (cond (is_some x) None y)
+    ≡ cond (is_some y) (cond (is_some x) None y) x
+one-alone None None = refl
+one-alone None (Some y) = refl
+one-alone (Some x) None = refl
+one-alone (Some x) (Some y) = refl
+
+alone-turned : {V : Type 0} (x y : Option V)
+    → or_else (cond (is_some y) None x) (cond (is_some x) None y)
+    ≡ or_else (cond (is_some x) None y) (cond (is_some y) None x)
+alone-turned None None = refl
+alone-turned None (Some y) = refl
+alone-turned (Some x) None = refl
+alone-turned (Some x) (Some y) = refl
+
+alone-cut : {V : Type 0} (x y : Option V)
+    → or_else (cond (is_some y) None x) (cond (is_some x) None y)
+    ≡ cond (is_some (cond (is_some y) x None)) None (or_else x y)
+alone-cut None None = refl
+alone-cut None (Some y) = refl
+alone-cut (Some x) None = refl
+alone-cut (Some x) (Some y) = refl
 
 module _ (V W : Type 0) where
   pub common_part_answers : CommonPartAnswers V W
@@ -151,3 +191,59 @@ module _ (V : Type 0) where
       ∙ one-then-other (finite.get m q) (finite.get one q) (finite.get other q)
       ∙ sym (get-without m (joined one other) q
       ∙ ap (λ x. cond (is_some x) None (finite.get m q)) (get-joined one other q)))
+
+  -- ---- two maps together
+  pub joined_answers : JoinedAnswers V
+  joined_answers one other q =
+      get-joined one other q ∙ or-cond (finite.get one q) (finite.get other q)
+
+  pub joined_keys_are_of_either : JoinedKeysAreOfEither V
+  joined_keys_are_of_either one other q =
+      ap is_some (get-joined one other q) ∙ or-some (finite.get one q) (finite.get other q)
+
+  pub joined_with_itself : JoinedWithItself V
+  joined_with_itself m = (
+    same_map _ _ (λ q. get-joined m m q ∙ or-own (finite.get m q)),
+    same_map _ _ (λ q. get-joined m finite.empty q
+        ∙ ap (or_else (finite.get m q)) (finite.get-empty byte_order q)
+        ∙ or-none (finite.get m q)),
+    same_map _ _ (λ q. get-joined finite.empty m q
+        ∙ ap (λ x. or_else x (finite.get m q)) (finite.get-empty byte_order q)),
+  )
+
+  -- what one has alone, or the other
+  pub get-apart : (one other : Map V) (q : List ℕ) → finite.get (apart one other) q
+      ≡ or_else (cond (finite.contains_key other q) None (finite.get one q))
+      (cond (finite.contains_key one q) None (finite.get other q))
+  get-apart one other q =
+      get-joined (without one other) (without other one) q
+      ∙ (λ i. or_else (get-without one other q i) (get-without other one q i))
+
+  pub apart_answers : ApartAnswers V
+  apart_answers one other q =
+      get-apart one other q ∙ one-alone (finite.get one q) (finite.get other q)
+
+  pub apart_either_way : ApartEitherWay V
+  apart_either_way one other = (
+    same_map _ _ (λ q. get-apart one other q
+        ∙ alone-turned (finite.get one q) (finite.get other q) ∙ sym (get-apart other one q)),
+    same_map _ _ (λ q. get-apart one one q
+        ∙ (λ i. or_else (own-cut (finite.get one q) i) (own-cut (finite.get one q) i))
+        ∙ sym (finite.get-empty byte_order q)),
+    same_map _ _ (λ q. get-apart one finite.empty q
+        ∙ ap (λ x. or_else (cond (is_some x) None (finite.get one q))
+        (cond (finite.contains_key one q) None x)) (finite.get-empty byte_order q)
+        ∙ ap (or_else (finite.get one q)) (none-either (finite.contains_key one q))
+        ∙ or-none (finite.get one q)),
+  )
+    where
+      none-either : (t : Bool) → ◌≡◌ {A = Option V} (cond t None None) None
+      none-either true = refl
+      none-either false = refl
+
+  pub apart_is_joined_without_common : ApartIsJoinedWithoutCommon V
+  apart_is_joined_without_common one other =
+      same_map _ _ (λ q. get-apart one other q
+      ∙ alone-cut (finite.get one q) (finite.get other q)
+      ∙ sym (get-without (joined one other) (common_part one other) q
+      ∙ (λ i. cond (is_some (get-common_part one other q i)) None (get-joined one other q i))))

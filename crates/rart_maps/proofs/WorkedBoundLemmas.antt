@@ -3,12 +3,12 @@ use Rattle.std.proofs.Common.{◌≡◌, ◌+◌, ◌-◌, ◌*◌, ◌∙◌, �
 use Rattle.std.specs.Prelude.{filter, codes}
 use Rattle.std.specs.List.{flat_map}
 use Rattle.rart_below.specs.Bytes.{byte_order}
-use Rattle.rart_maps.specs.MapParts.{common_part}
+use Rattle.rart_maps.specs.MapParts.{common_part, without}
 use Rattle.rart_maps.specs.Pairs.{pairs, prefixes_of}
 use Rattle.rart_maps.specs.Points.{places}
 use Rattle.rart_maps.specs.Versions.{Map}
-use Rattle.rart_maps.proofs.MapPartLemmas.{common_part_has_these_pairs}
-use Rattle.rart_maps.specs.WorkedBounds.{LookupOfNoByte, LookupOfThreeBytes, ChangeOfNoByte, ChangeOfThreeBytes, TouchOfNoByte, TouchOfThreeBytes, MeetOfTwo, MeetBelowOne, MeetWithItself, MeetOfEmpty, ReachOfTwo, ReachOfAll, ReachOfNone, MeetOfDistinct, MeetInsideKeys, ReachOfFive, ReachOfOne, ReachPastKeys, WalkOfThree, WalkOfOneBelowOther, WalkOfNone, ReachByPairsOfTwo, ReachByPairsOfAll, ReachByPairsOfNone, ReachByPairsOfThree, RangeOfTwo, RangeOfAll, RangeReversed, RangeOfNone, RangeOfNoneBelow, DifferenceOfThree, IntersectionOfThree, CutOfThree, DifferenceOfLong, IntersectionOfLong, map_of, of_three, of_two}
+use Rattle.rart_maps.proofs.MapPartLemmas.{common_part_has_these_pairs, other_part_has_these_pairs}
+use Rattle.rart_maps.specs.WorkedBounds.{LookupOfNoByte, LookupOfThreeBytes, ChangeOfNoByte, ChangeOfThreeBytes, TouchOfNoByte, TouchOfThreeBytes, MeetOfTwo, MeetBelowOne, MeetWithItself, MeetOfEmpty, ReachOfTwo, ReachOfAll, ReachOfNone, MeetOfDistinct, MeetInsideKeys, ReachOfFive, ReachOfOne, ReachPastKeys, WalkOfThree, WalkOfOneBelowOther, WalkOfNone, ReachByPairsOfTwo, ReachByPairsOfAll, ReachByPairsOfNone, ReachByPairsOfThree, RangeOfTwo, RangeOfAll, RangeReversed, RangeOfNone, RangeOfNoneBelow, DifferenceOfThree, IntersectionOfThree, CutOfThree, DifferenceOfLong, IntersectionOfLong, UnionOfThree, JoinedOfThree, ApartOfThree, UnionOfLong, JoinedWithItselfMakesNone, map_of, of_three, of_two}
 use Rattle.rart_maps.proofs.MapLemmas.{maps, sets}
 use Rattle.rart_maps.proofs.PairLawLemmas.{shared_is_empty}
 use Rattle.std.specs.FinMap as finite
@@ -161,3 +161,30 @@ difference_of_long =
     (common_part (map_of (codes "abcd" ∷ [])) (map_of (codes "abcde" ∷ []))) []
     intersection_of_long common-of_long refl
     ∙ simp (maps, sets) refl
+
+-- ---- unions
+pub union_of_three : UnionOfThree
+union_of_three = simp (maps, sets) refl
+
+pub apart_of_three : ApartOfThree
+apart_of_three = simp (maps, sets) refl
+
+pub union_of_long : UnionOfLong
+union_of_long = simp (maps, sets) refl
+
+-- how many nodes a union makes, where the right map adds these pairs
+abbrev makes_for : Map ℕ → Map ℕ → List (List ℕ × ℕ) → ℕ
+makes_for left right added = 3 * set.len (set.intersection (places left right)
+    (set.from_list (flat_map (λ pair. prefixes_of pair.0) added)))
+
+added-of_two : pairs (without of_two of_three) ≡ (codes "ade", 0) ∷ []
+added-of_two = other_part_has_these_pairs ℕ ℕ of_two of_three ∙ simp maps refl
+
+pub joined_of_three : JoinedOfThree
+joined_of_three = ap (makes_for of_three of_two) added-of_two ∙ simp (maps, sets) refl
+
+added-of_none : pairs (without of_two of_two) ≡ []
+added-of_none = other_part_has_these_pairs ℕ ℕ of_two of_two ∙ simp maps refl
+
+pub joined_with_itself_makes_none : JoinedWithItselfMakesNone
+joined_with_itself_makes_none = ap (makes_for of_two of_two) added-of_none ∙ simp (maps, sets) refl

@@ -5,7 +5,7 @@ use Rattle.std.specs.declared.ops.Bound.TheVariants.{Included, Excluded, Unbound
 use Rattle.std.specs.FinMap as finite
 use Rattle.std.specs.FinSet as set
 use Rattle.rart_below.specs.Bytes.{begins}
-use Rattle.rart_maps.specs.MapParts.{common_part}
+use Rattle.rart_maps.specs.MapParts.{common_part, without}
 use Rattle.rart_maps.specs.Versions.{Map}
 use Rattle.rart_maps.specs.Pairs.{starts, shared, under, within}
 use Rattle.rart_maps.specs.Points.{places, points}
@@ -36,8 +36,8 @@ module _ {V : Type 0} where
   abbrev pub meet_bound : Map V → Map V → ℕ
   meet_bound left right = 2 * set.len (shared left right)
 
-  -- the most nodes that a difference enters: two for each place of the two maps, and one for each
-  -- key of both
+  -- the most nodes that a difference enters, and a symmetric one: two for each place of the two
+  -- maps, and one for each key of both
   abbrev pub difference_bound : Map V → Map V → ℕ
   difference_bound left right =
       2 * set.len (places left right) + finite.len (common_part left right)
@@ -49,6 +49,19 @@ module _ {V : Type 0} where
   -- the most nodes that either makes: one for each string that begins a key of both
   abbrev pub cut_makes : Map V → Map V → ℕ
   cut_makes left right = set.len (starts (common_part left right))
+
+  -- the most nodes that a union enters: two for each place
+  abbrev pub union_bound : Map V → Map V → ℕ
+  union_bound left right = 2 * set.len (places left right)
+
+  -- the most nodes that it makes: three for each place that begins a key which the right map adds
+  abbrev pub union_makes : Map V → Map V → ℕ
+  union_makes left right =
+      3 * set.len (set.intersection (places left right) (starts (without right left)))
+
+  -- the most nodes that a symmetric difference makes: three for each place
+  abbrev pub apart_makes : Map V → Map V → ℕ
+  apart_makes left right = 3 * set.len (places left right)
 
   -- the most nodes that a walk under p enters, told by the strings that begin keys
   abbrev pub reach_bound : Map V → List ℕ → ℕ

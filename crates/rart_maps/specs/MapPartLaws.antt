@@ -1,8 +1,9 @@
--- Laws that show what the parts of a map are that another one cuts it into.
-use Rattle.std.specs.Prelude.{◌≡◌, ◌&&◌, ℕ, List, None, not, filter, if◌then◌else◌}
+-- Laws that show what the parts of a map are that another one cuts it into, and what two maps are
+-- together.
+use Rattle.std.specs.Prelude.{◌≡◌, ◌&&◌, ◌||◌, ℕ, List, None, not, filter, if◌then◌else◌}
 use Rattle.std.specs.FinMap as finite
 use Rattle.rart_maps.specs.ChangeLists.{joined}
-use Rattle.rart_maps.specs.MapParts.{common_part, without}
+use Rattle.rart_maps.specs.MapParts.{apart, common_part, without}
 use Rattle.rart_maps.specs.Pairs.{pairs}
 use Rattle.rart_maps.specs.Versions.{Map}
 
@@ -67,3 +68,41 @@ module _ (V : Type 0) where
   abbrev pub KeysGoOneAfterTheOther : Type 0
   KeysGoOneAfterTheOther = (m one other : Map V) →
       without (without m one) other ≡ without m (joined one other)
+
+  -- Of two maps together, a key has what the first has there, and else what the other has.
+  abbrev pub JoinedAnswers : Type 0
+  JoinedAnswers = (one other : Map V) (key : List ℕ) →
+      finite.get (joined one other) key
+      ≡ (if finite.contains_key one key then finite.get one key else finite.get other key)
+
+  -- Of what they don't share, it has what one of them has there alone.
+  abbrev pub ApartAnswers : Type 0
+  ApartAnswers = (one other : Map V) (key : List ℕ) →
+      finite.get (apart one other) key
+      ≡ (if finite.contains_key other key
+      then (if finite.contains_key one key then None else finite.get other key)
+      else finite.get one key)
+
+  -- With itself a map is itself, and with an empty one.
+  abbrev pub JoinedWithItself : Type 0
+  JoinedWithItself = (m : Map V) →
+      (joined m m ≡ m) × (joined m finite.empty ≡ m) × (joined finite.empty m ≡ m)
+
+  -- The keys of two maps together don't depend on which is first, and they are at most as many as
+  -- those of either in sum.
+  abbrev pub JoinedKeysAreOfEither : Type 0
+  JoinedKeysAreOfEither = (one other : Map V) (key : List ℕ) →
+      finite.contains_key (joined one other) key
+      ≡ (finite.contains_key one key || finite.contains_key other key)
+
+  -- Which of two maps is first makes no difference to what they don't share; a map shares all with
+  -- itself and nothing with an empty one.
+  abbrev pub ApartEitherWay : Type 0
+  ApartEitherWay = (one other : Map V) →
+      (apart one other ≡ apart other one) × (apart one one ≡ finite.empty)
+      × (apart one finite.empty ≡ one)
+
+  -- It is what both are together, without the keys of both.
+  abbrev pub ApartIsJoinedWithoutCommon : Type 0
+  ApartIsJoinedWithoutCommon = (one other : Map V) →
+      apart one other ≡ without (joined one other) (common_part one other)

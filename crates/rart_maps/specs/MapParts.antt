@@ -1,6 +1,8 @@
--- The two parts that another map cuts a map into: by its keys, whatever the values.
+-- The two parts that another map cuts a map into, by its keys, whatever the values; and what two
+-- maps are together.
 use Rattle.std.specs.Prelude.{◌+◌, not}
 use Rattle.std.specs.FinMap as finite
+use Rattle.rart_maps.specs.ChangeLists.{joined}
 use Rattle.rart_maps.specs.Versions.{Map, Version}
 
 module _ {V W : Type 0} where
@@ -21,3 +23,18 @@ module _ {V W : Type 0} where
   abbrev pub version_common : Version V → Version W → Version V
   version_common v other =
       record { content = common_part v.content other.content; number = v.number + 1 }
+
+module _ {V : Type 0} where
+  -- the pairs of either of two maps whose key the other lacks
+  abbrev pub apart : Map V → Map V → Map V
+  apart one other = joined (without one other) (without other one)
+
+  -- a version with the pairs of both, its own where a key is in both, its number the sum of theirs
+  abbrev pub version_joined : Version V → Version V → Version V
+  version_joined v other =
+      record { content = joined v.content other.content; number = v.number + other.number }
+
+  -- a version with the pairs whose key one of them alone has, its number the sum of theirs
+  abbrev pub version_apart : Version V → Version V → Version V
+  version_apart v other =
+      record { content = apart v.content other.content; number = v.number + other.number }

@@ -3,7 +3,7 @@ use Rattle.std.specs.Prelude.{◌≡◌, ℕ, List, [], ◌∷◌, map, codes}
 use Rattle.std.specs.declared.ops.Bound.TheVariants.{Included, Excluded, Unbounded}
 use Rattle.std.specs.FinMap as finite
 use Rattle.rart_maps.specs.Versions.{Map}
-use Rattle.rart_maps.specs.Bounds.{lookup_bound, change_bound, enter_bound, meet_bound, difference_bound, intersection_bound, cut_makes, reach_bound, reach_by_pairs, range_bound, node_count}
+use Rattle.rart_maps.specs.Bounds.{lookup_bound, change_bound, enter_bound, meet_bound, difference_bound, intersection_bound, cut_makes, union_bound, union_makes, apart_makes, reach_bound, reach_by_pairs, range_bound, node_count}
 
 -- a map of these keys: on values no bound depends
 abbrev pub map_of : List (List ℕ) → Map ℕ
@@ -150,6 +150,16 @@ IntersectionOfThree = intersection_bound of_three of_two ≡ 12
 abbrev pub CutOfThree : Type 0
 CutOfThree = cut_makes of_three of_two ≡ 3
 
+abbrev pub UnionOfThree : Type 0
+UnionOfThree = union_bound of_three of_two ≡ 8
+
+-- The right one adds ade, which the places "", a and ad begin.
+abbrev pub JoinedOfThree : Type 0
+JoinedOfThree = union_makes of_three of_two ≡ 9
+
+abbrev pub ApartOfThree : Type 0
+ApartOfThree = apart_makes of_three of_two ≡ 12
+
 -- The place of abcd and abcde is abcd alone, though five strings begin both.
 abbrev pub DifferenceOfLong : Type 0
 DifferenceOfLong =
@@ -158,3 +168,10 @@ DifferenceOfLong =
 abbrev pub IntersectionOfLong : Type 0
 IntersectionOfLong =
     intersection_bound (map_of (codes "abcd" ∷ [])) (map_of (codes "abcde" ∷ [])) ≡ 3
+
+abbrev pub UnionOfLong : Type 0
+UnionOfLong = union_bound (map_of (codes "abcd" ∷ [])) (map_of (codes "abcde" ∷ [])) ≡ 2
+
+-- Where the right one adds nothing, nothing is made.
+abbrev pub JoinedWithItselfMakesNone : Type 0
+JoinedWithItselfMakesNone = union_makes of_two of_two ≡ 0

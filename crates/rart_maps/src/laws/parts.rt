@@ -1,11 +1,14 @@
 //! What the two parts of a map are that another map cuts it into: the pairs whose key the other one
-//! has, and those whose key it lacks.
+//! has, and those whose key it lacks. And what two maps are together, with the keys of both or
+//! without.
 ghost use Rattle.rart_maps.specs.MapPartLaws.{CommonPartAnswers, OtherPartAnswers};
 ghost use Rattle.rart_maps.specs.MapPartLaws.{CommonPartHasThesePairs, OtherPartHasThesePairs};
 ghost use Rattle.rart_maps.specs.MapPartLaws.{PartsAreTheMap, NoKeyCutsNothing};
 ghost use Rattle.rart_maps.specs.MapPartLaws.{CuttingTwiceIsCuttingOnce};
 ghost use Rattle.rart_maps.specs.MapPartLaws.{CommonKeysAreOfBoth, CommonIsLeftWithoutTheRest};
 ghost use Rattle.rart_maps.specs.MapPartLaws.{NothingIsLeftWithoutItself, KeysGoOneAfterTheOther};
+ghost use Rattle.rart_maps.specs.MapPartLaws.{JoinedAnswers, JoinedKeysAreOfEither, JoinedWithItself};
+ghost use Rattle.rart_maps.specs.MapPartLaws.{ApartAnswers, ApartEitherWay, ApartIsJoinedWithoutCommon};
 
 /// What each key has in either part. As maps that answer alike are the same, this is all that can
 /// be said of each.
@@ -28,8 +31,8 @@ pub fn parts_are_the_map<V, W>()
     ensures twice { CuttingTwiceIsCuttingOnce V W }
 {}
 
-/// A key of the common part is a key of both, whichever of the two is cut. That part is what is left
-/// of a map without what is left of it.
+/// A key of the common part is a key of both, whichever of the two is cut. That part is what is
+/// left of a map without what is left of it.
 pub fn common_keys_are_of_both<V, W>()
     ensures keys { CommonKeysAreOfBoth V W }
     ensures rest { CommonIsLeftWithoutTheRest V W }
@@ -40,4 +43,20 @@ pub fn common_keys_are_of_both<V, W>()
 pub fn keys_go<V>()
     ensures itself { NothingIsLeftWithoutItself V }
     ensures after { KeysGoOneAfterTheOther V }
+{}
+
+/// What each key has in two maps together, where the first one's value stays. Which of them is
+/// first makes no difference to the keys; and with itself, or with an empty one, a map is itself.
+pub fn maps_are_joined<V>()
+    ensures answers { JoinedAnswers V }
+    ensures keys { JoinedKeysAreOfEither V }
+    ensures itself { JoinedWithItself V }
+{}
+
+/// What each key has in what two maps don't share: that is the same either way, and what both are
+/// together without the common keys.
+pub fn maps_are_apart<V>()
+    ensures answers { ApartAnswers V }
+    ensures either_way { ApartEitherWay V }
+    ensures rest { ApartIsJoinedWithoutCommon V }
 {}

@@ -1,6 +1,7 @@
 //! Worked values of what is read off maps and of the bounds, found by hand.
 ghost use Rattle.rart_maps.specs.Disorders.{DisordersAreWorked};
 ghost use Rattle.rart_maps.specs.WorkedBounds.{LookupOfNoByte, LookupOfThreeBytes, ChangeOfNoByte, ChangeOfThreeBytes, TouchOfNoByte, TouchOfThreeBytes, MeetOfTwo, MeetBelowOne, MeetWithItself, MeetOfEmpty, ReachOfTwo, ReachOfAll, ReachOfNone, MeetOfDistinct, MeetInsideKeys, ReachOfFive, ReachOfOne, ReachPastKeys, WalkOfThree, WalkOfOneBelowOther, WalkOfNone, ReachByPairsOfTwo, ReachByPairsOfAll, ReachByPairsOfNone, ReachByPairsOfThree, RangeOfTwo, RangeOfAll, RangeReversed, RangeOfNone, RangeOfNoneBelow, DifferenceOfThree, IntersectionOfThree, CutOfThree, DifferenceOfLong, IntersectionOfLong};
+ghost use Rattle.rart_maps.specs.WorkedBounds.{UnionOfThree, JoinedOfThree, ApartOfThree, UnionOfLong, JoinedWithItselfMakesNone};
 ghost use Rattle.rart_maps.specs.WorkedPairs.{WithinIncluded, WithinExcluded, WithinOtherKeys, WithinLowAlone, WithinHighAlone, WithinReversed, WithinOneKey, WithinNoKey, UnderTwo, UnderOne, UnderItself, UnderEmpty, UnderNone, PrefixMatchesShortestFirst, PrefixMatchesOfKey, PrefixMatchesNone, LongestInside, LongestIsItself, LongestIsEmpty, LongestNone, CommonLeftFirst, CommonNone, CommonOfTwo, CommonOfOne, CommonOfEmpty, SharedOfTwo, SharedOfOne, SharedOfEmpty};
 
 /// Worked values: the pairs within two bounds, that include or exclude their key, one bound alone,
@@ -109,4 +110,14 @@ pub fn worked_cuts()
     ensures made { CutOfThree }
     ensures without_long { DifferenceOfLong }
     ensures common_long { IntersectionOfLong }
+{}
+
+/// Worked values: how many nodes a union enters, and how many it and a symmetric difference make at
+/// most.
+pub fn worked_joins()
+    ensures joined_three { UnionOfThree }
+    ensures made { JoinedOfThree }
+    ensures apart_made { ApartOfThree }
+    ensures joined_long { UnionOfLong }
+    ensures itself_made { JoinedWithItselfMakesNone }
 {}

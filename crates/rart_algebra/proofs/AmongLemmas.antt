@@ -1,6 +1,6 @@
 -- Children that stand under bytes of a set, and a node that gets these one by one.
 use Rattle.std.proofs.Common.{◌≡◌, ◌≤◌, ◌<◌, ◌⊎◌, inl, inr, ℕ, Bool, true, false, not, ◌&&◌, cond, List, [], ◌∷◌, ◌++◌, Option, Some, None, IsSome, is_some, length, refl, sym, ap, subst, ◌∙◌, arith}
-use Rattle.std.specs.Prelude.{◌==◌, T, IsTrue}
+use Rattle.std.specs.Prelude.{◌==◌, T, IfOk, IsTrue, Result, Ok, Err}
 use Rattle.std.specs.Ordering.{nat_cmp}
 use Rattle.std.specs.Cmp.{unsigned_tied}
 use Rattle.std.specs.FinMap.{nat_cmp-IsAntisymmetric}
@@ -16,12 +16,22 @@ use Rattle.rart_below.specs.declared.byte_set.ByteSet.{ByteSet}
 use Rattle.rart_below.proofs.AscendingLemmas.{ascending-where_key, ascending_parts, below_parts, child_at-here, child_at-later, with_child-later}
 use Rattle.rart_lockstep.specs.Children.{HaveBoth}
 use Rattle.rart_lockstep.proofs.ChildLemmas.{child_at-other, where-none}
-use Rattle.rart_node.specs.Shape.{Shape, node, prefix_of, value_of, children_of, forest_of, node_of, is_full_at, entries_of, widened, wider, width_for, widenings, with_added, entries_of-forest_of}
+use Rattle.rart_node.specs.Counts.{Counts}
+use Rattle.rart_node.specs.Shape.{Shape, node, prefix_of, value_of, children_of, forest_of, node_of, is_full_at, entries_of, widened, wider, width_for, width_of, widenings, with_added, entries_of-forest_of}
 use Rattle.rart_node.specs.Trees.{AreBranches, IsOrdered}
 use Rattle.rart_node.proofs.InsertionLemmas.{forest_of-entries_of}
 use Rattle.rart_ways.proofs.AscendingRunLemmas.{not_full}
 use Rattle.rart_algebra.specs.Among.{HaveChild, KeepsAmong, children_among}
 use Rattle.rart_algebra.proofs.CommonCountLemmas.{no-list}
+
+pub if-both : {A E : Type 0} {P Q R : A → Type 0} (result : Result A E)
+    → ((a : A) → P a → Q a → R a) → IfOk result P → IfOk result Q → IfOk result R
+if-both (Ok a) goes one other = goes a one other
+if-both (Err e) goes one other = tt
+
+pub no-work : (before after : Counts) → after.entered ≡ before.entered → after.made ≡ before.made
+    → after ≡ before
+no-work before after entered made = λ i. record { entered = entered i; made = made i }
 
 holds : {t : Bool} → IsTrue t → T t
 holds is = subst T (sym is) tt
@@ -268,6 +278,10 @@ module _ {V : Type 0} where
           ∙ filled.together;
     }
 
+    pub filled-width : (left : ByteSet) (now : Shape V) → IsFilled s bytes left count now
+        → width_of now ≡ width_for count
+    filled-width left now filled = ap width_of filled.is
+
     -- The children that are there ascend.
     pub filled-order : IsAscending (children_of s) → (left : ByteSet) (now : Shape V)
         → IsFilled s bytes left count now → IsAscending (children_of now)
@@ -277,7 +291,8 @@ module _ {V : Type 0} where
         (subst IsAscending (sym filled.together)
         (ascending-where_key (has_byte bytes) (children_of s) order)))
 
-    module _ (order : IsAscending (children_of s)) (many : count ≡ length (children_among bytes (children_of s)))
+    module _ (order : IsAscending (children_of s))
+        (many : length (children_among bytes (children_of s)) ≤ count)
         (ahead rest : ByteSet) (byte : ℕ) (takes : TakesFirst ahead (Some byte) rest)
         (child now : Shape V) (here : child_at byte (children_of s) ≡ Some child)
         (filled : IsFilled s bytes ahead count now) where

@@ -49,7 +49,7 @@ module _ {V : Type 0} where
   -- Where the way begins, those are left that both have.
   pub both-start : (s t now : Shape V) (bytes : ByteSet) → IsOrdered s
       → AreBytesOfBoth bytes (children_of s) (next_children t) → KeepsAmong bytes s now
-      → IsPickedUpTo both s t bytes now
+      → IsPickedUpTo both s t (value_of s) bytes now
   both-start s t now bytes order are keeps =
       let left = λ (byte : ℕ) (b : Bool). cond b (child_at byte (children_of s)) None in
       picked-start both both-none s t now bytes (keeps-ordered bytes s now order keeps) keeps.prefix
@@ -66,14 +66,15 @@ module _ {V : Type 0} where
       → (is_some (value_of s) && is_some (value_here t)) ≡ false
       → (q : List ℕ) → both (found s q) (found right q) ≡ None
   nothing-common (node prefix value width forest) right t bytes leads are none apart q =
-      sym (node-picked both both-none prefix value None width 0 forest bare right t leads
+      sym (node-picked both prefix value None width 0 forest bare right t leads
       (not-both value (value_here t) apart ∙ ap (both value) (sym (found-here t)))
       (λ byte q. sym (⊎_elim
       (λ left. ap (λ x. both x (found t (byte ∷ q)))
       (found-below forest byte q ∙ ap (look (byte ∷ q)) left) ∙ both-none (found t (byte ∷ q)))
       (λ other. ap (both (found_below forest (byte ∷ q)))
       (found-next t byte q ∙ ap (look (byte ∷ q)) other))
-      (bytes-apart bytes (entries_of forest) (next_children t) are byte (none byte)))) q)
+      (bytes-apart bytes (entries_of forest) (next_children t) are byte (none byte))))
+      (λ q _. both-none (found right q)) q)
       ∙ nothing-left (strip_prefix prefix q)
     where
       not-both : (one other : Option V) → (is_some one && is_some other) ≡ false
@@ -85,7 +86,7 @@ module _ {V : Type 0} where
   -- ---- the last node that is made
   -- What is left is in common: the prefix begins a common key where a node is made.
   pub last-both : (s t right now : Shape V) (ahead : ByteSet) (goes : Bool)
-      → IsPickedUpTo both s t ahead now → ((byte : ℕ) → has_byte ahead byte ≡ false)
+      → IsPickedUpTo both s t (value_of s) ahead now → ((byte : ℕ) → has_byte ahead byte ≡ false)
       → ((q : List ℕ) → found right (prefix_of s ++ q) ≡ found t q)
       → cond goes None (value_of s) ≡ both (value_of s) (found t [])
       → (looked after : Counts)
@@ -98,16 +99,20 @@ module _ {V : Type 0} where
       (λ some.
       let key = some.1.0 in
       let there = subst (λ z. IsSome (found left (z ++ key)))
-      (prefix-losing both both-none s t right now ahead goes so_far all leads own) some.1.1 in
+      (prefix-losing both s t right now (value_of s) ahead goes so_far all leads own
+      (λ q _. both-none (found right q))) some.1.1 in
       inr (
         some.0,
         record {
           key = prefix_of s ++ key;
           common = both-some (found s (prefix_of s ++ key)) (found right (prefix_of s ++ key))
-              (subst IsSome (picked-all both both-none s t right now ahead goes so_far all leads own
+              (subst IsSome (picked-all both s t right now (value_of s) ahead goes so_far all leads
+              own
+              (λ q _. both-none (found right q))
               (prefix_of s ++ key)) there);
           begun = begins-append (prefix_of s) key;
         },
       ))
       (last-left left looked after
-      (ordered-losing both both-none s t right now ahead goes so_far all leads own) one)
+      (ordered-losing both s t right now (value_of s) ahead goes so_far all leads own
+      (λ q _. both-none (found right q))) one)

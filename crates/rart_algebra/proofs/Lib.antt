@@ -3,8 +3,12 @@ pub mod BothLemmas
 pub mod CarriedLemmas
 pub mod CommonCountLemmas
 pub mod DescentLemmas
+pub mod GainLemmas
+pub mod JoinCountLemmas
+pub mod JoinLemmas
 pub mod PackLemmas
 pub mod PaidLemmas
+pub mod PartedLemmas
 pub mod PickLemmas
 pub mod ReachLemmas
 pub mod UnlessLemmas

@@ -153,18 +153,19 @@ module _ {V : Type 0} where
       (omega (arith, same), omega (arith, same))
 
   -- ---- whatever is answered
-  pub paid-result : {P E : Type 0} (result : Result (Made P V) E) (s now : Shape V) (goes : Bool)
+  pub paid-result : {P E : Type 0} (result : Result (Made P V) E) (base s now : Shape V) (goes :
+      Bool)
       → IsTree s → value_of now ≡ value_of s → IsOrdered (losing goes now)
       → length (children_of now) ≤ length (children_of s)
-      → IfOk result (λ made. IsSettled s (losing goes now) made)
+      → IfOk result (λ made. IsSettled base (losing goes now) made)
       → merges (losing goes now) + spare_of result ≤ cond goes 1 0 + lost s now
-  paid-result (Ok Same) s now goes tree value _ fewer settled =
+  paid-result (Ok Same) base s now goes tree value _ fewer settled =
       merge-paid s now goes tree value fewer
-  paid-result (Ok Nothing) s now goes tree value order fewer settled =
+  paid-result (Ok Nothing) base s now goes tree value order fewer settled =
       nothing-paid s now goes tree value fewer order settled
-  paid-result (Ok (Node made)) s now goes tree value _ fewer settled =
+  paid-result (Ok (Node made)) base s now goes tree value _ fewer settled =
       merge-paid s now goes tree value fewer
-  paid-result (Err refused) s now goes tree value _ fewer settled =
+  paid-result (Err refused) base s now goes tree value _ fewer settled =
       merge-paid s now goes tree value fewer
 
   pub err-spare : {P E : Type 0} (result : Result (Made P V) E) → IsErr result

@@ -231,7 +231,7 @@ module _ {V : Type 0} where
           → now.entered + ahead_of_both left right strings (above ++ way)
           ≤ before.entered + ahead_of_both s t strings above
 
-    pub passed-none : HasPassed s t before
+    abbrev pub passed-none : HasPassed s t before
     passed-none = record {
       way = [];
       prefix = refl;
@@ -396,7 +396,7 @@ module _ {V : Type 0} where
       point-of (b ∷ v) [] goes ends = right-point ends
       point-of (b ∷ v) (c ∷ w) goes leads = parted-point b c v w goes leads
 
-      place-further : IsPlace s t further
+      pub place-further : IsPlace s t further
       place-further =
           (shared-further, point-of rest (drop count (prefix_of right)) refl refl)
 

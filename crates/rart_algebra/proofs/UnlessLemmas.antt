@@ -73,8 +73,8 @@ module _ {V : Type 0} where
         → (q : List ℕ) → found (node (prefix_of s) (cond goes None (value_of s)) 0 bare) q
         ≡ unless (found s q) (found right q)
     leaf-picked (node prefix value width bare) none leads own q =
-        node-picked unless unless-none prefix value (cond goes None value) width 0 bare bare right t
-        leads own (λ byte q. sym (unless-none (found t (byte ∷ q)))) q
+        node-picked unless prefix value (cond goes None value) width 0 bare bare right t leads own
+        (λ byte q. sym (unless-none (found t (byte ∷ q)))) (λ q _. unless-none (found right q)) q
     leaf-picked (node prefix value width (grown byte child forest)) none leads own q =
         absurd (omega (arith, none))
 

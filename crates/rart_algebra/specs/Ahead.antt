@@ -1,5 +1,5 @@
 -- How many nodes the way down two trees enters and makes, by the strings that are ahead there.
-use Rattle.std.specs.Prelude.{◌≡◌, ◌+◌, ◌*◌, ◌<◌, ◌≤◌, ◌≢◌, ◌⊎◌, ℕ, Bool, true, List, [], ◌++◌, IsSome, Result, Ok, Err, length, if◌then◌else◌}
+use Rattle.std.specs.Prelude.{◌≡◌, ◌+◌, ◌*◌, ◌<◌, ◌≤◌, ◌≢◌, ◌⊎◌, ℕ, Bool, true, false, List, [], ◌++◌, IsSome, None, Result, Ok, Err, length, if◌then◌else◌}
 use Rattle.std.specs.FinSet as set
 use Rattle.rart_below.specs.Bytes.{begins}
 use Rattle.rart_maps.specs.Pairs.{Strings}
@@ -58,6 +58,28 @@ module _ {V : Type 0} where
     pub common : IsCommonKey left right key
     pub begun : begins u key ≡ true
 
+  -- A key of the right tree that changes the left one: it has none there, or a common key goes.
+  abbrev pub IsChange : Bool → Shape V → Shape V → List ℕ → Type 0
+  IsChange stays left right key =
+      IsSome (found right key) × (stays ≡ true → found left key ≡ None)
+
+  abbrev pub HaveChange : Bool → Shape V → Shape V → Type 0
+  HaveChange stays left right = (key : List ℕ) × IsChange stays left right key
+
+  -- The string begins a key of the right tree that changes the left one.
+  pub record BeginsChange (stays : Bool) (left right : Shape V) (u : List ℕ) : Type 0 where
+    pub key : List ℕ
+    pub change : IsChange stays left right key
+    pub begun : begins u key ≡ true
+
+  -- A place of both that begins such a key.
+  abbrev pub IsChangedPlace : Bool → Shape V → Shape V → List ℕ → Type 0
+  IsChangedPlace stays left right u = IsPlace left right u × BeginsChange stays left right u
+
+  -- A common key that goes.
+  abbrev pub IsGone : Bool → Shape V → Shape V → List ℕ → Type 0
+  IsGone stays left right key = (stays ≡ false) × IsCommonKey left right key
+
   -- Two nodes at least were entered for each common key, but for the right one, which was entered
   -- before.
   abbrev pub EntersForCommon : Shape V → Shape V → Counts → Counts → Type 0
@@ -89,17 +111,34 @@ module _ {V : Type 0} (left right : Shape V) where
 module _ {V : Type 0} (Pays : Shape V → Shape V → List ℕ → Type 0) (left right : Shape V) where
   -- On the way down from both, of which the right one was entered before, nodes were entered: two
   -- for each place that is ahead, and one for each string of the kind that pays for a merge, but so
-  -- many fewer. And they were made: one for each string ahead that begins a common key.
-  pub record StepsBelow (spare : ℕ) (before after : Counts) : Type 0 where
+  -- many fewer.
+  pub record EntersBelow (spare : ℕ) (before after : Counts) : Type 0 where
     pub grows : before.entered < after.entered
     pub entered : (strings paying : Strings) (above : List ℕ)
         → HasAll strings above (IsPlace left right) → HasAll paying above (Pays left right)
         → after.entered + 1 + spare ≤ before.entered + 2 * ahead_of_both left right strings above
-        + how_many_under paying (above ++ prefix_of left)
+        + ahead_of_both left right paying above
+
+module _ {V : Type 0} (left right : Shape V) where
+  -- And nodes were made: one for each string ahead that begins a common key.
+  pub record MakesBelow (before after : Counts) : Type 0 where
     pub makes : before.made ≤ after.made
     pub made : (strings : Strings) (above : List ℕ)
         → HasAll strings above (BeginsCommon left right)
-        → after.made ≤ before.made + how_many_under strings (above ++ prefix_of left)
+        → after.made ≤ before.made + ahead_of_both left right strings above
+
+  -- Or three for each place ahead that begins a key which changes the left tree.
+  pub record JoinsBelow (stays : Bool) (before after : Counts) : Type 0 where
+    pub makes : before.made ≤ after.made
+    pub made : (strings : Strings) (above : List ℕ)
+        → HasAll strings above (IsChangedPlace stays left right)
+        → after.made ≤ before.made + 3 * ahead_of_both left right strings above
+
+-- Both.
+pub record StepsBelow {V : Type 0} (Pays : Shape V → Shape V → List ℕ → Type 0)
+    (left right : Shape V) (spare : ℕ) (before after : Counts) : Type 0 where
+  pub enters : EntersBelow Pays left right spare before after
+  pub makes : MakesBelow left right before after
 
 -- From two roots at most two nodes are entered for each place of both, and one for each common key;
 -- and at most one is made for each string that begins a common key. Any sets will do that have
@@ -117,6 +156,16 @@ MeetsUpTo left right before after =
     (strings starts : Strings)
     → HasAll strings [] (IsPlace left right) → HasAll starts [] (BeginsCommon left right)
     → CountsUpTo (3 * set.len strings) (set.len starts) before after
+
+-- From two roots two nodes are entered at most for each place of both, and one for each common key
+-- that goes; and three are made at most for each place that begins a key which changes the left
+-- tree.
+abbrev pub JoinsUpTo : {V : Type 0} → Bool → Shape V → Shape V → Counts → Counts → Type 0
+JoinsUpTo stays left right before after =
+    (strings gone changed : Strings)
+    → HasAll strings [] (IsPlace left right) → HasAll gone [] (IsGone stays left right)
+    → HasAll changed [] (IsChangedPlace stays left right)
+    → CountsUpTo (2 * set.len strings + set.len gone) (3 * set.len changed) before after
 
 -- A tree of which nothing is left has a common key, and merges nothing for it.
 abbrev pub spare_of : {P V E : Type 0} → Result (Made P V) E → ℕ

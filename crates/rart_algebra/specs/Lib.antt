@@ -1,4 +1,5 @@
 pub mod Ahead
 pub mod Among
+pub mod Gains
 pub mod Parts
 pub mod Picks

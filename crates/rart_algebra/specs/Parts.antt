@@ -1,8 +1,8 @@
 -- A node of which some children have changed.
-use Rattle.std.specs.Prelude.{◌≡◌, ℕ, Bool, true, false, List, Option, Some, None, if◌then◌else◌}
+use Rattle.std.specs.Prelude.{◌≡◌, ℕ, ◌==◌, Bool, true, false, List, Option, Some, None, length, if◌then◌else◌}
 use Rattle.rart_node.specs.Seen.{Seen}
 use Rattle.rart_node.specs.Shape.{Shape, node, bare, grown, prefix_of, with_deleted, with_replaced, with_value}
-use Rattle.rart_node.specs.Trees.{BeginsWith, IsTree, found}
+use Rattle.rart_node.specs.Trees.{BeginsWith, IsTree, cut_at, found}
 use Rattle.rart_algebra.specs.declared.made.Made.{Made}
 use Rattle.rart_algebra.specs.declared.made.Made.TheVariants.{Same, Nothing, Node}
 
@@ -11,6 +11,10 @@ module _ {V : Type 0} where
   abbrev pub shape_now : Shape V → Option (Seen V) → Shape V
   shape_now s None = s
   shape_now s (Some copy) = copy.shape
+
+  -- the node behind so many bytes of its prefix: cut there, or itself where its prefix ends there
+  abbrev pub parted : ℕ → Shape V → Shape V
+  parted count s = if count == length (prefix_of s) then s else cut_at count s
 
   -- without its value, if that goes
   abbrev pub losing : Bool → Shape V → Shape V

@@ -1,9 +1,9 @@
 //! The children of a node that stand under bytes of a set: how many there are, and the node with
 //! these alone.
-ghost use Rattle.std.specs.Prelude.{◌≡◌, ℕ, IfOk, length};
+ghost use Rattle.std.specs.Prelude.{◌≡◌, ◌≤◌, ℕ, IfOk, length};
 ghost use Rattle.rart_below.specs.ByteSets.{has_byte};
 ghost use Rattle.rart_below.specs.Clones.{ClonesEqual};
-ghost use Rattle.rart_node.specs.Shape.{IsAscending, children_of, value_of};
+ghost use Rattle.rart_node.specs.Shape.{IsAscending, children_of, value_of, width_for, width_of};
 ghost use Rattle.rart_algebra.specs.Among.{HaveChild, KeepsAmong, children_among};
 ghost use Rattle.rart_algebra.specs.Parts.{shape_now};
 
@@ -23,7 +23,8 @@ fn again(bytes: &ByteSet) -> ByteSet
 pub(crate) fn count_among<P: Partial, V: Drop>(node: &VersionedNode<P, V>, bytes: &ByteSet) -> usize
     requires order { IsAscending node.now.shape }
     requires there { HaveChild bytes.now (children_of node.now.shape) }
-    ensures { result ≡ length (children_among bytes.now (children_of node.now.shape)) }
+    ensures count { result ≡ length (children_among bytes.now (children_of node.now.shape)) }
+    ensures few { result ≤ 256 }
 {
     // (for the proof: no node has more children than its width, so the sum below fits)
     let _all = node.num_children();
@@ -60,9 +61,9 @@ pub(crate) fn keep_among<P: Partial, V: Clone + Drop>(
     Ok(Some(made_among(alloc, node, bytes, count, version, work)?))
 }
 
-/// A node with the prefix and the value of another, and with that one's children under these bytes,
-/// so many of them. It has room for as many, so that it is never widened.
-fn made_among<P: Partial, V: Clone + Drop>(
+/// A node with the prefix and the value of another, and with that one's children under these bytes.
+/// It has room for so many, which they are at most, so that it is not widened.
+pub(crate) fn made_among<P: Partial, V: Clone + Drop>(
     alloc: Global,
     node: &VersionedNode<P, V>,
     bytes: &ByteSet,
@@ -73,8 +74,9 @@ fn made_among<P: Partial, V: Clone + Drop>(
     requires clones { ClonesEqual V.is_clone }
     requires order { IsAscending node.now.shape }
     requires there { HaveChild bytes.now (children_of node.now.shape) }
-    requires count { count ≡ length (children_among bytes.now (children_of node.now.shape)) }
+    requires room { length (children_among bytes.now (children_of node.now.shape)) ≤ count }
     ensures kept { IfOk result (λ made. KeepsAmong bytes.now node.now.shape made.shape) }
+    ensures width { IfOk result (λ made. width_of made.shape ≡ width_for count) }
     ensures still { work.new ≡ work.old }
 {
     let prefix = node.prefix().copy(alloc)?;
@@ -91,7 +93,7 @@ fn made_among<P: Partial, V: Clone + Drop>(
 }
 
 /// A clone of a node's value, where there is one.
-fn value_copy<P: Partial, V: Clone + Drop>(
+pub(crate) fn value_copy<P: Partial, V: Clone + Drop>(
     node: &VersionedNode<P, V>,
 ) -> Result<Option<V>, AllocError>
     requires clones { ClonesEqual V.is_clone }

@@ -1,25 +1,64 @@
 //! A node of which some children change: it is copied once, with the first that does.
-ghost use Rattle.std.specs.Prelude.{◌≡◌, ◌⊎◌, ◌||◌, IfOk, IsSome, true, false, not, is_some};
+ghost use Rattle.std.specs.Prelude.{◌≡◌, ◌⊎◌, ◌<◌, ◌≤◌, ◌||◌, IfOk, IsSome, true, false, not, is_some, length};
 ghost use Rattle.std.specs.Option.{option_map};
 ghost use Rattle.rart_below.specs.Children.{child_at};
 ghost use Rattle.rart_below.specs.Clones.{ClonesEqual};
 ghost use Rattle.rart_node.specs.Counts.{CountsUpTo};
 ghost use Rattle.rart_node.specs.Seen.{shape_of};
-ghost use Rattle.rart_node.specs.Shape.{IsAscending, children_of};
+ghost use Rattle.rart_node.specs.Shape.{IsAscending, children_of, prefix_of};
 ghost use Rattle.rart_node.specs.Trees.{IsOrdered};
 ghost use Rattle.rart_ways.specs.Removals.{AreAdmitted};
-ghost use Rattle.rart_algebra.specs.Parts.{IsPackedOr, IsSettled, is_same, losing, merges, packs, shape_now, with_made};
+ghost use Rattle.rart_algebra.specs.Parts.{IsPackedOr, IsSettled, is_same, losing, merges, packs, parted, shape_now, with_made};
 
 use crate::made::Made;
 use rart_below::Partial;
 use rart_node::{NodeRef, VersionedNode, Work};
+use rart_ways::cut;
 use std::alloc::{AllocError, Global};
 
 /// What has become of a node: nothing yet, or a copy that has changed.
 pub(crate) type Part<P, V> = Option<VersionedNode<P, V>>;
 
+/// The node as it is now.
+pub(crate) fn node_now<'n, P: Partial, V: Drop>(
+    node: &'n VersionedNode<P, V>,
+    part: &'n Part<P, V>,
+) -> &'n VersionedNode<P, V>
+    ensures { result.now.shape ≡ shape_now node.now.shape part.now }
+{
+    match part {
+        Some(copy) => copy,
+        None => node,
+    }
+}
+
+/// What a node is behind so many bytes of its prefix: a copy that is cut there, or the node itself
+/// where its prefix ends there.
+#[inline(never)]
+pub(crate) fn cut_inside<P: Partial, V: Clone + Drop>(
+    alloc: Global,
+    node: &VersionedNode<P, V>,
+    count: usize,
+    version: u64,
+    work: &mut Work,
+) -> Result<Part<P, V>, AllocError>
+    requires clones { ClonesEqual V.is_clone }
+    requires within { count ≤ length (prefix_of node.now.shape) }
+    ensures cut { IfOk result (λ part. shape_now node.now.shape part
+        ≡ parted count node.now.shape) }
+    ensures inside { IfOk result (λ part. is_some part ≡ true
+        → count < length (prefix_of node.now.shape)) }
+    ensures counted { CountsUpTo 0 1 work.old work.new }
+    ensures still { count ≡ length (prefix_of node.now.shape) → work.new ≡ work.old }
+{
+    if count == node.prefix().len() {
+        return Ok(None);
+    }
+    Ok(Some(cut(alloc, node, count, version, work)?))
+}
+
 /// The copy of a node, made now where there is none yet.
-fn copied<P: Partial, V: Clone + Drop>(
+pub(crate) fn copied<P: Partial, V: Clone + Drop>(
     alloc: Global,
     node: &VersionedNode<P, V>,
     part: Part<P, V>,

@@ -42,10 +42,19 @@ counting-preserved g c =
       counted = omega (arith, next, counted);
     }
 
-pub returns : goal.returns
-returns g c =
+pub returns-clause-count : goal.returns-clause-count
+returns-clause-count g c =
     let children = children_of c.args.node.now.shape in
     let none = ap length (where-none (has_byte c.counting.left.left) children
     c.in_default.ensures.1) in
     let counted = c.counting.invariant.counted in
     omega (arith, none, counted)
+
+pub returns-clause-few : goal.returns-clause-few
+returns-clause-few g c =
+    let children = children_of c.args.node.now.shape in
+    let counted = c.counting.invariant.counted in
+    let few = among-few (has_byte c.args.bytes.now) children in
+    let room = c.num_children-all.ensures.width.has_room in
+    let width = c.num_children-all.ensures.width.is_width in
+    omega (arith, counted, few, room, width)

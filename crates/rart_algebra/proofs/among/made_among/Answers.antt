@@ -1,13 +1,8 @@
 use Rattle.std.proofs.Common.{◌≡◌, ℕ, [], length, refl, sym, ap, ◌∙◌, arith}
 use Rattle.rart_below.specs.ByteSets.{has_byte}
 use Rattle.rart_node.specs.Shape.{children_of, node_of, with_added, width_for}
-use Rattle.rart_node.specs.Counts.{Counts}
-use Rattle.rart_algebra.proofs.AmongLemmas.{among-next, filled-absent, filled-all, filled-next, filled-none, filled-order, filled-room, have-less}
+use Rattle.rart_algebra.proofs.AmongLemmas.{among-next, filled-absent, filled-all, filled-next, filled-none, filled-order, filled-room, filled-width, have-less, no-work}
 use Rattle.rart_algebra.proofs.among.made_among.Goals as goal
-
-no-work : (before after : Counts) → after.entered ≡ before.entered → after.made ≡ before.made
-    → after ≡ before
-no-work before after entered made = λ i. record { entered = entered i; made = made i }
 
 pub adding-init : goal.adding-init
 adding-init g c =
@@ -31,7 +26,7 @@ add_child-requires-clause-order g c =
 pub add_child-requires-clause-absent : goal.add_child-requires-clause-absent
 add_child-requires-clause-absent g c =
     filled-absent c.args.node.now.shape c.args.bytes.now c.args.count c.requires.order
-    c.requires.count c.adding.left.left c.take_first.new.self.left c.in-Some.byte c.in-Some.ensures
+    c.requires.room c.adding.left.left c.take_first.new.self.left c.in-Some.byte c.in-Some.ensures
     c.in-Some-seek_child.child.now.shape c.adding.made.shape (sym c.in-Some-seek_child.ensures)
     c.adding.invariant.filled
 
@@ -51,13 +46,13 @@ adding-preserved g c =
     let filled = c.adding.invariant.filled in
     let ahead = c.adding.left.left in
     let rest = c.take_first.new.self.left in
-    let room = filled-room s c.args.bytes.now c.args.count c.requires.order c.requires.count ahead
+    let room = filled-room s c.args.bytes.now c.args.count c.requires.order c.requires.room ahead
     rest c.in-Some.byte c.in-Some.ensures child now here filled in
     let made = c.in_ok-add_child.ensures.made in
     record {
       there = have-less ahead rest c.in-Some.byte c.in-Some.ensures (children_of s)
           c.adding.invariant.there;
-      filled = filled-next s c.args.bytes.now c.args.count c.requires.order c.requires.count ahead
+      filled = filled-next s c.args.bytes.now c.args.count c.requires.order c.requires.room ahead
           rest c.in-Some.byte c.in-Some.ensures child now here filled c.add_child.new.self.shape
           (c.in_ok-add_child.ensures.ok
           ∙ ap (λ z. with_added c.in-Some.byte z now) c.in_ok-copy.ensures);
@@ -69,7 +64,7 @@ pub returns-in_err-add_child-clause-still : goal.returns-in_err-add_child-clause
 returns-in_err-add_child-clause-still g c =
     let made = c.in_err-add_child.ensures.made in
     let room = filled-room c.args.node.now.shape c.args.bytes.now c.args.count c.requires.order
-    c.requires.count c.adding.left.left c.take_first.new.self.left c.in-Some.byte c.in-Some.ensures
+    c.requires.room c.adding.left.left c.take_first.new.self.left c.in-Some.byte c.in-Some.ensures
     c.in-Some-seek_child.child.now.shape c.adding.made.shape (sym c.in-Some-seek_child.ensures)
     c.adding.invariant.filled in
     no-work c.adding.work c.add_child.new.work c.in_err-add_child.ensures.entered
@@ -79,3 +74,8 @@ pub returns-clause-kept : goal.returns-clause-kept
 returns-clause-kept g c =
     filled-all c.args.node.now.shape c.args.bytes.now c.args.count c.adding.left.left
     c.in_default.ensures.1 c.adding.made.shape c.adding.invariant.filled
+
+pub returns-clause-width : goal.returns-clause-width
+returns-clause-width g c =
+    filled-width c.args.node.now.shape c.args.bytes.now c.args.count c.adding.left.left
+    c.adding.made.shape c.adding.invariant.filled

@@ -5,7 +5,7 @@ use Rattle.rart_below.specs.ByteSets.{has_byte}
 use Rattle.rart_lockstep.specs.TreeCursorFields.{cursor_shape}
 use Rattle.rart_lockstep.specs.TreeCursors.{next_children}
 use Rattle.rart_lockstep.proofs.LeastCountLemmas.{EntersLeast}
-use Rattle.rart_node.specs.Shape.{children_of, prefix_of, height, with_prefix}
+use Rattle.rart_node.specs.Shape.{children_of, prefix_of, value_of, height, with_prefix}
 use Rattle.rart_node.specs.Trees.{IsTree, found}
 use Rattle.rart_node.proofs.NodeMergeLemmas.{if-ok}
 use Rattle.rart_node.proofs.FindLemmas.{branch, ordered, ascending}
@@ -20,7 +20,7 @@ use Rattle.rart_algebra.proofs.CarriedLemmas.{next-begins, places-carried}
 use Rattle.rart_algebra.proofs.CommonCountLemmas.{whatever, steps_ahead, least-apart, least-none, least-step, least-all}
 use Rattle.rart_algebra.proofs.DescentLemmas.{place-ended, steps-apart, steps-none, steps-next, steps-end}
 use Rattle.rart_algebra.proofs.PaidLemmas.{merges-few}
-use Rattle.rart_algebra.proofs.PickLemmas.{IsPickedUpTo, picked-apart, picked-made, ordered-losing, admitted-losing, becomes-settled}
+use Rattle.rart_algebra.proofs.PickLemmas.{IsPickedUpTo, picked-apart, picked-was, picked-made, ordered-losing, admitted-losing, becomes-settled}
 use Rattle.rart_algebra.proofs.WeightLemmas.{weigh-taken}
 use Rattle.rart_algebra.proofs.common.+meet.Goals as goal
 use Rattle.rart_algebra.proofs.common.+meet.Goals.{in_default-2-via-in-Some+in_default, in_default-2-via-in_default}
@@ -72,7 +72,7 @@ returns-then-not-stays-clause-becomes g t c =
     let are = c.common_bytes-common.ensures in
     let there = bytes-have c.common_bytes-common.result (children_of s) (next_children at) are in
     let none = among-none c.common_bytes-common.result (children_of s) there
-    (sym c.count_among-count.ensures ∙ c.if-count-eq0.true) in
+    (sym c.count_among-count.ensures.count ∙ c.if-count-eq0.true) in
     subst (λ z. (q : List ℕ) → both (found z q) (found right q) ≡ None) c.open-node.ensures.shown
     (nothing-common s right at c.common_bytes-common.result leads.1 are none
     (sym c.both_have_values-stays.ensures ∙ c.if-not-stays.true))
@@ -107,7 +107,7 @@ returns-then-not-stays-clause-least g t c =
     let are = c.common_bytes-common.ensures in
     let there = bytes-have c.common_bytes-common.result (children_of s) (next_children at) are in
     let none = among-none c.common_bytes-common.result (children_of s) there
-    (sym c.count_among-count.ensures ∙ c.if-count-eq0.true) in
+    (sym c.count_among-count.ensures.count ∙ c.if-count-eq0.true) in
     subst (λ z. EntersForCommon z right c.args.work.now c.reach.new.work) c.open-node.ensures.shown
     (least-all s at tree right c.common_bytes-common.result c.args.work.now c.open-node.new.work
     c.reach.new.work c.reach.new.work c.reach.new.work leads.1 none
@@ -146,7 +146,7 @@ below-init g t c =
     let work = c.keep_among.new.work in
     let now = shape_now s c.in_ok-part.part in
     record {
-      picked = subst (λ z. IsPickedUpTo both s at z now) (sym is)
+      picked = subst (λ z. IsPickedUpTo both s at (value_of s) z now) (sym is)
           (both-start s at now bytes (ordered s tree) are c.in_ok-part.ensures.kept);
       steps = steps-none IsPlace s at c.new-bytes.result.left work;
       least = subst (λ z. EntersLeast (with_prefix [] s) at 0 (steps_ahead s at z) work work)
@@ -155,6 +155,11 @@ below-init g t c =
           bytes-both bytes (children_of s) (next_children at) are byte
           (ap (λ z. has_byte z byte) (sym is) ∙ has);
     }
+
+pub seek_child-requires : goal.seek_child-requires
+seek_child-requires g t c =
+    let s = c.open-node.result.now.shape in
+    ascending s (ordered s (subst IsTree (sym c.open-node.ensures.shown) c.requires.left))
 
 pub unreachable-requires : goal.unreachable-requires
 unreachable-requires g t c =
@@ -231,10 +236,13 @@ below-preserved g t c =
     let made = c.in_ok-made.made in
     let inv = c.below.invariant in
     record {
-      picked = subst (λ z. IsPickedUpTo both s at after z) (sym c.in_ok-part-2.ensures.made)
-          (picked-made both both-none s at ahead after byte takes.2 now inv.picked takes.0 child
-          next here there tree made c.in_ok-made.ensures.becomes);
-      steps = steps-next IsPlace places-carried s at child next byte here there tree also ahead after
+      picked = subst (λ z. IsPickedUpTo both s at (value_of s) after z) (sym
+          c.in_ok-part-2.ensures.made)
+          (picked-made both s at (value_of s) ahead after byte takes.2 now inv.picked takes.0 child
+          next here there (ordered s tree) (next-begins at next byte also there).1 made
+          c.in_ok-made.ensures.becomes);
+      steps = steps-next IsPlace places-carried s at child next byte here there (ordered s tree)
+          also ahead after
           takes.0 takes.2 0 0 0 c.keep_among.new.work c.below.work c.branch-next.new.work
           c.meet.new.work inv.steps c.in-Some-Some.ensures'.counted c.in_ok-made.ensures.counted
           (omega arith);
@@ -266,7 +274,8 @@ returns-in_err-made-clause-counted g t c =
     let started = c.keep_among.new.work in
     let ended = c.meet.new.work in
     let steps = steps-next IsPlace places-carried s at child next byte
-    (sym c.in-Some-Some.ensures) (sym c.in-Some-Some.ensures'.next) tree leads.0 ahead after takes.0
+    (sym c.in-Some-Some.ensures) (sym c.in-Some-Some.ensures'.next) (ordered s tree) leads.0 ahead
+    after takes.0
     takes.2 0 0 0 started c.below.work c.branch-next.new.work ended c.below.invariant.steps
     c.in-Some-Some.ensures'.counted c.in_err-made.ensures.counted (omega arith) in
     subst (λ z. StepsBelow IsPlace z right 0 c.args.work.now ended) c.open-node.ensures.shown
@@ -297,7 +306,8 @@ returns-in_err-part-2-clause-counted g t c =
     let started = c.keep_among.new.work in
     let ended = c.meet.new.work in
     let steps = steps-next IsPlace places-carried s at child next byte
-    (sym c.in-Some-Some.ensures) (sym c.in-Some-Some.ensures'.next) tree leads.0 ahead after takes.0
+    (sym c.in-Some-Some.ensures) (sym c.in-Some-Some.ensures'.next) (ordered s tree) leads.0 ahead
+    after takes.0
     takes.2 0 0 0 started c.below.work c.branch-next.new.work ended c.below.invariant.steps
     c.in-Some-Some.ensures'.counted c.in_ok-made.ensures.counted (omega arith) in
     subst (λ z. StepsBelow IsPlace z right 0 c.args.work.now ended) c.open-node.ensures.shown
@@ -319,7 +329,9 @@ settle-requires-clause-order g t c =
     let goes = c.has_value_alone-goes.result in
     let own = own-both s at goes c.has_value_alone-goes.ensures in
     let all = c.in_default-take_first.ensures.1 in
-    ordered-losing both both-none s at right now c.below.bytes.left goes inv.picked all leads.1 own
+    ordered-losing both s at right now (value_of s) c.below.bytes.left goes inv.picked all leads.1
+    own
+    (λ q _. both-none (found right q))
 
 pub settle-requires-clause-lengths : goal.settle-requires-clause-lengths
 settle-requires-clause-lengths g t c =
@@ -333,10 +345,10 @@ settle-requires-clause-lengths g t c =
     let goes = c.has_value_alone-goes.result in
     let own = own-both s at goes c.has_value_alone-goes.ensures in
     let all = c.in_default-take_first.ensures.1 in
-    admitted-losing both both-none s at right now c.below.bytes.left goes inv.picked all leads.1
-    own g.P.Partial.MAXIMUM_SIZE
-    (subst (AreAdmitted g.P.Partial.MAXIMUM_SIZE) (sym c.open-node.ensures.shown)
-    c.requires.lengths)
+    admitted-losing both s at right now (value_of s) c.below.bytes.left goes inv.picked all leads.1
+    own (λ q _. both-none (found right q)) g.P.Partial.MAXIMUM_SIZE
+    (λ q there. subst (AreAdmitted g.P.Partial.MAXIMUM_SIZE) (sym c.open-node.ensures.shown)
+    c.requires.lengths q (picked-was both both-none (found s q) (found right q) there))
 
 pub returns-clause-becomes : goal.returns-clause-becomes
 returns-clause-becomes g t c =
@@ -352,8 +364,9 @@ returns-clause-becomes g t c =
     let all = c.in_default-take_first.ensures.1 in
     if-ok c.settle.result
     (λ made settled. subst (λ z. Becomes both z right made) c.open-node.ensures.shown
-    (becomes-settled both both-none s at right now c.below.bytes.left goes inv.picked all
-    leads.1 own made settled)) c.settle.ensures.settled
+    (becomes-settled both s at right now (value_of s) c.below.bytes.left goes inv.picked all
+    leads.1 own (λ q _. both-none (found right q)) s (λ q. refl) (λ byte begins _. begins) made
+    settled)) c.settle.ensures.settled
 
 pub returns-clause-counted : goal.returns-clause-counted
 returns-clause-counted g t c =

@@ -2,7 +2,7 @@ use Rattle.std.proofs.Common.{[]}
 use Rattle.rart_lockstep.specs.Children.{HaveBoth}
 use Rattle.rart_lockstep.specs.TreeCursorFields.{cursor_shape}
 use Rattle.rart_lockstep.specs.TreeCursors.{next_children}
-use Rattle.rart_node.specs.Shape.{children_of, height, with_prefix}
+use Rattle.rart_node.specs.Shape.{children_of, value_of, height, with_prefix}
 use Rattle.rart_lockstep.proofs.LeastCountLemmas.{EntersLeast}
 use Rattle.rart_algebra.specs.Ahead.{IsPlace}
 use Rattle.rart_algebra.specs.Parts.{shape_now}
@@ -21,7 +21,7 @@ invariant-below g l =
     let s = l.node.shape in
     let t = cursor_shape l.at in
     record {
-      picked : IsPickedUpTo both s t l.bytes.left (shape_now s l.part);
+      picked : IsPickedUpTo both s t (value_of s) l.bytes.left (shape_now s l.part);
       steps : StepsUpTo IsPlace s t l.bytes.left 0 l.initial.work l.work;
       least : EntersLeast (with_prefix [] s) t 0 (steps_ahead s t l.bytes.left) l.initial.work
           l.work;

@@ -9,7 +9,7 @@ returns-in_err-made-clause-counted g c =
     let left = c.args.left.now.shape in
     subst (λ z. MeetsUpTo left z c.args.work.now c.meet.new.work)
     (c.whole-right.ensures.shape ∙ c.open.ensures.shown)
-    (meets-roots left (cursor_shape c.whole-right.result) 0 c.args.work.now c.open.new.work
+    (meets-roots left (cursor_shape c.whole-right.result) c.args.work.now c.open.new.work
     c.meet.new.work (ap (λ z. z.entered) c.open.ensures.work)
     (ap (λ z. z.made) c.open.ensures.work) c.in_err-made.ensures.counted)
 
@@ -18,6 +18,6 @@ returns-clause-counted g c =
     let left = c.args.left.now.shape in
     subst (λ z. MeetsUpTo left z c.args.work.now c.meet.new.work)
     (c.whole-right.ensures.shape ∙ c.open.ensures.shown)
-    (meets-roots left (cursor_shape c.whole-right.result) 0 c.args.work.now c.open.new.work
+    (meets-roots left (cursor_shape c.whole-right.result) c.args.work.now c.open.new.work
     c.meet.new.work (ap (λ z. z.entered) c.open.ensures.work)
     (ap (λ z. z.made) c.open.ensures.work) c.in_ok-made.ensures.counted)

@@ -7,7 +7,7 @@ use Rattle.rart_below.specs.ByteSets.{has_byte}
 use Rattle.rart_lockstep.specs.TreeCursorFields.{cursor_shape}
 use Rattle.rart_lockstep.specs.TreeCursors.{next_children}
 use Rattle.rart_lockstep.proofs.LeastCountLemmas.{EntersLeast}
-use Rattle.rart_node.specs.Shape.{Shape, children_of, prefix_of, height, with_prefix}
+use Rattle.rart_node.specs.Shape.{Shape, children_of, prefix_of, value_of, height, with_prefix}
 use Rattle.rart_node.specs.Trees.{IsTree, found}
 use Rattle.rart_node.proofs.NodeMergeLemmas.{if-ok}
 use Rattle.rart_node.proofs.FindLemmas.{branch, ordered, ascending}
@@ -21,7 +21,7 @@ use Rattle.rart_algebra.proofs.AmongLemmas.{bytes-apart, bytes-both, was-ahead}
 use Rattle.rart_algebra.proofs.CarriedLemmas.{common-child, common-ended, keys-carried, next-begins}
 use Rattle.rart_algebra.proofs.DescentLemmas.{StepsUpTo, begun-prefix, steps-apart, steps-none, steps-next, steps-end}
 use Rattle.rart_algebra.proofs.PaidLemmas.{lost, made-less, err-spare, or-parts, paid-result, last-changed}
-use Rattle.rart_algebra.proofs.PickLemmas.{IsPickedUpTo, picked-apart, picked-start, picked-made, ordered-losing, admitted-losing, becomes-settled}
+use Rattle.rart_algebra.proofs.PickLemmas.{IsPickedUpTo, picked-apart, picked-start, picked-was, picked-made, ordered-losing, admitted-losing, becomes-settled}
 use Rattle.rart_algebra.proofs.WeightLemmas.{weigh-taken}
 use Rattle.rart_algebra.proofs.UnlessLemmas.{leaf-children, unless-none, own-picked, own-common, leaf-gone, leaf-kept}
 use Rattle.rart_algebra.proofs.difference.+subtract.Goals as goal
@@ -40,7 +40,8 @@ returns-in_default-clause-counted g t c =
     let right = cursor_shape c.args.right in
     subst (λ z. StepsBelow IsCommonKey z right 0 c.args.work.now c.reach.new.work)
     (c.whole.ensures.shape ∙ c.open-node.ensures.shown)
-    (steps-apart IsCommonKey (cursor_shape c.whole.result) right c.args.work.now c.open-node.new.work
+    (steps-apart IsCommonKey (cursor_shape c.whole.result) right c.args.work.now
+    c.open-node.new.work
     c.reach.new.work c.in_default.ensures.enters (ap (λ z. z.entered) c.open-node.ensures.work)
     (ap (λ z. z.made) c.open-node.ensures.work))
 
@@ -153,7 +154,7 @@ below-init g t c =
     let are = c.common_bytes.ensures in
     let is = c.new-bytes.ensures in
     record {
-      picked = subst (λ z. IsPickedUpTo unless s at z s) (sym is)
+      picked = subst (λ z. IsPickedUpTo unless s at (value_of s) z s) (sym is)
           (picked-start unless unless-none s at s c.common_bytes.result (ordered s tree) refl refl
           (λ byte has. refl) (λ byte gone q. refl)
           (bytes-apart c.common_bytes.result (children_of s) (next_children at) are));
@@ -248,12 +249,15 @@ below-preserved g t c =
     let still = inv.picked.kept byte takes.0 ∙ here in
     let less = made-less AllocError made now child byte inv.picked.order still in
     record {
-      picked = subst (λ z. IsPickedUpTo unless s at after z) is
-          (picked-made unless unless-none s at ahead after byte takes.2 now inv.picked takes.0 child
-          next here there tree made c.in_ok-made.ensures.becomes);
+      picked = subst (λ z. IsPickedUpTo unless s at (value_of s) after z) is
+          (picked-made unless s at (value_of s) ahead after byte takes.2 now inv.picked takes.0
+          child
+          next here there (ordered s tree) (next-begins at next byte also there).1 made
+          c.in_ok-made.ensures.becomes);
       steps = subst (λ z. StepsUpTo IsCommonKey s at after (lost s z) c.reach.new.work
           c.subtract.new.work) is
-          (steps-next IsCommonKey keys-carried s at child next byte here there tree also ahead after
+          (steps-next IsCommonKey keys-carried s at child next byte here there (ordered s tree) also
+          ahead after
           takes.0 takes.2 (lost s now) (lost s (with_made byte made now))
           (spare_of {E = AllocError} (Ok made)) c.reach.new.work c.below.work
           c.branch-next.new.work c.subtract.new.work inv.steps c.in-Some-Some.ensures'.counted
@@ -263,7 +267,7 @@ below-preserved g t c =
           (let few = inv.fewer in let some = less.1 in omega (arith, few, some));
       common = λ changed. ⊎_elim (λ was. inv.common was)
           (λ differs. let key = c.in_ok-made.ensures.common differs in
-          (key.0, common-child s at child next byte here there tree also key.0 key.1))
+          (key.0, common-child s at child next byte here there (ordered s tree) also key.0 key.1))
           (or-parts (is_some c.below.part) (is_same made)
           (sym c.in_ok-part.ensures.changed ∙ changed));
       least = least-step s at tree ahead after byte child next takes here there c.reach.new.work
@@ -293,13 +297,16 @@ returns-in_err-made-clause-counted g t c =
     let inv = c.below.invariant in
     let goes = c.both_have_values-goes.result in
     let steps = steps-next IsCommonKey keys-carried s at child next byte
-    (sym c.in-Some-Some.ensures) (sym c.in-Some-Some.ensures'.next) tree leads.0 ahead after takes.0
+    (sym c.in-Some-Some.ensures) (sym c.in-Some-Some.ensures'.next) (ordered s tree) leads.0 ahead
+    after takes.0
     takes.2 (lost s now) (lost s now) 0 c.reach.new.work c.below.work
     c.branch-next.new.work c.subtract.new.work inv.steps c.in-Some-Some.ensures'.counted
     c.in_err-made.ensures.counted (omega arith) in
-    subst (λ z. StepsBelow IsCommonKey c.args.left.now.shape right z c.args.work.now c.subtract.new.work)
+    subst (λ z. StepsBelow IsCommonKey c.args.left.now.shape right z c.args.work.now
+    c.subtract.new.work)
     (sym (err-spare c.from_residual.result c.from_residual.ensures.0))
-    (subst (λ z. StepsBelow IsCommonKey z right 0 c.args.work.now c.subtract.new.work) c.open-node.ensures.shown
+    (subst (λ z. StepsBelow IsCommonKey z right 0 c.args.work.now c.subtract.new.work)
+    c.open-node.ensures.shown
     (steps-end IsCommonKey keys-carried s right at after goes (lost s now) leads.1 tree leads.0
     c.args.work.now c.open-node.new.work c.reach.new.work c.subtract.new.work c.subtract.new.work
     along steps (own-common s at goes c.both_have_values-goes.ensures)
@@ -326,14 +333,17 @@ returns-in_err-part-clause-counted g t c =
     let inv = c.below.invariant in
     let goes = c.both_have_values-goes.result in
     let steps = steps-next IsCommonKey keys-carried s at child next byte
-    (sym c.in-Some-Some.ensures) (sym c.in-Some-Some.ensures'.next) tree leads.0 ahead after takes.0
+    (sym c.in-Some-Some.ensures) (sym c.in-Some-Some.ensures'.next) (ordered s tree) leads.0 ahead
+    after takes.0
     takes.2 (lost s now) (lost s now) (spare_of {E = AllocError} (Ok c.in_ok-made.made))
     c.reach.new.work c.below.work
     c.branch-next.new.work c.subtract.new.work inv.steps c.in-Some-Some.ensures'.counted
     c.in_ok-made.ensures.counted (omega arith) in
-    subst (λ z. StepsBelow IsCommonKey c.args.left.now.shape right z c.args.work.now c.subtract.new.work)
+    subst (λ z. StepsBelow IsCommonKey c.args.left.now.shape right z c.args.work.now
+    c.subtract.new.work)
     (sym (err-spare c.from_residual-in_err-part.result c.from_residual-in_err-part.ensures.0))
-    (subst (λ z. StepsBelow IsCommonKey z right 0 c.args.work.now c.subtract.new.work) c.open-node.ensures.shown
+    (subst (λ z. StepsBelow IsCommonKey z right 0 c.args.work.now c.subtract.new.work)
+    c.open-node.ensures.shown
     (steps-end IsCommonKey keys-carried s right at after goes (lost s now) leads.1 tree leads.0
     c.args.work.now c.open-node.new.work c.reach.new.work c.subtract.new.work c.subtract.new.work
     along steps (own-common s at goes c.both_have_values-goes.ensures)
@@ -352,8 +362,8 @@ settle-requires-clause-order g t c =
     let goes = c.both_have_values-goes.result in
     let own = own-picked s at goes c.both_have_values-goes.ensures in
     let all = c.in_default-take_first.ensures.1 in
-    ordered-losing unless unless-none s at right now c.below.bytes.left goes inv.picked all leads.1
-    own
+    ordered-losing unless s at right now (value_of s) c.below.bytes.left goes inv.picked all leads.1
+    own (λ q _. unless-none (found right q))
 
 pub settle-requires-clause-lengths : goal.settle-requires-clause-lengths
 settle-requires-clause-lengths g t c =
@@ -367,10 +377,11 @@ settle-requires-clause-lengths g t c =
     let goes = c.both_have_values-goes.result in
     let own = own-picked s at goes c.both_have_values-goes.ensures in
     let all = c.in_default-take_first.ensures.1 in
-    admitted-losing unless unless-none s at right now c.below.bytes.left goes inv.picked all leads.1
-    own g.P.Partial.MAXIMUM_SIZE
-    (subst (AreAdmitted g.P.Partial.MAXIMUM_SIZE) (sym c.open-node.ensures.shown)
-    c.requires.lengths)
+    admitted-losing unless s at right now (value_of s) c.below.bytes.left goes inv.picked all
+    leads.1
+    own (λ q _. unless-none (found right q)) g.P.Partial.MAXIMUM_SIZE
+    (λ q there. subst (AreAdmitted g.P.Partial.MAXIMUM_SIZE) (sym c.open-node.ensures.shown)
+    c.requires.lengths q (picked-was unless unless-none (found s q) (found right q) there))
 
 pub returns-clause-becomes : goal.returns-clause-becomes
 returns-clause-becomes g t c =
@@ -386,8 +397,9 @@ returns-clause-becomes g t c =
     let all = c.in_default-take_first.ensures.1 in
     if-ok c.settle.result
     (λ made settled. subst (λ z. Becomes unless z right made) c.open-node.ensures.shown
-    (becomes-settled unless unless-none s at right now c.below.bytes.left goes inv.picked all
-    leads.1 own made settled)) c.settle.ensures.settled
+    (becomes-settled unless s at right now (value_of s) c.below.bytes.left goes inv.picked all
+    leads.1 own (λ q _. unless-none (found right q)) s (λ q. refl) (λ byte begins _. begins) made
+    settled)) c.settle.ensures.settled
 
 pub returns-clause-common : goal.returns-clause-common
 returns-clause-common g t c =
@@ -424,17 +436,18 @@ returns-clause-counted g t c =
     c.whole.ensures.shape c.in-Some.ensures.enters in
     let changed = is_some c.below.part in
     let common = own-common s at goes c.both_have_values-goes.ensures in
-    let order = ordered-losing unless unless-none s at right now c.below.bytes.left goes inv.picked
-    all leads.1 own in
+    let order = ordered-losing unless s at right now (value_of s) c.below.bytes.left goes inv.picked
+    all leads.1 own (λ q _. unless-none (found right q)) in
     let one = c.settle.ensures.counted in
-    subst (λ z. StepsBelow IsCommonKey z right (spare_of c.settle.result) c.args.work.now c.settle.new.work)
+    subst (λ z. StepsBelow IsCommonKey z right (spare_of c.settle.result) c.args.work.now
+    c.settle.new.work)
     c.open-node.ensures.shown
     (steps-end IsCommonKey keys-carried s right at c.below.bytes.left goes (lost s now) leads.1 tree
     leads.0 c.args.work.now c.open-node.new.work c.reach.new.work c.below.work c.settle.new.work
     along inv.steps common (ap (λ z. z.entered) c.open-node.ensures.work)
     (ap (λ z. z.made) c.open-node.ensures.work)
     (merges (losing goes now)) (spare_of c.settle.result) one.entered_grows one.entered_at_most
-    (paid-result c.settle.result s now goes tree inv.picked.value order inv.fewer
+    (paid-result c.settle.result s s now goes tree inv.picked.value order inv.fewer
     c.settle.ensures.settled) one.made_grows
     (last-changed {C = BeginsCommon s right (prefix_of s)} goes changed (losing goes now)
     c.below.work c.settle.new.work one c.settle.ensures.still

@@ -2,7 +2,7 @@ use Rattle.std.proofs.Common.{◌≡◌, ◌≤◌, [], true, is_some, length}
 use Rattle.rart_lockstep.specs.Children.{HaveBoth}
 use Rattle.rart_lockstep.specs.TreeCursorFields.{cursor_shape}
 use Rattle.rart_lockstep.specs.TreeCursors.{next_children}
-use Rattle.rart_node.specs.Shape.{children_of, height, with_prefix}
+use Rattle.rart_node.specs.Shape.{children_of, value_of, height, with_prefix}
 use Rattle.rart_lockstep.proofs.LeastCountLemmas.{EntersLeast}
 use Rattle.rart_algebra.specs.Ahead.{HaveCommon, IsCommonKey}
 use Rattle.rart_algebra.specs.Parts.{shape_now}
@@ -23,7 +23,7 @@ invariant-below g l =
     let t = cursor_shape l.at in
     let now = shape_now s l.part in
     record {
-      picked : IsPickedUpTo unless s t l.bytes.left now;
+      picked : IsPickedUpTo unless s t (value_of s) l.bytes.left now;
       steps : StepsUpTo IsCommonKey s t l.bytes.left (lost s now) l.initial.work l.work;
       fewer : length (children_of now) ≤ length (children_of s);
       common : is_some l.part ≡ true → HaveCommon (with_prefix [] s) t;

@@ -8,7 +8,6 @@ use Rattle.rart_algebra.specs.Picks.{IsPickedOr, unless}
 use Rattle.rart_algebra.proofs.CommonCountLemmas.{whatever}
 use Rattle.rart_algebra.proofs.DescentLemmas.{goes-roots}
 use Rattle.rart_algebra.proofs.PickLemmas.{picked-root}
-use Rattle.rart_algebra.proofs.UnlessLemmas.{unless-none}
 use Rattle.rart_algebra.proofs.difference.difference_below.Goals as goal
 
 pub returns-in_err-made-clause-counted : goal.returns-in_err-made-clause-counted
@@ -16,19 +15,19 @@ returns-in_err-made-clause-counted g c =
     let left = c.args.left.now.shape in
     subst (λ z. GoesUpTo left z c.args.work.now c.subtract.new.work)
     (c.whole-right.ensures.shape ∙ c.open.ensures.shown)
-    (goes-roots left (cursor_shape c.whole-right.result) 0 c.args.work.now c.open.new.work
+    (goes-roots left (cursor_shape c.whole-right.result) c.args.work.now c.open.new.work
     c.subtract.new.work (ap (λ z. z.entered) c.open.ensures.work)
-    (ap (λ z. z.made) c.open.ensures.work) c.in_err-made.ensures.counted)
+    (ap (λ z. z.made) c.open.ensures.work) 0 c.in_err-made.ensures.counted)
 
 pub returns-clause-counted : goal.returns-clause-counted
 returns-clause-counted g c =
     let left = c.args.left.now.shape in
     subst (λ z. GoesUpTo left z c.args.work.now c.subtract.new.work)
     (c.whole-right.ensures.shape ∙ c.open.ensures.shown)
-    (goes-roots left (cursor_shape c.whole-right.result)
-    (spare_of {E = AllocError} (Ok c.in_ok-made.made)) c.args.work.now c.open.new.work
+    (goes-roots left (cursor_shape c.whole-right.result) c.args.work.now c.open.new.work
     c.subtract.new.work (ap (λ z. z.entered) c.open.ensures.work)
-    (ap (λ z. z.made) c.open.ensures.work) c.in_ok-made.ensures.counted)
+    (ap (λ z. z.made) c.open.ensures.work) (spare_of {E = AllocError} (Ok c.in_ok-made.made))
+    c.in_ok-made.ensures.counted)
 
 pub returns-clause-picked : goal.returns-clause-picked
 returns-clause-picked g c =
@@ -37,20 +36,20 @@ returns-clause-picked g c =
     (λ it is. subst (IsPickedOr unless left c.args.right.now.shape) (sym is)
     (subst (λ z. IsPickedOr unless left z
     (shape_made left c.in_ok-made.made)) (c.whole-right.ensures.shape ∙ c.open.ensures.shown)
-    (picked-root unless unless-none left (cursor_shape c.whole-right.result) c.in_ok-made.made
+    (picked-root unless left (cursor_shape c.whole-right.result) c.in_ok-made.made
     c.requires.left c.in_ok-made.ensures.becomes)))
     c.root_of.ensures
 
 pub returns-in_err-made-clause-entered : goal.returns-in_err-made-clause-entered
 returns-in_err-made-clause-entered g c =
     let one = ap (λ z. z.entered) c.open.ensures.work in
-    let more = c.in_err-made.ensures.counted.grows in
+    let more = c.in_err-made.ensures.counted.enters.grows in
     omega (arith, one, more)
 
 pub returns-clause-entered : goal.returns-clause-entered
 returns-clause-entered g c =
     let one = ap (λ z. z.entered) c.open.ensures.work in
-    let more = c.in_ok-made.ensures.counted.grows in
+    let more = c.in_ok-made.ensures.counted.enters.grows in
     omega (arith, one, more)
 
 pub returns-clause-least : goal.returns-clause-least

@@ -85,7 +85,7 @@ module _ {V : Type 0} where
       (sym (get-found before q tree) i))
       ∙ sym (get-with_prefix_of p (map_of from) (map_of before) q))
 
-  len-joined : (m n : Map V) → finite.len (joined m n) ≤ finite.len m + finite.len n
+  pub len-joined : (m n : Map V) → finite.len (joined m n) ≤ finite.len m + finite.len n
   len-joined m n =
       let fewer = entries-few (pairs m ++ pairs n) in
       let both = length-append (pairs m) (pairs n) in

@@ -1,4 +1,5 @@
--- The two parts that another version cuts a version into, and that all stays in order there.
+-- The two parts that another version cuts a version into, and what two versions are together; and
+-- that all stays in order there.
 use Rattle.std.proofs.Common.{◌≡◌, ℕ, ◌+◌, ◌≤◌, ◌⊎◌, inl, inr, ⊎_elim, List, [], ◌∷◌, Option, Some, None, IsSome, is_some, length, map, cond, not, Bool, true, false, refl, arith, sym, ap, subst, ◌∙◌}
 use Rattle.std.specs.FinMap as finite
 use Rattle.std.specs.FinSet as set
@@ -7,8 +8,8 @@ use Rattle.std.proofs.lemmas.Bool.{and_from, false≢true}
 use Rattle.std.proofs.lemmas.Cmp.{nat_list_cmp_total}
 use Rattle.std.proofs.lemmas.List.{length-map}
 use Rattle.rart_below.specs.Bytes.{byte_order}
-use Rattle.rart_maps.specs.Bounds.{cut_makes, difference_bound, intersection_bound}
-use Rattle.rart_maps.specs.MapParts.{common_part, without}
+use Rattle.rart_maps.specs.Bounds.{apart_makes, cut_makes, difference_bound, intersection_bound, union_bound, union_makes}
+use Rattle.rart_maps.specs.MapParts.{apart, common_part, without}
 use Rattle.rart_maps.specs.Pairs.{pairs, starts, shared}
 use Rattle.rart_maps.specs.Points.{places, points}
 use Rattle.rart_maps.specs.StartLaws.{with_byte}
@@ -16,7 +17,7 @@ use Rattle.rart_maps.specs.ChangeLists.{joined}
 use Rattle.rart_maps.specs.Versions.{Map}
 use Rattle.rart_maps.proofs.ElementLemmas.{Contains-map}
 use Rattle.rart_maps.proofs.FoundLemmas.{Contains-pairs}
-use Rattle.rart_maps.proofs.MapPartLemmas.{get-common_part, get-without, no_key_cuts_nothing, common_part_has_these_pairs, other_part_has_these_pairs}
+use Rattle.rart_maps.proofs.MapPartLemmas.{apart_either_way, get-apart, get-common_part, get-without, joined_with_itself, no_key_cuts_nothing, common_part_has_these_pairs, other_part_has_these_pairs}
 use Rattle.rart_maps.proofs.ChangeLemmas.{or_else, get-joined}
 use Rattle.rart_maps.proofs.PlaceLawLemmas.{places_are_shared_points}
 use Rattle.rart_maps.proofs.PairLawLemmas.{contains-shared}
@@ -27,9 +28,11 @@ use Rattle.rart_node.specs.Counts.{Counts, CountsUpTo}
 use Rattle.rart_node.specs.Shape.{Shape}
 use Rattle.rart_node.specs.Trees.{found, IsTree}
 use Rattle.rart_node.proofs.CountingLemmas.{counts-most}
-use Rattle.rart_algebra.specs.Ahead.{ArePartedAt, EitherHas, IsPlace, IsShared, IsCommonKey, BeginsCommon, HasAll, GoesUpTo, MeetsUpTo}
-use Rattle.rart_algebra.specs.Picks.{IsPickedOr, Pick, both, unless}
+use Rattle.rart_algebra.specs.Ahead.{ArePartedAt, EitherHas, IsChange, IsChangedPlace, IsPlace, IsShared, IsCommonKey, BeginsCommon, HasAll, GoesUpTo, JoinsUpTo, MeetsUpTo}
+use Rattle.rart_algebra.specs.Picks.{IsPickedOr, Pick, both, either, unless}
+use Rattle.rart_algebra.specs.Picks as picks
 use Rattle.rart_versioned.specs.Roots.{found_in, map_of, IsTreeIn, IsSound}
+use Rattle.rart_versioned.proofs.RestoringLemmas.{len-joined}
 use Rattle.rart_versioned.proofs.SoundLemmas.{tree-in, few, admitted}
 use Rattle.rart_versioned.proofs.VersionMapLemmas.{get-found}
 use Rattle.rart_versioned.proofs.VersionPrefixLemmas.{filter-fewer}
@@ -49,7 +52,8 @@ list-few (s ∷ list) =
 
 module _ {V : Type 0} where
   -- ---- the map of what is picked
-  -- What is picked at each key is what a part of the first map has there, and no more than that one.
+  -- What is picked at each key is what a part of the first map has there, and no more than that
+  -- one.
   pub record IsCut (pick : Pick V) (part : Map V → Map V → Map V) : Type 0 where
     pub answers : (m other : Map V) (q : List ℕ)
         → finite.get (part m other) q ≡ pick (finite.get m q) (finite.get other q)
@@ -67,22 +71,51 @@ module _ {V : Type 0} where
   picked-in pick left right None none = (tt, λ q. sym (none q))
   picked-in pick left right (Some after) picked = (picked.tree, picked.finds)
 
-  module _ (pick : Pick V) (part : Map V → Map V → Map V) (cut : IsCut pick part) where
-    pub map-picked : (before other after : Option (Shape V)) → IsTreeIn before → IsTreeIn other
-        → IsPickedIn pick before other after → map_of after ≡ part (map_of before) (map_of other)
-    map-picked before other after tree also left =
-        same_map (map_of after) (part (map_of before) (map_of other)) (λ q.
-        get-found after q left.0 ∙ left.1 q
-        ∙ (λ i. pick (sym (get-found before q tree) i) (sym (get-found other q also) i))
-        ∙ sym (cut.answers (map_of before) (map_of other) q))
+  -- What two maps have together has keys of either alone, and no more than both.
+  pub record IsJoin (pick : Pick V) (part : Map V → Map V → Map V) : Type 0 where
+    pub answers : (m other : Map V) (q : List ℕ)
+        → finite.get (part m other) q ≡ pick (finite.get m q) (finite.get other q)
+    pub kept : (one other : Option V) → IsSome (pick one other) → IsSome one ⊎ IsSome other
+    pub fewer : (m other : Map V)
+        → finite.len (part m other) ≤ finite.len m + finite.len other
 
+  pub map-picked : (pick : Pick V) (part : Map V → Map V → Map V)
+      → ((m other : Map V) (q : List ℕ)
+      → finite.get (part m other) q ≡ pick (finite.get m q) (finite.get other q))
+      → (before other after : Option (Shape V)) → IsTreeIn before → IsTreeIn other
+      → IsPickedIn pick before other after → map_of after ≡ part (map_of before) (map_of other)
+  map-picked pick part answers before other after tree also left =
+      same_map (map_of after) (part (map_of before) (map_of other)) (λ q.
+      get-found after q left.0 ∙ left.1 q
+      ∙ (λ i. pick (sym (get-found before q tree) i) (sym (get-found other q also) i))
+      ∙ sym (answers (map_of before) (map_of other) q))
+
+  pub sound-joined : (pick : Pick V) (part : Map V → Map V → Map V) → IsJoin pick part
+      → (most : Option ℕ) (count more : ℕ) (before other after : Option (Shape V))
+      → IsSound most count before → IsSound most more other
+      → IsPickedIn pick before other after → IsSound most (count + more) after
+  sound-joined pick part join most count more before other None sound also left = tt
+  sound-joined pick part join most count more before other (Some root) sound also left =
+      let same = map-picked pick part join.answers before other (Some root)
+      (tree-in most count before sound) (tree-in most more other also) left in
+      let fewer = join.fewer (map_of before) (map_of other) in
+      let all = few most count before sound in
+      let others = few most more other also in (
+        left.0,
+        (λ q there. ⊎_elim (admitted most count before sound q) (admitted most more other also q)
+            (join.kept (found_in before q) (found_in other q) (subst IsSome (left.1 q) there))),
+        subst (λ m. finite.len m ≤ count + more) (sym same)
+            (omega (arith, fewer, all, others)),
+      )
+
+  module _ (pick : Pick V) (part : Map V → Map V → Map V) (cut : IsCut pick part) where
     pub sound-picked : (most : Option ℕ) (count later : ℕ) (before other after : Option (Shape V))
         → IsSound most count before → count ≤ later → IsTreeIn other
         → IsPickedIn pick before other after → IsSound most later after
     sound-picked most count later before other None sound le also left = tt
     sound-picked most count later before other (Some root) sound le also left =
-        let same = map-picked before other (Some root) (tree-in most count before sound) also left
-        in
+        let same = map-picked pick part cut.answers before other (Some root)
+        (tree-in most count before sound) also left in
         let fewer = cut.fewer (map_of before) (map_of other) in
         let all = few most count before sound in (
           left.0,
@@ -164,6 +197,62 @@ module _ {V : Type 0} where
 
   pub common-none : (m : Map V) → map_of {V = V} None ≡ common_part m (map_of {V = V} None)
   common-none m = sym (no_key_cuts_nothing V V m).1
+
+  -- ---- both together
+  either-or : (one other : Option V) → either one other ≡ or_else one other
+  either-or None other = refl
+  either-or (Some one) other = refl
+
+  either-some : (one other : Option V) → IsSome (either one other) → IsSome one ⊎ IsSome other
+  either-some None other some = inr some
+  either-some (Some one) other some = inl refl
+
+  pub join-joined : IsJoin either joined
+  join-joined = record {
+    answers = λ m other q.
+        get-joined m other q ∙ sym (either-or (finite.get m q) (finite.get other q));
+    kept = either-some;
+    fewer = len-joined;
+  }
+
+  -- An empty map adds nothing.
+  pub none-joined : (other : Map V) → other ≡ joined (map_of {V = V} None) other
+  none-joined other = sym (joined_with_itself V other).2
+
+  pub joined-none : (m : Map V) → m ≡ joined m (map_of {V = V} None)
+  joined-none m = sym (joined_with_itself V m).1
+
+  -- ---- what one of them has alone
+  apart-or : (one other : Option V) → picks.apart one other
+      ≡ or_else (cond (is_some other) None one) (cond (is_some one) None other)
+  apart-or None None = refl
+  apart-or None (Some other) = refl
+  apart-or (Some one) None = refl
+  apart-or (Some one) (Some other) = refl
+
+  apart-some : (one other : Option V) → IsSome (picks.apart one other)
+      → IsSome one ⊎ IsSome other
+  apart-some None other some = inr some
+  apart-some (Some one) None some = inl refl
+  apart-some (Some one) (Some other) some = inl refl
+
+  pub join-apart : IsJoin picks.apart apart
+  join-apart = record {
+    answers = λ m other q.
+        get-apart V m other q ∙ sym (apart-or (finite.get m q) (finite.get other q));
+    kept = apart-some;
+    fewer = λ m other.
+        let both = len-joined (without m other) (without other m) in
+        let one = cut-without.fewer m other in
+        let two = cut-without.fewer other m in
+        omega (arith, both, one, two);
+  }
+
+  pub apart-none : (m : Map V) → m ≡ apart m (map_of {V = V} None)
+  apart-none m = sym (apart_either_way V m (map_of None)).2
+
+  pub none-apart : (other : Map V) → other ≡ apart (map_of {V = V} None) other
+  none-apart other = apart-none other ∙ (apart_either_way V other (map_of None)).0
 
   -- ---- what is ahead, in the words of maps
   module _ (left right : Shape V) (tree : IsTree left) (also : IsTree right) where
@@ -285,3 +374,48 @@ module _ {V : Type 0} where
     meets-maps before after meets =
         meets (places one_map other_map) (starts (common_part one_map other_map)) places-all
         starts-all
+
+    lacks-left : (key : List ℕ) → found left key ≡ None
+        → finite.contains_key one_map key ≡ false
+    unfolding one_map
+    lacks-left key none = ap is_some (get-found (Some left) key tree ∙ none)
+
+    adds : (key : List ℕ) → IsChange true left right key
+        → finite.contains_key (without other_map one_map) key ≡ true
+    adds key change =
+        ap is_some (get-without other_map one_map key
+        ∙ ap (λ t. cond t None (finite.get other_map key)) (lacks-left key (change.1 refl)))
+        ∙ has-right key change.0
+
+    -- A changed place begins a key that the right one adds.
+    added-all : HasAll (set.intersection (places one_map other_map)
+        (starts (without other_map one_map))) [] (IsChangedPlace true left right)
+    added-all u place =
+        set.contains-intersection nat_list_cmp_total (places one_map other_map)
+        (starts (without other_map one_map)) u
+        ∙ and_from (set.contains (places one_map other_map) u)
+        (set.contains (starts (without other_map one_map)) u) (places-all u place.0)
+        ((starts_begin_keys V (without other_map one_map) u).1
+        (place.1.key, place.1.begun, adds place.1.key place.1.change))
+
+    pub union-maps : (before after : Counts) → JoinsUpTo true left right before after
+        → CountsUpTo (union_bound (map_of (Some left)) (map_of (Some right)))
+        (union_makes (map_of (Some left)) (map_of (Some right))) before after
+    unfolding one_map other_map
+    union-maps before after joins =
+        let none = set.len-empty byte_order in
+        counts-most (joins (places one_map other_map) set.empty
+        (set.intersection (places one_map other_map) (starts (without other_map one_map)))
+        places-all (λ key gone. absurd (false≢true (sym gone.0))) added-all)
+        (omega (arith, none)) (omega arith)
+
+    pub apart-maps : (before after : Counts) → JoinsUpTo false left right before after
+        → CountsUpTo (difference_bound (map_of (Some left)) (map_of (Some right)))
+        (apart_makes (map_of (Some left)) (map_of (Some right))) before after
+    unfolding one_map other_map
+    apart-maps before after joins =
+        let few = keys-few in
+        counts-most (joins (places one_map other_map) (set.from_list common_keys)
+        (places one_map other_map) places-all (λ key gone. keys-all key gone.1)
+        (λ u place. places-all u place.0))
+        (omega (arith, few)) (omega arith)

@@ -138,7 +138,10 @@ impl<K: KeyTrait, V: Clone + Drop> VersionedAdaptiveRadixTree<K, V> {
     }
 
     /// The same map once more with a number that is not below this one's.
-    fn with_version(&self, version: u64) -> Result<VersionedAdaptiveRadixTree<K, V>, AllocError>
+    pub(crate) fn with_version(
+        &self,
+        version: u64,
+    ) -> Result<VersionedAdaptiveRadixTree<K, V>, AllocError>
         requires { self.now.number ≤ version }
         ensures { IfOk result (λ copy. copy
             ≡ record { content = self.now.content; number = version }) }

@@ -102,7 +102,8 @@ invariant_of-result-2 g c =
     (sym c.in-Some-root.is)
     (picked-in unless c.in-Some.left.shape c.in-Some-root.right.shape after
     c.in_ok-root.ensures.picked)) in
-    sound-picked unless without cut-without most c.self.inside.version _ before beside after c.self.invariant (omega arith)
+    sound-picked unless without cut-without most c.self.inside.version _ before beside after
+    c.self.invariant (omega arith)
     (tree-in most c.other.inside.version beside c.other.invariant) part
 
 pub returns-clause-difference : goal.returns-clause-difference
@@ -118,7 +119,7 @@ returns-clause-difference g c =
     (picked-in unless c.in-Some.left.shape c.in-Some-root.right.shape after
     c.in_ok-root.ensures.picked)) in
     ap (λ m. record { content = m; number = c.self.inside.version + 1 })
-    (map-picked unless without cut-without before beside after
+    (map-picked unless without cut-without.answers before beside after
     (tree-in most c.self.inside.version before c.self.invariant)
     (tree-in most c.other.inside.version beside c.other.invariant) part)
     ∙ (λ i. version_without (c.self.view_is i) (c.other.view_is i))
@@ -131,12 +132,14 @@ returns-in_default-clause-entered g c keyed =
 pub returns-in_default-root-clause-entered : goal.returns-in_default-root-clause-entered
 returns-in_default-root-clause-entered g c keyed also =
     absurd (none-keyed shape_of g.K.KeyTrait.MAXIMUM_SIZE c.other.inside.version
-    c.other.inside.root c.args.other.now c.other.invariant c.other.view_is c.in_default-root.is also)
+    c.other.inside.root c.args.other.now c.other.invariant c.other.view_is c.in_default-root.is
+    also)
 
 pub returns-in_err-copy-clause-entered : goal.returns-in_err-copy-clause-entered
 returns-in_err-copy-clause-entered g c keyed also =
     absurd (none-keyed shape_of g.K.KeyTrait.MAXIMUM_SIZE c.other.inside.version
-    c.other.inside.root c.args.other.now c.other.invariant c.other.view_is c.in_default-root.is also)
+    c.other.inside.root c.args.other.now c.other.invariant c.other.view_is c.in_default-root.is
+    also)
 
 pub returns-in_default-clause-each : goal.returns-in_default-clause-each
 returns-in_default-clause-each g c =

@@ -97,7 +97,8 @@ invariant_of-result g c =
     (sym c.in-Some-root.is)
     (picked-in both c.in-Some.left.shape c.in-Some-root.right.shape after
     c.in_ok-root.ensures.picked)) in
-    sound-picked both common_part cut-common most c.self.inside.version _ before beside after c.self.invariant (omega arith)
+    sound-picked both common_part cut-common most c.self.inside.version _ before beside after
+    c.self.invariant (omega arith)
     (tree-in most c.other.inside.version beside c.other.invariant) part
 
 pub returns-clause-intersection : goal.returns-clause-intersection
@@ -113,7 +114,7 @@ returns-clause-intersection g c =
     (picked-in both c.in-Some.left.shape c.in-Some-root.right.shape after
     c.in_ok-root.ensures.picked)) in
     ap (λ m. record { content = m; number = c.self.inside.version + 1 })
-    (map-picked both common_part cut-common before beside after
+    (map-picked both common_part cut-common.answers before beside after
     (tree-in most c.self.inside.version before c.self.invariant)
     (tree-in most c.other.inside.version beside c.other.invariant) part)
     ∙ (λ i. version_common (c.self.view_is i) (c.other.view_is i))
@@ -126,7 +127,8 @@ returns-in_default-clause-entered g c keyed =
 pub returns-in_default-root-clause-entered : goal.returns-in_default-root-clause-entered
 returns-in_default-root-clause-entered g c keyed also =
     absurd (none-keyed shape_of g.K.KeyTrait.MAXIMUM_SIZE c.other.inside.version
-    c.other.inside.root c.args.other.now c.other.invariant c.other.view_is c.in_default-root.is also)
+    c.other.inside.root c.args.other.now c.other.invariant c.other.view_is c.in_default-root.is
+    also)
 
 pub returns-in_default-clause-each : goal.returns-in_default-clause-each
 returns-in_default-clause-each g c =

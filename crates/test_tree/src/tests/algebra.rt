@@ -1,4 +1,5 @@
-//! What one tree has and another lacks, and what both have, in each form.
+//! What one tree has and another lacks, what both have, what either has, and what one has alone, in
+//! each form.
 ghost use Rattle.rart_maps.specs.Versions.{HasRoom};
 
 use crate::tests::trees::{Tree, four, has_room, tree_of};
@@ -43,14 +44,71 @@ const INTERSECTIONS: &[(&[(&[u8], u64)], &[(&[u8], u64)])] = &[
     ),
 ];
 
+// Likewise, and what they are together with these.
+const UNIONS: &[(&[(&[u8], u64)], &[(&[u8], u64)])] = &[
+    (&[], &[(b"a", 1), (b"abc", 2), (b"abd", 3), (b"b", 4)]),
+    (
+        &[(b"a", 9)],
+        &[(b"a", 1), (b"abc", 2), (b"abd", 3), (b"b", 4)],
+    ),
+    (
+        &[(b"ab", 5), (b"abc", 7)],
+        &[(b"a", 1), (b"ab", 5), (b"abc", 2), (b"abd", 3), (b"b", 4)],
+    ),
+    (
+        &[(b"", 8), (b"abcd", 7), (b"c", 6)],
+        &[
+            (b"", 8),
+            (b"a", 1),
+            (b"abc", 2),
+            (b"abcd", 7),
+            (b"abd", 3),
+            (b"b", 4),
+            (b"c", 6),
+        ],
+    ),
+    (
+        &[(b"aa", 5), (b"abe", 6), (b"ax", 7)],
+        &[
+            (b"a", 1),
+            (b"aa", 5),
+            (b"abc", 2),
+            (b"abd", 3),
+            (b"abe", 6),
+            (b"ax", 7),
+            (b"b", 4),
+        ],
+    ),
+];
+
+// Likewise, and what either has alone.
+const SYMMETRIC_DIFFERENCES: &[(&[(&[u8], u64)], &[(&[u8], u64)])] = &[
+    (&[], &[(b"a", 1), (b"abc", 2), (b"abd", 3), (b"b", 4)]),
+    (&[(b"a", 9)], &[(b"abc", 2), (b"abd", 3), (b"b", 4)]),
+    (
+        &[(b"ab", 5), (b"abc", 7)],
+        &[(b"a", 1), (b"ab", 5), (b"abd", 3), (b"b", 4)],
+    ),
+    (
+        &[(b"abc", 1), (b"abd", 2), (b"abe", 7), (b"b", 3)],
+        &[(b"a", 1), (b"abe", 7)],
+    ),
+    (&[(b"a", 4), (b"abc", 3), (b"abd", 2), (b"b", 1)], &[]),
+];
+
 fn cut(tree: &Tree, form: usize, other: &Tree) -> Result<Tree, AllocError>
-    requires { HasRoom tree.now 2 }
+    requires room { HasRoom tree.now 2 }
+    requires both { HasRoom tree.now other.now.number }
 {
     match form {
         0 => tree.difference(other),
         1 => tree.difference_counted(other, &mut Work::new()),
         2 => tree.intersection(other),
-        _ => tree.intersection_counted(other, &mut Work::new()),
+        3 => tree.intersection_counted(other, &mut Work::new()),
+        4 => tree.union(other),
+        5 => tree.union_counted(other, &mut Work::new()),
+        6 => tree.symmetric_difference(other),
+        _ => tree.symmetric_difference_counted(other, &mut Work::new()),
     }
 }
 
@@ -64,7 +122,9 @@ fn assert_cut(
 ) -> Result<(), AllocError> {
     let tree = four(rt, alloc)?;
     assert!(rt; has_room(&tree));
-    let part = cut(&tree, form, &tree_of(rt, alloc, others)?)?;
+    let other = tree_of(rt, alloc, others)?;
+    assert!(rt; tree.version().checked_add(other.version()).is_some());
+    let part = cut(&tree, form, &other)?;
     assert!(rt; part.equals(&tree_of(rt, alloc, left)?)?);
     Ok(())
 }
@@ -84,6 +144,26 @@ fn two_trees_are_met(rt: HostRuntime) -> Result<(), Fail> {
     for (others, common) in INTERSECTIONS {
         for form in 2..4 {
             assert_cut(&rt, rt.alloc(), form, others, common)?;
+        }
+    }
+    Ok(())
+}
+
+#[test]
+fn two_trees_are_united(rt: HostRuntime) -> Result<(), Fail> {
+    for (others, all) in UNIONS {
+        for form in 4..6 {
+            assert_cut(&rt, rt.alloc(), form, others, all)?;
+        }
+    }
+    Ok(())
+}
+
+#[test]
+fn two_trees_are_told_apart(rt: HostRuntime) -> Result<(), Fail> {
+    for (others, alone) in SYMMETRIC_DIFFERENCES {
+        for form in 6..8 {
+            assert_cut(&rt, rt.alloc(), form, others, alone)?;
         }
     }
     Ok(())

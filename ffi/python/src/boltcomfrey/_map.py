@@ -14,7 +14,6 @@ from ._ordered import (
     Change,
     Ordered,
     Range,
-    bounds_between,
     bounds_under,
     changes,
     slice_bounds,
@@ -182,7 +181,7 @@ class Map(Ordered[V], MutableMapping[bytes, V]):
     def __getitem__(self, key: Any, /) -> Any:
         """The value of a key; of a slice of keys the range, as `range` gives it."""
         if isinstance(key, slice):
-            return Range(self, slice_bounds(key))
+            return self._part(slice_bounds(key))
         found = self._find(key)
         if found is None:
             raise KeyError(key)
@@ -197,19 +196,9 @@ class Map(Ordered[V], MutableMapping[bytes, V]):
         found = self._find(key)
         return default if found is None else found
 
-    def range(
-        self,
-        start: Bytes | None = None,
-        stop: Bytes | None = None,
-        *,
-        inclusive: tuple[bool, bool] = (True, False),
-    ) -> Range[V]:
-        """The pairs whose keys are within two bounds, as a view; None is no bound."""
-        return Range(self, bounds_between(start, stop, inclusive))
-
     def prefix(self, prefix: Bytes) -> Range[V]:
         """The pairs whose keys begin with a prefix, as a view."""
-        return Range(self, bounds_under(library.as_bytes("prefix", prefix)))
+        return self._part(bounds_under(library.as_bytes("prefix", prefix)))
 
     def first(self) -> tuple[bytes, V] | None:
         """The first pair, or None."""

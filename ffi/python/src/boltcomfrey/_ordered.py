@@ -94,6 +94,20 @@ class Ordered(Mapping[bytes, V]):
         """The bounds that keys are within."""
         raise NotImplementedError
 
+    def _part(self, bounds: Bounds) -> Range[V]:
+        """Those of the pairs that meet these bounds too, as a view."""
+        return Range(self._map(), self._bounds().within(bounds))
+
+    def range(
+        self,
+        start: Bytes | None = None,
+        stop: Bytes | None = None,
+        *,
+        inclusive: tuple[bool, bool] = (True, False),
+    ) -> Range[V]:
+        """Those of the pairs whose keys are within two bounds, as a view; None is no bound."""
+        return self._part(bounds_between(start, stop, inclusive))
+
     def _pages(self, is_back: bool) -> Iterator[tuple[list[bytes], list[V]]]:
         """The keys and the values, page by page, of the map as it is now."""
         source = self._map()
@@ -155,20 +169,10 @@ class Range(Ordered[V]):
     def __getitem__(self, key: Any, /) -> Any:
         """The value of a key; of a slice of keys the range, as `range` gives it."""
         if isinstance(key, slice):
-            return Range(self._of, self._between.within(slice_bounds(key)))
+            return self._part(slice_bounds(key))
         if not self._between.holds(library.as_bytes("key", key)):
             raise KeyError(key)
         return self._of[key]
-
-    def range(
-        self,
-        start: Bytes | None = None,
-        stop: Bytes | None = None,
-        *,
-        inclusive: tuple[bool, bool] = (True, False),
-    ) -> Range[V]:
-        """Those of the pairs whose keys are within two bounds, as a view; None is no bound."""
-        return Range(self._of, self._between.within(bounds_between(start, stop, inclusive)))
 
     def __contains__(self, key: object) -> bool:
         return self._between.holds(library.as_bytes("key", key)) and key in self._of

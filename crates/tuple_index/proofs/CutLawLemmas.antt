@@ -21,7 +21,7 @@ pub columns_are_first : ColumnsAreFirst
 columns_are_first columns t = begins_is_of_rest columns (columns_of t)
 
 -- a tuple is in what a test keeps of a set where it was there and passes
-retained : (tuples : Tuples) (p : Tuple → Bool) (t : Tuple) →
+pub retained : (tuples : Tuples) (p : Tuple → Bool) (t : Tuple) →
     has_tuple (finite.retain_keys tuples p) t ≡ (has_tuple tuples t && p t)
 retained tuples p t =
     ap is_some (finite.get-retain_keys tuples p t (λ x tie. ap p (sym (own-columns t x tie))))
@@ -47,7 +47,7 @@ found-either (e ∷ xs) ys t =
     ≡ (is_some (cond b (Some e.1) (find tuple_order t xs)) || is_some (find tuple_order t ys)))
     [ true ↦ refl | false ↦ found-either xs ys t ]
 
-has-either : (one other : Tuples) (t : Tuple) →
+pub has-either : (one other : Tuples) (t : Tuple) →
     has_tuple (tuples_of_either one other) t ≡ (has_tuple one t || has_tuple other t)
 has-either one other t =
     ap is_some (finite.get-from_entries total (finite.entries one ++ finite.entries other) t)

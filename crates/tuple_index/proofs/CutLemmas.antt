@@ -44,10 +44,10 @@ module _ (p : List ℕ → Bool) (q : Tuple → Bool)
   kept-entries : pairs (finite.retain_keys m p) ≡ where_key byte_order p (pairs m)
   kept-entries = retained-entries nat_list_cmp_total byte_order-IsAntisymmetric m p
 
-  keys-retained : AreTupleKeys (pairs (finite.retain_keys m p))
+  pub keys-retained : AreTupleKeys (pairs (finite.retain_keys m p))
   keys-retained = subst AreTupleKeys (sym kept-entries) (keys-where p (pairs m) keys)
 
-  tuples-retained :
+  pub tuples-retained :
       tuples_in (pairs (finite.retain_keys m p)) ≡ finite.retain_keys (tuples_in (pairs m)) q
   tuples-retained =
       let after = finite.retain_keys m p in
@@ -82,11 +82,11 @@ tuples-made (pair ∷ list) keys =
 
 module _ (one other : Map (Unit {0})) (keys : AreTupleKeys (pairs one))
     (keys' : AreTupleKeys (pairs other)) where
-  keys-joined : AreTupleKeys (pairs (of_pairs (pairs one ++ pairs other)))
+  pub keys-joined : AreTupleKeys (pairs (of_pairs (pairs one ++ pairs other)))
   keys-joined =
       keys-made (pairs one ++ pairs other) (keys-append (pairs one) (pairs other) keys keys')
 
-  tuples-joined : tuples_in (pairs (of_pairs (pairs one ++ pairs other)))
+  pub tuples-joined : tuples_in (pairs (of_pairs (pairs one ++ pairs other)))
       ≡ tuples_of_either (tuples_in (pairs one)) (tuples_in (pairs other))
   tuples-joined =
       tuples-made (pairs one ++ pairs other) (keys-append (pairs one) (pairs other) keys keys')

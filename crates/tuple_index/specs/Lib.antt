@@ -1,4 +1,5 @@
 pub mod CutLaws
 pub mod Decoding
 pub mod Indexes
+pub mod TogetherLaws
 pub mod Tuples

@@ -69,6 +69,20 @@ abbrev pub with_tuples_of : List ℕ → Tuples → Tuples → Tuples
 with_tuples_of columns other tuples =
     tuples_of_either (tuples_with other columns) (tuples_without tuples columns)
 
+-- ---- two sets together
+-- the tuples that both have
+abbrev pub common_tuples : Tuples → Tuples → Tuples
+common_tuples one other = finite.retain_keys one (has_tuple other)
+
+-- the set without the tuples of another one
+abbrev pub without_tuples_of : Tuples → Tuples → Tuples
+without_tuples_of other tuples = finite.retain_keys tuples (λ t. not (has_tuple other t))
+
+-- the tuples that one of them has and the other lacks
+abbrev pub tuples_of_one_alone : Tuples → Tuples → Tuples
+tuples_of_one_alone one other =
+    tuples_of_either (without_tuples_of other one) (without_tuples_of one other)
+
 -- ---- an index
 pub record Index : Type 0 where
   pub tuples : Tuples

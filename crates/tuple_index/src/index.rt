@@ -3,6 +3,7 @@ ghost use Rattle.std.specs.Prelude.{◌≡◌, ◌⊎◌, ◌+◌, ◌*◌, ◌<
 ghost use Rattle.rart_maps.specs.Pairs.{common, under};
 ghost use Rattle.tuple_index.specs.Decoding.{tuple_at};
 ghost use Rattle.tuple_index.specs.Tuples.{HasRoom, bytes_of, has_columns, has_some_with, has_tuple, key_of, listed, no_tuple, tuples_with, tuples_without, with_tuple, with_tuples_of, without_tuple};
+ghost use Rattle.tuple_index.specs.Tuples.{common_tuples, tuples_of_either, tuples_of_one_alone, without_tuples_of};
 
 use crate::tuple::Tuple;
 use rart_versioned::{ArrayKey, KeyTrait, VersionedAdaptiveRadixTree};
@@ -201,6 +202,75 @@ impl TupleIndex {
         let key = padded_key(columns);
         self.tree
             .restore_prefix(&key[..4 * columns.len()], &from.tree)
+    }
+
+    /// A set of its own of the tuples that are in either set. Its number is the sum of both, since
+    /// it may have all tuples of both. Both sets and their numbers stay as they are, also where
+    /// memory for it is refused. What one of them has alone is shared.
+    ///
+    /// ```
+    /// let known = facts.union(&told)?;
+    /// ```
+    pub fn union(&self, other: &TupleIndex) -> Result<TupleIndex, AllocError>
+        requires room { HasRoom self.now other.now.number }
+        ensures tuples { IfOk result
+            (λ both. both.tuples ≡ tuples_of_either self.now.tuples other.now.tuples) }
+        ensures number { IfOk result (λ both. both.number ≡ self.now.number + other.now.number) }
+    {
+        Ok(TupleIndex {
+            alloc: self.alloc,
+            tree: self.tree.union(&other.tree)?,
+        })
+    }
+
+    /// A set of its own of the tuples that are in both sets, its number one greater than this
+    /// one's. Both sets and their numbers stay as they are, also where memory for it is refused.
+    /// This one's tuples that begin alike are shared where all of them are in both. `join` lists
+    /// the common tuples, and makes no set.
+    pub fn intersection(&self, other: &TupleIndex) -> Result<TupleIndex, AllocError>
+        requires room { HasRoom self.now 1 }
+        ensures tuples { IfOk result
+            (λ part. part.tuples ≡ common_tuples self.now.tuples other.now.tuples) }
+        ensures number { IfOk result (λ part. part.number ≡ self.now.number + 1) }
+    {
+        Ok(TupleIndex {
+            alloc: self.alloc,
+            tree: self.tree.intersection(&other.tree)?,
+        })
+    }
+
+    /// A set of its own of this one's tuples that the other lacks, its number one greater than this
+    /// one's. Both sets and their numbers stay as they are, also where memory for it is refused.
+    /// What this one has alone is shared.
+    ///
+    /// ```
+    /// let learnt = facts.difference(&yesterday)?;
+    /// ```
+    pub fn difference(&self, other: &TupleIndex) -> Result<TupleIndex, AllocError>
+        requires room { HasRoom self.now 1 }
+        ensures tuples { IfOk result
+            (λ part. part.tuples ≡ without_tuples_of other.now.tuples self.now.tuples) }
+        ensures number { IfOk result (λ part. part.number ≡ self.now.number + 1) }
+    {
+        Ok(TupleIndex {
+            alloc: self.alloc,
+            tree: self.tree.difference(&other.tree)?,
+        })
+    }
+
+    /// A set of its own of the tuples that one of the two sets has and the other lacks. Its number
+    /// is the sum of both. Both sets and their numbers stay as they are, also where memory for it
+    /// is refused. What one of them has alone is shared.
+    pub fn symmetric_difference(&self, other: &TupleIndex) -> Result<TupleIndex, AllocError>
+        requires room { HasRoom self.now other.now.number }
+        ensures tuples { IfOk result
+            (λ apart. apart.tuples ≡ tuples_of_one_alone self.now.tuples other.now.tuples) }
+        ensures number { IfOk result (λ apart. apart.number ≡ self.now.number + other.now.number) }
+    {
+        Ok(TupleIndex {
+            alloc: self.alloc,
+            tree: self.tree.symmetric_difference(&other.tree)?,
+        })
     }
 }
 

@@ -3,6 +3,8 @@ ghost use Rattle.std.specs.Prelude.{◌≡◌};
 ghost use Rattle.rart_versioned.specs.Bytes.{byte_order};
 ghost use Rattle.tuple_index.specs.CutLaws.{ColumnsAreFirst, KeptBringsBack, RestoredHas, SomeWithIsATuple};
 ghost use Rattle.tuple_index.specs.CutLaws.{TuplesFixTheSet, WithHas, WithoutHas};
+ghost use Rattle.tuple_index.specs.TogetherLaws.{CommonAreListed, CommonHas, EitherHas};
+ghost use Rattle.tuple_index.specs.TogetherLaws.{OneAloneHas, WithoutOthersHas};
 ghost use Rattle.tuple_index.specs.Tuples.{RoomIsBelowTheLast, key_of, tuple_order};
 
 use crate::tuple::Tuple;
@@ -43,4 +45,14 @@ pub fn cut_sets_have_these_tuples()
 /// What was kept of a set brings it back, if none of the other tuples has come or gone since.
 pub fn restoring_undoes()
     ensures { KeptBringsBack }
+{}
+
+/// Which tuples are in what two sets make together. As sets with the same tuples are the same, this
+/// is all that can be said of each. And that the common ones in order are those that a join lists.
+pub fn sets_together_have_these_tuples()
+    ensures either { EitherHas }
+    ensures both { CommonHas }
+    ensures without { WithoutOthersHas }
+    ensures alone { OneAloneHas }
+    ensures listed { CommonAreListed }
 {}

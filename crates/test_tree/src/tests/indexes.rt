@@ -64,13 +64,18 @@ fn assert_has(
     Ok(())
 }
 
-// The index with all four.
-fn filled(rt: &impl Abort, alloc: Global) -> Result<TupleIndex, AllocError> {
+// The index with these, of which none comes twice.
+fn index_of(rt: &impl Abort, alloc: Global, tuples: &[Tuple]) -> Result<TupleIndex, AllocError> {
     let mut index = TupleIndex::new(alloc);
-    for tuple in [V, U, T, S] {
-        add(rt, &mut index, tuple)?;
+    for tuple in tuples {
+        add(rt, &mut index, *tuple)?;
     }
     Ok(index)
+}
+
+// The index with all four.
+fn filled(rt: &impl Abort, alloc: Global) -> Result<TupleIndex, AllocError> {
+    index_of(rt, alloc, &[V, U, T, S])
 }
 
 // A query by these columns gives these tuples, in this order.
@@ -143,5 +148,85 @@ fn index_is_cut_at_first_columns(rt: HostRuntime) -> Result<(), Fail> {
     index.restore_all(&[1], &of_seven)?;
     assert_found(&rt, &index, &[], &[S, T, V])?;
     assert_eq!(rt; index.version(), 10);
+    Ok(())
+}
+
+// The index has all these and no other, and this number.
+fn assert_is(
+    rt: &impl Abort,
+    index: &TupleIndex,
+    wanted: (&[Tuple], u64),
+) -> Result<(), AllocError> {
+    let (tuples, number) = wanted;
+    assert_found(rt, index, &[], tuples)?;
+    assert_eq!(rt; index.version(), number);
+    Ok(())
+}
+
+// What two sets make together has these tuples and these numbers: their union, intersection,
+// difference and symmetric difference. They themselves stay.
+fn assert_together(
+    rt: &impl Abort,
+    alloc: Global,
+    left: &[Tuple],
+    right: &[Tuple],
+    wanted: [(&[Tuple], u64); 4],
+) -> Result<(), AllocError> {
+    let (one, other) = (index_of(rt, alloc, left)?, index_of(rt, alloc, right)?);
+    assert!(rt; has_room(&one));
+    assert!(rt; has_room_for(&one, &other));
+    let [either, both, left_alone, one_alone] = wanted;
+    assert_is(rt, &one.union(&other)?, either)?;
+    assert_is(rt, &one.intersection(&other)?, both)?;
+    assert_is(rt, &one.difference(&other)?, left_alone)?;
+    assert_is(rt, &one.symmetric_difference(&other)?, one_alone)?;
+    assert_is(rt, &one, (left, left.len() as u64))?;
+    assert_is(rt, &other, (right, right.len() as u64))
+}
+
+#[test]
+fn indexes_are_put_together(rt: HostRuntime) -> Result<(), Fail> {
+    let alloc = rt.alloc();
+    assert_together(
+        &rt,
+        alloc,
+        &[S, T, V],
+        &[T, U],
+        [(&[S, T, U, V], 5), (&[T], 4), (&[S, V], 4), (&[S, U, V], 5)],
+    )?;
+    assert_together(
+        &rt,
+        alloc,
+        &[T, U],
+        &[S, T, V],
+        [(&[S, T, U, V], 5), (&[T], 3), (&[U], 3), (&[S, U, V], 5)],
+    )?;
+    Ok(())
+}
+
+#[test]
+fn index_is_put_together_with_none_and_with_itself(rt: HostRuntime) -> Result<(), Fail> {
+    let alloc = rt.alloc();
+    assert_together(
+        &rt,
+        alloc,
+        &[S, U],
+        &[],
+        [(&[S, U], 2), (&[], 3), (&[S, U], 3), (&[S, U], 2)],
+    )?;
+    assert_together(
+        &rt,
+        alloc,
+        &[],
+        &[S, U],
+        [(&[S, U], 2), (&[], 1), (&[], 1), (&[S, U], 2)],
+    )?;
+    assert_together(
+        &rt,
+        alloc,
+        &[S, T],
+        &[S, T],
+        [(&[S, T], 4), (&[S, T], 3), (&[], 3), (&[], 4)],
+    )?;
     Ok(())
 }

@@ -51,10 +51,10 @@ pub(crate) fn cut_inside<P: Partial, V: Clone + Drop>(
     ensures counted { CountsUpTo 0 1 work.old work.new }
     ensures still { count ≡ length (prefix_of node.now.shape) → work.new ≡ work.old }
 {
-    if count == node.prefix().len() {
-        return Ok(None);
+    if count < node.prefix().len() {
+        return Ok(Some(cut(alloc, node, count, version, work)?));
     }
-    Ok(Some(cut(alloc, node, count, version, work)?))
+    Ok(None)
 }
 
 /// The copy of a node, made now where there is none yet.

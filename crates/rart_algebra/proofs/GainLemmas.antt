@@ -1,5 +1,5 @@
 -- A node that gets the children of another, for which it has room.
-use Rattle.std.proofs.Common.{◌≡◌, ◌≤◌, ◌<◌, ◌+◌, ◌⊎◌, inl, inr, ℕ, Bool, true, false, not, ◌&&◌, cond, List, [], ◌∷◌, ◌++◌, Option, Some, None, IsSome, is_some, length, refl, sym, ap, subst, ◌∙◌, arith}
+use Rattle.std.proofs.Common.{◌≡◌, ◌≤◌, ◌<◌, ◌+◌, ℕ, Bool, true, false, not, ◌&&◌, cond, List, [], ◌∷◌, ◌++◌, Option, Some, None, IsSome, is_some, length, refl, sym, ap, subst, ◌∙◌, arith}
 use Rattle.std.specs.Prelude.{◌==◌, ◌||◌, T, nat_le}
 use Rattle.std.specs.Option.{option_map}
 use Rattle.std.specs.Ordering.{nat_cmp}
@@ -14,19 +14,19 @@ use Rattle.rart_below.specs.declared.byte_set.ByteSet.{ByteSet}
 use Rattle.rart_below.proofs.AscendingLemmas.{child_at-here}
 use Rattle.rart_below.proofs.ByteSetLemmas.{some-where}
 use Rattle.rart_lockstep.specs.TreeCursors.{next_children, value_here}
-use Rattle.rart_node.specs.Shape.{Shape, node, prefix_of, value_of, width_of, children_of, entries_of, forest_of, is_full_at, wider, width_for, widened, widenings, with_added, with_prefix, entries_of-forest_of}
+use Rattle.rart_node.specs.Shape.{Shape, node, prefix_of, value_of, width_of, children_of, entries_of, forest_of, is_full_at, wider, width_for, widenings, with_added, with_prefix, entries_of-forest_of}
 use Rattle.rart_node.specs.Trees.{AreBranches, BeginsWith, found, IsTree, IsOrdered}
 use Rattle.rart_node.proofs.FindLemmas.{branch, ascending}
 use Rattle.rart_node.proofs.InsertionLemmas.{ascending-with, branches-with, forest_of-entries_of}
 use Rattle.rart_ways.proofs.AscendingRunLemmas.{not_full}
 use Rattle.rart_ways.proofs.GraftLemmas.{child_at-with}
-use Rattle.rart_algebra.specs.Among.{HaveChild, KeepsAmong, children_among}
+use Rattle.rart_algebra.specs.Among.{HaveChild, children_among}
 use Rattle.rart_algebra.specs.Gains.{AreAlone, Gains, HasAdded, HasMore, HasRoom, HasRoomFor, HaveNone, with_own}
 use Rattle.rart_algebra.specs.Picks.{either, unless}
-use Rattle.rart_algebra.proofs.AmongLemmas.{among-next, among-none, have-less, some-value, was-ahead}
+use Rattle.rart_algebra.proofs.AmongLemmas.{among-next, have-less, some-value, was-ahead}
 use Rattle.rart_algebra.proofs.CarriedLemmas.{ended-next}
 use Rattle.rart_algebra.proofs.PartedLemmas.{key-there}
-use Rattle.rart_algebra.proofs.ReachLemmas.{look, child-first, found-here, found-next, key-begun}
+use Rattle.rart_algebra.proofs.ReachLemmas.{look, child-first, found-next, key-begun}
 
 -- ---- room
 not_full-at : (width count : ℕ) → count < width → is_full_at width count ≡ false

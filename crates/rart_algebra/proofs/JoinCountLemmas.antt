@@ -1,11 +1,7 @@
 -- How many nodes are entered and made where two trees are put together, and what is owed for each
 -- common key.
-use Rattle.std.proofs.Common.{◌≡◌, ◌<◌, ◌≤◌, ◌+◌, ◌*◌, ◌⊎◌, inl, inr, ⊎_elim, ℕ, Bool, true, false, ◌&&◌, cond, List, [], ◌∷◌, ◌++◌, Option, Some, None, IsSome, is_some, length, refl, sym, ap, subst, ◌∙◌, arith, add-zero}
-use Rattle.std.specs.FinSet as set
-use Rattle.std.specs.Ordering.{nat_cmp}
-use Rattle.std.specs.FinMap.Entries.{where_key}
+use Rattle.std.proofs.Common.{◌≡◌, ◌<◌, ◌≤◌, ◌+◌, ◌⊎◌, inl, inr, ⊎_elim, ℕ, Bool, true, false, ◌&&◌, cond, List, [], ◌∷◌, ◌++◌, Some, IsSome, length, refl, sym, ap, subst, ◌∙◌, arith, add-zero}
 use Rattle.std.proofs.lemmas.Bool.{cases_lt}
-use Rattle.std.proofs.lemmas.List.{append-nil}
 use Rattle.rart_below.specs.ByteSets.{has_byte, AreBytesOfBoth, TakesFirst}
 use Rattle.rart_below.specs.Children.{child_at}
 use Rattle.rart_below.specs.declared.byte_set.ByteSet.{ByteSet}
@@ -19,8 +15,6 @@ use Rattle.rart_node.specs.Trees.{found, IsTree}
 use Rattle.rart_node.proofs.FindLemmas.{ascending}
 use Rattle.rart_node.proofs.PrefixRestLemmas.{common-within}
 use Rattle.rart_lockstep.specs.Children.{common_children}
-use Rattle.rart_lockstep.specs.CommonPairs.{common_pairs}
-use Rattle.rart_lockstep.specs.Steps.{common_start}
 use Rattle.rart_lockstep.specs.TreeCursors.{behind_bytes, children_next, next_children}
 use Rattle.rart_lockstep.proofs.ChildLemmas.{where-all, where-next, where-none}
 use Rattle.rart_lockstep.proofs.LeastCountLemmas.{EntersLeast, least-start, least-next, least-end}
@@ -30,10 +24,9 @@ use Rattle.rart_algebra.specs.Ahead.{EntersBelow, EntersForCommon, HasAll, HaveC
 use Rattle.rart_algebra.specs.Gains.{HasMore}
 use Rattle.rart_algebra.proofs.CarriedLemmas.{all-behind, changed_places-carried, changed-behind, child-left, child-right, gone-carried, in-left, in-right, places-carried}
 use Rattle.rart_algebra.proofs.CommonCountLemmas.{steps_ahead}
-use Rattle.rart_algebra.proofs.DescentLemmas.{EntersSoFar, JoinsSoFar, paying-most, under_byte}
+use Rattle.rart_algebra.proofs.DescentLemmas.{EntersSoFar, JoinsSoFar, paying-most}
 use Rattle.rart_algebra.proofs.JoinLemmas.{more-changes}
 use Rattle.rart_algebra.proofs.PartedLemmas.{change-parted, cut-more, gone-parted, left-some, left_there, parted-leads, parted-next, parted-ordered, parted-place, parted-prefix, passed, place-parted, right-tree, right_there, whole-or-inside}
-use Rattle.rart_algebra.proofs.WeightLemmas.{weigh_all}
 
 -- One of the prefixes ends there.
 abbrev pub OneEnds : {V : Type 0} → Shape V → Shape V → Type 0

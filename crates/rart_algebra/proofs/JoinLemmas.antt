@@ -1,19 +1,18 @@
 -- What two trees have together, node by node, where a common key stays or goes.
-use Rattle.std.proofs.Common.{◌≡◌, ◌<◌, ◌≤◌, ◌+◌, ◌⊎◌, inl, inr, ⊎_elim, ℕ, Bool, true, false, not, ◌&&◌, cond, List, [], ◌∷◌, ◌++◌, Option, Some, None, IsSome, is_some, length, refl, sym, ap, subst, ◌∙◌, arith}
+use Rattle.std.proofs.Common.{◌≡◌, ◌⊎◌, inl, inr, ⊎_elim, ℕ, Bool, true, false, not, ◌&&◌, cond, List, [], ◌∷◌, ◌++◌, Option, Some, None, IsSome, is_some, length, refl, sym, ap, subst, ◌∙◌, arith}
 use Rattle.std.proofs.lemmas.Bool.{eqb-false, false≢true}
 use Rattle.std.proofs.lemmas.List.{length-append}
-use Rattle.rart_below.specs.ByteSets.{has_byte, AreBytesOfBoth}
-use Rattle.rart_below.specs.Bytes.{IsAdmitted}
+use Rattle.rart_below.specs.ByteSets.{AreBytesOfBoth}
 use Rattle.rart_below.specs.Children.{child_at}
 use Rattle.rart_below.specs.declared.byte_set.ByteSet.{ByteSet}
 use Rattle.rart_lockstep.specs.TreeCursors.{next_children, value_here}
-use Rattle.rart_node.specs.Shape.{Shape, node, prefix_of, value_of, children_of, with_prefix}
+use Rattle.rart_node.specs.Shape.{Shape, node, value_of, children_of, with_prefix}
 use Rattle.rart_node.specs.Trees.{found, IsTree}
 use Rattle.rart_ways.specs.Removals.{AreAdmitted}
 use Rattle.rart_ways.proofs.RemovalLemmas.{shorter}
-use Rattle.rart_algebra.specs.Ahead.{HaveChange, IsChange, IsCommonKey, IsGone}
+use Rattle.rart_algebra.specs.Ahead.{HaveChange, IsCommonKey, IsGone}
 use Rattle.rart_algebra.specs.Gains.{Gains, HasMore}
-use Rattle.rart_algebra.specs.Picks.{either, apart, together}
+use Rattle.rart_algebra.specs.Picks.{either, together}
 use Rattle.rart_algebra.proofs.AmongLemmas.{bytes-apart, bytes-both}
 use Rattle.rart_algebra.proofs.PackLemmas.{packed-whole}
 use Rattle.rart_algebra.proofs.PartedLemmas.{TwoArms, cut-here, left_byte, left_there, parted-whole, passed, right-goes, right_there, two-many, value-or-arms, whole-or-inside}

@@ -1,6 +1,6 @@
 -- Where two trees stand behind what both prefixes begin with: the left node as it is there, cut
 -- inside its prefix where that goes on, and the right one without these bytes.
-use Rattle.std.proofs.Common.{◌≡◌, ◌<◌, ◌≤◌, ◌+◌, ◌⊎◌, inl, inr, ⊎_elim, ℕ, Bool, true, false, ◌&&◌, cond, List, [], ◌∷◌, ◌++◌, Option, Some, None, IsSome, is_some, length, zero, suc, take, drop, refl, sym, ap, subst, ◌∙◌, arith}
+use Rattle.std.proofs.Common.{◌≡◌, ◌<◌, ◌≤◌, ◌+◌, ◌⊎◌, inl, inr, ⊎_elim, ℕ, Bool, true, false, cond, List, [], ◌∷◌, ◌++◌, Option, Some, None, IsSome, is_some, length, zero, suc, take, drop, refl, sym, ap, subst, ◌∙◌, arith}
 use Rattle.std.specs.Prelude.{◌==◌, ◌≢◌, slice_index_or}
 use Rattle.std.specs.Option.{option_and_then}
 use Rattle.std.specs.Cmp.{unsigned_tied}
@@ -18,7 +18,7 @@ use Rattle.rart_node.specs.Trees.{strip_prefix, BeginsWith, cut_at, found, IsTre
 use Rattle.rart_node.proofs.FindLemmas.{branch, ordered}
 use Rattle.rart_node.proofs.PrefixRestLemmas.{behind-append, begins-common, begins-drop, common-within, split-common}
 use Rattle.rart_ways.proofs.CutNodeLemmas.{cut-found, cut-ordered}
-use Rattle.rart_algebra.specs.Ahead.{HaveChange, IsChange, IsChangedPlace, IsGone, IsPlace}
+use Rattle.rart_algebra.specs.Ahead.{IsChange, IsGone, IsPlace}
 use Rattle.rart_algebra.specs.Gains.{HasMore}
 use Rattle.rart_algebra.specs.Parts.{parted}
 use Rattle.rart_algebra.proofs.CarriedLemmas.{changed-along, gone-along, next-begins, place-along}

@@ -9,7 +9,7 @@ use Rattle.rart_below.specs.Children.{child_at, with_child, without_child}
 use Rattle.rart_below.specs.declared.byte_set.ByteSet.{ByteSet}
 use Rattle.rart_node.specs.Shape.{Shape, Forest, node, prefix_of, value_of, children_of, entries_of, with_deleted, with_replaced, entries_of-forest_of}
 use Rattle.rart_node.specs.Trees.{strip_prefix, BeginsWith, found, found_below, IsTree, IsOrdered}
-use Rattle.rart_node.proofs.FindLemmas.{found-below, branch, ordered}
+use Rattle.rart_node.proofs.FindLemmas.{found-below, branch}
 use Rattle.rart_node.proofs.InsertionLemmas.{inside, ascending-with, branches-with}
 use Rattle.rart_node.proofs.PrefixRestLemmas.{strip_prefix-is}
 use Rattle.rart_ways.specs.Removals.{AreAdmitted}

@@ -1,5 +1,5 @@
 -- A node that gets what another tree has where it has nothing.
-use Rattle.std.specs.Prelude.{◌≡◌, ◌+◌, ◌<◌, ℕ, ◌&&◌, not, Bool, true, false, List, [], Option, Some, None, IsSome, is_some, length, if◌then◌else◌}
+use Rattle.std.specs.Prelude.{◌≡◌, ◌+◌, ◌<◌, ℕ, ◌&&◌, not, true, false, List, [], Option, Some, None, IsSome, is_some, length, if◌then◌else◌}
 use Rattle.rart_below.specs.ByteSets.{has_byte}
 use Rattle.rart_below.specs.Children.{child_at}
 use Rattle.rart_below.specs.declared.byte_set.ByteSet.{ByteSet}

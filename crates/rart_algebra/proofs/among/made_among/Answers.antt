@@ -1,4 +1,4 @@
-use Rattle.std.proofs.Common.{◌≡◌, ℕ, [], length, refl, sym, ap, ◌∙◌, arith}
+use Rattle.std.proofs.Common.{ℕ, [], length, refl, sym, ap, ◌∙◌, arith}
 use Rattle.rart_below.specs.ByteSets.{has_byte}
 use Rattle.rart_node.specs.Shape.{children_of, node_of, with_added, width_for}
 use Rattle.rart_algebra.proofs.AmongLemmas.{among-next, filled-absent, filled-all, filled-next, filled-none, filled-order, filled-room, filled-width, have-less, no-work}

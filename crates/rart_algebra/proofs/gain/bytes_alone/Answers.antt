@@ -2,7 +2,7 @@ use Rattle.std.proofs.Common.{◌≡◌, ℕ, Bool, true, false, not, ◌&&◌, 
 use Rattle.std.specs.Prelude.{◌==◌, ◌||◌}
 use Rattle.rart_below.specs.ByteSets.{has_byte}
 use Rattle.rart_below.specs.Children.{child_at}
-use Rattle.rart_node.specs.Shape.{Shape, children_of}
+use Rattle.rart_node.specs.Shape.{children_of}
 use Rattle.rart_algebra.proofs.AmongLemmas.{among-next, have-less, some-value}
 use Rattle.rart_algebra.proofs.GainLemmas.{alone-next, shown-some}
 use Rattle.rart_algebra.proofs.gain.bytes_alone.Goals as goal

@@ -1,4 +1,4 @@
-use Rattle.std.proofs.Common.{◌≡◌, ◌⊎◌, inr, ◌≤◌, Option, None, arith, is_some, length, refl, sym, ap, subst, ◌∙◌}
+use Rattle.std.proofs.Common.{inr, arith, is_some, sym, ap, subst, ◌∙◌}
 use Rattle.rart_below.specs.ByteSets.{has_byte}
 use Rattle.rart_node.specs.Shape.{children_of, value_of}
 use Rattle.rart_ways.proofs.PlanLemmas.{not_some-None}
@@ -6,7 +6,7 @@ use Rattle.rart_algebra.specs.Gains.{AreAlone}
 use Rattle.rart_algebra.specs.Parts.{shape_now}
 use Rattle.rart_algebra.specs.Picks.{unless}
 use Rattle.rart_algebra.proofs.AmongLemmas.{among-none}
-use Rattle.rart_algebra.proofs.GainLemmas.{alone-have, among-some, gains-all, gains-nothing, more-child, more-value, same-order}
+use Rattle.rart_algebra.proofs.GainLemmas.{alone-have, among-some, gains-nothing, more-child, more-value, same-order}
 use Rattle.rart_algebra.proofs.gain.gain_children.Goals as goal
 use Rattle.rart_algebra.proofs.gain.gain_children.Goals.{else-count-eq0-via-then-count-eq0+else-is_none, else-count-eq0-via-else-count-eq0}
 

@@ -1,4 +1,4 @@
-use Rattle.std.proofs.Common.{◌≡◌, ◌⊎◌, inr, ◌≤◌, ◌+◌, None, is_some, drop, refl, sym, ap, subst, ◌∙◌, arith}
+use Rattle.std.proofs.Common.{◌≡◌, inr, is_some, drop, sym, ap, subst, ◌∙◌, arith}
 use Rattle.rart_below.specs.Children.{child_at}
 use Rattle.rart_lockstep.specs.TreeCursorFields.{cursor_shape}
 use Rattle.rart_node.specs.Shape.{children_of, with_added, with_prefix}

@@ -1,8 +1,8 @@
-use Rattle.std.proofs.Common.{◌≡◌, ℕ, length, refl, sym, ap, ◌∙◌, arith}
+use Rattle.std.proofs.Common.{length, refl, sym, ap, ◌∙◌, arith}
 use Rattle.rart_node.specs.Shape.{children_of, with_added}
 use Rattle.rart_node.proofs.FindLemmas.{ascending}
 use Rattle.rart_algebra.proofs.AmongLemmas.{among-next, no-work}
-use Rattle.rart_algebra.proofs.GainLemmas.{joining-absent, joining-all, joining-next, joining-none, joining-room}
+use Rattle.rart_algebra.proofs.GainLemmas.{joining-next, joining-none, joining-room}
 use Rattle.rart_algebra.proofs.gain.with_children.Goals as goal
 
 pub adding-init : goal.adding-init

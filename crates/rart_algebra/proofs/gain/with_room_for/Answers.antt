@@ -1,4 +1,4 @@
-use Rattle.std.proofs.Common.{◌≡◌, ◌≤◌, ◌+◌, length, sym, ap, ◌∙◌, arith}
+use Rattle.std.proofs.Common.{◌+◌, length, ap, ◌∙◌, arith}
 use Rattle.rart_below.specs.ByteSets.{has_byte}
 use Rattle.rart_node.specs.Shape.{children_of, prefix_of, value_of}
 use Rattle.rart_algebra.proofs.AmongLemmas.{among-few, if-both}

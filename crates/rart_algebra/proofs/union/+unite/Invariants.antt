@@ -1,4 +1,4 @@
-use Rattle.std.proofs.Common.{◌≡◌, ◌≤◌, ◌+◌, ◌⊎◌, [], true, is_some, length}
+use Rattle.std.proofs.Common.{◌≡◌, ◌≤◌, ◌+◌, [], true, is_some, length}
 use Rattle.rart_lockstep.specs.Children.{HaveBoth}
 use Rattle.rart_lockstep.specs.TreeCursorFields.{cursor_shape}
 use Rattle.rart_lockstep.specs.TreeCursors.{next_children, value_here}

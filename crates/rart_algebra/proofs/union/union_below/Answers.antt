@@ -1,4 +1,4 @@
-use Rattle.std.proofs.Common.{true, false, sym, ap, subst, ◌∙◌, Ok, arith}
+use Rattle.std.proofs.Common.{true, sym, ap, subst, ◌∙◌, Ok, arith}
 use Rattle.std.specs.declared.alloc.AllocError.{AllocError}
 use Rattle.rart_lockstep.specs.TreeCursorFields.{cursor_shape}
 use Rattle.rart_node.proofs.NodeMergeLemmas.{if-ok}
